@@ -31,52 +31,52 @@ use Rattle.srcp_rules.proofs.StateLaws.{at-filter, row_key, row_at_key, row_at-p
 use Rattle.srcp_rules.proofs.NewDeviceLaws.{IsFrom, ports_from, ports_rise}
 use Rattle.srcp_rules.proofs.OpeningLaws.{opening_whole}
 use Rattle.srcp_index.specs.declared.indexes.Indexes.{Indexes}
-use Rattle.srcp_index.specs.Pairs.{Held, before}
-use Rattle.srcp_index.specs.Ranked.{ranked}
-use Rattle.srcp_index.specs.Indexed.{IsIndexed, HasPairs, HasRoom, IsRankedRow, due_of, goer, goers, may_go, may_rank, pairs_of}
-use Rattle.srcp_index.specs.Indexed.{put_ranked, take_ranked, with_pair, without_pair, with_row, with_rows, without_row}
+use Rattle.srcp_index.specs.Pairs.{IndexModel, before}
+use Rattle.srcp_index.specs.Ordered.{order_by}
+use Rattle.srcp_index.specs.Indexed.{IsIndexed, HasPairs, HasRoom, IsRankedRow, due_of, removable_count, removable_rows, is_removable, may_rank, pairs_of}
+use Rattle.srcp_index.specs.Indexed.{insert_ranked, remove_ranked, with_pair, without_pair, with_row, with_rows, without_row}
 use Rattle.srcp_index.proofs.Pairs.{before_weak, before_tie}
-use Rattle.srcp_index.proofs.Ranked.{length-put, length-ranked, ranked-ranked}
+use Rattle.srcp_index.proofs.Ordered.{length-insert_by, length-order_by, order_by-order_by}
 use Rattle.srcp_index.proofs.RowSums.{but_at, sum-put_row, sum-there}
-use Rattle.srcp_index.proofs.PairsOfRows.{noted-pairs, forgotten-pairs, fewer_pairs}
+use Rattle.srcp_index.proofs.PairsOfRows.{inserted-pairs, removed-pairs, fewer_pairs}
 
 -- ---- one index
 
 module _ (rank : Row → Option ℕ) where
-  pub with_pairs : (row : Row) (state : State) (index : Held) (count : ℕ) → HasPairs rank (but_at row.shown.key state) index count
+  pub with_pairs : (row : Row) (state : State) (index : IndexModel) (count : ℕ) → HasPairs rank (but_at row.shown.key state) index count
       → HasPairs rank (put_row row state) (with_pair (rank row) row.shown.key index) count
   with_pairs row state index count h = record {
-    pairs = ap (put_ranked index.since (rank row) row.shown.key) h.pairs
-        ∙ noted-pairs rank index.since row state;
+    pairs = ap (insert_ranked index.since (rank row) row.shown.key) h.pairs
+        ∙ inserted-pairs rank index.since row state;
     room = h.room;
   }
 
-  pub without_pairs : (row : Row) (state : State) (index : Held) (count : ℕ) → IsRising state → row_at row.shown.key state ≡ Some row
+  pub without_pairs : (row : Row) (state : State) (index : IndexModel) (count : ℕ) → IsRising state → row_at row.shown.key state ≡ Some row
       → HasPairs rank state index count
       → HasPairs rank (but_at row.shown.key state) (without_pair (rank row) row.shown.key index) count
   without_pairs row state index count rising there h =
       record {
-        pairs = ap (take_ranked index.since (rank row) row.shown.key) h.pairs ∙ forgotten-pairs rank index.since row state rising
+        pairs = ap (remove_ranked index.since (rank row) row.shown.key) h.pairs ∙ removed-pairs rank index.since row state rising
             there;
         room = h.room;
       }
 
   -- there are no more pairs than rows that come and go
-  pub few : (state : State) (index : Held) (count : ℕ) → AllByRecursion (λ row. IsSome (rank row) → IsTrue (may_go row)) state
-      → HasPairs rank state index count → length index.pairs ≤ goers state
+  pub few : (state : State) (index : IndexModel) (count : ℕ) → AllByRecursion (λ row. IsSome (rank row) → IsTrue (is_removable row)) state
+      → HasPairs rank state index count → length index.pairs ≤ removable_rows state
   few state index count goes h =
       let a = ap length h.pairs in
-      let b = length-ranked (before index.since) (pairs_of rank state) in
+      let b = length-order_by (before index.since) (pairs_of rank state) in
       let c = fewer_pairs rank state goes in
       omega arith
 
-  pub fewer : (m n : ℕ) (state : State) (index : Held) → n ≤ m → HasPairs rank state index m → HasPairs rank state index n
+  pub fewer : (m n : ℕ) (state : State) (index : IndexModel) → n ≤ m → HasPairs rank state index m → HasPairs rank state index n
   fewer m n state index le h = record { pairs = h.pairs; room = let r = h.room in omega (arith, le) }
 
 -- one pair more at most
-pub longer : (rank : Option ℕ) (k : Key) (index : Held) → length (with_pair rank k index).pairs ≤ 1 + length index.pairs
+pub longer : (rank : Option ℕ) (k : Key) (index : IndexModel) → length (with_pair rank k index).pairs ≤ 1 + length index.pairs
 longer None k index = omega arith
-longer (Some r) k index = let e = length-put (before index.since) (record { rank = r; key = k }) index.pairs in omega arith
+longer (Some r) k index = let e = length-insert_by (before index.since) (record { rank = r; key = k }) index.pairs in omega arith
 
 -- ---- rows with a rank
 
@@ -150,10 +150,10 @@ ranked_row buses row of =
       port = port_within key.group key.port row.shown.value fits;
     }
 
-due_all : (state : State) → AllByRecursion IsRankedRow state → AllByRecursion (λ row. IsSome (due_of row) → IsTrue (may_go row)) state
+due_all : (state : State) → AllByRecursion IsRankedRow state → AllByRecursion (λ row. IsSome (due_of row) → IsTrue (is_removable row)) state
 due_all state h = each-weaken {P = IsRankedRow} (λ row r s. ranked_goes row.shown.key.group (r.due s)) state h
 
-held_all : (state : State) → AllByRecursion IsRankedRow state → AllByRecursion (λ row. IsSome (holder_of row) → IsTrue (may_go row)) state
+held_all : (state : State) → AllByRecursion IsRankedRow state → AllByRecursion (λ row. IsSome (holder_of row) → IsTrue (is_removable row)) state
 held_all state h = each-weaken {P = IsRankedRow} (λ row r s. ranked_goes row.shown.key.group (r.held s)) state h
 
 -- a row that may go counts
@@ -170,7 +170,7 @@ counted_none false e = refl
 module _ where
   -- a row with no rank
   abbrev IsPlain : Row → Type 0
-  IsPlain row = (due_of row ≡ None) × (holder_of row ≡ None) × (may_go row ≡ false)
+  IsPlain row = (due_of row ≡ None) × (holder_of row ≡ None) × (is_removable row ≡ false)
 
   plain_ports : (bus : ℕ) (ports : List ℕ)
       → AllByRecursion IsPlain (map (λ port. first_row 0 (fb_device bus port) (value.Fb false)) ports)
@@ -195,11 +195,11 @@ module _ where
   no_pairs rank [] h = refl
   no_pairs rank (row ∷ state) h = rw h.0 (no_pairs rank state h.1)
 
-  no_goers : (state : State) → AllByRecursion (λ row. may_go row ≡ false) state → goers state ≡ 0
+  no_goers : (state : State) → AllByRecursion (λ row. is_removable row ≡ false) state → removable_rows state ≡ 0
   no_goers [] h = refl
   no_goers (row ∷ state) h =
-      let a = sum_by-cons goer row state in
-      let b = counted_none (may_go row) h.0 in
+      let a = sum_by-cons removable_count row state in
+      let b = counted_none (is_removable row) h.0 in
       let c = no_goers state h.1 in
       omega arith
 
@@ -212,12 +212,12 @@ opening_indexed buses layout both moments sessions since =
     record {
       rising = whole.rising;
       due = record {
-        pairs = moments ∙ ap (ranked (before both.moments.since))
+        pairs = moments ∙ ap (order_by (before both.moments.since))
             (sym (no_pairs due_of state (each-weaken {P = IsPlain} (λ row p. p.0) state plain)));
         room = omega arith;
       };
       held = record {
-        pairs = sessions ∙ ap (ranked (before both.sessions.since))
+        pairs = sessions ∙ ap (order_by (before both.sessions.since))
             (sym (no_pairs holder_of state (each-weaken {P = IsPlain} (λ row p. p.1) state plain)));
         room = omega arith;
       };
@@ -229,16 +229,16 @@ opening_indexed buses layout both moments sessions since =
 
 -- ---- a moment
 
-pub settled : (state : State) (both : Indexes) (count moment : ℕ) (index : Held) → IsIndexed state both count → index.pairs
-    ≡ ranked (before moment) both.moments.pairs → index.since ≡ moment → index.room ≡ both.moments.room
+pub settled : (state : State) (both : Indexes) (count moment : ℕ) (index : IndexModel) → IsIndexed state both count → index.pairs
+    ≡ order_by (before moment) both.moments.pairs → index.since ≡ moment → index.room ≡ both.moments.room
     → IsIndexed state (record { moments = index; sessions = both.sessions }) count
 settled state both count moment index h pairs since room =
     record {
       rising = h.rising;
       due = record {
-        pairs = pairs ∙ ap (ranked (before moment)) h.due.pairs
-            ∙ ranked-ranked (before moment) (before_weak moment) (before_tie moment) (before both.moments.since) (pairs_of due_of state)
-            ∙ ap (λ m. ranked (before m) (pairs_of due_of state)) (sym since);
+        pairs = pairs ∙ ap (order_by (before moment)) h.due.pairs
+            ∙ order_by-order_by (before moment) (before_weak moment) (before_tie moment) (before both.moments.since) (pairs_of due_of state)
+            ∙ ap (λ m. order_by (before m) (pairs_of due_of state)) (sym since);
         room = let r = h.due.room in omega (arith, room);
       };
       held = h.held;
@@ -283,13 +283,13 @@ module _ (buses : List Bus) (state : State) (both : Indexes) (count : ℕ) (h : 
   rows_left : AllByRecursion IsRankedRow left
   rows_left = all_filter IsRankedRow (λ other. not (same_key other.shown.key row.shown.key)) state h.rows
 
-  counts : goers state ≡ goer row + goers left
-  counts = sum-there goer old state h.rising old_there ∙ (λ i. cond {A = ℕ} (can_go (same i).group) 1 0 + goers (but_at (same i) state))
+  counts : removable_rows state ≡ removable_count row + removable_rows left
+  counts = sum-there removable_count old state h.rising old_there ∙ (λ i. cond {A = ℕ} (can_go (same i).group) 1 0 + removable_rows (but_at (same i) state))
 
   pub room_for_due : IsSome (due_of row) → HasRoom (without_pair (due_of old) old.shown.key both.moments)
   room_for_due s =
       let a = few due_of left (without_pair (due_of old) old.shown.key both.moments) count (due_all left rows_left) due_left in
-      let b : goer row ≡ 1 = counted_one (may_go row) (ranked_goes row.shown.key.group ((ranked_row buses row of).due s)) in
+      let b : removable_count row ≡ 1 = counted_one (is_removable row) (ranked_goes row.shown.key.group ((ranked_row buses row of).due s)) in
       let c = h.counted in
       let d = h.due.room in
       let e = counts in
@@ -298,7 +298,7 @@ module _ (buses : List Bus) (state : State) (both : Indexes) (count : ℕ) (h : 
   pub room_for_held : IsSome (holder_of row) → HasRoom (without_pair (holder_of old) old.shown.key both.sessions)
   room_for_held s =
       let a = few holder_of left (without_pair (holder_of old) old.shown.key both.sessions) count (held_all left rows_left) held_left in
-      let b : goer row ≡ 1 = counted_one (may_go row) (ranked_goes row.shown.key.group ((ranked_row buses row of).held s)) in
+      let b : removable_count row ≡ 1 = counted_one (is_removable row) (ranked_goes row.shown.key.group ((ranked_row buses row of).held s)) in
       let c = h.counted in
       let d = h.held.room in
       let e = counts in
@@ -310,19 +310,19 @@ module _ (buses : List Bus) (state : State) (both : Indexes) (count : ℕ) (h : 
     due = with_pairs due_of row state (without_pair (due_of old) old.shown.key both.moments) count due_left;
     held = with_pairs holder_of row state (without_pair (holder_of old) old.shown.key both.sessions) count held_left;
     since = h.since;
-    counted = (let a = sum-put_row goer row state in let b = counts in let c = h.counted in omega arith);
+    counted = (let a = sum-put_row removable_count row state in let b = counts in let c = h.counted in omega arith);
     rows = all_put row_key IsRankedRow row state (ranked_row buses row of) h.rows;
   }
 
   -- both indexes with a pair of the row's key, and without one of the old row's
-  abbrev noted : (due held : Option ℕ) → Indexes → Indexes
-  noted due held all = record {
+  abbrev inserted : (due held : Option ℕ) → Indexes → Indexes
+  inserted due held all = record {
     moments = with_pair due row.shown.key all.moments;
     sessions = with_pair held row.shown.key all.sessions;
   }
 
-  abbrev forgotten : (due held : Option ℕ) → Indexes
-  forgotten due held = record {
+  abbrev removed : (due held : Option ℕ) → Indexes
+  removed due held = record {
     moments = without_pair due old.shown.key both.moments;
     sessions = without_pair held old.shown.key both.sessions;
   }
@@ -340,10 +340,10 @@ module _ (buses : List Bus) (state : State) (both : Indexes) (count : ℕ) (h : 
       let b = no_rank (holder_of row) (ranked_row buses row of).held never in
       let c = no_rank (due_of old) (λ s. sym before ∙ was.due s) never in
       let d = no_rank (holder_of old) (λ s. sym before ∙ was.held s) never in
-      subst (λ (o : Option ℕ). IsIndexed (put_row row state) (noted o None both) count) a
-      (subst (λ (o : Option ℕ). IsIndexed (put_row row state) (noted (due_of row) o both) count) b
-      (subst (λ (o : Option ℕ). IsIndexed (put_row row state) (with_row row (forgotten o None)) count) c
-      (subst (λ (o : Option ℕ). IsIndexed (put_row row state) (with_row row (forgotten (due_of old) o)) count) d
+      subst (λ (o : Option ℕ). IsIndexed (put_row row state) (inserted o None both) count) a
+      (subst (λ (o : Option ℕ). IsIndexed (put_row row state) (inserted (due_of row) o both) count) b
+      (subst (λ (o : Option ℕ). IsIndexed (put_row row state) (with_row row (removed o None)) count) c
+      (subst (λ (o : Option ℕ). IsIndexed (put_row row state) (with_row row (removed (due_of old) o)) count) d
       set_indexed)))
 
 pub passed_by : (buses : List Bus) (state : State) (both : Indexes) (count : ℕ) → IsIndexed state both count → (row : Row)
@@ -364,9 +364,9 @@ pub roomier : (state : State) (both other : Indexes) (count : ℕ) → IsIndexed
 roomier state both other count h pairs since held held_since room held_room =
     record {
       rising = h.rising;
-      due = record { pairs = pairs ∙ h.due.pairs ∙ ap (λ m. ranked (before m) (pairs_of due_of state)) (sym since); room = room };
+      due = record { pairs = pairs ∙ h.due.pairs ∙ ap (λ m. order_by (before m) (pairs_of due_of state)) (sym since); room = room };
       held = record {
-        pairs = held ∙ h.held.pairs ∙ ap (λ m. ranked (before m) (pairs_of holder_of state))
+        pairs = held ∙ h.held.pairs ∙ ap (λ m. order_by (before m) (pairs_of holder_of state))
             (sym held_since);
         room = held_room;
       };
@@ -417,16 +417,16 @@ module _ where
   )
 
 -- the index has room for more rows
-with_more : (rank : Row → Option ℕ) (state : State) (index : Held) (count more : ℕ) → more ≤ index.room
+with_more : (rank : Row → Option ℕ) (state : State) (index : IndexModel) (count more : ℕ) → more ≤ index.room
     → HasPairs rank state index count → HasPairs rank state index more
 with_more rank state index count more room h = record { pairs = h.pairs; room = room }
 
 module _ (buses : List Bus) where
   one_added : (row : Row) (state : State) (both : Indexes) (count : ℕ) → IsFresh state row → IsRowOf buses row
-      → count + goer row ≤ both.moments.room → count + goer row ≤ both.sessions.room → IsIndexed state both count
-      → IsIndexed (put_row row state) (with_row row both) (count + goer row)
+      → count + removable_count row ≤ both.moments.room → count + removable_count row ≤ both.sessions.room → IsIndexed state both count
+      → IsIndexed (put_row row state) (with_row row both) (count + removable_count row)
   one_added row state both count fresh of due_room held_room h =
-      let more = count + goer row in
+      let more = count + removable_count row in
       let same = sym (but_at_none row.shown.key state fresh) in
       record {
         rising = rising_put row_key row state h.rising;
@@ -436,28 +436,28 @@ module _ (buses : List Bus) where
             (subst (λ rows. HasPairs holder_of rows both.sessions more) same
             (with_more holder_of state both.sessions count more held_room h.held));
         since = h.since;
-        counted = (let a = sum-put_row goer row state in
-            let b = ap goers (but_at_none row.shown.key state fresh) in
+        counted = (let a = sum-put_row removable_count row state in
+            let b = ap removable_rows (but_at_none row.shown.key state fresh) in
             let c = h.counted in
             omega arith);
         rows = all_put row_key IsRankedRow row state (ranked_row buses row of) h.rows;
       }
 
   all_added : (rows : List Row) (state : State) (both : Indexes) (count : ℕ) → IsRising rows → AllByRecursion (IsFresh state) rows
-      → AllByRecursion (IsRowOf buses) rows → count + goers rows ≤ both.moments.room → count + goers rows ≤ both.sessions.room
-      → IsIndexed state both count → IsIndexed (put_rows rows state) (with_rows rows both) (count + goers rows)
+      → AllByRecursion (IsRowOf buses) rows → count + removable_rows rows ≤ both.moments.room → count + removable_rows rows ≤ both.sessions.room
+      → IsIndexed state both count → IsIndexed (put_rows rows state) (with_rows rows both) (count + removable_rows rows)
   all_added [] state both count rising fresh of due_room held_room h = subst (IsIndexed state both) (omega arith) h
   all_added (row ∷ rows) state both count rising fresh of due_room held_room h =
-      let sum = sum_by-cons goer row rows in
+      let sum = sum_by-cons removable_count row rows in
       let here = one_added row state both count fresh.0 of.0 (omega (arith, sum, due_room)) (omega (arith, sum, held_room)) h in
-      let all = all_added rows (put_row row state) (with_row row both) (count + goer row) rising.1
+      let all = all_added rows (put_row row state) (with_row row both) (count + removable_count row) rising.1
       (still_fresh row state rows rising.0 fresh.1) of.1 (omega (arith, sum, due_room)) (omega (arith, sum, held_room)) here in
-      let same : count + goer row + goers rows ≡ count + goers (row ∷ rows) = omega (arith, sum) in
+      let same : count + removable_count row + removable_rows rows ≡ count + removable_rows (row ∷ rows) = omega (arith, sum) in
       subst (λ n. IsIndexed (put_rows rows (put_row row state)) (with_rows rows (with_row row both)) n) same all
 
   pub added_indexed : (state : State) (device : Device) (rows : List Row) → AreNewRowsOf buses state device rows
-      → (both : Indexes) (count : ℕ) → count + goers rows ≤ both.moments.room → count + goers rows ≤ both.sessions.room
-      → IsIndexed state both count → IsIndexed (put_rows rows state) (with_rows rows both) (count + goers rows)
+      → (both : Indexes) (count : ℕ) → count + removable_rows rows ≤ both.moments.room → count + removable_rows rows ≤ both.sessions.room
+      → IsIndexed state both count → IsIndexed (put_rows rows state) (with_rows rows both) (count + removable_rows rows)
   added_indexed state device rows fresh both count due_room held_room h =
       let n = row_count buses device in
       all_added rows state both count (ports_rise device rows 0 n fresh.all.keys)
@@ -570,17 +570,17 @@ module _ (device : Device) where
 -- a row of the device that is taken out
 module _ (state : State) (both : Indexes) (count : ℕ) (h : IsIndexed state both count) (row : Row)
     (there : row_at row.shown.key state ≡ Some row) where
-  pub one_goes : may_go row ≡ true → 1 ≤ count
+  pub one_goes : is_removable row ≡ true → 1 ≤ count
   one_goes goes =
-      let a = sum-there goer row state h.rising there in
-      let b = counted_one (may_go row) goes in
+      let a = sum-there removable_count row state h.rising there in
+      let b = counted_one (is_removable row) goes in
       let c = h.counted in
       omega arith
 
-  pub dropped_one : may_go row ≡ true → IsIndexed (but_at row.shown.key state) (without_row row both) (count - 1)
+  pub dropped_one : is_removable row ≡ true → IsIndexed (but_at row.shown.key state) (without_row row both) (count - 1)
   dropped_one goes =
-      let a = sum-there goer row state h.rising there in
-      let b = counted_one (may_go row) goes in
+      let a = sum-there removable_count row state h.rising there in
+      let b = counted_one (is_removable row) goes in
       let c = h.counted in
       let test = (λ (other : Row). not (same_key other.shown.key row.shown.key)) in
       let fewer_due = fewer due_of count (count - 1) state both.moments (omega arith) h.due in
@@ -617,7 +617,7 @@ module _ (device : Device) (port : ℕ) (state : State) where
       left_there : row_at row.shown.key (but_below device port state) ≡ Some row
       left_there = ap (λ k. row_at k (but_below device port state)) same_key_there ∙ at_next ∙ there
 
-      row_goes : may_go row ≡ true
+      row_goes : is_removable row ≡ true
       row_goes = ap (λ (k : Key). can_go k.group) same_key_there ∙ goes
 
       pub next_goes : 1 ≤ count

@@ -10,11 +10,11 @@ use Rattle.srcp_info.specs.declared.change.Row.{Row}
 use Rattle.srcp_rules.specs.State.{State}
 use Rattle.srcp_index.specs.declared.index.Pair.{Pair}
 use Rattle.srcp_index.specs.Pairs.{IsLeastRank, before}
-use Rattle.srcp_index.specs.Ranked.{IsRanked, put, ranked}
+use Rattle.srcp_index.specs.Ordered.{IsInOrder, insert_by, order_by}
 use Rattle.srcp_index.specs.Indexed.{at_rank, due_of, pairs_of}
 use Rattle.srcp_index.specs.Earliest.{IsEarliestDue}
 use Rattle.srcp_index.proofs.Pairs.{lower_before}
-use Rattle.srcp_index.proofs.Ranked.{all_weaker, length-ranked}
+use Rattle.srcp_index.proofs.Ordered.{all_weaker, length-order_by}
 
 -- ---- some item of a list
 
@@ -34,11 +34,11 @@ module _ {X : Type 0} (P : X → Type 0) where
 
   -- the order of a list makes no difference
   module _ (lt : X → X → Bool) where
-    any_put : (x : X) (xs : List X) → Any P (put lt x xs) → Any P (x ∷ xs)
+    any_put : (x : X) (xs : List X) → Any P (insert_by lt x xs) → Any P (x ∷ xs)
     any_put x [] = λ a. a
     any_put x (y ∷ ys) =
         elim (cases_Bool (lt y x)) [
-          | inl e ↦ rw e (λ a. elim (any_cases y (put lt x ys) a) [
+          | inl e ↦ rw e (λ a. elim (any_cases y (insert_by lt x ys) a) [
             | inl p ↦ any_later x (y ∷ ys) (any_here y ys p)
             | inr rest ↦ elim (any_cases x ys (any_put x ys rest)) [
               | inl p ↦ any_here x (y ∷ ys) p
@@ -48,15 +48,15 @@ module _ {X : Type 0} (P : X → Type 0) where
           | inr e ↦ rw e (λ a. a)
         ]
 
-    any_ranked : (xs : List X) → Any P (ranked lt xs) → Any P xs
+    any_ranked : (xs : List X) → Any P (order_by lt xs) → Any P xs
     any_ranked [] a = a
     any_ranked (x ∷ xs) a =
-        elim (any_cases x (ranked lt xs) (any_put x (ranked lt xs) a)) [
+        elim (any_cases x (order_by lt xs) (any_put x (order_by lt xs) a)) [
           | inl p ↦ any_here x xs p
           | inr rest ↦ any_later x xs (any_ranked xs rest)
         ]
 
-    all_put_back : (x : X) (xs : List X) → AllByRecursion P (put lt x xs) → P x × AllByRecursion P xs
+    all_put_back : (x : X) (xs : List X) → AllByRecursion P (insert_by lt x xs) → P x × AllByRecursion P xs
     all_put_back x [] = λ h. h
     all_put_back x (y ∷ ys) =
         elim (cases_Bool (lt y x)) [
@@ -64,9 +64,9 @@ module _ {X : Type 0} (P : X → Type 0) where
           | inr e ↦ rw e (λ h. h)
         ]
 
-    all_ranked_back : (xs : List X) → AllByRecursion P (ranked lt xs) → AllByRecursion P xs
+    all_ranked_back : (xs : List X) → AllByRecursion P (order_by lt xs) → AllByRecursion P xs
     all_ranked_back [] h = tt
-    all_ranked_back (x ∷ xs) h = let both = all_put_back x (ranked lt xs) h in (both.0, all_ranked_back xs both.1)
+    all_ranked_back (x ∷ xs) h = let both = all_put_back x (order_by lt xs) h in (both.0, all_ranked_back xs both.1)
 
 -- ---- the least rank
 
@@ -104,7 +104,7 @@ module _ (since : ℕ) where
         | inr f ↦ ltb-false z.rank y.rank f
       ]) zs a
 
-  least_of_all : (rank : ℕ) (ys : List Pair) → IsRanked (before since) ys → rank ≤ since
+  least_of_all : (rank : ℕ) (ys : List Pair) → IsInOrder (before since) ys → rank ≤ since
       → AllByRecursion (λ y. least_from rank ys ≤ y.rank) ys
   least_of_all rank [] r h = tt
   least_of_all rank (y ∷ ys) r h =
@@ -140,7 +140,7 @@ module _ (since : ℕ) where
         | inr e ↦ inr (least_step rank y ys false e)
       ]
 
-  least_first : (first : Pair) (ys : List Pair) → IsRanked (before since) (first ∷ ys)
+  least_first : (first : Pair) (ys : List Pair) → IsInOrder (before since) (first ∷ ys)
       → IsLeastRank (Some (least_from first.rank (first ∷ ys))) (first ∷ ys)
   least_first first ys r = (
     elim (cases_Bool (has_come first)) [
@@ -154,7 +154,7 @@ module _ (since : ℕ) where
     ],
   )
 
-  pub least_ranked : (first : Pair) (ys : List Pair) → 0 < length ys → first ≡ slice_index_or ys 0 first → IsRanked (before since) ys
+  pub least_ranked : (first : Pair) (ys : List Pair) → 0 < length ys → first ≡ slice_index_or ys 0 first → IsInOrder (before since) ys
       → IsLeastRank (Some (least_from first.rank ys)) ys
   least_ranked first [] within at r = absurd (omega (arith, within))
   least_ranked first (y ∷ ys) within at r =
@@ -208,10 +208,10 @@ none_due (row ∷ state) = by row.due refl (none_due state)
     by (Some moment) e rest l = absurd (omega (arith, l))
 
 -- the least rank of the pairs of due moments is the earliest of these
-pub earliest : (since : ℕ) (state : State) (pairs : List Pair) (o : Option ℕ) → pairs ≡ ranked (before since) (pairs_of due_of state)
+pub earliest : (since : ℕ) (state : State) (pairs : List Pair) (o : Option ℕ) → pairs ≡ order_by (before since) (pairs_of due_of state)
     → IsLeastRank o pairs → IsEarliestDue o state
 earliest since state pairs None is h =
-    none_due state (sym (length-ranked (before since) (pairs_of due_of state)) ∙ ap length (sym is ∙ h))
+    none_due state (sym (length-order_by (before since) (pairs_of due_of state)) ∙ ap length (sym is ∙ h))
 earliest since state pairs (Some first) is h =
     let least = subst (IsLeastRank (Some first)) is h in (
       no_earlier first state (all_ranked_back (λ (pair : Pair). first ≤ pair.rank) (before since) (pairs_of due_of state) least.0),

@@ -1,5 +1,5 @@
-pub mod Ranked
-pub mod Places
+pub mod Ordered
+pub mod Splits
 pub mod Pairs
 pub mod RowSums
 pub mod PairsOfRows

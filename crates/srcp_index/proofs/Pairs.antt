@@ -19,17 +19,17 @@ use Rattle.std.proofs.lemmas.List.Sorted.{All-permutation}
 use Rattle.std.proofs.lemmas.List.Elements.{All-from_recursion, recursion_from_All}
 use Rattle.std.proofs.lemmas.Bool.{ltb-true, ltb-false, eqb-true, eqb-false, false_from_ne_true}
 use Rattle.std.specs.Prelude.{nat_lt, ◌==◌, ◌&&◌, not}
-use Rattle.srcp_index.specs.Pairs.{is_ripe}
-use Rattle.srcp_index.proofs.Places.{StopsAtOnce}
+use Rattle.srcp_index.specs.Pairs.{is_due_beyond}
+use Rattle.srcp_index.proofs.Splits.{StopsAtOnce}
 use Rattle.srcp_info.specs.declared.change.Cursor.{Cursor}
 use Rattle.srcp_info.specs.Key.{key_cmp, has_reached, is_after}
 use Rattle.srcp_info.proofs.KeyLaws.{key_cmp_total, key_tie, nat_tie, then_tie}
 use Rattle.srcp_info.proofs.ClientLaws.{less_from_after, reached_below}
 use Rattle.srcp_index.specs.declared.index.Pair.{Pair}
 use Rattle.srcp_index.specs.Pairs.{order, before}
-use Rattle.srcp_index.specs.Ranked.{IsRanked}
-use Rattle.srcp_index.specs.Ranked as ranks
-use Rattle.srcp_index.proofs.Ranked as law
+use Rattle.srcp_index.specs.Ordered.{IsInOrder}
+use Rattle.srcp_index.specs.Ordered as ranks
+use Rattle.srcp_index.proofs.Ordered as law
 
 pub order_total : (since : ℕ) → IsTotalOrder (order since)
 order_total since = then_total (on_total (λ (p : Pair). p.rank - since) nat_cmp_total)
@@ -107,7 +107,7 @@ module _ (s t latest : ℕ) (h : s ≤ latest) (k : t ≤ latest) where
         past_each y e zs a.1 b.1,
       )
 
-  past_ranked : (ys : List Pair) → AllByRecursion (λ z. nat_le z.rank latest ≡ false) ys → IsRanked (before s) ys → IsRanked (before t) ys
+  past_ranked : (ys : List Pair) → AllByRecursion (λ z. nat_le z.rank latest ≡ false) ys → IsInOrder (before s) ys → IsInOrder (before t) ys
   past_ranked [] a r = tt
   past_ranked (y ∷ ys) a r = (past_each y a.0 ys a.1 r.0, past_ranked ys a.1 r.1)
 
@@ -125,15 +125,15 @@ module _ (s t latest : ℕ) (h : s ≤ latest) (k : t ≤ latest) where
   across (x ∷ xs) ys a b = (across_one x a.0 ys b, across xs ys a.1 b)
 
   -- a list is in the second order once its front is, as far as either moment goes
-  pub arranged : (xs : List Pair) (n : ℕ) (front : List Pair) → IsRanked (before s) xs
+  pub arranged : (xs : List Pair) (n : ℕ) (front : List Pair) → IsInOrder (before s) xs
       → AllByRecursion (λ z. nat_le z.rank latest ≡ true) (take n xs) → AllByRecursion (λ z. nat_le z.rank latest ≡ false) (drop n xs)
-      → IsPermutation (take n xs) front → IsRanked (before t) front → front ++ drop n xs ≡ ranks.ranked (before t) xs
+      → IsPermutation (take n xs) front → IsInOrder (before t) front → front ++ drop n xs ≡ ranks.order_by (before t) xs
   arranged xs n front r a b p q =
       let lt = before t in
       let P : Pair → Type 0 = λ z. nat_le z.rank latest ≡ true in
       let fits = recursion_from_All P front (All-permutation P (take n xs) front p (All-from_recursion P (take n xs) a)) in
-      law.unique lt (before_weak t) (before_tie t) (front ++ drop n xs) (ranks.ranked lt xs)
-      (law.ranked-append lt front (drop n xs) q (past_ranked (drop n xs) b (law.ranked_drop (before s) n xs r))
+      law.unique lt (before_weak t) (before_tie t) (front ++ drop n xs) (ranks.order_by lt xs)
+      (law.order_by-append lt front (drop n xs) q (past_ranked (drop n xs) b (law.ranked_drop (before s) n xs r))
       (across front (drop n xs) fits b))
       (law.ranked_is lt (before_weak t) xs)
       (λ z.
@@ -142,7 +142,7 @@ module _ (s t latest : ℕ) (h : s ≤ latest) (k : t ≤ latest) where
       let d = sum_by-IsPermutation f (take n xs) front p in
       let e = sum_by-append f (take n xs) (drop n xs) in
       let g = ap (sum_by f) (take-append-drop n xs) in
-      let i = law.sum-ranked lt f xs in
+      let i = law.sum-order_by lt f xs in
       omega arith)
 
 -- ---- looking for pairs
@@ -172,7 +172,7 @@ passed_from false c e f = absurd (true≢false (sym e))
 
 -- the rank has come, but the key is not beyond the cursor
 abbrev pub is_passed : (since : ℕ) → Cursor → Pair → Bool
-is_passed since cursor x = nat_le x.rank since && not (is_ripe since cursor x)
+is_passed since cursor x = nat_le x.rank since && not (is_due_beyond since cursor x)
 
 pub passed_first : (since : ℕ) (cursor : Cursor) (x y : Pair) → before since y x ≡ false → is_passed since cursor y ≡ true
     → is_passed since cursor x ≡ true
@@ -195,7 +195,7 @@ second_false false c e = refl
 first_false : (b c : Bool) → b ≡ false → (b && c) ≡ false
 first_false b c e = ap (λ a. a && c) e
 
-pub not_ripe_from_passed : (since : ℕ) (cursor : Cursor) (x : Pair) → is_passed since cursor x ≡ true → is_ripe since cursor x ≡ false
+pub not_ripe_from_passed : (since : ℕ) (cursor : Cursor) (x : Pair) → is_passed since cursor x ≡ true → is_due_beyond since cursor x ≡ false
 not_ripe_from_passed since cursor x e = second_false (nat_le x.rank since) (not (has_reached cursor x.key))
     (passed_parts (nat_le x.rank since) (not (has_reached cursor x.key)) e).1
 
@@ -204,7 +204,7 @@ not_come true c e f = absurd (true≢false (sym (ap not f) ∙ e))
 not_come false c e f = refl
 
 later_not_ripe : (since : ℕ) (cursor : Cursor) (y : Pair) → nat_le y.rank since ≡ false → (zs : List Pair)
-    → AllByRecursion (λ z. before since z y ≡ false) zs → AllByRecursion (λ z. is_ripe since cursor z ≡ false) zs
+    → AllByRecursion (λ z. before since z y ≡ false) zs → AllByRecursion (λ z. is_due_beyond since cursor z ≡ false) zs
 later_not_ripe since cursor y e [] a = tt
 later_not_ripe since cursor y e (z ∷ zs) a = (
   first_false (nat_le z.rank since) (not (has_reached cursor z.key)) (false_from_ne_true (nat_le z.rank since)
@@ -212,11 +212,11 @@ later_not_ripe since cursor y e (z ∷ zs) a = (
   later_not_ripe since cursor y e zs a.1,
 )
 
-pub ripe_stops : (since : ℕ) (cursor : Cursor) (ys : List Pair) → IsRanked (before since) ys
-    → AllByRecursion (λ y. is_passed since cursor y ≡ false) ys → StopsAtOnce (is_ripe since cursor) ys
+pub ripe_stops : (since : ℕ) (cursor : Cursor) (ys : List Pair) → IsInOrder (before since) ys
+    → AllByRecursion (λ y. is_passed since cursor y ≡ false) ys → StopsAtOnce (is_due_beyond since cursor) ys
 ripe_stops since cursor [] r a = tt
 ripe_stops since cursor (y ∷ ys) r a = λ e. later_not_ripe since cursor y
-    (not_come (nat_le y.rank since) (is_ripe since cursor y) a.0 e) ys r.0
+    (not_come (nat_le y.rank since) (is_due_beyond since cursor y) a.0 e) ys r.0
 
 -- the same for one rank
 pub lower_first : (rank : ℕ) (x y : Pair) → before 0 y x ≡ false → nat_lt y.rank rank ≡ true → nat_lt x.rank rank ≡ true
@@ -238,7 +238,7 @@ later_not_of rank y h (z ∷ zs) a = (
   later_not_of rank y h zs a.1,
 )
 
-pub rank_stops : (rank : ℕ) (ys : List Pair) → IsRanked (before 0) ys → AllByRecursion (λ y. nat_lt y.rank rank ≡ false) ys
+pub rank_stops : (rank : ℕ) (ys : List Pair) → IsInOrder (before 0) ys → AllByRecursion (λ y. nat_lt y.rank rank ≡ false) ys
     → StopsAtOnce (λ x. x.rank == rank) ys
 rank_stops rank [] r a = tt
 rank_stops rank (y ∷ ys) r a = λ e. later_not_of rank y (let m = ltb-false y.rank rank a.0 in let n = eqb-false y.rank rank e in omega

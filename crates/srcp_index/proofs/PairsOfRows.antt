@@ -17,23 +17,23 @@ use Rattle.srcp_rules.specs.State.{State, IsRising, row_at, put_row, holder_of}
 use Rattle.srcp_rules.specs.Due.{is_due, is_held_by, first_due, first_held}
 use Rattle.srcp_rules.proofs.StateLaws.{row_at-first, row_at-later}
 use Rattle.srcp_index.specs.declared.index.Pair.{Pair}
-use Rattle.srcp_index.specs.Pairs.{Held, before, is_ripe}
-use Rattle.srcp_index.specs.Ranked.{put, taken, ranked}
-use Rattle.srcp_index.specs.Indexed.{at_rank, due_of, pair_of, pairs_of, put_ranked, take_ranked, may_go, goer, goers}
+use Rattle.srcp_index.specs.Pairs.{IndexModel, before, is_due_beyond}
+use Rattle.srcp_index.specs.Ordered.{insert_by, remove_by, order_by}
+use Rattle.srcp_index.specs.Indexed.{at_rank, due_of, pair_of, pairs_of, insert_ranked, remove_ranked, is_removable, removable_count, removable_rows}
 use Rattle.srcp_index.proofs.Pairs.{before_weak, before_tie, alike_after}
-use Rattle.srcp_index.proofs.Ranked.{Keeps, find-ranked, taken-put, length-ranked}
-use Rattle.srcp_index.proofs.Ranked as law
+use Rattle.srcp_index.proofs.Ordered.{Keeps, find-order_by, remove_by-insert_by, length-order_by}
+use Rattle.srcp_index.proofs.Ordered as law
 use Rattle.srcp_index.proofs.RowSums.{but_at, put_there, sum-put_row}
 
 -- lists with the same sums have the same order
-same_pairs : (since : ℕ) (ps qs : List Pair) → ((f : Pair → ℕ) → sum_by f ps ≡ sum_by f qs) → ranked (before since) ps
-    ≡ ranked (before since) qs
+same_pairs : (since : ℕ) (ps qs : List Pair) → ((f : Pair → ℕ) → sum_by f ps ≡ sum_by f qs) → order_by (before since) ps
+    ≡ order_by (before since) qs
 same_pairs since ps qs same =
     let lt = before since in
-    law.unique lt (before_weak since) (before_tie since) (ranked lt ps) (ranked lt qs) (law.ranked_is lt (before_weak since) ps)
+    law.unique lt (before_weak since) (before_tie since) (order_by lt ps) (order_by lt qs) (law.ranked_is lt (before_weak since) ps)
     (law.ranked_is lt (before_weak since) qs)
-    (λ z. law.sum-ranked lt (law.hit lt (before_weak since) z) ps ∙ same (law.hit lt (before_weak since) z) ∙ sym
-    (law.sum-ranked lt (law.hit lt (before_weak since) z) qs))
+    (λ z. law.sum-order_by lt (law.hit lt (before_weak since) z) ps ∙ same (law.hit lt (before_weak since) z) ∙ sym
+    (law.sum-order_by lt (law.hit lt (before_weak since) z) qs))
 
 module _ (rank : Row → Option ℕ) where
   -- what the pair of a row adds to a sum
@@ -49,25 +49,25 @@ module _ (rank : Row → Option ℕ) where
       omega arith
 
   module _ (since : ℕ) where
-    noted-first : (o : Option ℕ) (row : Row) (ps : List Pair)
-        → option_map_or (λ r. put (before since) (at_rank row r) (ranked (before since) ps)) o (ranked (before since) ps)
-        ≡ ranked (before since) (option_map_or (λ r. at_rank row r ∷ []) o [] ++ ps)
-    noted-first None row ps = refl
-    noted-first (Some r) row ps = refl
+    inserted-first : (o : Option ℕ) (row : Row) (ps : List Pair)
+        → option_map_or (λ r. insert_by (before since) (at_rank row r) (order_by (before since) ps)) o (order_by (before since) ps)
+        ≡ order_by (before since) (option_map_or (λ r. at_rank row r ∷ []) o [] ++ ps)
+    inserted-first None row ps = refl
+    inserted-first (Some r) row ps = refl
 
-    forgotten-noted : (o : Option ℕ) (row : Row) (ps : List Pair) →
-        option_map_or (λ r. taken (before since) (at_rank row r) (option_map_or (λ r. put (before since) (at_rank row r) ps) o ps)) o
-        (option_map_or (λ r. put (before since) (at_rank row r) ps) o ps) ≡ ps
-    forgotten-noted None row ps = refl
-    forgotten-noted (Some r) row ps = taken-put (before since) (before_weak since) (at_rank row r) ps
+    removed-inserted : (o : Option ℕ) (row : Row) (ps : List Pair) →
+        option_map_or (λ r. remove_by (before since) (at_rank row r) (option_map_or (λ r. insert_by (before since) (at_rank row r) ps) o ps)) o
+        (option_map_or (λ r. insert_by (before since) (at_rank row r) ps) o ps) ≡ ps
+    removed-inserted None row ps = refl
+    removed-inserted (Some r) row ps = remove_by-insert_by (before since) (before_weak since) (at_rank row r) ps
 
     -- with the pair of a row the pairs of the others are those of the rows with it
-    pub noted-pairs : (row : Row) (state : State)
-        → put_ranked since (rank row) row.shown.key (ranked (before since) (pairs_of rank (but_at row.shown.key state)))
-        ≡ ranked (before since) (pairs_of rank (put_row row state))
-    noted-pairs row state =
+    pub inserted-pairs : (row : Row) (state : State)
+        → insert_ranked since (rank row) row.shown.key (order_by (before since) (pairs_of rank (but_at row.shown.key state)))
+        ≡ order_by (before since) (pairs_of rank (put_row row state))
+    inserted-pairs row state =
         let others = but_at row.shown.key state in
-        noted-first (rank row) row (pairs_of rank others)
+        inserted-first (rank row) row (pairs_of rank others)
         ∙ same_pairs since (pair_of rank row ++ pairs_of rank others) (pairs_of rank (put_row row state)) (λ f.
         let a = sum_by-append f (pair_of rank row) (pairs_of rank others) in
         let b = sum-pairs f others in
@@ -76,14 +76,14 @@ module _ (rank : Row → Option ℕ) where
         omega arith)
 
     -- and without it they are those of the others
-    pub forgotten-pairs : (row : Row) (state : State) → IsRising state → row_at row.shown.key state ≡ Some row
-        → take_ranked since (rank row) row.shown.key (ranked (before since) (pairs_of rank state)) ≡ ranked (before since)
+    pub removed-pairs : (row : Row) (state : State) → IsRising state → row_at row.shown.key state ≡ Some row
+        → remove_ranked since (rank row) row.shown.key (order_by (before since) (pairs_of rank state)) ≡ order_by (before since)
         (pairs_of rank (but_at row.shown.key state))
-    forgotten-pairs row state rising there =
-        ap (λ rows. take_ranked since (rank row) row.shown.key (ranked (before since) (pairs_of rank rows)))
+    removed-pairs row state rising there =
+        ap (λ rows. remove_ranked since (rank row) row.shown.key (order_by (before since) (pairs_of rank rows)))
         (sym (put_there row state rising there))
-        ∙ ap (take_ranked since (rank row) row.shown.key) (sym (noted-pairs row state))
-        ∙ forgotten-noted (rank row) row (ranked (before since) (pairs_of rank (but_at row.shown.key state)))
+        ∙ ap (remove_ranked since (rank row) row.shown.key) (sym (inserted-pairs row state))
+        ∙ removed-inserted (rank row) row (order_by (before since) (pairs_of rank (but_at row.shown.key state)))
 
   -- ---- how many they are
 
@@ -98,14 +98,14 @@ module _ (rank : Row → Option ℕ) where
   length_both [] qs = omega arith
   length_both (p ∷ ps) qs = let h = length_both ps qs in omega arith
 
-  pub fewer_pairs : (state : State) → AllByRecursion (λ row. IsSome (rank row) → IsTrue (may_go row)) state
-      → length (pairs_of rank state) ≤ goers state
+  pub fewer_pairs : (state : State) → AllByRecursion (λ row. IsSome (rank row) → IsTrue (is_removable row)) state
+      → length (pairs_of rank state) ≤ removable_rows state
   fewer_pairs [] goes = omega arith
   fewer_pairs (row ∷ state) goes =
-      let a = one_at_most (rank row) (may_go row) goes.0 row in
+      let a = one_at_most (rank row) (is_removable row) goes.0 row in
       let b = fewer_pairs state goes.1 in
       let c = length_both (pair_of rank row) (pairs_of rank state) in
-      let d = sum_by-cons goer row state in
+      let d = sum_by-cons removable_count row state in
       omega arith
 
   -- ---- looking for the first that passes a test
@@ -180,9 +180,9 @@ module _ (rank : Row → Option ℕ) where
 
     pub found_ranked : (p : Row → Bool) → ((row : Row) → option_map_or (λ r. t (at_rank row r)) (rank row) false ≡ p row)
         → (state : State) → IsRising state
-        → option_and_then (λ (pair : Pair). row_at pair.key state) (find t (ranked lt (pairs_of rank state))) ≡ find p state
+        → option_and_then (λ (pair : Pair). row_at pair.key state) (find t (order_by lt (pairs_of rank state))) ≡ find p state
     found_ranked p alike state rising =
-        ap (option_and_then (λ (pair : Pair). row_at pair.key state)) (find-ranked lt t (pairs_of rank state) (keeps state rising))
+        ap (option_and_then (λ (pair : Pair). row_at pair.key state)) (find-order_by lt t (pairs_of rank state) (keeps state rising))
         ∙ found_row t p alike state rising
 
 swapped : (a b : Key) → key_cmp a b ≡ Less → key_cmp b a ≡ Greater
@@ -191,14 +191,14 @@ swapped a b e = key_cmp_total.antisymm b a ∙ ap ordering_reverse e
 -- ---- the first due row beyond a cursor
 
 module _ (moment : ℕ) (cursor : Cursor) where
-  ripe_by_key : (x y : Pair) → key_cmp x.key y.key ≡ Less → is_ripe moment cursor x ≡ true → is_ripe moment cursor y ≡ true
+  ripe_by_key : (x y : Pair) → key_cmp x.key y.key ≡ Less → is_due_beyond moment cursor x ≡ true → is_due_beyond moment cursor y ≡ true
       → before moment y x ≡ false
   ripe_by_key x y less e f =
       let m = leb-true x.rank moment (and_parts (nat_le x.rank moment) (not (has_reached cursor x.key)) e).0 in
       let n = leb-true y.rank moment (and_parts (nat_le y.rank moment) (not (has_reached cursor y.key)) f).0 in
       alike_after moment y x (omega (arith, m, n)) (swapped x.key y.key less)
 
-  ripe_alike : (row : Row) → option_map_or (λ r. is_ripe moment cursor (at_rank row r)) row.due false
+  ripe_alike : (row : Row) → option_map_or (λ r. is_due_beyond moment cursor (at_rank row r)) row.due false
       ≡ (not (has_reached cursor row.shown.key) && is_due moment row)
   ripe_alike row = by row.due (not (has_reached cursor row.shown.key))
     where
@@ -216,9 +216,9 @@ module _ (moment : ℕ) (cursor : Cursor) where
 
   pub found_due : (state : State) → IsRising state
       → option_and_then (λ (pair : Pair). row_at pair.key state)
-      (find (is_ripe moment cursor) (ranked (before moment) (pairs_of (λ row. row.due) state)))
+      (find (is_due_beyond moment cursor) (order_by (before moment) (pairs_of (λ row. row.due) state)))
       ≡ find (λ row. not (has_reached cursor row.shown.key) && is_due moment row) state
-  found_due state rising = found_ranked (λ row. row.due) (before moment) (is_ripe moment cursor) ripe_by_key
+  found_due state rising = found_ranked (λ row. row.due) (before moment) (is_due_beyond moment cursor) ripe_by_key
       (λ row. not (has_reached cursor row.shown.key) && is_due moment row) ripe_alike state rising
 
 -- ---- the first lock of a session
@@ -232,22 +232,22 @@ module _ (session : ℕ) where
 
   pub found_held : (state : State) → IsRising state
       → option_and_then (λ (pair : Pair). row_at pair.key state)
-      (find (λ pair. pair.rank == session) (ranked (before 0) (pairs_of holder_of state))) ≡ find (is_held_by session) state
+      (find (λ pair. pair.rank == session) (order_by (before 0) (pairs_of holder_of state))) ≡ find (is_held_by session) state
   found_held state rising = found_ranked holder_of (before 0) (λ pair. pair.rank == session) same_by_key (is_held_by session)
       (λ row. refl) state rising
 
 -- ---- what an index answers
 
-pub due_row : (state : State) (index : Held) (cursor : Cursor) (o : Option Pair) → IsRising state → index.pairs
-    ≡ ranked (before index.since) (pairs_of due_of state) → o ≡ find (is_ripe index.since cursor) index.pairs
+pub due_row : (state : State) (index : IndexModel) (cursor : Cursor) (o : Option Pair) → IsRising state → index.pairs
+    ≡ order_by (before index.since) (pairs_of due_of state) → o ≡ find (is_due_beyond index.since cursor) index.pairs
     → option_and_then (λ (pair : Pair). row_at pair.key state) o ≡ first_due index.since cursor state
 due_row state index cursor o rising pairs found =
-    ap (option_and_then (λ (pair : Pair). row_at pair.key state)) (found ∙ ap (find (is_ripe index.since cursor)) pairs)
+    ap (option_and_then (λ (pair : Pair). row_at pair.key state)) (found ∙ ap (find (is_due_beyond index.since cursor)) pairs)
     ∙ found_due index.since cursor state rising
 
-pub held_row : (state : State) (index : Held) (session : ℕ) (o : Option Pair) → IsRising state → index.since ≡ 0 → index.pairs
-    ≡ ranked (before index.since) (pairs_of holder_of state) → o ≡ find (λ pair. pair.rank == session) index.pairs
+pub held_row : (state : State) (index : IndexModel) (session : ℕ) (o : Option Pair) → IsRising state → index.since ≡ 0 → index.pairs
+    ≡ order_by (before index.since) (pairs_of holder_of state) → o ≡ find (λ pair. pair.rank == session) index.pairs
     → option_and_then (λ (pair : Pair). row_at pair.key state) o ≡ first_held session state
 held_row state index session o rising since pairs found =
     ap (option_and_then (λ (pair : Pair). row_at pair.key state)) (found ∙ ap (find (λ pair. pair.rank == session))
-    (pairs ∙ ap (λ m. ranked (before m) (pairs_of holder_of state)) since)) ∙ found_held session state rising
+    (pairs ∙ ap (λ m. order_by (before m) (pairs_of holder_of state)) since)) ∙ found_held session state rising

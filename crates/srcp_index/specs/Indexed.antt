@@ -12,8 +12,8 @@ use Rattle.srcp_rules.specs.State.{State, IsRising, holder_of}
 use Rattle.srcp_rules.specs.Rows.{most_rows}
 use Rattle.srcp_index.specs.declared.index.Pair.{Pair}
 use Rattle.srcp_index.specs.declared.indexes.Indexes.{Indexes}
-use Rattle.srcp_index.specs.Pairs.{Held, before}
-use Rattle.srcp_index.specs.Ranked.{put, taken, ranked}
+use Rattle.srcp_index.specs.Pairs.{IndexModel, before}
+use Rattle.srcp_index.specs.Ordered.{insert_by, remove_by, order_by}
 
 -- the pair of a row of this rank
 abbrev pub at_rank : Row → (rank : ℕ) → Pair
@@ -28,27 +28,27 @@ abbrev pub pairs_of : (rank : Row → Option ℕ) → State → List Pair
 pairs_of rank state = flat_map (pair_of rank) state
 
 -- the pairs with that of the key, if it has a rank
-abbrev pub put_ranked : (since : ℕ) → (rank : Option ℕ) → Key → List Pair → List Pair
-put_ranked since rank k pairs = option_map_or (λ r. put (before since) (record { rank = r; key = k }) pairs) rank pairs
+abbrev pub insert_ranked : (since : ℕ) → (rank : Option ℕ) → Key → List Pair → List Pair
+insert_ranked since rank k pairs = option_map_or (λ r. insert_by (before since) (record { rank = r; key = k }) pairs) rank pairs
 
 -- the pairs without it
-abbrev pub take_ranked : (since : ℕ) → (rank : Option ℕ) → Key → List Pair → List Pair
-take_ranked since rank k pairs =
-    option_map_or (λ r. taken (before since) (record { rank = r; key = k }) pairs) rank pairs
+abbrev pub remove_ranked : (since : ℕ) → (rank : Option ℕ) → Key → List Pair → List Pair
+remove_ranked since rank k pairs =
+    option_map_or (λ r. remove_by (before since) (record { rank = r; key = k }) pairs) rank pairs
 
 -- the index with the pair of the key, if it has a rank
-abbrev pub with_pair : (rank : Option ℕ) → Key → Held → Held
+abbrev pub with_pair : (rank : Option ℕ) → Key → IndexModel → IndexModel
 with_pair rank k index = record {
   since = index.since;
-  pairs = put_ranked index.since rank k index.pairs;
+  pairs = insert_ranked index.since rank k index.pairs;
   room = index.room;
 }
 
 -- the index without it
-abbrev pub without_pair : (rank : Option ℕ) → Key → Held → Held
+abbrev pub without_pair : (rank : Option ℕ) → Key → IndexModel → IndexModel
 without_pair rank k index = record {
   since = index.since;
-  pairs = take_ranked index.since rank k index.pairs;
+  pairs = remove_ranked index.since rank k index.pairs;
   room = index.room;
 }
 
@@ -77,12 +77,12 @@ without_row row both = record {
 }
 
 -- the index has room for one more pair
-abbrev pub HasRoom : Held → Type 0
+abbrev pub HasRoom : IndexModel → Type 0
 HasRoom index = length index.pairs < index.room
 
 -- the row is of a device that comes and goes
-abbrev pub may_go : Row → Bool
-may_go row = can_go row.shown.key.group
+abbrev pub is_removable : Row → Bool
+is_removable row = can_go row.shown.key.group
 
 -- a row of the group may have a due moment or a holder
 abbrev pub may_rank : Group → Bool
@@ -95,12 +95,12 @@ may_rank group.LockGl = true
 may_rank group.LockGa = true
 
 -- 1 for such a row
-abbrev pub goer : Row → ℕ
-goer row = if may_go row then 1 else 0
+abbrev pub removable_count : Row → ℕ
+removable_count row = if is_removable row then 1 else 0
 
 -- how many such rows there are
-abbrev pub goers : State → ℕ
-goers state = sum_by goer state
+abbrev pub removable_rows : State → ℕ
+removable_rows state = sum_by removable_count state
 
 -- no row has a rank but of an accessory or a lock, and its port is one that its group may have
 pub record IsRankedRow (row : Row) : Type 0 where
@@ -109,8 +109,8 @@ pub record IsRankedRow (row : Row) : Type 0 where
   pub port : row.shown.key.port < most_rows row.shown.key.group
 
 -- the index has the pairs of the rows, and room for `count` pairs
-pub record HasPairs (rank : Row → Option ℕ) (state : State) (index : Held) (count : ℕ) : Type 0 where
-  pub pairs : index.pairs ≡ ranked (before index.since) (pairs_of rank state)
+pub record HasPairs (rank : Row → Option ℕ) (state : State) (index : IndexModel) (count : ℕ) : Type 0 where
+  pub pairs : index.pairs ≡ order_by (before index.since) (pairs_of rank state)
   pub room : count ≤ index.room
 
 -- the keys rise, both indexes have the pairs of the rows, and room for all that come and go, and these are counted
@@ -119,5 +119,5 @@ pub record IsIndexed (state : State) (both : Indexes) (count : ℕ) : Type 0 whe
   pub due : HasPairs due_of state both.moments count
   pub held : HasPairs holder_of state both.sessions count
   pub since : both.sessions.since ≡ 0
-  pub counted : goers state ≡ count
+  pub counted : removable_rows state ≡ count
   pub rows : AllByRecursion IsRankedRow state

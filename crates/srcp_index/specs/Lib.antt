@@ -1,4 +1,4 @@
-pub mod Ranked
+pub mod Ordered
 pub mod Pairs
 pub mod Indexed
 pub mod Earliest

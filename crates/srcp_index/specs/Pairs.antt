@@ -16,15 +16,15 @@ order since a b =
 abbrev pub before : (since : ℕ) → Pair → Pair → Bool
 before since a b = is_lt (order since a b)
 
--- what an index holds: its pairs in the order since the moment, and how many it has room for
-pub record Held : Type 0 where
+-- an index as contracts see it: its pairs in the order since the moment, and how many it has room for
+pub record IndexModel : Type 0 where
   pub since : ℕ
   pub pairs : List Pair
   pub room : ℕ
 
 -- the rank has come, and the key is beyond the cursor
-abbrev pub is_ripe : (moment : ℕ) → Cursor → Pair → Bool
-is_ripe moment cursor pair = nat_le pair.rank moment && not (has_reached cursor pair.key)
+abbrev pub is_due_beyond : (moment : ℕ) → Cursor → Pair → Bool
+is_due_beyond moment cursor pair = nat_le pair.rank moment && not (has_reached cursor pair.key)
 
 -- the least rank of the pairs: no pair has a lesser one, and one pair has it; none if there is no pair
 abbrev pub IsLeastRank : Option ℕ → List Pair → Type 0

@@ -1,11 +1,11 @@
-//! Pairs of a rank and a key in order, in memory that is reserved beforehand.
+//! Pairs of a rank and a key in order, in memory that is reserved ahead.
 ghost use Rattle.std.specs.Prelude.{◌≡◌, ◌+◌, ◌<◌, ◌≤◌, ◌==◌, [], length, take, drop, find, fold, min, nat_le};
 ghost use Rattle.std.specs.Prelude.{take_while, true, false, IsTrue, IfOk, OnOk, slice_get};
 ghost use Rattle.std.specs.VecDeque.{deque_len, deque_capacity};
 ghost use Rattle.std.specs.List.{AllByRecursion};
 ghost use Rattle.std.specs.List.Sorted.{IsPermutation};
-ghost use Rattle.srcp_index.specs.Ranked.{IsRanked, put, taken, ranked};
-ghost use Rattle.srcp_index.specs.Pairs.{IsLeastRank, before, is_ripe, order};
+ghost use Rattle.srcp_index.specs.Ordered.{IsInOrder, insert_by, remove_by, order_by};
+ghost use Rattle.srcp_index.specs.Pairs.{IsLeastRank, before, is_due_beyond, order};
 
 use srcp_info::{Cursor, Key, compare as compare_keys};
 use std::alloc::{AllocError, Global};
@@ -13,7 +13,7 @@ use std::cmp::Ordering;
 use std::collections::VecDeque;
 use std::marker::Model;
 
-/// A key and its rank.
+/// Pairs a key with its rank.
 #[derive(Clone, Copy, Debug, PartialEq, Eq)]
 pub(crate) struct Pair {
     pub(crate) rank: u64,
@@ -39,8 +39,8 @@ fn is_before(since: u64, a: &Pair, b: &Pair) -> bool
 }
 
 /// Returns how many pairs come before this one.
-fn place_of(pairs: &VecDeque<Pair>, since: u64, pair: &Pair) -> usize
-    requires { IsRanked (before since) pairs.now.items }
+fn count_before(pairs: &VecDeque<Pair>, since: u64, pair: &Pair) -> usize
+    requires { IsInOrder (before since) pairs.now.items }
     ensures bound { result ≤ length pairs.now.items }
     ensures front { AllByRecursion (λ x. before since x pair.now ≡ true) (take result pairs.now.items) }
     ensures back { AllByRecursion (λ x. before since x pair.now ≡ false) (drop result pairs.now.items) }
@@ -49,34 +49,34 @@ fn place_of(pairs: &VecDeque<Pair>, since: u64, pair: &Pair) -> usize
 }
 
 /// Inserts a pair in order, if there is room.
-fn put_in(pairs: &mut VecDeque<Pair>, since: u64, pair: Pair)
-    requires ranked { IsRanked (before since) pairs.old.items }
+fn insert_in(pairs: &mut VecDeque<Pair>, since: u64, pair: Pair)
+    requires order { IsInOrder (before since) pairs.old.items }
     requires room { deque_len pairs.old < deque_capacity pairs.old }
-    ensures pairs { pairs.new.items ≡ put (before since) pair pairs.old.items }
+    ensures pairs { pairs.new.items ≡ insert_by (before since) pair pairs.old.items }
     ensures len { deque_len pairs.new ≡ deque_len pairs.old + 1 }
     ensures capacity { deque_capacity pairs.old ≤ deque_capacity pairs.new }
 {
-    let place = place_of(pairs, since, &pair);
-    let _ = pairs.insert(place, pair);
+    let index = count_before(pairs, since, &pair);
+    let _ = pairs.insert(index, pair);
 }
 
 /// Removes a pair, if it is there.
-fn take_from(pairs: &mut VecDeque<Pair>, since: u64, pair: Pair)
-    requires ranked { IsRanked (before since) pairs.old.items }
-    ensures pairs { pairs.new.items ≡ taken (before since) pair pairs.old.items }
+fn remove_from(pairs: &mut VecDeque<Pair>, since: u64, pair: Pair)
+    requires order { IsInOrder (before since) pairs.old.items }
+    ensures pairs { pairs.new.items ≡ remove_by (before since) pair pairs.old.items }
     ensures capacity { deque_capacity pairs.new ≡ deque_capacity pairs.old }
 {
-    let place = place_of(pairs, since, &pair);
-    if place < pairs.len() && !is_before(since, &pair, &pairs[place]) {
-        pairs.remove(place);
+    let index = count_before(pairs, since, &pair);
+    if index < pairs.len() && !is_before(since, &pair, &pairs[index]) {
+        pairs.remove(index);
     }
 }
 
 /// Sorts pairs from the order of one moment into that of another. Only those whose rank is up to the later of the two
 /// move.
-fn arrange(pairs: &mut [Pair], since: u64, moment: u64)
-    requires { IsRanked (before since) pairs.old }
-    ensures { pairs.new ≡ ranked (before moment) pairs.old }
+fn reorder(pairs: &mut [Pair], since: u64, moment: u64)
+    requires { IsInOrder (before since) pairs.old }
+    ensures { pairs.new ≡ order_by (before moment) pairs.old }
 {
     let latest = since.max(moment);
     let count = pairs.partition_point(|pair| pair.rank <= latest);
@@ -84,53 +84,53 @@ fn arrange(pairs: &mut [Pair], since: u64, moment: u64)
     sort(front, moment);
 }
 
-/// Sorts the pairs of a ring in that way.
-fn arrange_in(pairs: &mut VecDeque<Pair>, since: u64, moment: u64)
-    requires { IsRanked (before since) pairs.old.items }
-    ensures pairs { pairs.new.items ≡ ranked (before moment) pairs.old.items }
+/// Sorts the pairs of a ring from the order of one moment into that of another.
+fn reorder_in(pairs: &mut VecDeque<Pair>, since: u64, moment: u64)
+    requires { IsInOrder (before since) pairs.old.items }
+    ensures pairs { pairs.new.items ≡ order_by (before moment) pairs.old.items }
     ensures capacity { deque_capacity pairs.new ≡ deque_capacity pairs.old }
 {
-    arrange(pairs.make_contiguous(), since, moment);
+    reorder(pairs.make_contiguous(), since, moment);
 }
 
 /// Sorts pairs into the order of a moment.
 fn sort(pairs: &mut [Pair], moment: u64)
     ensures permutation { IsPermutation pairs.old pairs.new }
-    ensures ranked { IsRanked (before moment) pairs.new }
+    ensures order { IsInOrder (before moment) pairs.new }
     ensures len { length pairs.new ≡ length pairs.old }
 {
     pairs.sort_unstable_by(|a, b| compare(moment, a, b));
 }
 
 /// Returns whether the rank is up to the moment, and the key beyond the cursor.
-fn is_ripe(moment: u64, cursor: Cursor, pair: &Pair) -> bool
-    ensures { result ≡ is_ripe moment cursor pair.now }
+fn is_due_beyond(moment: u64, cursor: Cursor, pair: &Pair) -> bool
+    ensures { result ≡ is_due_beyond moment cursor pair.now }
 {
     pair.rank <= moment && !cursor.has_reached(&pair.key)
 }
 
-/// Returns the first such pair.
-fn ripe_in(pairs: &VecDeque<Pair>, since: u64, cursor: Cursor) -> Option<Pair>
-    requires { IsRanked (before since) pairs.now.items }
-    ensures { result ≡ find (is_ripe since cursor) pairs.now.items }
+/// Returns the first pair whose rank is up to `since` and whose key is beyond the cursor.
+fn first_due_in(pairs: &VecDeque<Pair>, since: u64, cursor: Cursor) -> Option<Pair>
+    requires { IsInOrder (before since) pairs.now.items }
+    ensures { result ≡ find (is_due_beyond since cursor) pairs.now.items }
 {
-    let place = pairs.partition_point(|x| x.rank <= since && !is_ripe(since, cursor, x));
-    let pair = *pairs.get(place)?;
-    is_ripe(since, cursor, &pair).then_some(pair)
+    let index = pairs.partition_point(|x| x.rank <= since && !is_due_beyond(since, cursor, x));
+    let pair = *pairs.get(index)?;
+    is_due_beyond(since, cursor, &pair).then_some(pair)
 }
 
 /// Returns the first pair of a rank.
 fn first_in(pairs: &VecDeque<Pair>, rank: u64) -> Option<Pair>
-    requires { IsRanked (before 0) pairs.now.items }
+    requires { IsInOrder (before 0) pairs.now.items }
     ensures { result ≡ find (λ x. x.rank == rank) pairs.now.items }
 {
-    let place = pairs.partition_point(|x| x.rank < rank);
-    let pair = *pairs.get(place)?;
+    let index = pairs.partition_point(|x| x.rank < rank);
+    let pair = *pairs.get(index)?;
     (pair.rank == rank).then_some(pair)
 }
 
 /// Returns the least of this rank and those up to `since`. The pairs of those come first, and it looks no further.
-fn least_come(pairs: &VecDeque<Pair>, since: u64, rank: u64) -> u64
+fn least_due(pairs: &VecDeque<Pair>, since: u64, rank: u64) -> u64
     ensures { result
         ≡ fold (λ least pair. min least pair.rank) rank (take_while (λ pair. nat_le pair.rank since) pairs.now.items) }
 {
@@ -142,11 +142,11 @@ fn least_come(pairs: &VecDeque<Pair>, since: u64, rank: u64) -> u64
 
 /// Returns the least rank.
 fn least_in(pairs: &VecDeque<Pair>, since: u64) -> Option<u64>
-    requires { IsRanked (before since) pairs.now.items }
+    requires { IsInOrder (before since) pairs.now.items }
     ensures { IsLeastRank result pairs.now.items }
 {
     let first = pairs.front()?;
-    Some(least_come(pairs, since, first.rank))
+    Some(least_due(pairs, since, first.rank))
 }
 
 /// Holds pairs in the order of a moment. Contracts see that list, the moment, and the number of pairs that have room.
@@ -161,14 +161,14 @@ pub(crate) struct Index {
 impl Model for Index {
     ghost use Rattle.std.specs.Prelude.{◌≤◌};
     ghost use Rattle.std.specs.VecDeque.{deque_capacity};
-    ghost use Rattle.srcp_index.specs.Ranked.{IsRanked};
-    ghost use Rattle.srcp_index.specs.Pairs.{Held, before};
+    ghost use Rattle.srcp_index.specs.Ordered.{IsInOrder};
+    ghost use Rattle.srcp_index.specs.Pairs.{IndexModel, before};
 
-    ghost Value = { Held };
+    ghost Value = { IndexModel };
 
     ghost view = { λ x. record { since = x.since; pairs = x.pairs.items; room = x.room } };
 
-    ghost invariant = { λ x. IsRanked (before x.since) x.pairs.items × (x.room ≤ deque_capacity x.pairs) };
+    ghost invariant = { λ x. IsInOrder (before x.since) x.pairs.items × (x.room ≤ deque_capacity x.pairs) };
 }
 
 impl Index {
@@ -198,42 +198,42 @@ impl Index {
     }
 
     /// Inserts a pair.
-    pub(crate) fn put(&mut self, pair: Pair)
+    pub(crate) fn insert(&mut self, pair: Pair)
         requires room { length self.old.pairs < self.old.room }
-        ensures pairs { self.new.pairs ≡ put (before self.old.since) pair self.old.pairs }
+        ensures pairs { self.new.pairs ≡ insert_by (before self.old.since) pair self.old.pairs }
         ensures len { length self.new.pairs ≡ length self.old.pairs + 1 }
         ensures since { self.new.since ≡ self.old.since }
         ensures room { self.new.room ≡ self.old.room }
     {
-        put_in(&mut self.pairs, self.since, pair);
+        insert_in(&mut self.pairs, self.since, pair);
     }
 
     /// Removes a pair, if it is there.
-    pub(crate) fn take(&mut self, pair: Pair)
-        ensures pairs { self.new.pairs ≡ taken (before self.old.since) pair self.old.pairs }
+    pub(crate) fn remove(&mut self, pair: Pair)
+        ensures pairs { self.new.pairs ≡ remove_by (before self.old.since) pair self.old.pairs }
         ensures since { self.new.since ≡ self.old.since }
         ensures room { self.new.room ≡ self.old.room }
     {
-        take_from(&mut self.pairs, self.since, pair);
+        remove_from(&mut self.pairs, self.since, pair);
     }
 
     /// Sorts the pairs for the moment: those with a rank up to it come first, in the order of their keys.
-    pub(crate) fn settle(&mut self, moment: u64)
-        ensures pairs { self.new.pairs ≡ ranked (before moment) self.old.pairs }
+    pub(crate) fn sort_for(&mut self, moment: u64)
+        ensures pairs { self.new.pairs ≡ order_by (before moment) self.old.pairs }
         ensures since { self.new.since ≡ moment }
         ensures room { self.new.room ≡ self.old.room }
     {
         if moment != self.since {
-            arrange_in(&mut self.pairs, self.since, moment);
+            reorder_in(&mut self.pairs, self.since, moment);
             self.since = moment;
         }
     }
 
     /// Returns the first pair whose rank is up to the moment and whose key is beyond the cursor.
-    pub(crate) fn ripe_beyond(&self, cursor: Cursor) -> Option<Pair>
-        ensures { result ≡ find (is_ripe self.now.since cursor) self.now.pairs }
+    pub(crate) fn first_due_beyond(&self, cursor: Cursor) -> Option<Pair>
+        ensures { result ≡ find (is_due_beyond self.now.since cursor) self.now.pairs }
     {
-        ripe_in(&self.pairs, self.since, cursor)
+        first_due_in(&self.pairs, self.since, cursor)
     }
 
     /// Returns the least rank, or `None` if there is no pair.

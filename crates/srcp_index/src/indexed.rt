@@ -3,7 +3,7 @@ ghost use Rattle.std.specs.Prelude.{◌≡◌, ◌+◌, ◌<◌, ◌≤◌, leng
 ghost use Rattle.std.specs.List.{AllByRecursion};
 ghost use Rattle.srcp_index.specs.Earliest.{IsEarliestDue};
 ghost use Rattle.srcp_info.specs.WellFormed.{can_go};
-ghost use Rattle.srcp_index.specs.Indexed.{IsIndexed, goers, may_rank};
+ghost use Rattle.srcp_index.specs.Indexed.{IsIndexed, removable_rows, may_rank};
 
 use crate::indexes::Indexes;
 use srcp_info::{Cursor, Device, Group, Key, Row};
@@ -64,8 +64,8 @@ impl<R: Rows> Rows for Indexed<R> {
     }
 
     fn next_due(&mut self, moment: u64, cursor: Cursor) -> Option<Row> {
-        self.indexes.moments.settle(moment);
-        let pair = self.indexes.moments.ripe_beyond(cursor)?;
+        self.indexes.moments.sort_for(moment);
+        let pair = self.indexes.moments.first_due_beyond(cursor)?;
         self.rows.row(&pair.key).copied()
     }
 
@@ -80,8 +80,8 @@ impl<R: Rows> Rows for Indexed<R> {
         };
         self.indexes.reserve(total)?;
         self.rows.add(added)?;
-        self.indexes.note_all(added);
-        self.count += goers(added);
+        self.indexes.insert_all(added);
+        self.count += removable_rows(added);
         Ok(())
     }
 
@@ -93,8 +93,8 @@ impl<R: Rows> Rows for Indexed<R> {
         let Some(old) = self.rows.row(&row.shown.key) else {
             return;
         };
-        self.indexes.forget(old);
-        self.indexes.note(&row);
+        self.indexes.remove(old);
+        self.indexes.insert(&row);
         self.rows.set(row);
     }
 
@@ -107,7 +107,7 @@ impl<R: Rows> Rows for Indexed<R> {
                 port,
             };
             if let Some(row) = self.rows.row(&key) {
-                self.indexes.forget(row);
+                self.indexes.remove(row);
                 self.count -= 1;
             }
         }
@@ -122,9 +122,9 @@ fn may_rank(group: Group) -> bool
     matches!(group, Group::Ga | Group::LockGl | Group::LockGa)
 }
 
-/// Returns how many of the rows are of devices that come and go.
-fn goers(rows: &[Row]) -> usize
-    ensures { result ≡ goers rows.now }
+/// Counts the rows of devices that come and go.
+fn removable_rows(rows: &[Row]) -> usize
+    ensures { result ≡ removable_rows rows.now }
 {
     rows.iter()
         .filter(|row| can_go(row.shown.key.group))

@@ -48,32 +48,32 @@ impl Indexes {
     }
 
     /// Inserts the pairs of a row.
-    pub(crate) fn note(&mut self, row: &Row)
+    pub(crate) fn insert(&mut self, row: &Row)
         requires moments { IsSome (due_of row.now) → HasRoom self.old.moments }
         requires sessions { IsSome (holder_of row.now) → HasRoom self.old.sessions }
         ensures { self.new ≡ with_row row.now self.old }
     {
-        put_ranked(&mut self.moments, row.due, row.shown.key);
-        put_ranked(&mut self.sessions, holder(row), row.shown.key);
+        insert_ranked(&mut self.moments, row.due, row.shown.key);
+        insert_ranked(&mut self.sessions, holder(row), row.shown.key);
     }
 
     /// Inserts the pairs of rows.
-    pub(crate) fn note_all(&mut self, rows: &[Row])
+    pub(crate) fn insert_all(&mut self, rows: &[Row])
         requires moments { length self.old.moments.pairs + length rows.now ≤ self.old.moments.room }
         requires sessions { length self.old.sessions.pairs + length rows.now ≤ self.old.sessions.room }
         ensures { self.new ≡ with_rows rows.now self.old }
     {
         for row in rows {
-            self.note(row);
+            self.insert(row);
         }
     }
 
     /// Removes the pairs of a row.
-    pub(crate) fn forget(&mut self, row: &Row)
+    pub(crate) fn remove(&mut self, row: &Row)
         ensures { self.new ≡ without_row row.now self.old }
     {
-        take_ranked(&mut self.moments, row.due, row.shown.key);
-        take_ranked(&mut self.sessions, holder(row), row.shown.key);
+        remove_ranked(&mut self.moments, row.due, row.shown.key);
+        remove_ranked(&mut self.sessions, holder(row), row.shown.key);
     }
 }
 
@@ -88,20 +88,20 @@ fn holder(row: &Row) -> Option<u64>
 }
 
 /// Inserts the pair of a key, if it has a rank.
-fn put_ranked(index: &mut Index, rank: Option<u64>, key: Key)
+fn insert_ranked(index: &mut Index, rank: Option<u64>, key: Key)
     requires { IsSome rank → HasRoom index.old }
     ensures { index.new ≡ with_pair rank key index.old }
 {
     if let Some(rank) = rank {
-        index.put(Pair { rank, key });
+        index.insert(Pair { rank, key });
     }
 }
 
 /// Removes the pair of a key, if it has a rank.
-fn take_ranked(index: &mut Index, rank: Option<u64>, key: Key)
+fn remove_ranked(index: &mut Index, rank: Option<u64>, key: Key)
     ensures { index.new ≡ without_pair rank key index.old }
 {
     if let Some(rank) = rank {
-        index.take(Pair { rank, key });
+        index.remove(Pair { rank, key });
     }
 }

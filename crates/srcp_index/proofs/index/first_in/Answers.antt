@@ -2,8 +2,8 @@ use Rattle.std.proofs.Common.{◌≡◌, ◌<◌, ◌≤◌, true, false, sym, �
 use Rattle.std.proofs.lemmas.List.Sorted.{IsPartitionPoint-from_clause}
 use Rattle.srcp_index.specs.declared.index.Pair.{Pair}
 use Rattle.srcp_index.specs.Pairs.{before}
-use Rattle.srcp_index.proofs.Ranked.{all_weaker, ranked_drop}
-use Rattle.srcp_index.proofs.Places.{front_each, back_each, partitioned, find_at, find_past}
+use Rattle.srcp_index.proofs.Ordered.{all_weaker, ranked_drop}
+use Rattle.srcp_index.proofs.Splits.{front_each, back_each, partitioned, find_at, find_past}
 use Rattle.srcp_index.proofs.Pairs.{lower_first, not_of_lower, rank_stops}
 use Rattle.srcp_index.proofs.index.first_in.Goals as goal
 
@@ -11,29 +11,29 @@ pub returns-in_err-pair : goal.returns-in_err-pair
 returns-in_err-pair c =
     let rank = c.args.rank in
     let pairs = c.args.pairs.now.items in
-    let place = c.partition_point-place.result in
+    let index = c.partition_point-index.result in
     let p = λ (x : Pair). nat_lt x.rank rank in
-    let bound : place ≤ length pairs = search rules in
-    let past : length pairs ≤ place = search rules in
-    let parted = IsPartitionPoint-from_clause p pairs place c.partition_point-place.ensures.partitioned
+    let bound : index ≤ length pairs = search rules in
+    let past : length pairs ≤ index = search rules in
+    let parted = IsPartitionPoint-from_clause p pairs index c.partition_point-index.ensures.partitioned
     (partitioned (before 0) p (lower_first rank) pairs c.requires) (λ a r f' called. search rules) in
-    let front = all_weaker (λ x. p x ≡ true) (λ x. (x.rank == rank) ≡ false) (not_of_lower rank) (take place pairs)
-    (front_each (λ x. p x ≡ true) pairs place bound parted.0) in
-    c.from_residual.ensures ∙ sym (find_past (λ x. x.rank == rank) pairs place front past)
+    let front = all_weaker (λ x. p x ≡ true) (λ x. (x.rank == rank) ≡ false) (not_of_lower rank) (take index pairs)
+    (front_each (λ x. p x ≡ true) pairs index bound parted.0) in
+    c.from_residual.ensures ∙ sym (find_past (λ x. x.rank == rank) pairs index front past)
 
 pub returns : goal.returns
 returns c =
     let rank = c.args.rank in
     let pairs = c.args.pairs.now.items in
-    let place = c.partition_point-place.result in
+    let index = c.partition_point-index.result in
     let pair = c.in_ok-pair.field-0.now in
     let p = λ (x : Pair). nat_lt x.rank rank in
-    let bound : place ≤ length pairs = search rules in
-    let within : place < length pairs = search rules in
-    let parted = IsPartitionPoint-from_clause p pairs place c.partition_point-place.ensures.partitioned
+    let bound : index ≤ length pairs = search rules in
+    let within : index < length pairs = search rules in
+    let parted = IsPartitionPoint-from_clause p pairs index c.partition_point-index.ensures.partitioned
     (partitioned (before 0) p (lower_first rank) pairs c.requires) (λ a r f' called. search rules) in
-    let front = all_weaker (λ x. p x ≡ true) (λ x. (x.rank == rank) ≡ false) (not_of_lower rank) (take place pairs)
-    (front_each (λ x. p x ≡ true) pairs place bound parted.0) in
-    let stops = rank_stops rank (drop place pairs) (ranked_drop (before 0) place pairs c.requires)
-    (back_each (λ x. p x ≡ false) pairs place parted.1) in
-    c.then_some.ensures ∙ find_at (λ x. x.rank == rank) pairs place pair front stops within c.in_ok-pair.ensures.lookup
+    let front = all_weaker (λ x. p x ≡ true) (λ x. (x.rank == rank) ≡ false) (not_of_lower rank) (take index pairs)
+    (front_each (λ x. p x ≡ true) pairs index bound parted.0) in
+    let stops = rank_stops rank (drop index pairs) (ranked_drop (before 0) index pairs c.requires)
+    (back_each (λ x. p x ≡ false) pairs index parted.1) in
+    c.then_some.ensures ∙ find_at (λ x. x.rank == rank) pairs index pair front stops within c.in_ok-pair.ensures.lookup

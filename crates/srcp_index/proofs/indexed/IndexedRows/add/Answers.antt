@@ -1,20 +1,20 @@
 use Rattle.std.proofs.Common.{◌+◌, length, sym, ap, subst, arith}
 use Rattle.srcp_rules.specs.Rows.{AreNewRowsOf, put_rows}
 use Rattle.std.proofs.lemmas.List.Sums.{count_by-le-length}
-use Rattle.srcp_index.specs.Indexed.{IsIndexed, may_go, with_rows}
+use Rattle.srcp_index.specs.Indexed.{IsIndexed, is_removable, with_rows}
 use Rattle.srcp_index.proofs.IndexedLaws.{added_indexed, few_due, few_held, roomier}
 use Rattle.srcp_index.proofs.indexed.IndexedRows.add.Goals as goal
 
-pub note_all-requires-clause-moments : goal.note_all-requires-clause-moments
-note_all-requires-clause-moments g c =
+pub insert_all-requires-clause-moments : goal.insert_all-requires-clause-moments
+insert_all-requires-clause-moments g c =
     let few = few_due (g.R.Rows.state c.self.inside.rows) c.self.inside.indexes c.self.inside.count c.self.invariant in
     let same = ap length c.reserve.ensures.moments in
     let total = c.in-Some.ensures in
     let room = c.in_ok-reserve.ensures.moments_room in
     omega (arith, few, same, total, room)
 
-pub note_all-requires-clause-sessions : goal.note_all-requires-clause-sessions
-note_all-requires-clause-sessions g c =
+pub insert_all-requires-clause-sessions : goal.insert_all-requires-clause-sessions
+insert_all-requires-clause-sessions g c =
     let few = few_held (g.R.Rows.state c.self.inside.rows) c.self.inside.indexes c.self.inside.count c.self.invariant in
     let same = ap length c.reserve.ensures.sessions in
     let total = c.in-Some.ensures in
@@ -25,9 +25,9 @@ note_all-requires-clause-sessions g c =
 pub overflow_add-self : goal.overflow_add-self
 overflow_add-self g c =
     let total = c.in-Some.ensures in
-    let some = count_by-le-length may_go c.args.added.now in
-    let goers = c.goers.ensures in
-    omega (arith, total, some, goers)
+    let some = count_by-le-length is_removable c.args.added.now in
+    let removable_rows = c.removable_rows.ensures in
+    omega (arith, total, some, removable_rows)
 
 pub invariant_of-self-2 : goal.invariant_of-self-2
 invariant_of-self-2 g c =
@@ -37,7 +37,7 @@ invariant_of-self-2 g c =
     let fresh = subst (λ rows. AreNewRowsOf (g.R.Rows.buses rows) (g.R.Rows.state rows) c.requires.0 c.args.added.now)
     (sym c.self.view_is) c.requires.1 in
     let total = c.in-Some.ensures in
-    let some = count_by-le-length may_go c.args.added.now in
+    let some = count_by-le-length is_removable c.args.added.now in
     let due_room = c.in_ok-reserve.ensures.moments_room in
     let held_room = c.in_ok-reserve.ensures.sessions_room in
     let reserved = roomier before c.self.inside.indexes c.reserve.new.self count kept
@@ -45,7 +45,7 @@ invariant_of-self-2 g c =
     (omega (arith, total, due_room)) (omega (arith, total, held_room)) in
     let all = added_indexed (g.R.Rows.buses c.self.inside.rows) before c.requires.0 c.args.added.now fresh c.reserve.new.self count
     (omega (arith, total, some, due_room)) (omega (arith, total, some, held_room)) reserved in
-    subst (λ state. IsIndexed state c.note_all.new.self (count + c.goers.result)) (sym c.in_ok-add.ensures.ok)
-    (subst (λ both. IsIndexed (put_rows c.args.added.now before) both (count + c.goers.result)) (sym c.note_all.ensures)
+    subst (λ state. IsIndexed state c.insert_all.new.self (count + c.removable_rows.result)) (sym c.in_ok-add.ensures.ok)
+    (subst (λ both. IsIndexed (put_rows c.args.added.now before) both (count + c.removable_rows.result)) (sym c.insert_all.ensures)
     (subst (λ n. IsIndexed (put_rows c.args.added.now before) (with_rows c.args.added.now c.reserve.new.self) (count + n))
-    (sym c.goers.ensures) all))
+    (sym c.removable_rows.ensures) all))

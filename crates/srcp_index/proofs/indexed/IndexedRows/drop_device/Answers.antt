@@ -33,7 +33,7 @@ loop-port-preserved g c =
       | in-Some w ↦ record {
         rows = ap (λ inside. inside.rows) w.self-inside-is ∙ c.loop-port.invariant.rows;
         indexed = subst (λ inside. IsIndexed left inside.indexes inside.count) (sym w.self-inside-is)
-            (subst (λ b. IsIndexed left b (count - 1)) (sym w.forget.ensures)
+            (subst (λ b. IsIndexed left b (count - 1)) (sym w.remove.ensures)
             (dropped_next c.args.device c.loop-port.port state both count c.loop-port.invariant.indexed c.requires w.in-Some.row.now
             (ap (λ rows. row_at here (g.R.Rows.state rows)) (sym c.loop-port.invariant.rows) ∙ sym w.in-Some.ensures)));
       }

@@ -6,29 +6,29 @@ use Rattle.srcp_index.proofs.indexed.IndexedRows.next_due.Goals as goal
 
 pub invariant_of-self : goal.invariant_of-self
 invariant_of-self g c =
-    settled (g.R.Rows.state c.self.inside.rows) c.self.inside.indexes c.self.inside.count c.args.moment c.settle.new.self
-    c.self.invariant c.settle.ensures.pairs c.settle.ensures.since c.settle.ensures.room
+    settled (g.R.Rows.state c.self.inside.rows) c.self.inside.indexes c.self.inside.count c.args.moment c.sort_for.new.self
+    c.self.invariant c.sort_for.ensures.pairs c.sort_for.ensures.since c.sort_for.ensures.room
 
 pub invariant_of-self-2 : goal.invariant_of-self-2
 invariant_of-self-2 g c =
-    settled (g.R.Rows.state c.self.inside.rows) c.self.inside.indexes c.self.inside.count c.args.moment c.settle.new.self
-    c.self.invariant c.settle.ensures.pairs c.settle.ensures.since c.settle.ensures.room
+    settled (g.R.Rows.state c.self.inside.rows) c.self.inside.indexes c.self.inside.count c.args.moment c.sort_for.new.self
+    c.self.invariant c.sort_for.ensures.pairs c.sort_for.ensures.since c.sort_for.ensures.room
 
 pub returns-in_err-pair-clause-row : goal.returns-in_err-pair-clause-row
 returns-in_err-pair-clause-row g c =
     let state = g.R.Rows.state c.self.inside.rows in
-    let kept = settled state c.self.inside.indexes c.self.inside.count c.args.moment c.settle.new.self c.self.invariant
-    c.settle.ensures.pairs c.settle.ensures.since c.settle.ensures.room in
-    c.from_residual.ensures ∙ due_row state c.settle.new.self c.args.cursor None kept.rising kept.due.pairs c.in_err-pair.ensures
-    ∙ ap (λ m. first_due m c.args.cursor state) c.settle.ensures.since
+    let kept = settled state c.self.inside.indexes c.self.inside.count c.args.moment c.sort_for.new.self c.self.invariant
+    c.sort_for.ensures.pairs c.sort_for.ensures.since c.sort_for.ensures.room in
+    c.from_residual.ensures ∙ due_row state c.sort_for.new.self c.args.cursor None kept.rising kept.due.pairs c.in_err-pair.ensures
+    ∙ ap (λ m. first_due m c.args.cursor state) c.sort_for.ensures.since
     ∙ ap (λ rows. first_due c.args.moment c.args.cursor (g.R.Rows.state rows)) c.self.view_is
 
 pub returns-clause-row : goal.returns-clause-row
 returns-clause-row g c =
     let state = g.R.Rows.state c.self.inside.rows in
-    let kept = settled state c.self.inside.indexes c.self.inside.count c.args.moment c.settle.new.self c.self.invariant
-    c.settle.ensures.pairs c.settle.ensures.since c.settle.ensures.room in
+    let kept = settled state c.self.inside.indexes c.self.inside.count c.args.moment c.sort_for.new.self c.self.invariant
+    c.sort_for.ensures.pairs c.sort_for.ensures.since c.sort_for.ensures.room in
     c.copied.ensures ∙ c.row.ensures
-    ∙ due_row state c.settle.new.self c.args.cursor (Some c.in_ok-pair.pair) kept.rising kept.due.pairs c.in_ok-pair.ensures
-    ∙ ap (λ m. first_due m c.args.cursor state) c.settle.ensures.since
+    ∙ due_row state c.sort_for.new.self c.args.cursor (Some c.in_ok-pair.pair) kept.rising kept.due.pairs c.in_ok-pair.ensures
+    ∙ ap (λ m. first_due m c.args.cursor state) c.sort_for.ensures.since
     ∙ ap (λ rows. first_due c.args.moment c.args.cursor (g.R.Rows.state rows)) c.self.view_is

@@ -6,17 +6,17 @@ use Rattle.srcp_index.specs.Indexed.{IsIndexed, HasRoom, due_of, with_row}
 use Rattle.srcp_index.proofs.IndexedLaws.{room_for_due, room_for_held, passed_by, set_indexed}
 use Rattle.srcp_index.proofs.indexed.IndexedRows.set.Goals as goal
 
-pub note-requires-clause-moments : goal.note-requires-clause-moments
-note-requires-clause-moments g c =
+pub insert-requires-clause-moments : goal.insert-requires-clause-moments
+insert-requires-clause-moments g c =
     let there = sym c.row.ensures ∙ ap option_copied c.in-Some.is in
-    subst (λ (both : Indexes). IsSome (due_of c.args.row) → HasRoom both.moments) (sym c.forget.ensures)
+    subst (λ (both : Indexes). IsSome (due_of c.args.row) → HasRoom both.moments) (sym c.remove.ensures)
     (room_for_due (g.R.Rows.buses c.args.self.now) (g.R.Rows.state c.self.inside.rows) c.self.inside.indexes c.self.inside.count
     c.self.invariant c.in-Some.old.now c.args.row there c.requires.fits)
 
-pub note-requires-clause-sessions : goal.note-requires-clause-sessions
-note-requires-clause-sessions g c =
+pub insert-requires-clause-sessions : goal.insert-requires-clause-sessions
+insert-requires-clause-sessions g c =
     let there = sym c.row.ensures ∙ ap option_copied c.in-Some.is in
-    subst (λ (both : Indexes). IsSome (holder_of c.args.row) → HasRoom both.sessions) (sym c.forget.ensures)
+    subst (λ (both : Indexes). IsSome (holder_of c.args.row) → HasRoom both.sessions) (sym c.remove.ensures)
     (room_for_held (g.R.Rows.buses c.args.self.now) (g.R.Rows.state c.self.inside.rows) c.self.inside.indexes c.self.inside.count
     c.self.invariant c.in-Some.old.now c.args.row there c.requires.fits)
 
@@ -33,6 +33,6 @@ invariant_of-self-2 g c =
     let there = sym c.row.ensures ∙ ap option_copied c.in-Some.is in
     let indexed = set_indexed (g.R.Rows.buses c.args.self.now) (g.R.Rows.state c.self.inside.rows) c.self.inside.indexes
     c.self.inside.count c.self.invariant c.in-Some.old.now c.args.row there c.requires.fits in
-    subst (λ state. IsIndexed state c.note.new.self c.self.inside.count) (sym c.set-2.ensures.rows)
+    subst (λ state. IsIndexed state c.insert.new.self c.self.inside.count) (sym c.set-2.ensures.rows)
     (subst (λ both. IsIndexed (put_row c.args.row (g.R.Rows.state c.self.inside.rows)) both c.self.inside.count)
-    (sym (c.note.ensures ∙ ap (with_row c.args.row) c.forget.ensures)) indexed)
+    (sym (c.insert.ensures ∙ ap (with_row c.args.row) c.remove.ensures)) indexed)

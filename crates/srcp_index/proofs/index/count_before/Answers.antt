@@ -3,8 +3,8 @@ use Rattle.std.proofs.lemmas.Bool.{true_from_ne_false}
 use Rattle.std.proofs.lemmas.List.Sorted.{IsPartitionPoint-from_clause}
 use Rattle.srcp_index.specs.Pairs.{before}
 use Rattle.srcp_index.proofs.Pairs.{before_weak}
-use Rattle.srcp_index.proofs.Places.{front_each, back_each, partitioned}
-use Rattle.srcp_index.proofs.index.place_of.Goals as goal
+use Rattle.srcp_index.proofs.Splits.{front_each, back_each, partitioned}
+use Rattle.srcp_index.proofs.index.count_before.Goals as goal
 
 pub returns-clause-front : goal.returns-clause-front
 returns-clause-front c =

@@ -4,7 +4,7 @@ use Rattle.srcp_rules.specs.State.{holder_of}
 use Rattle.srcp_index.specs.declared.indexes.Indexes.{Indexes}
 use Rattle.srcp_index.specs.Indexed.{due_of, with_row}
 use Rattle.srcp_index.proofs.IndexedLaws.{longer}
-use Rattle.srcp_index.proofs.indexes.Indexes.note_all.Goals as goal
+use Rattle.srcp_index.proofs.indexes.Indexes.insert_all.Goals as goal
 
 pub loop-row-preserved : goal.loop-row-preserved
 loop-row-preserved c =
@@ -12,16 +12,16 @@ loop-row-preserved c =
     let before = c.loop-row.self in
     let inv = c.loop-row.invariant in
     record {
-      both = c.note.ensures ∙ (λ i. with_row (c.row-item.is i) (inv.both i))
+      both = c.insert.ensures ∙ (λ i. with_row (c.row-item.is i) (inv.both i))
           ∙ sym (fold_more (λ both other. with_row other both) c.args.self.now c.args.rows.now c.loop-row.row-index row
           c.loop-row-test.true);
-      moments = (let e = ap (λ (b : Indexes). length b.moments.pairs) c.note.ensures in
-          let r = ap (λ (b : Indexes). b.moments.room) c.note.ensures in
+      moments = (let e = ap (λ (b : Indexes). length b.moments.pairs) c.insert.ensures in
+          let r = ap (λ (b : Indexes). b.moments.room) c.insert.ensures in
           let l = longer (due_of row) row.shown.key before.moments in
           let h = inv.moments in
           omega arith);
-      sessions = (let e = ap (λ (b : Indexes). length b.sessions.pairs) c.note.ensures in
-          let r = ap (λ (b : Indexes). b.sessions.room) c.note.ensures in
+      sessions = (let e = ap (λ (b : Indexes). length b.sessions.pairs) c.insert.ensures in
+          let r = ap (λ (b : Indexes). b.sessions.room) c.insert.ensures in
           let l = longer (holder_of row) row.shown.key before.sessions in
           let h = inv.sessions in
           omega arith);

@@ -6,14 +6,14 @@ use Rattle.std.specs.Cmp.{IsStrictWeakOrder}
 use Rattle.std.proofs.Common.{refl, sym, ap, ◌∙◌, arith, inl, inr, true≢false}
 use Rattle.std.proofs.lemmas.Bool.{cases_Bool}
 use Rattle.std.proofs.lemmas.List.Sums.{sum_by-cons, sum_by-append}
-use Rattle.srcp_index.specs.Ranked.{IsRanked, put, taken, ranked}
+use Rattle.srcp_index.specs.Ordered.{IsInOrder, insert_by, remove_by, order_by}
 
 module _ {X : Type 0} (P : X → Type 0) where
   pub all_weaker : (Q : X → Type 0) → ((x : X) → P x → Q x) → (xs : List X) → AllByRecursion P xs → AllByRecursion Q xs
   all_weaker Q f [] h = tt
   all_weaker Q f (x ∷ xs) h = (f x h.0, all_weaker Q f xs h.1)
 
-  pub all_put : (lt : X → X → Bool) (x : X) (xs : List X) → P x → AllByRecursion P xs → AllByRecursion P (put lt x xs)
+  pub all_put : (lt : X → X → Bool) (x : X) (xs : List X) → P x → AllByRecursion P xs → AllByRecursion P (insert_by lt x xs)
   all_put lt x [] p h = (p, tt)
   all_put lt x (y ∷ ys) p h =
       elim (cases_Bool (lt y x)) [
@@ -21,74 +21,74 @@ module _ {X : Type 0} (P : X → Type 0) where
         | inr e ↦ rw e (p, h)
       ]
 
-  pub all_ranked : (lt : X → X → Bool) (xs : List X) → AllByRecursion P xs → AllByRecursion P (ranked lt xs)
+  pub all_ranked : (lt : X → X → Bool) (xs : List X) → AllByRecursion P xs → AllByRecursion P (order_by lt xs)
   all_ranked lt [] h = tt
-  all_ranked lt (x ∷ xs) h = all_put lt x (ranked lt xs) h.0 (all_ranked lt xs h.1)
+  all_ranked lt (x ∷ xs) h = all_put lt x (order_by lt xs) h.0 (all_ranked lt xs h.1)
 
 module _ {X : Type 0} (lt : X → X → Bool) where
-  pub length-put : (x : X) (xs : List X) → length (put lt x xs) ≡ suc (length xs)
-  length-put x [] = refl
-  length-put x (y ∷ ys) =
+  pub length-insert_by : (x : X) (xs : List X) → length (insert_by lt x xs) ≡ suc (length xs)
+  length-insert_by x [] = refl
+  length-insert_by x (y ∷ ys) =
       elim (cases_Bool (lt y x)) [
-        | inl e ↦ rw e (ap suc (length-put x ys))
+        | inl e ↦ rw e (ap suc (length-insert_by x ys))
         | inr e ↦ rw e refl
       ]
 
-  pub length-ranked : (xs : List X) → length (ranked lt xs) ≡ length xs
-  length-ranked [] = refl
-  length-ranked (x ∷ xs) = length-put x (ranked lt xs) ∙ ap suc (length-ranked xs)
+  pub length-order_by : (xs : List X) → length (order_by lt xs) ≡ length xs
+  length-order_by [] = refl
+  length-order_by (x ∷ xs) = length-insert_by x (order_by lt xs) ∙ ap suc (length-order_by xs)
 
-  pub sum-put : (f : X → ℕ) (x : X) (xs : List X) → sum_by f (put lt x xs) ≡ f x + sum_by f xs
-  sum-put f x [] = sum_by-cons f x []
-  sum-put f x (y ∷ ys) =
+  pub sum-insert_by : (f : X → ℕ) (x : X) (xs : List X) → sum_by f (insert_by lt x xs) ≡ f x + sum_by f xs
+  sum-insert_by f x [] = sum_by-cons f x []
+  sum-insert_by f x (y ∷ ys) =
       elim (cases_Bool (lt y x)) [
-        | inl e ↦ rw e (let a = sum_by-cons f y (put lt x ys) in let b = sum-put f x ys in let c = sum_by-cons f y ys in omega arith)
+        | inl e ↦ rw e (let a = sum_by-cons f y (insert_by lt x ys) in let b = sum-insert_by f x ys in let c = sum_by-cons f y ys in omega arith)
         | inr e ↦ rw e (sum_by-cons f x (y ∷ ys))
       ]
 
-  pub sum-ranked : (f : X → ℕ) (xs : List X) → sum_by f (ranked lt xs) ≡ sum_by f xs
-  sum-ranked f [] = refl
-  sum-ranked f (x ∷ xs) = let a = sum-put f x (ranked lt xs) in let b = sum-ranked f xs in let c = sum_by-cons f x xs in omega arith
+  pub sum-order_by : (f : X → ℕ) (xs : List X) → sum_by f (order_by lt xs) ≡ sum_by f xs
+  sum-order_by f [] = refl
+  sum-order_by f (x ∷ xs) = let a = sum-insert_by f x (order_by lt xs) in let b = sum-order_by f xs in let c = sum_by-cons f x xs in omega arith
 
   -- an item between those before it and those not before it
   pub put_between : (x : X) (xs ys : List X) → AllByRecursion (λ y. lt y x ≡ true) xs → AllByRecursion (λ y. lt y x ≡ false) ys
-      → put lt x (xs ++ ys) ≡ xs ++ x ∷ ys
+      → insert_by lt x (xs ++ ys) ≡ xs ++ x ∷ ys
   put_between x [] [] a b = refl
   put_between x [] (y ∷ ys) a b = rw (b.0) refl
   put_between x (z ∷ zs) ys a b = rw (a.0) (ap (λ l. z ∷ l) (put_between x zs ys a.1 b))
 
   -- and taken from there
   pub taken_between : (x : X) (xs : List X) (y : X) (ys : List X) → AllByRecursion (λ y. lt y x ≡ true) xs → lt y x ≡ false → lt x y
-      ≡ false → taken lt x (xs ++ y ∷ ys) ≡ xs ++ ys
+      ≡ false → remove_by lt x (xs ++ y ∷ ys) ≡ xs ++ ys
   taken_between x [] y ys a b c = rw (b, c) refl
   taken_between x (z ∷ zs) y ys a b c = rw (a.0) (ap (λ l. z ∷ l) (taken_between x zs y ys a.1 b c))
 
   pub taken_none : (x : X) (xs : List X) (y : X) (ys : List X) → AllByRecursion (λ y. lt y x ≡ true) xs → lt y x ≡ false → lt x y ≡ true
-      → taken lt x (xs ++ y ∷ ys) ≡ xs ++ y ∷ ys
+      → remove_by lt x (xs ++ y ∷ ys) ≡ xs ++ y ∷ ys
   taken_none x [] y ys a b c = rw (b, c) refl
   taken_none x (z ∷ zs) y ys a b c = rw (a.0) (ap (λ l. z ∷ l) (taken_none x zs y ys a.1 b c))
 
-  pub taken_past : (x : X) (xs : List X) → AllByRecursion (λ y. lt y x ≡ true) xs → taken lt x xs ≡ xs
+  pub taken_past : (x : X) (xs : List X) → AllByRecursion (λ y. lt y x ≡ true) xs → remove_by lt x xs ≡ xs
   taken_past x [] a = refl
   taken_past x (z ∷ zs) a = rw (a.0) (ap (λ l. z ∷ l) (taken_past x zs a.1))
 
-  pub ranked-append : (xs ys : List X) → IsRanked lt xs → IsRanked lt ys
-      → AllByRecursion (λ x. AllByRecursion (λ y. lt y x ≡ false) ys) xs → IsRanked lt (xs ++ ys)
-  ranked-append [] ys a b c = b
-  ranked-append (x ∷ xs) ys a b c = (both xs a.0, ranked-append xs ys a.1 b c.1)
+  pub order_by-append : (xs ys : List X) → IsInOrder lt xs → IsInOrder lt ys
+      → AllByRecursion (λ x. AllByRecursion (λ y. lt y x ≡ false) ys) xs → IsInOrder lt (xs ++ ys)
+  order_by-append [] ys a b c = b
+  order_by-append (x ∷ xs) ys a b c = (both xs a.0, order_by-append xs ys a.1 b c.1)
     where
       both : (zs : List X) → AllByRecursion (λ y. lt y x ≡ false) zs → AllByRecursion (λ y. lt y x ≡ false) (zs ++ ys)
       both [] h = c.0
       both (z ∷ zs) h = (h.0, both zs h.1)
 
-  pub ranked_drop : (n : ℕ) (xs : List X) → IsRanked lt xs → IsRanked lt (drop n xs)
+  pub ranked_drop : (n : ℕ) (xs : List X) → IsInOrder lt xs → IsInOrder lt (drop n xs)
   ranked_drop zero xs h = h
   ranked_drop (suc n) [] h = tt
   ranked_drop (suc n) (x ∷ xs) h = ranked_drop n xs h.1
 
   -- to look for what passes a test in an order in which what a found item is put behind does not pass it
   module _ (t : X → Bool) where
-    find_put-skipped : (x : X) (xs : List X) → t x ≡ false → find t (put lt x xs) ≡ find t xs
+    find_put-skipped : (x : X) (xs : List X) → t x ≡ false → find t (insert_by lt x xs) ≡ find t xs
     find_put-skipped x [] e = ap (λ b. cond b (Some x) (find t [])) e
     find_put-skipped x (y ∷ ys) e =
         elim (cases_Bool (lt y x)) [
@@ -96,12 +96,12 @@ module _ {X : Type 0} (lt : X → X → Bool) where
           | inr l ↦ rw l (ap (λ b. cond b (Some x) (find t (y ∷ ys))) e)
         ]
 
-    find_put-found : (x : X) (xs : List X) → t x ≡ true → AllByRecursion (λ y. lt y x ≡ true → t y ≡ false) xs → find t (put lt x xs)
+    find_put-found : (x : X) (xs : List X) → t x ≡ true → AllByRecursion (λ y. lt y x ≡ true → t y ≡ false) xs → find t (insert_by lt x xs)
         ≡ Some x
     find_put-found x [] e h = ap (λ b. cond b (Some x) (find t [])) e
     find_put-found x (y ∷ ys) e h =
         elim (cases_Bool (lt y x)) [
-          | inl l ↦ rw l (ap (λ b. cond b (Some y) (find t (put lt x ys))) (h.0 l) ∙ find_put-found x ys e h.1)
+          | inl l ↦ rw l (ap (λ b. cond b (Some y) (find t (insert_by lt x ys))) (h.0 l) ∙ find_put-found x ys e h.1)
           | inr l ↦ rw l (ap (λ b. cond b (Some x) (find t (y ∷ ys))) e)
         ]
 
@@ -110,14 +110,14 @@ module _ {X : Type 0} (lt : X → X → Bool) where
     Keeps [] = Unit {0}
     Keeps (x ∷ xs) = AllByRecursion (λ y. t x ≡ true → lt y x ≡ true → t y ≡ false) xs × Keeps xs
 
-    pub find-ranked : (xs : List X) → Keeps xs → find t (ranked lt xs) ≡ find t xs
-    find-ranked [] h = refl
-    find-ranked (x ∷ xs) h =
+    pub find-order_by : (xs : List X) → Keeps xs → find t (order_by lt xs) ≡ find t xs
+    find-order_by [] h = refl
+    find-order_by (x ∷ xs) h =
         elim (cases_Bool (t x)) [
-          | inl e ↦ find_put-found x (ranked lt xs) e (all_ranked (λ y. lt y x ≡ true → t y ≡ false) lt xs
+          | inl e ↦ find_put-found x (order_by lt xs) e (all_ranked (λ y. lt y x ≡ true → t y ≡ false) lt xs
               (all_weaker (λ y. t x ≡ true → lt y x ≡ true → t y ≡ false) (λ y. lt y x ≡ true → t y ≡ false) (λ y f. f e) xs h.0))
               ∙ sym (ap (λ b. cond b (Some x) (find t xs)) e)
-          | inr e ↦ find_put-skipped x (ranked lt xs) e ∙ find-ranked xs h.1 ∙ sym (ap (λ b. cond b (Some x) (find t xs)) e)
+          | inr e ↦ find_put-skipped x (order_by lt xs) e ∙ find-order_by xs h.1 ∙ sym (ap (λ b. cond b (Some x) (find t xs)) e)
         ]
 
 module _ {X : Type 0} (lt : X → X → Bool) (weak : IsStrictWeakOrder lt) where
@@ -127,7 +127,7 @@ module _ {X : Type 0} (lt : X → X → Bool) (weak : IsStrictWeakOrder lt) wher
     | inr e ↦ e
   ]
 
-  pub ranked_put : (x : X) (xs : List X) → IsRanked lt xs → IsRanked lt (put lt x xs)
+  pub ranked_put : (x : X) (xs : List X) → IsInOrder lt xs → IsInOrder lt (insert_by lt x xs)
   ranked_put x [] h = (tt, tt)
   ranked_put x (y ∷ ys) h =
       elim (cases_Bool (lt y x)) [
@@ -135,11 +135,11 @@ module _ {X : Type 0} (lt : X → X → Bool) (weak : IsStrictWeakOrder lt) wher
         | inr e ↦ rw e ((e, all_weaker (λ z. lt z y ≡ false) (λ z. lt z x ≡ false) (λ z l. weak.chain z y x l e) ys h.0), h)
       ]
 
-  pub ranked_is : (xs : List X) → IsRanked lt (ranked lt xs)
+  pub ranked_is : (xs : List X) → IsInOrder lt (order_by lt xs)
   ranked_is [] = tt
-  ranked_is (x ∷ xs) = ranked_put x (ranked lt xs) (ranked_is xs)
+  ranked_is (x ∷ xs) = ranked_put x (order_by lt xs) (ranked_is xs)
 
-  pub ranked_taken : (x : X) (xs : List X) → IsRanked lt xs → IsRanked lt (taken lt x xs)
+  pub ranked_taken : (x : X) (xs : List X) → IsInOrder lt xs → IsInOrder lt (remove_by lt x xs)
   ranked_taken x [] h = tt
   ranked_taken x (y ∷ ys) h =
       elim (cases_Bool (lt y x)) [
@@ -150,7 +150,7 @@ module _ {X : Type 0} (lt : X → X → Bool) (weak : IsStrictWeakOrder lt) wher
         ])
       ]
     where
-      kept : (zs : List X) → AllByRecursion (λ z. lt z y ≡ false) zs → AllByRecursion (λ z. lt z y ≡ false) (taken lt x zs)
+      kept : (zs : List X) → AllByRecursion (λ z. lt z y ≡ false) zs → AllByRecursion (λ z. lt z y ≡ false) (remove_by lt x zs)
       kept [] a = tt
       kept (z ∷ zs) a =
           elim (cases_Bool (lt z x)) [
@@ -162,15 +162,15 @@ module _ {X : Type 0} (lt : X → X → Bool) (weak : IsStrictWeakOrder lt) wher
           ]
 
   -- what is put can be taken out
-  pub taken-put : (x : X) (xs : List X) → taken lt x (put lt x xs) ≡ xs
-  taken-put x [] = rw (itself x) refl
-  taken-put x (y ∷ ys) =
+  pub remove_by-insert_by : (x : X) (xs : List X) → remove_by lt x (insert_by lt x xs) ≡ xs
+  remove_by-insert_by x [] = rw (itself x) refl
+  remove_by-insert_by x (y ∷ ys) =
       elim (cases_Bool (lt y x)) [
-        | inl e ↦ rw e (rw e (ap (λ l. y ∷ l) (taken-put x ys)))
+        | inl e ↦ rw e (rw e (ap (λ l. y ∷ l) (remove_by-insert_by x ys)))
         | inr e ↦ rw (e, itself x) refl
       ]
 
-  -- 1 where the item ties with z
+  -- 1 if the item ties with z
   abbrev pub hit : X → X → ℕ
   hit z x = if lt z x then 0 else (if lt x z then 0 else 1)
 
@@ -193,7 +193,7 @@ module _ {X : Type 0} (lt : X → X → Bool) (weak : IsStrictWeakOrder lt) wher
 
   module _ (tie : (x y : X) → lt x y ≡ false → lt y x ≡ false → x ≡ y) where
     -- a list in order is given by how often each item is in it
-    pub unique : (xs ys : List X) → IsRanked lt xs → IsRanked lt ys → ((z : X) → sum_by (hit z) xs ≡ sum_by (hit z) ys) → xs ≡ ys
+    pub unique : (xs ys : List X) → IsInOrder lt xs → IsInOrder lt ys → ((z : X) → sum_by (hit z) xs ≡ sum_by (hit z) ys) → xs ≡ ys
     unique [] [] a b s = refl
     unique [] (y ∷ ys) a b s = let e = s y in let f = sum_by-cons (hit y) y ys in let g = hit_itself y in absurd (omega arith)
     unique (x ∷ xs) [] a b s = let e = s x in let f = sum_by-cons (hit x) x xs in let g = hit_itself x in absurd (omega arith)
@@ -214,26 +214,26 @@ module _ {X : Type 0} (lt : X → X → Bool) (weak : IsStrictWeakOrder lt) wher
           ]
         ]
 
-    pub ranked_fixed : (xs : List X) → IsRanked lt xs → ranked lt xs ≡ xs
-    ranked_fixed xs h = unique (ranked lt xs) xs (ranked_is xs) h (λ z. sum-ranked lt (hit z) xs)
+    pub ranked_fixed : (xs : List X) → IsInOrder lt xs → order_by lt xs ≡ xs
+    ranked_fixed xs h = unique (order_by lt xs) xs (ranked_is xs) h (λ z. sum-order_by lt (hit z) xs)
 
     -- an item among others is put where it belongs
-    pub ranked-middle : (xs : List X) (x : X) (ys : List X) → ranked lt (xs ++ x ∷ ys) ≡ put lt x (ranked lt (xs ++ ys))
-    ranked-middle xs x ys =
-        unique (ranked lt (xs ++ x ∷ ys)) (put lt x (ranked lt (xs ++ ys))) (ranked_is (xs ++ x ∷ ys))
-        (ranked_put x (ranked lt (xs ++ ys)) (ranked_is (xs ++ ys)))
+    pub order_by-middle : (xs : List X) (x : X) (ys : List X) → order_by lt (xs ++ x ∷ ys) ≡ insert_by lt x (order_by lt (xs ++ ys))
+    order_by-middle xs x ys =
+        unique (order_by lt (xs ++ x ∷ ys)) (insert_by lt x (order_by lt (xs ++ ys))) (ranked_is (xs ++ x ∷ ys))
+        (ranked_put x (order_by lt (xs ++ ys)) (ranked_is (xs ++ ys)))
         (λ z.
-        let a = sum-ranked lt (hit z) (xs ++ x ∷ ys) in
+        let a = sum-order_by lt (hit z) (xs ++ x ∷ ys) in
         let b = sum_by-append (hit z) xs (x ∷ ys) in
         let c = sum_by-cons (hit z) x ys in
-        let d = sum-put lt (hit z) x (ranked lt (xs ++ ys)) in
-        let e = sum-ranked lt (hit z) (xs ++ ys) in
+        let d = sum-insert_by lt (hit z) x (order_by lt (xs ++ ys)) in
+        let e = sum-order_by lt (hit z) (xs ++ ys) in
         let f = sum_by-append (hit z) xs ys in
         omega arith)
 
     -- the order that a list was brought into before makes no difference
-    pub ranked-ranked : (other : X → X → Bool) (xs : List X) → ranked lt (ranked other xs) ≡ ranked lt xs
-    ranked-ranked other xs =
-        unique (ranked lt (ranked other xs)) (ranked lt xs) (ranked_is (ranked other xs)) (ranked_is xs)
-        (λ z. let a = sum-ranked lt (hit z) (ranked other xs) in let b = sum-ranked other (hit z) xs in let c = sum-ranked lt
+    pub order_by-order_by : (other : X → X → Bool) (xs : List X) → order_by lt (order_by other xs) ≡ order_by lt xs
+    order_by-order_by other xs =
+        unique (order_by lt (order_by other xs)) (order_by lt xs) (ranked_is (order_by other xs)) (ranked_is xs)
+        (λ z. let a = sum-order_by lt (hit z) (order_by other xs) in let b = sum-order_by other (hit z) xs in let c = sum-order_by lt
         (hit z) xs in omega arith)

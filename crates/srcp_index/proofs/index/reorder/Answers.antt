@@ -3,9 +3,9 @@ use Rattle.std.specs.List.Sorted.{IsPermutation}
 use Rattle.std.proofs.lemmas.List.Sorted.{IsPartitionPoint-from_clause}
 use Rattle.srcp_index.specs.declared.index.Pair.{Pair}
 use Rattle.srcp_index.specs.Pairs.{before}
-use Rattle.srcp_index.proofs.Places.{front_each, back_each, partitioned}
+use Rattle.srcp_index.proofs.Splits.{front_each, back_each, partitioned}
 use Rattle.srcp_index.proofs.Pairs.{arranged, come_first}
-use Rattle.srcp_index.proofs.index.arrange.Goals as goal
+use Rattle.srcp_index.proofs.index.reorder.Goals as goal
 
 pub returns : goal.returns
 returns c =
@@ -23,4 +23,4 @@ returns c =
     c.requires
     (front_each (λ x. p x ≡ true) pairs count c.partition_point-count.ensures.bound parted.0)
     (back_each (λ x. p x ≡ false) pairs count parted.1)
-    (subst (λ front. IsPermutation front new) c.split_at_mut-front.ensures.front c.sort.ensures.permutation) c.sort.ensures.ranked
+    (subst (λ front. IsPermutation front new) c.split_at_mut-front.ensures.front c.sort.ensures.permutation) c.sort.ensures.order

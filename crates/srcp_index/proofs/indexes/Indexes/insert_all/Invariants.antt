@@ -1,6 +1,6 @@
 use Rattle.std.proofs.Common.{◌≡◌, ◌+◌, ◌≤◌, length, take}
 use Rattle.srcp_index.specs.Indexed.{with_rows}
-use Rattle.srcp_index.proofs.indexes.Indexes.note_all.Given as goal
+use Rattle.srcp_index.proofs.indexes.Indexes.insert_all.Given as goal
 
 abbrev pub invariant-loop-row : goal.invariant-loop-row
 invariant-loop-row l = record {

@@ -1,4 +1,4 @@
--- Places in a list in the order of a test.
+-- Lists in the order of a test, split at an index.
 use Rattle.std.specs.Prelude.{◌≡◌, ℕ, zero, suc, ◌<◌, ◌≤◌, Bool, true, false, cond, List, [], ◌∷◌, ◌++◌, length, take, drop, find, insert}
 use Rattle.std.specs.Prelude.{remove, slice_index_or, Option, Some, None, IsSome, OnSome, Result, Ok, Err, OnOk, OnErr}
 use Rattle.std.specs.List.{AllByRecursion, AllWithin}
@@ -8,11 +8,11 @@ use Rattle.std.specs.Cmp.{IsStrictWeakOrder}
 use Rattle.std.proofs.Common.{refl, sym, ap, subst, ◌∙◌, arith, true≢false, drop-cons}
 use Rattle.std.proofs.lemmas.List.{take-append-drop}
 use Rattle.std.proofs.lemmas.List.Sorted.{sorted_far}
-use Rattle.srcp_index.specs.Ranked.{IsRanked, put, taken}
-use Rattle.srcp_index.proofs.Ranked.{put_between, taken_between, taken_none, taken_past}
+use Rattle.srcp_index.specs.Ordered.{IsInOrder, insert_by, remove_by}
+use Rattle.srcp_index.proofs.Ordered.{put_between, taken_between, taken_none, taken_past}
 
 module _ {X : Type 0} (P : X → Type 0) where
-  -- what holds at each place below this one holds of each item before it
+  -- what holds at each index below this one holds of each item before it
   pub front_each : (xs : List X) (i : ℕ) → i ≤ length xs → AllWithin P xs 0 i → AllByRecursion P (take i xs)
   front_each xs zero h a = tt
   front_each [] (suc i) h a = absurd (omega (arith, h))
@@ -22,7 +22,7 @@ module _ {X : Type 0} (P : X → Type 0) where
         (λ k d low high. a (suc k) d (omega arith) (omega (arith, high))),
   )
 
-  -- what holds at each place from this one on holds of each item there
+  -- what holds at each index from this one on holds of each item there
   pub back_each : (xs : List X) (i : ℕ) → AllWithin P xs i (length xs) → AllByRecursion P (drop i xs)
   back_each [] zero a = tt
   back_each [] (suc i) a = tt
@@ -33,7 +33,7 @@ module _ {X : Type 0} (P : X → Type 0) where
   )
   back_each (x ∷ xs) (suc i) a = back_each xs i (λ k d low high. a (suc k) d (omega (arith, low)) (omega (arith, high)))
 
--- what holds of each item holds at each place
+-- what holds of each item holds at each index
 pub each_at : {X : Type 0} (P : X → Type 0) (xs : List X) → AllByRecursion P xs → (k : ℕ) (d : X) → k < length xs
     → P (slice_index_or xs k d)
 each_at P [] a k d h = absurd (omega (arith, h))
@@ -41,8 +41,8 @@ each_at P (x ∷ xs) a zero d h = a.0
 each_at P (x ∷ xs) a (suc k) d h = each_at P xs a.1 k d (omega (arith, h))
 
 module _ {X : Type 0} (lt : X → X → Bool) where
-  -- a test that an item passes where a later one does splits the list
-  pub partitioned : (p : X → Bool) → ((x y : X) → lt y x ≡ false → p y ≡ true → p x ≡ true) → (xs : List X) → IsRanked lt xs
+  -- a test that an item passes if a later one does splits the list
+  pub partitioned : (p : X → Bool) → ((x y : X) → lt y x ≡ false → p y ≡ true → p x ≡ true) → (xs : List X) → IsInOrder lt xs
       → IsPartitionedBy p xs
   partitioned p keeps [] f i j d le h e = absurd (omega (arith, h))
   partitioned p keeps (x ∷ xs) f zero zero d le h e = e
@@ -52,7 +52,7 @@ module _ {X : Type 0} (lt : X → X → Bool) where
   partitioned p keeps (x ∷ xs) f (suc i) (suc j) d le h e = partitioned p keeps xs f.1 i j d (omega (arith, le)) (omega (arith, h)) e
 
   from_far : (xs : List X) → ((i j : ℕ) (d : X) → i ≤ j → j < length xs → lt (slice_index_or xs j d) (slice_index_or xs i d) ≡ false)
-      → IsRanked lt xs
+      → IsInOrder lt xs
   from_far [] h = tt
   from_far (x ∷ xs) h = (
     subst (AllByRecursion (λ y. lt y x ≡ false)) refl
@@ -61,13 +61,13 @@ module _ {X : Type 0} (lt : X → X → Bool) where
   )
 
   -- what a sort ensures
-  pub from_sorted : IsStrictWeakOrder lt → (xs : List X) → IsSortedBy lt xs → IsRanked lt xs
+  pub from_sorted : IsStrictWeakOrder lt → (xs : List X) → IsSortedBy lt xs → IsInOrder lt xs
   from_sorted weak xs h = from_far xs (sorted_far lt weak xs h)
 
-  -- an item is put at the place that splits the list by it
-  pub insert-put : (x : X) (xs : List X) (i : ℕ) → AllByRecursion (λ y. lt y x ≡ true) (take i xs)
-      → AllByRecursion (λ y. lt y x ≡ false) (drop i xs) → insert xs i x ≡ put lt x xs
-  insert-put x xs i a b = sym (put_between lt x (take i xs) (drop i xs) a b) ∙ ap (put lt x) (take-append-drop i xs)
+  -- an item is put at the index that splits the list by it
+  pub insert-insert_by : (x : X) (xs : List X) (i : ℕ) → AllByRecursion (λ y. lt y x ≡ true) (take i xs)
+      → AllByRecursion (λ y. lt y x ≡ false) (drop i xs) → insert xs i x ≡ insert_by lt x xs
+  insert-insert_by x xs i a b = sym (put_between lt x (take i xs) (drop i xs) a b) ∙ ap (insert_by lt x) (take-append-drop i xs)
 
   -- and taken from there
   module _ (x : X) (xs : List X) (i : ℕ) (d : X) (a : AllByRecursion (λ y. lt y x ≡ true) (take i xs))
@@ -79,15 +79,15 @@ module _ {X : Type 0} (lt : X → X → Bool) where
     here h = let c : AllByRecursion (λ y. lt y x ≡ false) (slice_index_or xs i d ∷ drop (suc i) xs) = subst
         (AllByRecursion (λ y. lt y x ≡ false)) (drop-cons xs i d h) b in c.0
 
-    pub remove-taken : i < length xs → lt x (slice_index_or xs i d) ≡ false → remove xs i ≡ taken lt x xs
-    remove-taken h e = sym (ap (taken lt x) (split h) ∙ taken_between lt x (take i xs) (slice_index_or xs i d) (drop (suc i) xs) a
+    pub remove-remove_by : i < length xs → lt x (slice_index_or xs i d) ≡ false → remove xs i ≡ remove_by lt x xs
+    remove-remove_by h e = sym (ap (remove_by lt x) (split h) ∙ taken_between lt x (take i xs) (slice_index_or xs i d) (drop (suc i) xs) a
         (here h) e)
 
-    pub not_taken : i < length xs → lt x (slice_index_or xs i d) ≡ true → xs ≡ taken lt x xs
+    pub not_taken : i < length xs → lt x (slice_index_or xs i d) ≡ true → xs ≡ remove_by lt x xs
     not_taken h e = split h
-        ∙ sym (ap (taken lt x) (split h) ∙ taken_none lt x (take i xs) (slice_index_or xs i d) (drop (suc i) xs) a (here h) e)
+        ∙ sym (ap (remove_by lt x) (split h) ∙ taken_none lt x (take i xs) (slice_index_or xs i d) (drop (suc i) xs) a (here h) e)
 
-    pub past_taken : length xs ≤ i → xs ≡ taken lt x xs
+    pub past_taken : length xs ≤ i → xs ≡ remove_by lt x xs
     past_taken h = sym (taken_past lt x xs (subst (AllByRecursion (λ y. lt y x ≡ true)) (whole i xs h) a))
       where
         whole : (n : ℕ) (zs : List X) → length zs ≤ n → take n zs ≡ zs
@@ -101,12 +101,12 @@ module _ {X : Type 0} (t : X → Bool) where
   find_none [] h = refl
   find_none (x ∷ xs) h = ap (λ b. cond b (Some x) (find t xs)) h.0 ∙ find_none xs h.1
 
-  -- where the first item fails the test, so do all
+  -- if the first item fails the test, so do all
   abbrev pub StopsAtOnce : List X → Type 0
   StopsAtOnce [] = Unit {0}
   StopsAtOnce (x ∷ xs) = t x ≡ false → AllByRecursion (λ y. t y ≡ false) xs
 
-  -- what is looked for stands at the place up to which all fail, or nowhere
+  -- what is looked for stands at the index up to which all fail, or nowhere
   pub find_here : (xs : List X) (i : ℕ) (d : X) → AllByRecursion (λ x. t x ≡ false) (take i xs) → i < length xs
       → t (slice_index_or xs i d) ≡ true → find t xs ≡ Some (slice_index_or xs i d)
   find_here [] i d a h e = absurd (omega (arith, h))
@@ -124,7 +124,7 @@ module _ {X : Type 0} (t : X → Bool) where
   find_past (x ∷ xs) zero a h = absurd (omega (arith, h))
   find_past (x ∷ xs) (suc i) a h = ap (λ b. cond b (Some x) (find t xs)) a.0 ∙ find_past xs i a.1 (omega (arith, h))
 
--- what holds of an insert that fails for want of room alone, where there is room
+-- what holds of an insert that fails for want of room alone, if there is room
 pub put_ok : {T E : Type 0} (r : Result T E) (P Q : Type 0) → OnOk r P → OnErr r Q → (Q → ⊥) → P
 put_ok (Ok u) P Q p q f = p
 put_ok (Err e) P Q p q f = absurd (f q)
@@ -134,7 +134,7 @@ pub taken_some : {T : Type 0} (o : Option T) (P : Type 0) → OnSome o P → IsS
 taken_some (Some x) P p s = p
 taken_some None P p s = absurd (true≢false (sym s))
 
--- the item at the place where those that fail end is found if it passes, and nothing else is
+-- the item at the index where those that fail end is found if it passes, and nothing else is
 pub find_at : {X : Type 0} (t : X → Bool) (xs : List X) (i : ℕ) (x : X) → AllByRecursion (λ y. t y ≡ false) (take i xs)
     → StopsAtOnce t (drop i xs) → i < length xs → x ≡ slice_index_or xs i x → then_some (t x) x ≡ find t xs
 find_at t xs i x front stops within at = by (t x) refl
