@@ -3,5 +3,9 @@ pub mod Splits
 pub mod Pairs
 pub mod RowSums
 pub mod PairsOfRows
+pub mod RankLaws
 pub mod IndexedLaws
+pub mod SetRowLaws
+pub mod AddedRowsLaws
+pub mod DroppedDeviceLaws
 pub mod Least

@@ -2,7 +2,8 @@ use Rattle.std.proofs.Common.{◌+◌, length, sym, ap, subst, arith}
 use Rattle.srcp_rules.specs.Rows.{AreNewRowsOf, put_rows}
 use Rattle.std.proofs.lemmas.List.Sums.{count_by-le-length}
 use Rattle.srcp_index.specs.Indexed.{IsIndexed, is_removable, with_rows}
-use Rattle.srcp_index.proofs.IndexedLaws.{added_indexed, few_due, few_held, roomier}
+use Rattle.srcp_index.proofs.AddedRowsLaws.{added_indexed}
+use Rattle.srcp_index.proofs.IndexedLaws.{few_due, few_held, roomier}
 use Rattle.srcp_index.proofs.indexed.IndexedRows.add.Goals as goal
 
 pub insert_all-requires-clause-moments : goal.insert_all-requires-clause-moments

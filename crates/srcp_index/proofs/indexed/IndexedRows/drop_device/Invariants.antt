@@ -1,6 +1,6 @@
 use Rattle.std.proofs.Common.{◌≡◌}
 use Rattle.srcp_index.specs.Indexed.{IsIndexed}
-use Rattle.srcp_index.proofs.IndexedLaws.{but_below}
+use Rattle.srcp_index.proofs.DroppedDeviceLaws.{but_below}
 use Rattle.srcp_index.proofs.indexed.IndexedRows.drop_device.Given as goal
 
 abbrev pub invariant-loop-port : goal.invariant-loop-port

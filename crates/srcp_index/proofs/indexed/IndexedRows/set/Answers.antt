@@ -3,7 +3,7 @@ use Rattle.std.specs.Option.{option_copied}
 use Rattle.srcp_rules.specs.State.{has_row, holder_of, put_row}
 use Rattle.srcp_index.specs.declared.indexes.Indexes.{Indexes}
 use Rattle.srcp_index.specs.Indexed.{IsIndexed, HasRoom, due_of, with_row}
-use Rattle.srcp_index.proofs.IndexedLaws.{room_for_due, room_for_held, passed_by, set_indexed}
+use Rattle.srcp_index.proofs.SetRowLaws.{room_for_due, room_for_held, passed_by, set_indexed}
 use Rattle.srcp_index.proofs.indexed.IndexedRows.set.Goals as goal
 
 pub insert-requires-clause-moments : goal.insert-requires-clause-moments

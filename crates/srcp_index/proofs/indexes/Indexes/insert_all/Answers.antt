@@ -3,7 +3,7 @@ use Rattle.std.proofs.lemmas.List.Sums.{fold_more}
 use Rattle.srcp_rules.specs.State.{holder_of}
 use Rattle.srcp_index.specs.declared.indexes.Indexes.{Indexes}
 use Rattle.srcp_index.specs.Indexed.{due_of, with_row}
-use Rattle.srcp_index.proofs.IndexedLaws.{longer}
+use Rattle.srcp_index.proofs.RankLaws.{longer}
 use Rattle.srcp_index.proofs.indexes.Indexes.insert_all.Goals as goal
 
 pub loop-row-preserved : goal.loop-row-preserved

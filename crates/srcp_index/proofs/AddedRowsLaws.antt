@@ -1,0 +1,112 @@
+-- Laws of the rows with both indexes: rows that are added.
+use Rattle.std.specs.Prelude.{◌≡◌, ℕ, ◌+◌, ◌≤◌, Bool, true, false, not, cond, is_some, List}
+use Rattle.std.specs.Prelude.{[], ◌∷◌, Option, Some, None}
+use Rattle.std.specs.List.{AllByRecursion}
+use Rattle.std.specs.Ordering.{is_eq}
+use Rattle.std.specs.declared.cmp.Ordering.TheVariants.{Less}
+use Rattle.std.proofs.Common.{refl, sym, ap, subst, ◌∙◌, arith, true≢false}
+use Rattle.std.proofs.lemmas.List.Sums.{sum_by-cons}
+use Rattle.srcp_info.specs.declared.key.Key.{Key}
+use Rattle.srcp_info.specs.declared.key.Device.{Device}
+use Rattle.srcp_info.specs.declared.change.Row.{Row}
+use Rattle.srcp_info.specs.Key.{key_cmp}
+use Rattle.srcp_info.proofs.ClientLaws.{all_put, rising_put}
+use Rattle.srcp_grammar.specs.declared.layout.Bus.{Bus}
+use Rattle.srcp_grammar.specs.Layout.{row_count}
+use Rattle.srcp_grammar.specs.Devices.{key_at}
+use Rattle.srcp_rules.specs.State.{State, IsRising, IsRowOf, row_at, put_row}
+use Rattle.srcp_rules.specs.State.{holder_of}
+use Rattle.srcp_rules.specs.Rows.{AreNewRowsOf, put_rows}
+use Rattle.srcp_rules.proofs.KeyLaws.{same_key}
+use Rattle.srcp_grammar.proofs.FindLaws.{each-weaken}
+use Rattle.srcp_rules.proofs.StateLaws.{row_key, row_at-put_other}
+use Rattle.srcp_rules.proofs.NewDeviceLaws.{IsFrom, ports_from, ports_rise}
+use Rattle.srcp_index.specs.declared.indexes.Indexes.{Indexes}
+use Rattle.srcp_index.specs.Pairs.{IndexModel}
+use Rattle.srcp_index.specs.Indexed.{IsIndexed, HasPairs, IsRankedRow, due_of, removable_count, removable_rows}
+use Rattle.srcp_index.specs.Indexed.{with_row, with_rows}
+use Rattle.srcp_index.proofs.RowSums.{but_at, sum-put_row}
+use Rattle.srcp_index.proofs.RankLaws.{with_pairs, ranked_row}
+
+-- ---- rows that are added
+
+module _ where
+  nothing_else : (row : Row) → Some row ≡ None → ⊥
+  nothing_else row e = cc
+
+  pub but_at_none : (key : Key) (state : State) → row_at key state ≡ None → but_at key state ≡ state
+  but_at_none key [] e = refl
+  but_at_none key (row ∷ state) e = by (same_key row.shown.key key) refl (but_at_none key state)
+    where
+      by : (b : Bool) → same_key row.shown.key key ≡ b → (row_at key state ≡ None → but_at key state ≡ state) → but_at key (row ∷ state)
+          ≡ row ∷ state
+      by true f later = absurd (nothing_else row (sym (ap (λ c. cond c (Some row) (row_at key state)) f) ∙ e))
+      by false f later =
+          ap (λ c. cond (not c) (row ∷ but_at key state) (but_at key state)) f
+          ∙ ap (λ rest. row ∷ rest) (later (sym (ap (λ c. cond c (Some row) (row_at key state)) f) ∙ e))
+
+  no_row : (o : Option Row) → is_some o ≡ false → o ≡ None
+  no_row None e = refl
+  no_row (Some row) e = absurd (true≢false e)
+
+  abbrev pub IsFresh : State → Row → Type 0
+  IsFresh state row = row_at row.shown.key state ≡ None
+
+  still_fresh : (row : Row) (state : State) (rows : List Row)
+      → AllByRecursion (λ other. key_cmp row.shown.key other.shown.key ≡ Less) rows → AllByRecursion (IsFresh state) rows
+      → AllByRecursion (IsFresh (put_row row state)) rows
+  still_fresh row state [] above fresh = tt
+  still_fresh row state (other ∷ rows) above fresh = (
+    row_at-put_other other.shown.key row state (ap is_eq above.0)
+        ∙ fresh.0,
+    still_fresh row state rows above.1 fresh.1,
+  )
+
+-- the index has room for more rows
+with_more : (rank : Row → Option ℕ) (state : State) (index : IndexModel) (count more : ℕ) → more ≤ index.room
+    → HasPairs rank state index count → HasPairs rank state index more
+with_more rank state index count more room h = record { pairs = h.pairs; room = room }
+
+module _ (buses : List Bus) where
+  one_added : (row : Row) (state : State) (both : Indexes) (count : ℕ) → IsFresh state row → IsRowOf buses row
+      → count + removable_count row ≤ both.moments.room → count + removable_count row ≤ both.sessions.room → IsIndexed state both count
+      → IsIndexed (put_row row state) (with_row row both) (count + removable_count row)
+  one_added row state both count fresh of due_room held_room h =
+      let more = count + removable_count row in
+      let same = sym (but_at_none row.shown.key state fresh) in
+      record {
+        rising = rising_put row_key row state h.rising;
+        due = with_pairs due_of row state both.moments more
+            (subst (λ rows. HasPairs due_of rows both.moments more) same (with_more due_of state both.moments count more due_room h.due));
+        held = with_pairs holder_of row state both.sessions more
+            (subst (λ rows. HasPairs holder_of rows both.sessions more) same
+            (with_more holder_of state both.sessions count more held_room h.held));
+        since = h.since;
+        counted = (let a = sum-put_row removable_count row state in
+            let b = ap removable_rows (but_at_none row.shown.key state fresh) in
+            let c = h.counted in
+            omega arith);
+        rows = all_put row_key IsRankedRow row state (ranked_row buses row of) h.rows;
+      }
+
+  all_added : (rows : List Row) (state : State) (both : Indexes) (count : ℕ) → IsRising rows → AllByRecursion (IsFresh state) rows
+      → AllByRecursion (IsRowOf buses) rows → count + removable_rows rows ≤ both.moments.room → count + removable_rows rows ≤ both.sessions.room
+      → IsIndexed state both count → IsIndexed (put_rows rows state) (with_rows rows both) (count + removable_rows rows)
+  all_added [] state both count rising fresh of due_room held_room h = subst (IsIndexed state both) (omega arith) h
+  all_added (row ∷ rows) state both count rising fresh of due_room held_room h =
+      let sum = sum_by-cons removable_count row rows in
+      let here = one_added row state both count fresh.0 of.0 (omega (arith, sum, due_room)) (omega (arith, sum, held_room)) h in
+      let all = all_added rows (put_row row state) (with_row row both) (count + removable_count row) rising.1
+      (still_fresh row state rows rising.0 fresh.1) of.1 (omega (arith, sum, due_room)) (omega (arith, sum, held_room)) here in
+      let same : count + removable_count row + removable_rows rows ≡ count + removable_rows (row ∷ rows) = omega (arith, sum) in
+      subst (λ n. IsIndexed (put_rows rows (put_row row state)) (with_rows rows (with_row row both)) n) same all
+
+  pub added_indexed : (state : State) (device : Device) (rows : List Row) → AreNewRowsOf buses state device rows
+      → (both : Indexes) (count : ℕ) → count + removable_rows rows ≤ both.moments.room → count + removable_rows rows ≤ both.sessions.room
+      → IsIndexed state both count → IsIndexed (put_rows rows state) (with_rows rows both) (count + removable_rows rows)
+  added_indexed state device rows fresh both count due_room held_room h =
+      let n = row_count buses device in
+      all_added rows state both count (ports_rise device rows 0 n fresh.all.keys)
+      (each-weaken {P = IsFrom device 0} (λ row from. ap (λ k. row_at k state) from.2 ∙ no_row (row_at (key_at device from.0) state)
+      (fresh.free from.0)) rows (ports_from device rows 0 n fresh.all.keys))
+      fresh.all.each due_room held_room h
