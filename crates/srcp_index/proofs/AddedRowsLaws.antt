@@ -90,7 +90,8 @@ module _ (buses : List Bus) where
       }
 
   all_added : (rows : List Row) (state : State) (both : Indexes) (count : ℕ) → IsRising rows → AllByRecursion (IsFresh state) rows
-      → AllByRecursion (IsRowOf buses) rows → count + removable_rows rows ≤ both.moments.room → count + removable_rows rows ≤ both.sessions.room
+      → AllByRecursion (IsRowOf buses) rows → count + removable_rows rows ≤ both.moments.room
+      → count + removable_rows rows ≤ both.sessions.room
       → IsIndexed state both count → IsIndexed (put_rows rows state) (with_rows rows both) (count + removable_rows rows)
   all_added [] state both count rising fresh of due_room held_room h = subst (IsIndexed state both) (omega arith) h
   all_added (row ∷ rows) state both count rising fresh of due_room held_room h =

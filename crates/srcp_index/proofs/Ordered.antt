@@ -42,13 +42,20 @@ module _ {X : Type 0} (lt : X → X → Bool) where
   sum-insert_by f x [] = sum_by-cons f x []
   sum-insert_by f x (y ∷ ys) =
       elim (cases_Bool (lt y x)) [
-        | inl e ↦ rw e (let a = sum_by-cons f y (insert_by lt x ys) in let b = sum-insert_by f x ys in let c = sum_by-cons f y ys in omega arith)
+        | inl e ↦ rw e (let a = sum_by-cons f y (insert_by lt x ys) in
+            let b = sum-insert_by f x ys in
+            let c = sum_by-cons f y ys in
+            omega arith)
         | inr e ↦ rw e (sum_by-cons f x (y ∷ ys))
       ]
 
   pub sum-order_by : (f : X → ℕ) (xs : List X) → sum_by f (order_by lt xs) ≡ sum_by f xs
   sum-order_by f [] = refl
-  sum-order_by f (x ∷ xs) = let a = sum-insert_by f x (order_by lt xs) in let b = sum-order_by f xs in let c = sum_by-cons f x xs in omega arith
+  sum-order_by f (x ∷ xs) =
+      let a = sum-insert_by f x (order_by lt xs) in
+      let b = sum-order_by f xs in
+      let c = sum_by-cons f x xs in
+      omega arith
 
   -- an item between those before it and those not before it
   pub put_between : (x : X) (xs ys : List X) → AllByRecursion (λ y. lt y x ≡ true) xs → AllByRecursion (λ y. lt y x ≡ false) ys

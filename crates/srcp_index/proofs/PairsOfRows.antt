@@ -19,7 +19,8 @@ use Rattle.srcp_rules.proofs.StateLaws.{row_at-first, row_at-later}
 use Rattle.srcp_index.specs.declared.index.Pair.{Pair}
 use Rattle.srcp_index.specs.Pairs.{IndexModel, before, is_due_beyond}
 use Rattle.srcp_index.specs.Ordered.{insert_by, remove_by, order_by}
-use Rattle.srcp_index.specs.Indexed.{at_rank, due_of, pair_of, pairs_of, insert_ranked, remove_ranked, is_removable, removable_count, removable_rows}
+use Rattle.srcp_index.specs.Indexed.{at_rank, due_of, pair_of, pairs_of, insert_ranked, remove_ranked}
+use Rattle.srcp_index.specs.Indexed.{is_removable, removable_count, removable_rows}
 use Rattle.srcp_index.proofs.Pairs.{before_weak, before_tie, alike_after}
 use Rattle.srcp_index.proofs.Ordered.{Keeps, find-order_by, remove_by-insert_by, length-order_by}
 use Rattle.srcp_index.proofs.Ordered as law
@@ -56,7 +57,8 @@ module _ (rank : Row → Option ℕ) where
     inserted-first (Some r) row ps = refl
 
     removed-inserted : (o : Option ℕ) (row : Row) (ps : List Pair) →
-        option_map_or (λ r. remove_by (before since) (at_rank row r) (option_map_or (λ r. insert_by (before since) (at_rank row r) ps) o ps)) o
+        option_map_or (λ r. remove_by (before since) (at_rank row r)
+        (option_map_or (λ r. insert_by (before since) (at_rank row r) ps) o ps)) o
         (option_map_or (λ r. insert_by (before since) (at_rank row r) ps) o ps) ≡ ps
     removed-inserted None row ps = refl
     removed-inserted (Some r) row ps = remove_by-insert_by (before since) (before_weak since) (at_rank row r) ps

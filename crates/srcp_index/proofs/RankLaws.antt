@@ -132,10 +132,12 @@ ranked_row buses row of =
       port = port_within key.group key.port row.shown.value fits;
     }
 
-pub due_all : (state : State) → AllByRecursion IsRankedRow state → AllByRecursion (λ row. IsSome (due_of row) → IsTrue (is_removable row)) state
+pub due_all : (state : State) → AllByRecursion IsRankedRow state
+    → AllByRecursion (λ row. IsSome (due_of row) → IsTrue (is_removable row)) state
 due_all state h = each-weaken {P = IsRankedRow} (λ row r s. ranked_goes row.shown.key.group (r.due s)) state h
 
-pub held_all : (state : State) → AllByRecursion IsRankedRow state → AllByRecursion (λ row. IsSome (holder_of row) → IsTrue (is_removable row)) state
+pub held_all : (state : State) → AllByRecursion IsRankedRow state
+    → AllByRecursion (λ row. IsSome (holder_of row) → IsTrue (is_removable row)) state
 held_all state h = each-weaken {P = IsRankedRow} (λ row r s. ranked_goes row.shown.key.group (r.held s)) state h
 
 -- a row that may go counts

@@ -13,7 +13,8 @@ use Rattle.srcp_rules.specs.State.{holder_of}
 use Rattle.srcp_rules.proofs.KeyLaws.{same_key}
 use Rattle.srcp_rules.proofs.StateLaws.{row_key, row_at_key}
 use Rattle.srcp_index.specs.declared.indexes.Indexes.{Indexes}
-use Rattle.srcp_index.specs.Indexed.{IsIndexed, HasPairs, HasRoom, IsRankedRow, due_of, removable_count, removable_rows, is_removable, may_rank}
+use Rattle.srcp_index.specs.Indexed.{IsIndexed, HasPairs, HasRoom, IsRankedRow, due_of, may_rank}
+use Rattle.srcp_index.specs.Indexed.{removable_count, removable_rows, is_removable}
 use Rattle.srcp_index.specs.Indexed.{with_pair, without_pair, with_row, without_row}
 use Rattle.srcp_index.proofs.RowSums.{but_at, sum-put_row, sum-there}
 use Rattle.srcp_index.proofs.RankLaws.{with_pairs, without_pairs, few, ranked_goes, ranked_row, due_all, held_all, counted_one}
@@ -55,12 +56,14 @@ module _ (buses : List Bus) (state : State) (both : Indexes) (count : ℕ) (h : 
   rows_left = all_filter IsRankedRow (λ other. not (same_key other.shown.key row.shown.key)) state h.rows
 
   counts : removable_rows state ≡ removable_count row + removable_rows left
-  counts = sum-there removable_count old state h.rising old_there ∙ (λ i. cond {A = ℕ} (can_go (same i).group) 1 0 + removable_rows (but_at (same i) state))
+  counts = sum-there removable_count old state h.rising old_there
+      ∙ (λ i. cond {A = ℕ} (can_go (same i).group) 1 0 + removable_rows (but_at (same i) state))
 
   pub room_for_due : IsSome (due_of row) → HasRoom (without_pair (due_of old) old.shown.key both.moments)
   room_for_due s =
       let a = few due_of left (without_pair (due_of old) old.shown.key both.moments) count (due_all left rows_left) due_left in
-      let b : removable_count row ≡ 1 = counted_one (is_removable row) (ranked_goes row.shown.key.group ((ranked_row buses row of).due s)) in
+      let b : removable_count row ≡ 1 =
+      counted_one (is_removable row) (ranked_goes row.shown.key.group ((ranked_row buses row of).due s)) in
       let c = h.counted in
       let d = h.due.room in
       let e = counts in
@@ -69,7 +72,8 @@ module _ (buses : List Bus) (state : State) (both : Indexes) (count : ℕ) (h : 
   pub room_for_held : IsSome (holder_of row) → HasRoom (without_pair (holder_of old) old.shown.key both.sessions)
   room_for_held s =
       let a = few holder_of left (without_pair (holder_of old) old.shown.key both.sessions) count (held_all left rows_left) held_left in
-      let b : removable_count row ≡ 1 = counted_one (is_removable row) (ranked_goes row.shown.key.group ((ranked_row buses row of).held s)) in
+      let b : removable_count row ≡ 1 =
+      counted_one (is_removable row) (ranked_goes row.shown.key.group ((ranked_row buses row of).held s)) in
       let c = h.counted in
       let d = h.held.room in
       let e = counts in

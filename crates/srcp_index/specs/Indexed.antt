@@ -29,7 +29,8 @@ pairs_of rank state = flat_map (pair_of rank) state
 
 -- the pairs with that of the key, if it has a rank
 abbrev pub insert_ranked : (since : ℕ) → (rank : Option ℕ) → Key → List Pair → List Pair
-insert_ranked since rank k pairs = option_map_or (λ r. insert_by (before since) (record { rank = r; key = k }) pairs) rank pairs
+insert_ranked since rank k pairs =
+    option_map_or (λ r. insert_by (before since) (record { rank = r; key = k }) pairs) rank pairs
 
 -- the pairs without it
 abbrev pub remove_ranked : (since : ℕ) → (rank : Option ℕ) → Key → List Pair → List Pair

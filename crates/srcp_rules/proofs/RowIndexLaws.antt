@@ -125,7 +125,8 @@ set-put_row state rising row index at =
     ∙ ap (put_row row) (sym parts.2)
 
 -- an insert where a key belongs
-pub insert-put_row : (state : State) (row : Row) (index : ℕ) → IsGapAt state row.shown.key index → insert state index row ≡ put_row row state
+pub insert-put_row : (state : State) (row : Row) (index : ℕ) → IsGapAt state row.shown.key index
+    → insert state index row ≡ put_row row state
 insert-put_row state row index gap =
     sym (put_between row_key row (take index state) (drop index state) gap.below gap.above)
     ∙ ap (put_row row) (take-append-drop index state)

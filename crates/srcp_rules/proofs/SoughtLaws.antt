@@ -115,7 +115,8 @@ module _ (row_filter : RowFilter) (at : Cursor) (state : State) where
     pub passed_here : passes row_filter row ≡ true → first_passed row_filter at state ≡ Some row
     passed_here e = first ∙ ap (λ b. cond b (Some row) (find (passes row_filter) (beyond (cursor.After row.shown.key) state))) e
 
-    pub passed_later : passes row_filter row ≡ false → first_passed row_filter (cursor.After row.shown.key) state ≡ first_passed row_filter at state
+    pub passed_later : passes row_filter row ≡ false
+        → first_passed row_filter (cursor.After row.shown.key) state ≡ first_passed row_filter at state
     passed_later e =
         find-both (λ other. not (has_reached (cursor.After row.shown.key) other.shown.key)) (passes row_filter) state
         ∙ sym (first ∙ ap (λ b. cond b (Some row) (find (passes row_filter) (beyond (cursor.After row.shown.key) state))) e)

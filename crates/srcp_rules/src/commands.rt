@@ -16,9 +16,9 @@ use crate::device::{
     BusAddress, device_in, fb_device, key_at, lock_on, power_device, session_device,
 };
 use crate::drive::{gl_refusal, set_ga, set_gl};
-use crate::new_device::{Decoder, init_ga, init_gl};
 use crate::init::term_device;
-use crate::lock::{answer_check, refusal, set_lock, term_lock};
+use crate::lock::{refusal, refuse_if, set_lock, term_lock};
+use crate::new_device::{Decoder, init_ga, init_gl};
 use crate::obeyed::{MOST_CHANGES, Obeyed};
 use crate::registry::{set_one, show};
 use crate::rows::Rows;
@@ -119,7 +119,7 @@ fn answer_gl<R: Rows>(rows: &mut R, sender: Sender, command: &Command, obeyed: &
             show(rows, &key_at(device_in(Lockable::Gl, place), 1), obeyed)
         }
         Command::SetGl(ref drive) => set_gl(rows, sender, drive, obeyed),
-        Command::CheckGl(ref drive) => answer_check(gl_refusal(rows, sender.session, drive), obeyed),
+        Command::CheckGl(ref drive) => refuse_if(gl_refusal(rows, sender.session, drive), obeyed),
         Command::InitGl {
             bus,
             address,
@@ -165,7 +165,7 @@ fn answer_ga<R: Rows>(rows: &mut R, sender: Sender, command: &Command, obeyed: &
         Command::SetGa(ref switch) => set_ga(rows, sender, switch, obeyed),
         Command::CheckGa(Switch { bus, address, .. }) => {
             let place = BusAddress { bus, address };
-            answer_check(refusal(rows, sender.session, Lockable::Ga, place), obeyed)
+            refuse_if(refusal(rows, sender.session, Lockable::Ga, place), obeyed)
         }
         Command::InitGa {
             bus,
@@ -232,7 +232,7 @@ fn answer_lock<R: Rows>(rows: &mut R, sender: Sender, command: &Command, obeyed:
                 address,
                 ..
             },
-        ) => answer_check(
+        ) => refuse_if(
             refusal(rows, sender.session, group, BusAddress { bus, address }),
             obeyed,
         ),

@@ -39,7 +39,7 @@ pub(crate) fn fb_device(bus: u8, port: u32) -> Device
     }
 }
 
-/// Names a locomotive or an accessory, of a group that is known, by its bus and address.
+/// Names the bus and the address of a locomotive or an accessory.
 #[derive(Clone, Copy)]
 pub(crate) struct BusAddress {
     pub(crate) bus: u8,

@@ -3,11 +3,11 @@
 ghost use Rattle.std.specs.Prelude.{◌≡◌, ◌++◌, IfOk, OnOk};
 ghost use Rattle.srcp_rules.specs.State.{IsRising, opening, opening_on};
 
+use crate::filter::RowFilter;
 use crate::first_rows::{push_ports, push_power};
 use crate::obeyed::Memory;
 use crate::rows::Rows;
 use crate::sorted_rows::{add_all, drop_in, first_in, row_after_in, row_in, set_in};
-use crate::filter::RowFilter;
 use srcp_grammar::{Bus, Layout};
 use srcp_info::{Cursor, Device, Key, Row};
 use std::alloc::Global;

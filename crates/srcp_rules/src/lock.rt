@@ -49,7 +49,7 @@ pub(crate) fn refusal<R: Rows>(
 }
 
 /// Answers CHECK: with the refusal, if there is one, and else that SET would be accepted.
-pub(crate) fn answer_check(refusal: Option<Code>, obeyed: &mut Obeyed)
+pub(crate) fn refuse_if(refusal: Option<Code>, obeyed: &mut Obeyed)
     requires { IsTold (accepted []) obeyed.old }
     ensures { IsTold (refused_or_not refusal) obeyed.new }
 {

@@ -14,10 +14,10 @@ mod bus_rows;
 mod device_rows;
 mod devices;
 
+use crate::filter::RowFilter;
 use crate::nested::bus_rows::BusRows;
 use crate::obeyed::Memory;
 use crate::rows::Rows;
-use crate::filter::RowFilter;
 use srcp_grammar::{Bus, Layout, SERVER};
 use srcp_info::{Cursor, Device, Key, Row};
 use std::alloc::Global;

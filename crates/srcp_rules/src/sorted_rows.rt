@@ -7,8 +7,8 @@ ghost use Rattle.srcp_rules.specs.KeyIndex.{HasKeyAt, IsGapAt};
 ghost use Rattle.srcp_rules.specs.Filter.{first_passed};
 ghost use Rattle.srcp_rules.specs.State.{IsRising, has_row, put_row, row_after, row_at, without};
 
-use crate::obeyed::Memory;
 use crate::filter::RowFilter;
+use crate::obeyed::Memory;
 use srcp_info::{Cursor, Device, Key, Row, compare};
 
 /// Searches rows by rising key. Returns `Ok` with the index of the row at the key, or `Err` with the index at which to

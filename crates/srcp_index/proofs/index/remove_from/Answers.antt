@@ -1,7 +1,8 @@
 use Rattle.std.proofs.Common.{rules, sym, ap, ◌∙◌, arith}
 use Rattle.srcp_index.specs.Pairs.{before}
 use Rattle.srcp_index.proofs.Splits.{taken_some, remove-remove_by, not_taken, past_taken}
-use Rattle.srcp_index.proofs.index.remove_from.Goals.{else-index-len-via-then-index-len+else-not-is_before, else-index-len-via-else-index-len}
+use Rattle.srcp_index.proofs.index.remove_from.Goals.{else-index-len-via-then-index-len+else-not-is_before}
+use Rattle.srcp_index.proofs.index.remove_from.Goals.{else-index-len-via-else-index-len}
 use Rattle.srcp_index.proofs.index.remove_from.Goals as goal
 
 pub returns-then-not-is_before-clause-pairs : goal.returns-then-not-is_before-clause-pairs

@@ -11,7 +11,8 @@ returns-in-Ok g c =
     let row = c.args.row.now in
     let inside = c.self.inside in
     let kept = c.args.self.now in
-    let at : HasKeyAt kept row.shown.key index = subst (λ state. HasKeyAt state row.shown.key index) c.as_slice.ensures c.in-Ok.ensures.at in
+    let at : HasKeyAt kept row.shown.key index =
+    subst (λ state. HasKeyAt state row.shown.key index) c.as_slice.ensures c.in-Ok.ensures.at in
     let within : index < length (take inside.count inside.rows) =
     subst (λ (state : State). index < length state) (sym c.self.view_is) at.within in
     take-set inside.count inside.rows index row within
