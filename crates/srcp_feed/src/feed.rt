@@ -6,7 +6,7 @@ ghost use Rattle.srcp_info.specs.Client.{changed, IsRisingBy};
 ghost use Rattle.srcp_info.specs.declared.change.Change.{Change};
 ghost use Rattle.srcp_info.specs.declared.change.Shown.{Shown};
 ghost use Rattle.srcp_rules.specs.State.{row_after, shown_rows};
-ghost use Rattle.srcp_feed.specs.Cursor.{said};
+ghost use Rattle.srcp_feed.specs.Cursor.{concerns, said};
 ghost use Rattle.srcp_feed.specs.Feed.{beginning, told, told_answer, next_of, after_next, HoldsPassed};
 
 use crate::queue::{MOST_WAITING, Queue};
@@ -63,7 +63,7 @@ impl InfoFeed {
         ensures answer { result ≡ told_answer change.now self.old }
         ensures feed { self.new ≡ told change.now self.old }
     {
-        if !self.cursor.has_reached(&change.change().key()) {
+        if !self.has_passed(change.change()) {
             return Told::Skipped;
         }
         if self.waiting.is_full() {
@@ -71,6 +71,13 @@ impl InfoFeed {
         }
         self.waiting.push(change.copied());
         Told::Queued
+    }
+
+    /// Returns whether the listing has passed the row of a change. One that is done has passed all, whatever the key.
+    fn has_passed(&self, change: &Change) -> bool
+        ensures { result ≡ concerns self.now.cursor change.now }
+    {
+        matches!(self.cursor, Cursor::Done) || self.cursor.has_reached(&change.key())
     }
 
     /// Lends the first change that waits, with its line.
