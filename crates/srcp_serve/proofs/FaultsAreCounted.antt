@@ -13,8 +13,12 @@ one_failed tally count tally_later count_later le t c = record {
 }
 
 -- no call failed
-pub none_failed : (tally count : ℕ) → tally ≤ count → CountsFaults tally count tally count
-none_failed tally count le = record { within = le; onward = λ low. omega arith; exact = λ low. omega arith }
+pub none_failed : (tally count count_later : ℕ) → tally ≤ count → count_later ≡ count → CountsFaults tally count tally count_later
+none_failed tally count count_later le same = record {
+  within = omega (arith, le, same);
+  onward = λ low. omega (arith, same);
+  exact = λ low. omega (arith, same);
+}
 
 -- some calls, and then others
 pub counts_then : (a b c d e f : ℕ) → CountsFaults a b c d → CountsFaults c d e f → CountsFaults a b e f

@@ -24,6 +24,7 @@ pub mod OneReadFollows
 pub mod VisitsFollow
 pub mod AnswersAreFair
 pub mod TurnsAskInOrder
+pub mod DoorIsCalled
 pub mod MomentsFollow
 pub mod NewcomersAreSeated
 pub mod PlacesFollow

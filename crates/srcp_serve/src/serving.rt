@@ -4,7 +4,7 @@ ghost use Rattle.std.specs.Prelude.{◌≡◌, ◌<◌, ◌≤◌, ◌+◌, repl
 ghost use Rattle.srcp_core.specs.declared.limits.TheConstants.{MOST_CONNECTIONS};
 ghost use Rattle.srcp_serve.specs.Places.{LetsIn, MakesTurn, MayFree, SeatsPeer, ServesCourse, TakesMoment, one_if};
 ghost use Rattle.srcp_serve.specs.Places.{VisitsPlace, VisitsPlaces};
-ghost use Rattle.srcp_serve.specs.Tally.{CountsFaults};
+ghost use Rattle.srcp_serve.specs.Tally.{CallsDoor};
 ghost use Rattle.srcp_serve.specs.Turns.{AsksMoment, AsksNewcomer, AsksPeers, AsksTurn, AsksTurns};
 
 mod places;
@@ -81,10 +81,7 @@ impl<'d, D: Door> Server<'d, D> {
     /// Makes a turn. Returns whether a peer was let in.
     fn turn<R: Rows>(&mut self, core: &mut Core<'_, R>) -> bool
         requires { self.old.tally.faults ≤ D.faults self.old.door.now }
-        ensures same_door { self.new.door.ghost_name ≡ self.old.door.ghost_name }
-        ensures faults { CountsFaults self.old.tally.faults (D.faults self.old.door.now)
-            self.new.tally.faults (D.faults self.new.door.now) }
-        ensures told { AsksTurn (D.told self.old.door.now) (D.told self.new.door.now) }
+        ensures calls { CallsDoor D.faults D.told AsksTurn self.old self.new }
         ensures course { MakesTurn core.old (D.told self.old.door.now) self.old.places
             core.new (D.told self.new.door.now) self.new.places result }
     {
@@ -97,10 +94,7 @@ impl<'d, D: Door> Server<'d, D> {
     /// Visits the peers that have slots, in the order of the slots.
     fn visit_places<R: Rows>(&mut self, core: &mut Core<'_, R>)
         requires { self.old.tally.faults ≤ D.faults self.old.door.now }
-        ensures same_door { self.new.door.ghost_name ≡ self.old.door.ghost_name }
-        ensures faults { CountsFaults self.old.tally.faults (D.faults self.old.door.now)
-            self.new.tally.faults (D.faults self.new.door.now) }
-        ensures told { AsksPeers (D.told self.old.door.now) (D.told self.new.door.now) }
+        ensures calls { CallsDoor D.faults D.told AsksPeers self.old self.new }
         ensures course { VisitsPlaces core.old (D.told self.old.door.now) self.old.places
             core.new (D.told self.new.door.now) self.new.places }
     {
@@ -114,10 +108,7 @@ impl<'d, D: Door> Server<'d, D> {
     fn visit_place<R: Rows>(&mut self, core: &mut Core<'_, R>, place: usize)
         requires counted { self.old.tally.faults ≤ D.faults self.old.door.now }
         requires within { place < MOST_CONNECTIONS }
-        ensures same_door { self.new.door.ghost_name ≡ self.old.door.ghost_name }
-        ensures faults { CountsFaults self.old.tally.faults (D.faults self.old.door.now)
-            self.new.tally.faults (D.faults self.new.door.now) }
-        ensures told { AsksPeers (D.told self.old.door.now) (D.told self.new.door.now) }
+        ensures calls { CallsDoor D.faults D.told AsksPeers self.old self.new }
         ensures course { VisitsPlace place core.old (D.told self.old.door.now) self.old.places
             core.new (D.told self.new.door.now) self.new.places }
         ensures places { MayFree place self.old.places self.new.places }
@@ -134,11 +125,8 @@ impl<'d, D: Door> Server<'d, D> {
     /// keeps its moment.
     fn take_moment<R: Rows>(&mut self, core: &mut Core<'_, R>)
         requires { self.old.tally.faults ≤ D.faults self.old.door.now }
-        ensures same_door { self.new.door.ghost_name ≡ self.old.door.ghost_name }
         ensures places { self.new.places ≡ self.old.places }
-        ensures faults { CountsFaults self.old.tally.faults (D.faults self.old.door.now)
-            self.new.tally.faults (D.faults self.new.door.now) }
-        ensures told { AsksMoment (D.told self.old.door.now) (D.told self.new.door.now) }
+        ensures calls { CallsDoor D.faults D.told AsksMoment self.old self.new }
         ensures denied { core.new.denied ≡ core.old.denied }
         ensures course { TakesMoment core.old (D.told self.old.door.now)
             core.new (D.told self.new.door.now) }
@@ -153,10 +141,7 @@ impl<'d, D: Door> Server<'d, D> {
     /// Accepts one peer, if one is pending. Returns whether it got a slot.
     fn let_in<R: Rows>(&mut self, core: &mut Core<'_, R>) -> bool
         requires { self.old.tally.faults ≤ D.faults self.old.door.now }
-        ensures same_door { self.new.door.ghost_name ≡ self.old.door.ghost_name }
-        ensures faults { CountsFaults self.old.tally.faults (D.faults self.old.door.now)
-            self.new.tally.faults (D.faults self.new.door.now) }
-        ensures told { AsksNewcomer (D.told self.old.door.now) (D.told self.new.door.now) }
+        ensures calls { CallsDoor D.faults D.told AsksNewcomer self.old self.new }
         ensures course { LetsIn core.old (D.told self.old.door.now) self.old.places
             core.new (D.told self.new.door.now) self.new.places result }
     {
@@ -174,10 +159,7 @@ impl<'d, D: Door> Server<'d, D> {
     /// whether the peer got a slot.
     fn seat<R: Rows>(&mut self, core: &mut Core<'_, R>, peer: u32) -> bool
         requires { self.old.tally.faults ≤ D.faults self.old.door.now }
-        ensures same_door { self.new.door.ghost_name ≡ self.old.door.ghost_name }
-        ensures faults { CountsFaults self.old.tally.faults (D.faults self.old.door.now)
-            self.new.tally.faults (D.faults self.new.door.now) }
-        ensures told { AsksPeers (D.told self.old.door.now) (D.told self.new.door.now) }
+        ensures calls { CallsDoor D.faults D.told AsksPeers self.old self.new }
         ensures course { SeatsPeer peer core.old (D.told self.old.door.now) self.old.places
             core.new (D.told self.new.door.now) self.new.places result }
     {

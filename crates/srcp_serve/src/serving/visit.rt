@@ -1,7 +1,7 @@
 //! The visit of a peer that has a slot.
 
 ghost use Rattle.std.specs.Prelude.{◌≡◌, ◌<◌, ◌≤◌, ◌+◌};
-ghost use Rattle.srcp_serve.specs.Tally.{CountsFaults};
+ghost use Rattle.srcp_serve.specs.Tally.{CallsDoor};
 ghost use Rattle.srcp_serve.specs.Turns.{AsksPeers};
 ghost use Rattle.srcp_serve.specs.Visits.{Closes, LetsGo, ReadsIn, Visits, WritesOnce, WritesOut};
 
@@ -36,11 +36,8 @@ impl<'d, D: Door> Server<'d, D> {
     /// whether it keeps its slot.
     pub(super) fn visit<R: Rows>(&mut self, core: &mut Core<'_, R>, seat: Seat) -> bool
         requires { self.old.tally.faults ≤ D.faults self.old.door.now }
-        ensures same_door { self.new.door.ghost_name ≡ self.old.door.ghost_name }
         ensures places { self.new.places ≡ self.old.places }
-        ensures faults { CountsFaults self.old.tally.faults (D.faults self.old.door.now)
-            self.new.tally.faults (D.faults self.new.door.now) }
-        ensures asks { AsksPeers (D.told self.old.door.now) (D.told self.new.door.now) }
+        ensures calls { CallsDoor D.faults D.told AsksPeers self.old self.new }
         ensures told { Visits seat.peer seat.key core.old (D.told self.old.door.now)
             core.new (D.told self.new.door.now) result }
     {
@@ -54,11 +51,8 @@ impl<'d, D: Door> Server<'d, D> {
     /// Hangs up the connection of a peer and closes the peer.
     pub(super) fn let_go<R: Rows>(&mut self, core: &mut Core<'_, R>, seat: Seat)
         requires { self.old.tally.faults ≤ D.faults self.old.door.now }
-        ensures same_door { self.new.door.ghost_name ≡ self.old.door.ghost_name }
         ensures places { self.new.places ≡ self.old.places }
-        ensures faults { CountsFaults self.old.tally.faults (D.faults self.old.door.now)
-            self.new.tally.faults (D.faults self.new.door.now) }
-        ensures asks { AsksPeers (D.told self.old.door.now) (D.told self.new.door.now) }
+        ensures calls { CallsDoor D.faults D.told AsksPeers self.old self.new }
         ensures denied { core.new.denied ≡ core.old.denied }
         ensures told { LetsGo seat.peer seat.key core.old (D.told self.old.door.now)
             core.new (D.told self.new.door.now) }
@@ -70,11 +64,8 @@ impl<'d, D: Door> Server<'d, D> {
     /// Closes a peer. A failure is counted, and the peer is closed all the same.
     pub(super) fn close(&mut self, peer: u32)
         requires { self.old.tally.faults ≤ D.faults self.old.door.now }
-        ensures same_door { self.new.door.ghost_name ≡ self.old.door.ghost_name }
         ensures places { self.new.places ≡ self.old.places }
-        ensures faults { CountsFaults self.old.tally.faults (D.faults self.old.door.now)
-            self.new.tally.faults (D.faults self.new.door.now) }
-        ensures asks { AsksPeers (D.told self.old.door.now) (D.told self.new.door.now) }
+        ensures calls { CallsDoor D.faults D.told AsksPeers self.old self.new }
         ensures told { Closes peer (D.told self.old.door.now) (D.told self.new.door.now) }
     {
         match self.door.close(peer) {
@@ -86,11 +77,8 @@ impl<'d, D: Door> Server<'d, D> {
     /// Reads once, if the connection accepts bytes. Returns false if the peer is lost.
     fn read_in<R: Rows>(&mut self, core: &mut Core<'_, R>, seat: Seat) -> bool
         requires { self.old.tally.faults ≤ D.faults self.old.door.now }
-        ensures same_door { self.new.door.ghost_name ≡ self.old.door.ghost_name }
         ensures places { self.new.places ≡ self.old.places }
-        ensures faults { CountsFaults self.old.tally.faults (D.faults self.old.door.now)
-            self.new.tally.faults (D.faults self.new.door.now) }
-        ensures asks { AsksPeers (D.told self.old.door.now) (D.told self.new.door.now) }
+        ensures calls { CallsDoor D.faults D.told AsksPeers self.old self.new }
         ensures told { ReadsIn seat.peer seat.key core.old (D.told self.old.door.now)
             core.new (D.told self.new.door.now) result }
     {
@@ -111,11 +99,8 @@ impl<'d, D: Door> Server<'d, D> {
     /// Writes what the core lends, as long as the peer takes all of it. Returns false if the peer is lost.
     fn write_out<R: Rows>(&mut self, core: &mut Core<'_, R>, seat: Seat) -> bool
         requires { self.old.tally.faults ≤ D.faults self.old.door.now }
-        ensures same_door { self.new.door.ghost_name ≡ self.old.door.ghost_name }
         ensures places { self.new.places ≡ self.old.places }
-        ensures faults { CountsFaults self.old.tally.faults (D.faults self.old.door.now)
-            self.new.tally.faults (D.faults self.new.door.now) }
-        ensures asks { AsksPeers (D.told self.old.door.now) (D.told self.new.door.now) }
+        ensures calls { CallsDoor D.faults D.told AsksPeers self.old self.new }
         ensures denied { core.new.denied ≡ core.old.denied }
         ensures told { WritesOut seat.peer seat.key core.old (D.told self.old.door.now)
             core.new (D.told self.new.door.now) result }
@@ -133,11 +118,8 @@ impl<'d, D: Door> Server<'d, D> {
     /// Writes what the core lends, once, and drops of it what the peer took.
     fn write_once<R: Rows>(&mut self, core: &mut Core<'_, R>, seat: Seat) -> Wrote
         requires { self.old.tally.faults ≤ D.faults self.old.door.now }
-        ensures same_door { self.new.door.ghost_name ≡ self.old.door.ghost_name }
         ensures places { self.new.places ≡ self.old.places }
-        ensures faults { CountsFaults self.old.tally.faults (D.faults self.old.door.now)
-            self.new.tally.faults (D.faults self.new.door.now) }
-        ensures asks { AsksPeers (D.told self.old.door.now) (D.told self.new.door.now) }
+        ensures calls { CallsDoor D.faults D.told AsksPeers self.old self.new }
         ensures denied { core.new.denied ≡ core.old.denied }
         ensures told { WritesOnce seat.peer seat.key core.old (D.told self.old.door.now)
             core.new (D.told self.new.door.now) result }

@@ -15,7 +15,7 @@ loop-init g c =
     let first : ServesSoFar 0 0 c.args.core.now told c.args.core.now told (replicate 64 None) = serves_first c.args.core.now told in
     record {
       same_door = refl;
-      faults = rw (n.faults, n.door) (none_failed 0 _ (omega arith));
+      faults = rw (n.faults, n.door) (none_failed 0 _ _ (omega arith) refl);
       course = rw (n.door, n.places) first;
       few = omega arith;
       told = rw n.door (turns_none told);
@@ -23,8 +23,8 @@ loop-init g c =
 
 pub loop-preserved : goal.loop-preserved
 loop-preserved g c = record {
-  same_door = c.turn-opens.ensures.same_door ∙ c.loop.invariant.same_door;
-  faults = counts_then _ _ _ _ _ _ c.loop.invariant.faults c.turn-opens.ensures.faults;
+  same_door = c.turn-opens.ensures.calls.same_door ∙ c.loop.invariant.same_door;
+  faults = counts_then _ _ _ _ _ _ c.loop.invariant.faults c.turn-opens.ensures.calls.counted;
   few = fewer c.turn-opens.result c.loop.opened c.loop.counter c.one_more_if-opened.result c.loop.invariant.few
       c.one_more_if-opened.ensures;
   course = subst (λ (n : ℕ). ServesSoFar (c.loop.counter + 1) n c.args.core.now (g.D.Door.told c.args.door.now) c.turn-opens.new.core
@@ -32,11 +32,11 @@ loop-preserved g c = record {
       (serves_on c.loop.counter c.loop.opened c.turn-opens.result c.args.core.now c.loop.core c.turn-opens.new.core (g.D.Door.told
       c.args.door.now) (g.D.Door.told c.loop.server.door.now)
       (g.D.Door.told c.turn-opens.new.self.door.now) c.loop.server.places c.turn-opens.new.self.places
-      c.loop.invariant.course c.loop.invariant.told c.turn-opens.ensures.told c.turn-opens.ensures.course);
+      c.loop.invariant.course c.loop.invariant.told c.turn-opens.ensures.calls.asks c.turn-opens.ensures.course);
   told =
       turns_on c.loop.counter (g.D.Door.told c.args.door.now) (g.D.Door.told c.loop.server.door.now)
       (g.D.Door.told c.turn-opens.new.self.door.now)
-      c.loop.invariant.told c.turn-opens.ensures.told;
+      c.loop.invariant.told c.turn-opens.ensures.calls.asks;
 }
 
 pub returns-clause-turns : goal.returns-clause-turns

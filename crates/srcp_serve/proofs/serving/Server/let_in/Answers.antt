@@ -1,24 +1,33 @@
-use Rattle.std.proofs.Common.{ℕ, Ok, Option, ap, subst}
+use Rattle.std.proofs.Common.{ℕ, Ok, Option, ap, refl, subst}
 use Rattle.srcp_serve.specs.Calls.{AcceptCall, Tells}
 use Rattle.srcp_serve.specs.declared.tally.Tally.{Tally}
 use Rattle.srcp_serve.proofs.TurnsFollow.{lets_nobody, lets_none, lets_peer}
-use Rattle.srcp_serve.proofs.FaultsAreCounted.{one_failed}
+use Rattle.srcp_serve.proofs.FaultsAreCounted.{counts_then, none_failed, one_failed}
 use Rattle.srcp_serve.proofs.TurnsAskInOrder.{asks_newcomer, asks_none}
 use Rattle.srcp_serve.proofs.serving.Server.let_in.Goals as goal
 
-pub returns-in-Err-clause-faults : goal.returns-in-Err-clause-faults
-returns-in-Err-clause-faults g c =
-    one_failed c.args.self.now.tally.faults (g.D.Door.faults c.args.self.now.door.now) _ _ c.requires
-    (ap (λ (t : Tally). t.faults) c.fault.ensures) c.in-Err.ensures.err
+pub returns-in-Ok-None-clause-calls : goal.returns-in-Ok-None-clause-calls
+returns-in-Ok-None-clause-calls g c = record {
+  same_door = refl;
+  counted = none_failed _ _ _ c.requires c.in-Ok-None.ensures.ok;
+  asks = asks_newcomer _ _ _ _ c.accept.ensures.told (asks_none (g.D.Door.told c.accept.new.self));
+}
 
-pub returns-in-Ok-None-clause-told : goal.returns-in-Ok-None-clause-told
-returns-in-Ok-None-clause-told g c = asks_newcomer _ _ _ _ c.accept.ensures.told (asks_none (g.D.Door.told c.accept.new.self))
+pub returns-in-Ok-Some-clause-calls : goal.returns-in-Ok-Some-clause-calls
+returns-in-Ok-Some-clause-calls g c =
+    let later = c.seat.ensures.calls in
+    record {
+      same_door = later.same_door;
+      counted = counts_then _ _ _ _ _ _ (none_failed _ _ _ c.requires c.in-Ok-Some.ensures.ok) later.counted;
+      asks = asks_newcomer _ _ _ _ c.accept.ensures.told later.asks;
+    }
 
-pub returns-in-Ok-Some-clause-told : goal.returns-in-Ok-Some-clause-told
-returns-in-Ok-Some-clause-told g c = asks_newcomer _ _ _ _ c.accept.ensures.told c.seat.ensures.told
-
-pub returns-in-Err-clause-told : goal.returns-in-Err-clause-told
-returns-in-Err-clause-told g c = asks_newcomer _ _ _ _ c.accept.ensures.told (asks_none (g.D.Door.told c.accept.new.self))
+pub returns-in-Err-clause-calls : goal.returns-in-Err-clause-calls
+returns-in-Err-clause-calls g c = record {
+  same_door = refl;
+  counted = one_failed _ _ _ _ c.requires (ap (λ (t : Tally). t.faults) c.fault.ensures) c.in-Err.ensures.err;
+  asks = asks_newcomer _ _ _ _ c.accept.ensures.told (asks_none (g.D.Door.told c.accept.new.self));
+}
 
 pub returns-in-Ok-None-clause-course : goal.returns-in-Ok-None-clause-course
 returns-in-Ok-None-clause-course g c =
@@ -31,7 +40,7 @@ returns-in-Ok-Some-clause-course g c =
     lets_peer c.in-Ok-Some.peer c.seat.result c.args.core.now c.seat.new.core (g.D.Door.told c.args.self.now.door.now)
     (g.D.Door.told c.accept.new.self) (g.D.Door.told c.seat.new.self.door.now) c.args.self.now.places c.seat.new.self.places
     (subst (λ (o : Option ℕ). Tells (g.D.Door.told c.args.self.now.door.now) (AcceptCall (Ok o)) (g.D.Door.told c.accept.new.self))
-    c.in-Ok-Some.field-0-is c.in-Ok-Some.ensures.told) c.seat.ensures.told c.seat.ensures.course
+    c.in-Ok-Some.field-0-is c.in-Ok-Some.ensures.told) c.seat.ensures.calls.asks c.seat.ensures.course
 
 pub returns-in-Err-clause-course : goal.returns-in-Err-clause-course
 returns-in-Err-clause-course g c =

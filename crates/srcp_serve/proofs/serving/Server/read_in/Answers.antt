@@ -7,8 +7,8 @@ use Rattle.srcp_serve.specs.Serving.{loses_reading, piece_of}
 use Rattle.srcp_serve.specs.declared.door.Got.{Got}
 use Rattle.srcp_serve.proofs.AnswersAreFair.{fair_read}
 use Rattle.srcp_serve.proofs.OneReadFollows.{read_not, read_other, read_bytes}
-use Rattle.srcp_serve.proofs.FaultsAreCounted.{one_failed}
-use Rattle.srcp_serve.proofs.TurnsAskInOrder.{asks_none, asks_one}
+use Rattle.srcp_serve.proofs.FaultsAreCounted.{none_failed, one_failed}
+use Rattle.srcp_serve.proofs.DoorIsCalled.{calls_none, calls_one}
 use Rattle.srcp_serve.proofs.serving.Server.read_in.Goals as goal
 
 pub returns-then-not-ready-clause-told : goal.returns-then-not-ready-clause-told
@@ -39,35 +39,30 @@ returns-in-Ok-Ended-clause-told g c =
     (ap (λ (x : Got). piece_of (ReadCall c.args.seat.peer (Ok x) c.read.new.buf [])) c.in-Ok-Ended.field-0-is)
     (ap (λ (x : Got). loses_reading (ReadCall c.args.seat.peer (Ok x) c.read.new.buf [])) c.in-Ok-Ended.field-0-is)
 
-pub returns-in-Err-clause-faults : goal.returns-in-Err-clause-faults
-returns-in-Err-clause-faults g c =
-    one_failed c.args.self.now.tally.faults (g.D.Door.faults c.args.self.now.door.now) _ _ c.requires
-    (ap (λ (t : Tally). t.faults) c.fault.ensures) c.in-Err.ensures.err
-
 pub returns-in-Err-clause-told : goal.returns-in-Err-clause-told
 returns-in-Err-clause-told g c =
     let full : length c.read.new.buf ≡ 256 = omega (arith, c.read.auto.buf) in
     read_other _ _ _ _ _ c.ready.ensures (Err c.in-Err.field-0) c.read.new.buf _ c.if-not-ready.false full c.in-Err.ensures.told _ refl refl
 
-pub returns-then-not-ready-clause-asks : goal.returns-then-not-ready-clause-asks
-returns-then-not-ready-clause-asks g c = asks_none _
+pub returns-then-not-ready-clause-calls : goal.returns-then-not-ready-clause-calls
+returns-then-not-ready-clause-calls g c = calls_none _ _ c.args.self.now c.requires
 
-pub returns-in-Ok-Bytes-clause-asks : goal.returns-in-Ok-Bytes-clause-asks
-returns-in-Ok-Bytes-clause-asks g c =
-    asks_one _ _ _ refl (fair_read c.args.seat.peer c.read.result _ c.read.new.buf c.read.ensures.count c.read.auto.buf)
-    c.read.ensures.told
+pub returns-in-Ok-Bytes-clause-calls : goal.returns-in-Ok-Bytes-clause-calls
+returns-in-Ok-Bytes-clause-calls g c =
+    calls_one _ _ _ c.args.self.now _ refl (none_failed _ _ _ c.requires c.in-Ok-Bytes.ensures.ok) refl
+    (fair_read c.args.seat.peer c.read.result _ c.read.new.buf c.read.ensures.count c.read.auto.buf) c.read.ensures.told
 
-pub returns-in-Ok-Nothing-clause-asks : goal.returns-in-Ok-Nothing-clause-asks
-returns-in-Ok-Nothing-clause-asks g c =
-    asks_one _ _ _ refl (fair_read c.args.seat.peer c.read.result _ c.read.new.buf c.read.ensures.count c.read.auto.buf)
-    c.read.ensures.told
+pub returns-in-Ok-Nothing-clause-calls : goal.returns-in-Ok-Nothing-clause-calls
+returns-in-Ok-Nothing-clause-calls g c =
+    calls_one _ _ _ c.args.self.now _ refl (none_failed _ _ _ c.requires c.in-Ok-Nothing.ensures.ok) refl
+    (fair_read c.args.seat.peer c.read.result _ c.read.new.buf c.read.ensures.count c.read.auto.buf) c.read.ensures.told
 
-pub returns-in-Ok-Ended-clause-asks : goal.returns-in-Ok-Ended-clause-asks
-returns-in-Ok-Ended-clause-asks g c =
-    asks_one _ _ _ refl (fair_read c.args.seat.peer c.read.result _ c.read.new.buf c.read.ensures.count c.read.auto.buf)
-    c.read.ensures.told
+pub returns-in-Ok-Ended-clause-calls : goal.returns-in-Ok-Ended-clause-calls
+returns-in-Ok-Ended-clause-calls g c =
+    calls_one _ _ _ c.args.self.now _ refl (none_failed _ _ _ c.requires c.in-Ok-Ended.ensures.ok) refl
+    (fair_read c.args.seat.peer c.read.result _ c.read.new.buf c.read.ensures.count c.read.auto.buf) c.read.ensures.told
 
-pub returns-in-Err-clause-asks : goal.returns-in-Err-clause-asks
-returns-in-Err-clause-asks g c =
-    asks_one _ _ _ refl (fair_read c.args.seat.peer c.read.result _ c.read.new.buf c.read.ensures.count c.read.auto.buf)
-    c.read.ensures.told
+pub returns-in-Err-clause-calls : goal.returns-in-Err-clause-calls
+returns-in-Err-clause-calls g c =
+    calls_one _ _ _ c.args.self.now _ refl (one_failed _ _ _ _ c.requires (ap (λ (t : Tally). t.faults) c.fault.ensures) c.in-Err.ensures.err) refl
+    (fair_read c.args.seat.peer c.read.result _ c.read.new.buf c.read.ensures.count c.read.auto.buf) c.read.ensures.told

@@ -1,20 +1,26 @@
-use Rattle.std.proofs.Common.{ap, sym}
+use Rattle.std.proofs.Common.{ap, refl, ◌∙◌}
+use Rattle.srcp_serve.specs.Calls.{one_more}
 use Rattle.srcp_serve.specs.declared.tally.Tally.{Tally}
 use Rattle.srcp_serve.proofs.MomentsFollow.{keeps_moment, takes_moment}
-use Rattle.srcp_serve.proofs.FaultsAreCounted.{one_failed}
+use Rattle.srcp_serve.proofs.FaultsAreCounted.{none_failed, one_failed}
 use Rattle.srcp_serve.proofs.TurnsAskInOrder.{asks_moment}
 use Rattle.srcp_serve.proofs.serving.Server.take_moment.Goals as goal
 
-pub returns-in-Err-clause-faults : goal.returns-in-Err-clause-faults
-returns-in-Err-clause-faults g c =
-    rw (sym c.expect.ensures.faults) (one_failed c.args.self.now.tally.faults (g.D.Door.faults c.expect.new.self) _ _
-    (rw c.expect.ensures.faults c.requires) (ap (λ (t : Tally). t.faults) c.fault.ensures) c.in-Err.ensures.err)
+pub returns-in-Ok-clause-calls : goal.returns-in-Ok-clause-calls
+returns-in-Ok-clause-calls g c = record {
+  same_door = refl;
+  counted = none_failed _ _ _ c.requires (c.in-Ok.ensures.ok ∙ c.expect.ensures.faults);
+  asks = asks_moment _ _ _ _ _ _ c.expect.ensures.told c.now.ensures.told;
+}
 
-pub returns-in-Ok-clause-told : goal.returns-in-Ok-clause-told
-returns-in-Ok-clause-told g c = asks_moment _ _ _ _ _ _ c.expect.ensures.told c.now.ensures.told
-
-pub returns-in-Err-clause-told : goal.returns-in-Err-clause-told
-returns-in-Err-clause-told g c = asks_moment _ _ _ _ _ _ c.expect.ensures.told c.now.ensures.told
+pub returns-in-Err-clause-calls : goal.returns-in-Err-clause-calls
+returns-in-Err-clause-calls g c = record {
+  same_door = refl;
+  counted =
+      one_failed _ _ _ _ c.requires (ap (λ (t : Tally). t.faults) c.fault.ensures)
+      (c.in-Err.ensures.err ∙ ap one_more c.expect.ensures.faults);
+  asks = asks_moment _ _ _ _ _ _ c.expect.ensures.told c.now.ensures.told;
+}
 
 pub returns-in-Ok-clause-course : goal.returns-in-Ok-clause-course
 returns-in-Ok-clause-course g c =

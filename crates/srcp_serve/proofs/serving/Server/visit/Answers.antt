@@ -1,17 +1,16 @@
 use Rattle.std.proofs.Common.{false, true, inl, inr, subst, sym, ◌∙◌}
 use Rattle.srcp_core.specs.Held.{Held}
+use Rattle.srcp_serve.specs.Tally.{CallsDoor}
 use Rattle.srcp_serve.specs.Turns.{AsksPeers}
 use Rattle.srcp_serve.specs.declared.serving.Server.{Server}
-use Rattle.srcp_serve.proofs.TurnsAskInOrder.{asks_then}
+use Rattle.srcp_serve.proofs.DoorIsCalled.{calls_on}
 use Rattle.srcp_serve.proofs.VisitsFollow.{Ends, exchanges_lost, exchanges_on, visit_ends, visit_stays}
 use Rattle.srcp_serve.proofs.serving.Server.visit.Goals.{else-read_in-via-then-read_in+then-write_out+else-not-closing}
 use Rattle.srcp_serve.proofs.serving.Server.visit.Goals.{else-read_in-via-then-read_in+else-write_out, else-read_in-via-else-read_in}
 use Rattle.srcp_serve.proofs.serving.Server.visit.Goals as goal
 
-pub returns-then-not-closing-clause-asks : goal.returns-then-not-closing-clause-asks
-returns-then-not-closing-clause-asks g c =
-    asks_then (g.D.Door.told c.args.self.now.door.now) (g.D.Door.told c.read_in.new.self.door.now)
-    (g.D.Door.told c.write_out.new.self.door.now) c.read_in.ensures.asks c.write_out.ensures.asks
+pub returns-then-not-closing-clause-calls : goal.returns-then-not-closing-clause-calls
+returns-then-not-closing-clause-calls g c = calls_on _ _ _ _ _ c.read_in.ensures.calls c.write_out.ensures.calls
 
 pub returns-then-not-closing-clause-told : goal.returns-then-not-closing-clause-told
 returns-then-not-closing-clause-told g c =
@@ -22,25 +21,24 @@ returns-then-not-closing-clause-told g c =
     let told_w = g.D.Door.told c.write_out.new.self.door.now in
     visit_stays peer key c.args.core.now c.write_out.new.core told told_w c.closing.result
     (exchanges_on peer key c.args.core.now c.read_in.new.core told told_r c.write_out.new.core told_w
-    c.write_out.ensures.denied c.write_out.ensures.asks true c.if-read_in.ensures.told c.if-write_out.ensures.told)
+    c.write_out.ensures.denied c.write_out.ensures.calls.asks true c.if-read_in.ensures.told c.if-write_out.ensures.told)
     c.closing.ensures c.if-not-closing.true
 
-pub returns-clause-asks : goal.returns-clause-asks
-returns-clause-asks g c =
-    let told = g.D.Door.told c.args.self.now.door.now in
-    let told_r = g.D.Door.told c.read_in.new.self.door.now in
-    let first : AsksPeers told (g.D.Door.told c.else-read_in.self.door.now) =
+pub returns-clause-calls : goal.returns-clause-calls
+returns-clause-calls g c =
+    let old = c.args.self.now in
+    let first : CallsDoor g.D.Door.faults g.D.Door.told AsksPeers old c.else-read_in.self =
     elim c.else-read_in.branch [
       | else-read_in-via-then-read_in+then-write_out+else-not-closing w ↦
-          subst (λ (s : Server g.row.D.Denot). AsksPeers told (g.D.Door.told s.door.now)) (sym w.self-is)
-          (asks_then told told_r (g.D.Door.told w.write_out.new.self.door.now) c.read_in.ensures.asks w.write_out.ensures.asks)
+          subst (CallsDoor g.D.Door.faults g.D.Door.told AsksPeers old) (sym w.self-is)
+          (calls_on _ _ _ _ _ c.read_in.ensures.calls w.write_out.ensures.calls)
       | else-read_in-via-then-read_in+else-write_out w ↦
-          subst (λ (s : Server g.row.D.Denot). AsksPeers told (g.D.Door.told s.door.now)) (sym w.self-is)
-          (asks_then told told_r (g.D.Door.told w.write_out.new.self.door.now) c.read_in.ensures.asks w.write_out.ensures.asks)
+          subst (CallsDoor g.D.Door.faults g.D.Door.told AsksPeers old) (sym w.self-is)
+          (calls_on _ _ _ _ _ c.read_in.ensures.calls w.write_out.ensures.calls)
       | else-read_in-via-else-read_in w ↦
-          subst (λ (s : Server g.row.D.Denot). AsksPeers told (g.D.Door.told s.door.now)) (sym w.self-is) c.read_in.ensures.asks
+          subst (CallsDoor g.D.Door.faults g.D.Door.told AsksPeers old) (sym w.self-is) c.read_in.ensures.calls
     ] in
-    asks_then told (g.D.Door.told c.else-read_in.self.door.now) (g.D.Door.told c.let_go.new.self.door.now) first c.let_go.ensures.asks
+    calls_on _ _ _ _ _ first c.let_go.ensures.calls
 
 pub returns-clause-told : goal.returns-clause-told
 returns-clause-told g c =
@@ -59,7 +57,7 @@ returns-clause-told g c =
           (subst (λ (h : Held). Ends peer key old h told told_w) (sym w.core-is)
           (inr (
             exchanges_on peer key old c.read_in.new.core told told_r w.write_out.new.core told_w
-                w.write_out.ensures.denied w.write_out.ensures.asks true w.if-read_in.ensures.told w.if-write_out.ensures.told,
+                w.write_out.ensures.denied w.write_out.ensures.calls.asks true w.if-read_in.ensures.told w.if-write_out.ensures.told,
             sym w.closing.ensures ∙ w.if-not-closing.false,
           )))
       | else-read_in-via-then-read_in+else-write_out w ↦
@@ -67,11 +65,11 @@ returns-clause-told g c =
           subst (λ (s : Server g.row.D.Denot). Ends peer key old mid told (g.D.Door.told s.door.now)) (sym w.self-is)
           (subst (λ (h : Held). Ends peer key old h told told_w) (sym w.core-is)
           (inl (exchanges_on peer key old c.read_in.new.core told told_r w.write_out.new.core told_w
-          w.write_out.ensures.denied w.write_out.ensures.asks false w.if-read_in.ensures.told w.if-write_out.ensures.told)))
+          w.write_out.ensures.denied w.write_out.ensures.calls.asks false w.if-read_in.ensures.told w.if-write_out.ensures.told)))
       | else-read_in-via-else-read_in w ↦
           subst (λ (s : Server g.row.D.Denot). Ends peer key old mid told (g.D.Door.told s.door.now)) (sym w.self-is)
           (subst (λ (h : Held). Ends peer key old h told told_r) (sym w.core-is)
           (inl (exchanges_lost peer key old c.read_in.new.core told told_r w.if-read_in.ensures.told)))
     ] in
     visit_ends peer key old mid told told_mid c.let_go.new.core (g.D.Door.told c.let_go.new.self.door.now) c.let_go.ensures.denied
-    c.let_go.ensures.asks c.let_go.ensures.told first
+    c.let_go.ensures.calls.asks c.let_go.ensures.told first

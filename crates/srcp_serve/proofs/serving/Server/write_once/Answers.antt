@@ -1,11 +1,10 @@
-use Rattle.std.proofs.Common.{ap, sym, ◌∙◌, arith, ◌≡◌, length}
+use Rattle.std.proofs.Common.{ap, refl, sym, ◌∙◌, arith, ◌≡◌, length}
 use Rattle.srcp_serve.specs.declared.tally.Tally.{Tally}
 use Rattle.srcp_serve.specs.declared.serving.visit.Wrote.TheVariants.{Less}
 use Rattle.srcp_serve.proofs.AnswersAreFair.{fair_write}
-use Rattle.srcp_serve.proofs.FaultsAreCounted.{one_failed}
+use Rattle.srcp_serve.proofs.FaultsAreCounted.{none_failed, one_failed}
 use Rattle.srcp_serve.proofs.OneWriteFollows.{sends, wrote_absent, wrote_none, wrote_less, wrote_all, wrote_failed}
-use Rattle.std.proofs.Common.{refl}
-use Rattle.srcp_serve.proofs.TurnsAskInOrder.{asks_none, asks_one}
+use Rattle.srcp_serve.proofs.DoorIsCalled.{calls_none, calls_one}
 use Rattle.srcp_serve.proofs.serving.Server.write_once.Goals as goal
 
 pub returns-in_default-clause-told : goal.returns-in_default-clause-told
@@ -34,30 +33,28 @@ returns-else-count-handed-clause-told g c =
     c.in-Ok-write.ensures.count) c.in-Ok-write.ensures.told full
     (sym c.is_empty.ensures ∙ c.if-is_empty.false)
 
-pub returns-in_default-write-clause-faults : goal.returns-in_default-write-clause-faults
-returns-in_default-write-clause-faults g c =
-    one_failed c.args.self.now.tally.faults (g.D.Door.faults c.args.self.now.door.now) _ _ c.requires
-    (ap (λ (t : Tally). t.faults) c.fault.ensures) c.in_default-write.ensures.err
-
 pub returns-in_default-write-clause-told : goal.returns-in_default-write-clause-told
 returns-in_default-write-clause-told g c =
     wrote_failed _ _ _ _ _ c.outgoing.follows.holds-at-none c.in-Ok.lent.now _ _ c.in-Ok.ensures.bytes c.in_default-write.ensures.told
     (sym c.is_empty.ensures ∙ c.if-is_empty.false)
 
-pub returns-in_default-clause-asks : goal.returns-in_default-clause-asks
-returns-in_default-clause-asks g c = asks_none _
+pub returns-in_default-clause-calls : goal.returns-in_default-clause-calls
+returns-in_default-clause-calls g c = calls_none _ _ c.args.self.now c.requires
 
-pub returns-then-is_empty-clause-asks : goal.returns-then-is_empty-clause-asks
-returns-then-is_empty-clause-asks g c = asks_none _
+pub returns-then-is_empty-clause-calls : goal.returns-then-is_empty-clause-calls
+returns-then-is_empty-clause-calls g c = calls_none _ _ c.args.self.now c.requires
 
-pub returns-then-count-handed-clause-asks : goal.returns-then-count-handed-clause-asks
-returns-then-count-handed-clause-asks g c =
-    asks_one _ _ _ refl (fair_write c.args.seat.peer c.in-Ok.lent.now c.write.result c.write.ensures.count) c.write.ensures.told
+pub returns-then-count-handed-clause-calls : goal.returns-then-count-handed-clause-calls
+returns-then-count-handed-clause-calls g c =
+    calls_one _ _ _ c.args.self.now _ refl (none_failed _ _ _ c.requires c.in-Ok-write.ensures.ok) refl
+    (fair_write c.args.seat.peer c.in-Ok.lent.now c.write.result c.write.ensures.count) c.write.ensures.told
 
-pub returns-else-count-handed-clause-asks : goal.returns-else-count-handed-clause-asks
-returns-else-count-handed-clause-asks g c =
-    asks_one _ _ _ refl (fair_write c.args.seat.peer c.in-Ok.lent.now c.write.result c.write.ensures.count) c.write.ensures.told
+pub returns-else-count-handed-clause-calls : goal.returns-else-count-handed-clause-calls
+returns-else-count-handed-clause-calls g c =
+    calls_one _ _ _ c.args.self.now _ refl (none_failed _ _ _ c.requires c.in-Ok-write.ensures.ok) refl
+    (fair_write c.args.seat.peer c.in-Ok.lent.now c.write.result c.write.ensures.count) c.write.ensures.told
 
-pub returns-in_default-write-clause-asks : goal.returns-in_default-write-clause-asks
-returns-in_default-write-clause-asks g c =
-    asks_one _ _ _ refl (fair_write c.args.seat.peer c.in-Ok.lent.now c.write.result c.write.ensures.count) c.write.ensures.told
+pub returns-in_default-write-clause-calls : goal.returns-in_default-write-clause-calls
+returns-in_default-write-clause-calls g c =
+    calls_one _ _ _ c.args.self.now _ refl (one_failed _ _ _ _ c.requires (ap (λ (t : Tally). t.faults) c.fault.ensures) c.in_default-write.ensures.err) refl
+    (fair_write c.args.seat.peer c.in-Ok.lent.now c.write.result c.write.ensures.count) c.write.ensures.told
