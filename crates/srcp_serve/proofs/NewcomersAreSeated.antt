@@ -20,7 +20,7 @@ use Rattle.srcp_serve.specs.Calls.{Call as DoorCall}
 use Rattle.srcp_serve.specs.Given.{Guest, CloseCall}
 use Rattle.srcp_serve.specs.Serving.{Seat, Stand, Closes as ClosesQuestion, is_let_in, let_in, welcomed}
 use Rattle.srcp_serve.specs.Places.{Sit, IsNotOf}
-use Rattle.srcp_serve.specs.Places.{IsLeftOut, IsHosting, WelcomesPeer, SeatsPeer}
+use Rattle.srcp_serve.specs.Places.{IsLeftOut, IsHosting, HasSeated, SeatsPeer}
 use Rattle.srcp_serve.specs.Visits.{Closes, CountsAsked}
 use Rattle.srcp_serve.specs.declared.door.DoorFault.{DoorFault}
 use Rattle.srcp_serve.specs.declared.serving.visit.Seat.{Seat as Own}
@@ -82,7 +82,7 @@ seats_full peer old mid cause told_old told_new owns closes turned_away buses st
     away : (cause : CoreFault) (granted : Bool) → fault buses (course buses stand.events) (Open granted) ≡ Some cause
         → StandsFor buses keys mid (course buses (stand.events ++ Open granted ∷ [])) → mid.denied ≡ denied_by old.denied (granted ∷ [])
         → mid.denied ≡ denied_in buses old.denied (counted (course buses stand.events)) (Open granted)
-        → WelcomesPeer buses stand told_old told mid owns old peer false
+        → HasSeated buses stand told_old told mid owns old peer false
     away cause granted denies after_open counts asks =
         let guest : Guest = record { peer = peer; granted = granted } in
         let shut : is_let_in buses stand.events granted ≡ false = ap is_none denies in
@@ -91,14 +91,14 @@ seats_full peer old mid cause told_old told_new owns closes turned_away buses st
         let c = closes told is in
         record {
           granted = granted;
-          welcomes = record {
-            early = CloseCall peer c.answer ∷ [];
+          early = CloseCall peer c.answer ∷ [];
+          adds = c.adds;
+          settled = record {
             keys = keys;
-            adds = c.adds;
             counted = counts;
             asked_for = subst (λ (s : Stand). CountsAsked buses stand.events s.events old mid) (sym w)
                 (asked_one buses stand.events (Open granted) old mid asks);
-            asked = sym (ap (λ b. if b then [] else ClosesQuestion peer ∷ []) shut);
+            asked = sym (ap (λ b. (if b then [] else ClosesQuestion peer ∷ []) ++ []) shut);
             others =
                 subst (λ (s : Stand). AllByRecursion (IsLeftOut (CloseCall peer c.answer ∷ [])) s.places) (sym w)
                 (close_left_out peer c.answer stand.places new);
@@ -115,7 +115,7 @@ seats_full peer old mid cause told_old told_new owns closes turned_away buses st
         }
 
     by : (cause : CoreFault) → IsNotAdmitted cause old mid → fault buses (course buses stand.events) (Open false) ≡ Some cause
-        → WelcomesPeer buses stand told_old told mid owns old peer false
+        → HasSeated buses stand told_old told mid owns old peer false
     by Full a out =
         away Full true (full_open buses (course buses stand.events) out)
         (subst (λ (w : World). StandsFor buses keys mid w) (full_course buses stand.events out) stands) (ap (λ (h : Held). h.denied) a.1)
@@ -150,14 +150,14 @@ seats_in peer key free old mid told_old owns admitted place buses stand keys tol
     let before = hosting.few in
     record {
       granted = true;
-      welcomes = record {
-        early = [];
+      early = [];
+      adds = adds_none told_old told is;
+      settled = record {
         keys = pushed;
-        adds = adds_none told_old told is;
         counted = ap (λ (h : Held). h.denied) admitted.rest;
         asked_for = subst (λ (s : Stand). CountsAsked buses stand.events s.events old mid) (sym w)
             (asked_one buses stand.events (Open true) old mid (ap (λ (h : Held). h.denied) admitted.rest));
-        asked = sym (ap (λ b. if b then [] else ClosesQuestion peer ∷ []) let_in_is);
+        asked = sym (ap (λ b. (if b then [] else ClosesQuestion peer ∷ []) ++ []) let_in_is);
         others = none_left_out (welcomed buses stand guest).places;
         hosting = subst (λ (s : Stand). IsHosting buses s pushed mid (slice_set owns free (Some own))) (sym w) (record {
           layout = hosting.layout;

@@ -14,7 +14,7 @@ use Rattle.srcp_serve.specs.Given.{Call, CountsRefusals}
 use Rattle.srcp_serve.specs.Serving.{Seat, Stand, question}
 use Rattle.srcp_serve.specs.Serving.{visit_events}
 use Rattle.srcp_serve.specs.Places.{AreOwn, Visit, calls_of, made_by, asked_by, visits_of, seat_of, left_by, Sit, SitsAt}
-use Rattle.srcp_serve.specs.Places.{IsHosting, AreVisited, AreVisitedSoFar, VisitsPlace}
+use Rattle.srcp_serve.specs.Places.{IsHosting, HasVisited, HasVisitedSoFar, VisitsPlace}
 use Rattle.srcp_serve.specs.Places.{VisitsPlaces, VisitsSoFar}
 use Rattle.srcp_serve.specs.Turns.{AsksPeers}
 use Rattle.srcp_serve.specs.Visits.{AddsGiven, CountsAsked, Visits}
@@ -193,14 +193,14 @@ module _ (buses : List Bus) (stand : Stand) (old : Option (List DoorCall)) (core
   visited_then : (mid : List DoorCall) (told_mid : Option (List DoorCall)) (between new : Held) (owns owns_after : List (Option Own))
       (told : List DoorCall) (place : Option Seat) (ahead : List (Option Seat))
       → told_mid ≡ Some mid
-      → (x : AreVisited buses stand old mid between owns core_old [] seats (place ∷ ahead))
-      → AreVisited buses (record {
+      → (x : HasVisited buses stand old mid between owns core_old [] seats (place ∷ ahead))
+      → HasVisited buses (record {
         events = stand.events ++ made_by (visits_of x.round);
         guests = stand.guests;
         places = map left_by x.round ++ place ∷ ahead;
       }) told_mid told new owns_after between
       (map left_by x.round) (place ∷ []) ahead
-      → AreVisited buses stand old told new owns_after core_old [] (seats ++ place ∷ []) ahead
+      → HasVisited buses stand old told new owns_after core_old [] (seats ++ place ∷ []) ahead
   visited_then mid told_mid between new owns owns_after told place ahead is x y =
       let both : List (Option Visit) = x.round ++ y.round in
       let xs : List Visit = visits_of x.round in
@@ -254,8 +254,8 @@ module _ (place : ℕ) (old mid new : Held) (told_old told_mid told_new : Option
     (visits : VisitsPlace place mid told_mid owns new told_new owns_after) where
   placed_on : (buses : List Bus) (stand : Stand) (told told_then : List DoorCall) → told_new ≡ Some told → told_mid ≡ Some told_then
       → (seats ahead : List (Option Seat)) → stand.places ≡ seats ++ ahead → length seats ≡ place
-      → AreVisited buses stand told_old told_then mid owns old [] seats ahead
-      → AreVisitedSoFar buses stand told_old told new owns_after old (place + 1)
+      → HasVisited buses stand told_old told_then mid owns old [] seats ahead
+      → HasVisitedSoFar buses stand told_old told new owns_after old (place + 1)
   placed_on buses stand told told_then is was seats [] are many x =
       let a = length-sit x.keys owns (map left_by x.round ++ []) x.hosting.sit in
       let none : List (Option Seat) = [] in
@@ -293,10 +293,10 @@ places_all place old now told_old told_now owns_old owns long most so buses stan
     all s.seats s.ahead s.are s.many s.visited
   where
     all : (seats ahead : List (Option Seat)) → stand.places ≡ seats ++ ahead → length seats ≡ place
-        → AreVisited buses stand told_old told now owns old [] seats ahead
-        → AreVisited buses stand told_old told now owns old [] stand.places []
+        → HasVisited buses stand told_old told now owns old [] seats ahead
+        → HasVisited buses stand told_old told now owns old [] stand.places []
     all seats [] are many x =
-        subst (λ (ps : List (Option Seat)). AreVisited buses stand told_old told now owns old [] ps []) (sym (are ∙ append-nil seats)) x
+        subst (λ (ps : List (Option Seat)). HasVisited buses stand told_old told now owns old [] ps []) (sym (are ∙ append-nil seats)) x
     all seats (p ∷ ahead) are many x =
         let a = length-sit x.keys owns (map left_by x.round ++ p ∷ ahead) x.hosting.sit in
         let b = length-append (map left_by x.round) (p ∷ ahead) in

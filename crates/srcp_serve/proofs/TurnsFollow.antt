@@ -184,14 +184,16 @@ module _ (old : Held) (told_old told_new : Option (List DoorCall)) (owns : List 
     answer = Ok None;
     granted = true;
     early = [];
-    keys = keys;
     adds = adds_one (door.AcceptCall (Ok None)) told_old told_new told h is;
-    counted = refl;
-    asked_for = λ first e. e;
-    asked = refl;
-    others = none_left_out stand.places;
-    hosting = hosting;
-    opened = no_more (length stand.guests);
+    settled = record {
+      keys = keys;
+      counted = refl;
+      asked_for = λ first e. e;
+      asked = refl;
+      others = none_left_out stand.places;
+      hosting = hosting;
+      opened = no_more (length stand.guests);
+    };
   }
 
   pub lets_none : (failed : DoorFault) → Tells told_old (door.AcceptCall (Err failed)) told_new
@@ -200,14 +202,16 @@ module _ (old : Held) (told_old told_new : Option (List DoorCall)) (owns : List 
     answer = Err failed;
     granted = true;
     early = [];
-    keys = keys;
     adds = adds_one (door.AcceptCall (Err failed)) told_old told_new told h is;
-    counted = refl;
-    asked_for = λ first e. e;
-    asked = refl;
-    others = none_left_out stand.places;
-    hosting = hosting;
-    opened = no_more (length stand.guests);
+    settled = record {
+      keys = keys;
+      counted = refl;
+      asked_for = λ first e. e;
+      asked = refl;
+      others = none_left_out stand.places;
+      hosting = hosting;
+      opened = no_more (length stand.guests);
+    };
   }
 
 pub lets_peer : (peer : ℕ) (opens : Bool) (old new : Held) (told_old told_mid told_new : Option (List DoorCall))
@@ -227,21 +231,14 @@ lets_peer peer opens old new told_old told_mid told_new owns owns_new h asks sit
     let x =
     sits buses stand keys told hosting is
     (fresh peers peer stand.places (differ_last peers peer (filter_map peer_of later.calls) apart) known) in
-    let guest : Guest = record { peer = peer; granted = x.granted } in
     record {
       answer = Ok (Some peer);
       granted = x.granted;
-      early = x.welcomes.early;
-      keys = x.welcomes.keys;
+      early = x.early;
       adds =
           given_then told_old told_mid later.adds.before told
-          (AcceptCall (Ok (Some peer)) x.granted ∷ []) x.welcomes.early later.adds.was first x.welcomes.adds;
-      counted = x.welcomes.counted;
-      asked_for = x.welcomes.asked_for;
-      asked = x.welcomes.asked ∙ sym (append-nil (turns_away buses stand.events guest));
-      others = x.welcomes.others;
-      hosting = x.welcomes.hosting;
-      opened = x.welcomes.opened;
+          (AcceptCall (Ok (Some peer)) x.granted ∷ []) x.early later.adds.was first x.adds;
+      settled = x.settled;
     }
 
 -- ---- the calls of a turn
@@ -378,7 +375,7 @@ makes_turn opens old mid between new told_old told_mid told_between told_new own
     let b = lets buses first_stand keys w.before hosted w.was peers in_calls v differ_in known_first in
     let news_then : List Guest = filter_map newcomer_of (AcceptCall b.answer b.granted ∷ []) in
     let second_stand : Stand = fold (welcomed buses) first_stand news_then in
-    let x = visits buses second_stand b.keys told b.hosting is in
+    let x = visits buses second_stand b.settled.keys told b.settled.hosting is in
     let seen : List Call = calls_of (visits_of x.round) in
     let begins : List Call = ExpectCall t.due t.slack ∷ NowCall t.answer ∷ AcceptCall b.answer b.granted ∷ b.early in
     let all : List Call = ExpectCall t.due t.slack ∷ NowCall t.answer ∷ AcceptCall b.answer b.granted ∷ (b.early ++ seen) in
@@ -392,8 +389,8 @@ makes_turn opens old mid between new told_old told_mid told_between told_new own
     let of_peers : list_all is_of_peer (map told_call (b.early ++ seen)) ≡ true =
     tail_of turned_then.calls t.due t.slack t.answer b.answer (map told_call (b.early ++ seen)) turned_then.turn same in
     let ends : turned buses stand all ≡ third buses stand t.due t.slack t.answer b.answer b.granted b.early x.round =
-    turned_is buses stand t.due t.slack t.answer b.answer b.granted b.early x.round of_peers x.own x.seats_are b.hosting.differ
-    b.others in
+    turned_is buses stand t.due t.slack t.answer b.answer b.granted b.early x.round of_peers x.own x.seats_are b.settled.hosting.differ
+    b.settled.others in
     let came : filter_map peer_of (map told_call all) ≡ filter_map peer_of (door.AcceptCall b.answer ∷ []) =
     peers_told all
     ∙ ap (λ guests. map (λ guest. guest.peer) guests)
@@ -412,12 +409,12 @@ makes_turn opens old mid between new told_old told_mid told_between told_new own
       calls = all;
       keys = x.keys;
       adds = adds_all;
-      counted = refusals_then old between new begins seen (b.counted ∙ ap (λ k. denied_by k (answers_of begins)) same_count) x.counted;
+      counted = refusals_then old between new begins seen (b.settled.counted ∙ ap (λ k. denied_by k (answers_of begins)) same_count) x.counted;
       asked_for = subst (λ (s : Stand). CountsAsked buses stand.events s.events old new) (sym ends)
           (asked_then buses stand.events first_stand.events (second_stand.events ++ made_by (visits_of x.round)) old mid new
           (asked_moment buses t.answer stand old mid same_count)
           (asked_then buses first_stand.events second_stand.events
-          (second_stand.events ++ made_by (visits_of x.round)) mid between new b.asked_for x.asked_for));
+          (second_stand.events ++ made_by (visits_of x.round)) mid between new b.settled.asked_for x.asked_for));
       turn = record {
         due = t.due;
         slack = t.slack;
@@ -429,9 +426,9 @@ makes_turn opens old mid between new told_old told_mid told_between told_new own
         peers = of_peers;
       };
       asked =
-          turn_asked buses stand t.due t.slack t.answer b.answer b.granted b.early x.round of_peers x.own x.seats_are b.hosting.differ
-          b.others t.asked b.asked x.asked;
+          turn_asked buses stand t.due t.slack t.answer b.answer b.granted b.early x.round of_peers x.own x.seats_are b.settled.hosting.differ
+          b.settled.others t.asked b.settled.asked x.asked;
       known = subst (λ (s : Stand). AllByRecursion (IsOneOf peers_then) s.places) (sym ends) known_last;
       hosting = subst (λ (s : Stand). IsHosting buses s x.keys new owns_new) (sym ends) x.hosting;
-      opened = ap (λ (s : Stand). length s.guests) ends ∙ b.opened ∙ ap (λ n. n + one_if opens) (guests_timed buses t.answer stand);
+      opened = ap (λ (s : Stand). length s.guests) ends ∙ b.settled.opened ∙ ap (λ n. n + one_if opens) (guests_timed buses t.answer stand);
     }

@@ -25,7 +25,7 @@ use Rattle.srcp_serve.specs.Serving.{Seat, Question, Writes, Closes as ClosesQue
 use Rattle.srcp_serve.specs.Serving.{handed, is_closing, reads_of, writes_of, closes_of, visit_events, is_about, is_close, is_write, loses}
 use Rattle.srcp_serve.specs.Serving.{loses_reading, loses_writing, falls_short, piece_of, count_of}
 use Rattle.srcp_serve.specs.Turns.{AsksPeers}
-use Rattle.srcp_serve.specs.Visits.{AddsGiven, AreAbout, AreWritesTo, Closes, CountsAsked, Follows, IsLetGo, IsReadFrom, IsVisited}
+use Rattle.srcp_serve.specs.Visits.{AddsGiven, AreAbout, AreWritesTo, Closes, CountsAsked, FromEveryCourse, IsLetGo, IsReadFrom, IsVisited}
 use Rattle.srcp_serve.specs.Visits.{IsWrittenTo, LetsGo, Reading, ReadsIn, Visits, WritesOut, read_calls}
 use Rattle.srcp_serve.proofs.RefusalsWereAskedFor.{asked_one, asked_rooms, asked_then}
 use Rattle.srcp_serve.proofs.CallsAreAdded.{given_then, refusals_then}
@@ -140,7 +140,7 @@ module _ (buses : List Bus) (events : List Event) (keys : List (Option ℕ)) (n 
 -- the peer is read and written to
 abbrev pub Exchanges : (peer key : ℕ) (old : Held) (told_old : Option (List DoorCall))
     (new : Held) (told_new : Option (List DoorCall)) (stays : Bool) → Type 0
-Exchanges peer key old told_old new told_new stays = Follows
+Exchanges peer key old told_old new told_new stays = FromEveryCourse
     (λ buses events keys n told. IsExchanged buses events keys n peer told_old told new old stays) key old told_new
 
 module _ (buses : List Bus) (events : List Event) (keys : List (Option ℕ)) (n peer : ℕ) (core_old : Held) where

@@ -17,7 +17,7 @@ use Rattle.srcp_serve.specs.Given.{Call, WriteCall}
 use Rattle.srcp_serve.specs.Serving.{Writes, question, count_of, is_write, loses, loses_writing, falls_short, lent, lent_none_last, rooms}
 use Rattle.srcp_serve.specs.Serving.{handed, unless_nil}
 use Rattle.srcp_serve.specs.Turns.{AsksPeers}
-use Rattle.srcp_serve.specs.Visits.{AddsGiven, AreWritesTo, Follows, IsWrittenTo, TookAll, TookLess, TookNone, WasLentNone, WritesOnce}
+use Rattle.srcp_serve.specs.Visits.{AddsGiven, AreWritesTo, FromEveryCourse, IsWrittenTo, TookAll, TookLess, TookNone, WasLentNone, WritesOnce}
 use Rattle.srcp_serve.specs.Visits.{WritesOut}
 use Rattle.srcp_serve.specs.declared.serving.visit.Wrote.TheVariants.{All, Less, Failed}
 use Rattle.srcp_serve.proofs.HandedWriteAfterWrite.{AreFull, texts, handed-append, full-more, unless_some}
@@ -334,7 +334,7 @@ abbrev pub TakesSoFar : (peer key : ℕ) (old : Held) (told_old : Option (List D
     (times : ℕ)
     → Type 0
 TakesSoFar peer key old told_old now told_now times =
-    Follows (λ buses events keys n told. IsTaking buses peer n keys told_old events told now times) key old told_now
+    FromEveryCourse (λ buses events keys n told. IsTaking buses peer n keys told_old events told now times) key old told_now
 
 pub takes_first : (peer key : ℕ) (old : Held) (told_old : Option (List DoorCall)) → TakesSoFar peer key old told_old old told_old 0
 takes_first peer key old told_old buses events keys n told s is = takes_none buses peer n keys told_old events told old is s.stands

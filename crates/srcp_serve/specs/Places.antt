@@ -139,9 +139,20 @@ pub record IsTurnGiven (calls : List Call) : Type 0 where
   pub is : calls ≡ ExpectCall due slack ∷ NowCall now ∷ AcceptCall newcomer granted ∷ rest
   pub peers : list_all is_of_peer (map told_call rest) ≡ true
 
+-- the newcomer of this call, if there is one, has a slot or was closed by the calls in `early`
+pub record IsSettled (buses : List Bus) (stand : Stand) (call : Call) (early : List Call) (core_old held : Held)
+    (owns : List (Option Own)) (opens : Bool) : Type 0 where
+  pub keys : List (Option ℕ)
+  pub counted : CountsRefusals core_old (call ∷ early) held
+  pub asked_for : CountsAsked buses stand.events (accepted buses stand call).events core_old held
+  pub asked : map question early ≡ flat_map (turns_away buses stand.events) (filter_map newcomer_of (call ∷ []))
+  pub others : AllByRecursion (IsLeftOut early) (accepted buses stand call).places
+  pub hosting : IsHosting buses (accepted buses stand call) keys held owns
+  pub opened : length (accepted buses stand call).guests ≡ length stand.guests + one_if opens
+
 module _ (buses : List Bus) (stand : Stand) (old : Option (List DoorCall)) (told : List DoorCall) (held : Held) where
   -- the time was asked for, and the core advanced to it if it was told
-  pub record IsTimed (keys : List (Option ℕ)) : Type 0 where
+  pub record HasTakenMoment (keys : List (Option ℕ)) : Type 0 where
     pub due : Option ℕ
     pub slack : Option ℕ
     pub answer : Result ℕ DoorFault
@@ -150,41 +161,23 @@ module _ (buses : List Bus) (stand : Stand) (old : Option (List DoorCall)) (told
     pub stands : StandsFor buses keys held (course buses (timed buses stand (NowCall answer ∷ [])).events)
 
   module _ (owns : List (Option Own)) (core_old : Held) where
-    -- the newcomer has a slot, or was closed
-    pub record IsWelcomed (guest : Guest) (opens : Bool) : Type 0 where
-      pub early : List Call
-      pub keys : List (Option ℕ)
-      pub adds : AddsGiven old told early
-      pub counted : CountsRefusals core_old (AcceptCall (Ok (Some guest.peer)) guest.granted ∷ early) held
-      pub asked_for : CountsAsked buses stand.events (welcomed buses stand guest).events core_old held
-      pub asked : map question early ≡ turns_away buses stand.events guest
-      pub others : AllByRecursion (IsLeftOut early) (welcomed buses stand guest).places
-      pub hosting : IsHosting buses (welcomed buses stand guest) keys held owns
-      pub opened : length (welcomed buses stand guest).guests ≡ length stand.guests + one_if opens
-
-    -- so it is of that peer, whatever memory answered
-    pub record WelcomesPeer (peer : ℕ) (opens : Bool) : Type 0 where
-      pub granted : Bool
-      pub welcomes : IsWelcomed (record { peer = peer; granted = granted }) opens
-
-    -- the door was asked for a newcomer; if there was one, it has a slot or was closed
-    pub record IsBegun (opens : Bool) : Type 0 where
+    -- the door was asked for a newcomer, and that was settled
+    pub record HasLetIn (opens : Bool) : Type 0 where
       pub answer : Result (Option ℕ) DoorFault
       pub granted : Bool
       pub early : List Call
-      pub keys : List (Option ℕ)
       pub adds : AddsGiven old told (AcceptCall answer granted ∷ early)
-      pub counted : CountsRefusals core_old (AcceptCall answer granted ∷ early) held
-      pub asked_for : CountsAsked buses stand.events
-          (accepted buses stand (AcceptCall answer granted)).events core_old held
-      pub asked : map question early
-          ≡ flat_map (turns_away buses stand.events) (filter_map newcomer_of (AcceptCall answer granted ∷ []))
-      pub others : AllByRecursion (IsLeftOut early) (accepted buses stand (AcceptCall answer granted)).places
-      pub hosting : IsHosting buses (accepted buses stand (AcceptCall answer granted)) keys held owns
-      pub opened : length (accepted buses stand (AcceptCall answer granted)).guests ≡ length stand.guests + one_if opens
+      pub settled : IsSettled buses stand (AcceptCall answer granted) early core_old held owns opens
+
+    -- that newcomer, which the door had accepted, was settled
+    pub record HasSeated (peer : ℕ) (opens : Bool) : Type 0 where
+      pub granted : Bool
+      pub early : List Call
+      pub adds : AddsGiven old told early
+      pub settled : IsSettled buses stand (AcceptCall (Ok (Some peer)) granted) early core_old held owns opens
 
     -- the peers at `seats` were visited in the order of the slots; `front` and `ahead` are the slots around them
-    pub record AreVisited (front seats ahead : List (Option Seat)) : Type 0 where
+    pub record HasVisited (front seats ahead : List (Option Seat)) : Type 0 where
       pub round : List (Option Visit)
       pub keys : List (Option ℕ)
       pub adds : AddsGiven old told (calls_of (visits_of round))
@@ -202,7 +195,7 @@ module _ (buses : List Bus) (stand : Stand) (old : Option (List DoorCall)) (told
           keys held owns
 
     -- a turn was made; each slot is free, or has one of these peers or one that came in since
-    pub record IsTurnMade (peers : List ℕ) (opens : Bool) : Type 0 where
+    pub record HasMadeTurn (peers : List ℕ) (opens : Bool) : Type 0 where
       pub calls : List Call
       pub keys : List (Option ℕ)
       pub adds : AddsGiven old told calls
@@ -215,74 +208,78 @@ module _ (buses : List Bus) (stand : Stand) (old : Option (List DoorCall)) (told
       pub hosting : IsHosting buses (turned buses stand calls) keys held owns
       pub opened : length (turned buses stand calls).guests ≡ length stand.guests + one_if opens
 
--- if the door keeps its calls, `After` holds of every state that the core and the slots had before
-abbrev pub HostsOn : (List Bus → Stand → List (Option ℕ) → List DoorCall → Type 0)
+-- if the door keeps its calls, `After` holds for every state that the core and the slots had before
+abbrev pub FromEveryState : (List Bus → Stand → List (Option ℕ) → List DoorCall → Type 0)
     → (old : Held) (owns : List (Option Own)) (told_new : Option (List DoorCall)) → Type 0
-HostsOn After old owns told_new = (buses : List Bus) (stand : Stand) (keys : List (Option ℕ)) (told : List DoorCall)
+FromEveryState After old owns told_new =
+    (buses : List Bus) (stand : Stand) (keys : List (Option ℕ)) (told : List DoorCall)
     → IsHosting buses stand keys old owns → told_new ≡ Some told → After buses stand keys told
 
 -- the time is asked for
 abbrev pub TakesMoment : (old : Held) (told_old : Option (List DoorCall))
     (new : Held) (told_new : Option (List DoorCall)) → Type 0
 TakesMoment old told_old new told_new = (owns : List (Option Own))
-    → HostsOn (λ buses stand keys told. IsTimed buses stand told_old told new keys) old owns told_new
+    → FromEveryState (λ buses stand keys told. HasTakenMoment buses stand told_old told new keys) old owns told_new
 
 -- a newcomer that has no slot gets one, or is closed
 abbrev pub SeatsPeer : (peer : ℕ) (old : Held) (told_old : Option (List DoorCall)) (owns_old : List (Option Own))
     (new : Held) (told_new : Option (List DoorCall)) (owns_new : List (Option Own)) (opens : Bool) → Type 0
-SeatsPeer peer old told_old owns_old new told_new owns_new opens = HostsOn
+SeatsPeer peer old told_old owns_old new told_new owns_new opens = FromEveryState
     (λ buses stand keys told. AllByRecursion (IsNotOf peer) stand.places
-    → WelcomesPeer buses stand told_old told new owns_new old peer opens)
+    → HasSeated buses stand told_old told new owns_new old peer opens)
     old owns_old told_new
 
--- the door is asked for a newcomer, which is none of the peers so far
+-- `After` holds of the peers so far, if the calls that were added accept none of them, and no peer twice
+abbrev pub IfPeersDiffer : (told_old : Option (List DoorCall)) (told : List DoorCall) (places : List (Option Seat))
+    → (After : List ℕ → Type 0) → Type 0
+IfPeersDiffer told_old told places After = (peers : List ℕ) (calls : List DoorCall) → Adds told_old told calls
+    → PeersDiffer peers calls → AllByRecursion (IsOneOf peers) places → After peers
+
+-- the door is asked for a newcomer
 abbrev pub LetsIn : (old : Held) (told_old : Option (List DoorCall)) (owns_old : List (Option Own))
     (new : Held) (told_new : Option (List DoorCall)) (owns_new : List (Option Own)) (opens : Bool) → Type 0
-LetsIn old told_old owns_old new told_new owns_new opens = HostsOn
-    (λ buses stand keys told. (peers : List ℕ) (calls : List DoorCall) → Adds told_old told calls
-    → PeersDiffer peers calls
-    → AllByRecursion (IsOneOf peers) stand.places → IsBegun buses stand told_old told new owns_new old opens)
+LetsIn old told_old owns_old new told_new owns_new opens = FromEveryState
+    (λ buses stand keys told. IfPeersDiffer told_old told stand.places
+    (λ peers. HasLetIn buses stand told_old told new owns_new old opens))
     old owns_old told_new
 
 -- whoever has that slot is visited
 abbrev pub VisitsPlace : (place : ℕ) (old : Held) (told_old : Option (List DoorCall)) (owns_old : List (Option Own))
     (new : Held) (told_new : Option (List DoorCall)) (owns_new : List (Option Own)) → Type 0
-VisitsPlace place old told_old owns_old new told_new owns_new = HostsOn
+VisitsPlace place old told_old owns_old new told_new owns_new = FromEveryState
     (λ buses stand keys told. (front : List (Option Seat)) (seat : Option Seat) (ahead : List (Option Seat))
     → length front ≡ place → stand.places ≡ front ++ seat ∷ ahead
-    → AreVisited buses stand told_old told new owns_new old front (seat ∷ []) ahead)
+    → HasVisited buses stand told_old told new owns_new old front (seat ∷ []) ahead)
     old owns_old told_new
 
 -- this many slots were visited
-pub record AreVisitedSoFar (buses : List Bus) (stand : Stand) (old : Option (List DoorCall)) (told : List DoorCall)
-    (held : Held)
-    (owns : List (Option Own)) (core_old : Held) (count : ℕ) : Type 0 where
+pub record HasVisitedSoFar (buses : List Bus) (stand : Stand) (old : Option (List DoorCall)) (told : List DoorCall)
+    (held : Held) (owns : List (Option Own)) (core_old : Held) (count : ℕ) : Type 0 where
   pub seats : List (Option Seat)
   pub ahead : List (Option Seat)
   pub are : stand.places ≡ seats ++ ahead
   pub many : length seats ≡ count
-  pub visited : AreVisited buses stand old told held owns core_old [] seats ahead
+  pub visited : HasVisited buses stand old told held owns core_old [] seats ahead
 
 -- this many slots are visited, in their order
 abbrev pub VisitsSoFar : (count : ℕ) (old : Held) (told_old : Option (List DoorCall)) (owns_old : List (Option Own))
     (now : Held) (told_now : Option (List DoorCall)) (owns_now : List (Option Own)) → Type 0
-VisitsSoFar count old told_old owns_old now told_now owns_now = HostsOn
-    (λ buses stand keys told. AreVisitedSoFar buses stand told_old told now owns_now old count) old owns_old told_now
+VisitsSoFar count old told_old owns_old now told_now owns_now = FromEveryState
+    (λ buses stand keys told. HasVisitedSoFar buses stand told_old told now owns_now old count) old owns_old told_now
 
 -- all slots are visited, in their order
 abbrev pub VisitsPlaces : (old : Held) (told_old : Option (List DoorCall)) (owns_old : List (Option Own))
     (new : Held) (told_new : Option (List DoorCall)) (owns_new : List (Option Own)) → Type 0
-VisitsPlaces old told_old owns_old new told_new owns_new = HostsOn
-    (λ buses stand keys told. AreVisited buses stand told_old told new owns_new old [] stand.places [])
+VisitsPlaces old told_old owns_old new told_new owns_new = FromEveryState
+    (λ buses stand keys told. HasVisited buses stand told_old told new owns_new old [] stand.places [])
     old owns_old told_new
 
--- a turn is made, in which no newcomer is one of the peers so far
+-- a turn is made
 abbrev pub MakesTurn : (old : Held) (told_old : Option (List DoorCall)) (owns_old : List (Option Own))
     (new : Held) (told_new : Option (List DoorCall)) (owns_new : List (Option Own)) (opens : Bool) → Type 0
-MakesTurn old told_old owns_old new told_new owns_new opens = HostsOn
-    (λ buses stand keys told. (peers : List ℕ) (calls : List DoorCall) → Adds told_old told calls
-    → PeersDiffer peers calls
-    → AllByRecursion (IsOneOf peers) stand.places → IsTurnMade buses stand told_old told new owns_new old peers opens)
+MakesTurn old told_old owns_old new told_new owns_new opens = FromEveryState
+    (λ buses stand keys told. IfPeersDiffer told_old told stand.places
+    (λ peers. HasMadeTurn buses stand told_old told new owns_new old peers opens))
     old owns_old told_new
 
 -- ---- serving

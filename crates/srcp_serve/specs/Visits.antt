@@ -151,39 +151,39 @@ module _ (buses : List Bus) (events : List Event) (keys : List (Option ℕ)) (n 
 
 -- ---- the functions of a visit
 
--- if the door keeps its calls, `After` holds of every course that the core stood for before
-abbrev pub Follows : (List Bus → List Event → List (Option ℕ) → ℕ → List DoorCall → Type 0)
+-- if the door keeps its calls, `After` holds for every course that the core stood for before
+abbrev pub FromEveryCourse : (List Bus → List Event → List (Option ℕ) → ℕ → List DoorCall → Type 0)
     → (key : ℕ) (old : Held) (told_new : Option (List DoorCall)) → Type 0
-Follows After key old told_new =
+FromEveryCourse After key old told_new =
     (buses : List Bus) (events : List Event) (keys : List (Option ℕ)) (n : ℕ) (told : List DoorCall)
     → IsSeated buses events keys n key old → told_new ≡ Some told → After buses events keys n told
 
 -- the peer is read at most once
 abbrev pub ReadsIn : (peer key : ℕ) (old : Held) (told_old : Option (List DoorCall))
     (new : Held) (told_new : Option (List DoorCall)) (stays : Bool) → Type 0
-ReadsIn peer key old told_old new told_new stays = Follows
+ReadsIn peer key old told_old new told_new stays = FromEveryCourse
     (λ buses events keys n told. IsReadFrom buses events keys n peer told_old told new old stays) key old told_new
 
 -- the peer is written to at most once
 abbrev pub WritesOnce : (peer key : ℕ) (old : Held) (told_old : Option (List DoorCall))
     (new : Held) (told_new : Option (List DoorCall)) (wrote : Wrote) → Type 0
-WritesOnce peer key old told_old new told_new wrote = Follows
+WritesOnce peer key old told_old new told_new wrote = FromEveryCourse
     (λ buses events keys n told. HasWritten buses events keys n peer told_old told new wrote) key old told_new
 
 -- the peer is written to as long as it takes all
 abbrev pub WritesOut : (peer key : ℕ) (old : Held) (told_old : Option (List DoorCall))
     (new : Held) (told_new : Option (List DoorCall)) (stays : Bool) → Type 0
-WritesOut peer key old told_old new told_new stays = Follows
+WritesOut peer key old told_old new told_new stays = FromEveryCourse
     (λ buses events keys n told. IsWrittenTo buses events keys n peer told_old told new stays) key old told_new
 
 -- its connection is shut, and the peer is closed
 abbrev pub LetsGo : (peer key : ℕ) (old : Held) (told_old : Option (List DoorCall))
     (new : Held) (told_new : Option (List DoorCall)) → Type 0
-LetsGo peer key old told_old new told_new = Follows
+LetsGo peer key old told_old new told_new = FromEveryCourse
     (λ buses events keys n told. IsLetGo buses events keys n peer told_old told new) key old told_new
 
 -- the peer is visited
 abbrev pub Visits : (peer key : ℕ) (old : Held) (told_old : Option (List DoorCall))
     (new : Held) (told_new : Option (List DoorCall)) (stays : Bool) → Type 0
-Visits peer key old told_old new told_new stays = Follows
+Visits peer key old told_old new told_new stays = FromEveryCourse
     (λ buses events keys n told. IsVisited buses events keys n peer told_old told new old stays) key old told_new

@@ -38,7 +38,7 @@ impl<'d, D: Door> Server<'d, D> {
         requires { self.old.tally.faults ≤ D.faults self.old.door.now }
         ensures places { self.new.places ≡ self.old.places }
         ensures calls { CallsDoor D.faults D.told AsksPeers self.old self.new }
-        ensures told { Visits seat.peer seat.key core.old (D.told self.old.door.now)
+        ensures course { Visits seat.peer seat.key core.old (D.told self.old.door.now)
             core.new (D.told self.new.door.now) result }
     {
         if self.read_in(core, seat) && self.write_out(core, seat) && !core.closing(seat.key) {
@@ -54,7 +54,7 @@ impl<'d, D: Door> Server<'d, D> {
         ensures places { self.new.places ≡ self.old.places }
         ensures calls { CallsDoor D.faults D.told AsksPeers self.old self.new }
         ensures denied { core.new.denied ≡ core.old.denied }
-        ensures told { LetsGo seat.peer seat.key core.old (D.told self.old.door.now)
+        ensures course { LetsGo seat.peer seat.key core.old (D.told self.old.door.now)
             core.new (D.told self.new.door.now) }
     {
         let _ = core.hangup(seat.key);
@@ -66,7 +66,7 @@ impl<'d, D: Door> Server<'d, D> {
         requires { self.old.tally.faults ≤ D.faults self.old.door.now }
         ensures places { self.new.places ≡ self.old.places }
         ensures calls { CallsDoor D.faults D.told AsksPeers self.old self.new }
-        ensures told { Closes peer (D.told self.old.door.now) (D.told self.new.door.now) }
+        ensures course { Closes peer (D.told self.old.door.now) (D.told self.new.door.now) }
     {
         match self.door.close(peer) {
             Ok(()) => (),
@@ -79,7 +79,7 @@ impl<'d, D: Door> Server<'d, D> {
         requires { self.old.tally.faults ≤ D.faults self.old.door.now }
         ensures places { self.new.places ≡ self.old.places }
         ensures calls { CallsDoor D.faults D.told AsksPeers self.old self.new }
-        ensures told { ReadsIn seat.peer seat.key core.old (D.told self.old.door.now)
+        ensures course { ReadsIn seat.peer seat.key core.old (D.told self.old.door.now)
             core.new (D.told self.new.door.now) result }
     {
         if !core.ready(seat.key) {
@@ -102,7 +102,7 @@ impl<'d, D: Door> Server<'d, D> {
         ensures places { self.new.places ≡ self.old.places }
         ensures calls { CallsDoor D.faults D.told AsksPeers self.old self.new }
         ensures denied { core.new.denied ≡ core.old.denied }
-        ensures told { WritesOut seat.peer seat.key core.old (D.told self.old.door.now)
+        ensures course { WritesOut seat.peer seat.key core.old (D.told self.old.door.now)
             core.new (D.told self.new.door.now) result }
     {
         for _ in 0..MOST_WRITES {
@@ -121,7 +121,7 @@ impl<'d, D: Door> Server<'d, D> {
         ensures places { self.new.places ≡ self.old.places }
         ensures calls { CallsDoor D.faults D.told AsksPeers self.old self.new }
         ensures denied { core.new.denied ≡ core.old.denied }
-        ensures told { WritesOnce seat.peer seat.key core.old (D.told self.old.door.now)
+        ensures course { WritesOnce seat.peer seat.key core.old (D.told self.old.door.now)
             core.new (D.told self.new.door.now) result }
     {
         let Ok(lent) = core.outgoing(seat.key) else {

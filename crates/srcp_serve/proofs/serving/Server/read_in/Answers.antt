@@ -11,11 +11,11 @@ use Rattle.srcp_serve.proofs.FaultsAreCounted.{none_failed, one_failed}
 use Rattle.srcp_serve.proofs.DoorIsCalled.{calls_none, calls_one}
 use Rattle.srcp_serve.proofs.serving.Server.read_in.Goals as goal
 
-pub returns-then-not-ready-clause-told : goal.returns-then-not-ready-clause-told
-returns-then-not-ready-clause-told g c = read_not _ _ _ _ _ c.ready.ensures c.if-not-ready.true
+pub returns-then-not-ready-clause-course : goal.returns-then-not-ready-clause-course
+returns-then-not-ready-clause-course g c = read_not _ _ _ _ _ c.ready.ensures c.if-not-ready.true
 
-pub returns-in-Ok-Bytes-clause-told : goal.returns-in-Ok-Bytes-clause-told
-returns-in-Ok-Bytes-clause-told g c =
+pub returns-in-Ok-Bytes-clause-course : goal.returns-in-Ok-Bytes-clause-course
+returns-in-Ok-Bytes-clause-course g c =
     let full : length c.read.new.buf ≡ 256 = omega (arith, c.read.auto.buf) in
     read_bytes _ _ _ _ _ c.ready.ensures c.in-Ok-Bytes.count c.read.new.buf _ _ _ _ c.if-not-ready.false full
     (subst
@@ -24,23 +24,23 @@ returns-in-Ok-Bytes-clause-told g c =
     (g.D.Door.told c.read.new.self))
     c.in-Ok-Bytes.field-0-is c.in-Ok-Bytes.ensures.told) c.receive.ensures.fault c.receive.ensures.received c.is_ok.ensures.value
 
-pub returns-in-Ok-Nothing-clause-told : goal.returns-in-Ok-Nothing-clause-told
-returns-in-Ok-Nothing-clause-told g c =
+pub returns-in-Ok-Nothing-clause-course : goal.returns-in-Ok-Nothing-clause-course
+returns-in-Ok-Nothing-clause-course g c =
     let full : length c.read.new.buf ≡ 256 = omega (arith, c.read.auto.buf) in
     read_other _ _ _ _ _ c.ready.ensures
     (Ok c.in-Ok-Nothing.field-0) c.read.new.buf _ c.if-not-ready.false full c.in-Ok-Nothing.ensures.told _
     (ap (λ (x : Got). piece_of (ReadCall c.args.seat.peer (Ok x) c.read.new.buf [])) c.in-Ok-Nothing.field-0-is)
     (ap (λ (x : Got). loses_reading (ReadCall c.args.seat.peer (Ok x) c.read.new.buf [])) c.in-Ok-Nothing.field-0-is)
 
-pub returns-in-Ok-Ended-clause-told : goal.returns-in-Ok-Ended-clause-told
-returns-in-Ok-Ended-clause-told g c =
+pub returns-in-Ok-Ended-clause-course : goal.returns-in-Ok-Ended-clause-course
+returns-in-Ok-Ended-clause-course g c =
     let full : length c.read.new.buf ≡ 256 = omega (arith, c.read.auto.buf) in
     read_other _ _ _ _ _ c.ready.ensures (Ok c.in-Ok-Ended.field-0) c.read.new.buf _ c.if-not-ready.false full c.in-Ok-Ended.ensures.told _
     (ap (λ (x : Got). piece_of (ReadCall c.args.seat.peer (Ok x) c.read.new.buf [])) c.in-Ok-Ended.field-0-is)
     (ap (λ (x : Got). loses_reading (ReadCall c.args.seat.peer (Ok x) c.read.new.buf [])) c.in-Ok-Ended.field-0-is)
 
-pub returns-in-Err-clause-told : goal.returns-in-Err-clause-told
-returns-in-Err-clause-told g c =
+pub returns-in-Err-clause-course : goal.returns-in-Err-clause-course
+returns-in-Err-clause-course g c =
     let full : length c.read.new.buf ≡ 256 = omega (arith, c.read.auto.buf) in
     read_other _ _ _ _ _ c.ready.ensures (Err c.in-Err.field-0) c.read.new.buf _ c.if-not-ready.false full c.in-Err.ensures.told _ refl refl
 

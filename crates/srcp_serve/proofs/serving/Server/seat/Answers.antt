@@ -11,7 +11,7 @@ returns-in_default-clause-course g c =
     let after = g.D.Door.told c.close.new.self.door.now in
     subst (λ (owns : List (Option Own)). SeatsPeer c.args.peer c.args.core.now before s.places c.connect.new.self after owns false)
     (sym c.close.ensures.places)
-    (seats_full c.args.peer c.args.core.now c.connect.new.self c.in_default.field-0 before after s.places c.close.ensures.told
+    (seats_full c.args.peer c.args.core.now c.connect.new.self c.in_default.field-0 before after s.places c.close.ensures.course
     c.in_default.ensures.refused)
 
 pub returns-in_default-first_free-clause-course : goal.returns-in_default-first_free-clause-course

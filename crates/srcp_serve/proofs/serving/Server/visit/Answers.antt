@@ -12,8 +12,8 @@ use Rattle.srcp_serve.proofs.serving.Server.visit.Goals as goal
 pub returns-then-not-closing-clause-calls : goal.returns-then-not-closing-clause-calls
 returns-then-not-closing-clause-calls g c = calls_on _ _ _ _ _ c.read_in.ensures.calls c.write_out.ensures.calls
 
-pub returns-then-not-closing-clause-told : goal.returns-then-not-closing-clause-told
-returns-then-not-closing-clause-told g c =
+pub returns-then-not-closing-clause-course : goal.returns-then-not-closing-clause-course
+returns-then-not-closing-clause-course g c =
     let peer = c.args.seat.peer in
     let key = c.args.seat.key in
     let told = g.D.Door.told c.args.self.now.door.now in
@@ -21,7 +21,7 @@ returns-then-not-closing-clause-told g c =
     let told_w = g.D.Door.told c.write_out.new.self.door.now in
     visit_stays peer key c.args.core.now c.write_out.new.core told told_w c.closing.result
     (exchanges_on peer key c.args.core.now c.read_in.new.core told told_r c.write_out.new.core told_w
-    c.write_out.ensures.denied c.write_out.ensures.calls.asks true c.if-read_in.ensures.told c.if-write_out.ensures.told)
+    c.write_out.ensures.denied c.write_out.ensures.calls.asks true c.if-read_in.ensures.course c.if-write_out.ensures.course)
     c.closing.ensures c.if-not-closing.true
 
 pub returns-clause-calls : goal.returns-clause-calls
@@ -40,8 +40,8 @@ returns-clause-calls g c =
     ] in
     calls_on _ _ _ _ _ first c.let_go.ensures.calls
 
-pub returns-clause-told : goal.returns-clause-told
-returns-clause-told g c =
+pub returns-clause-course : goal.returns-clause-course
+returns-clause-course g c =
     let peer = c.args.seat.peer in
     let key = c.args.seat.key in
     let old = c.args.core.now in
@@ -57,7 +57,7 @@ returns-clause-told g c =
           (subst (λ (h : Held). Ends peer key old h told told_w) (sym w.core-is)
           (inr (
             exchanges_on peer key old c.read_in.new.core told told_r w.write_out.new.core told_w
-                w.write_out.ensures.denied w.write_out.ensures.calls.asks true w.if-read_in.ensures.told w.if-write_out.ensures.told,
+                w.write_out.ensures.denied w.write_out.ensures.calls.asks true w.if-read_in.ensures.course w.if-write_out.ensures.course,
             sym w.closing.ensures ∙ w.if-not-closing.false,
           )))
       | else-read_in-via-then-read_in+else-write_out w ↦
@@ -65,11 +65,11 @@ returns-clause-told g c =
           subst (λ (s : Server g.row.D.Denot). Ends peer key old mid told (g.D.Door.told s.door.now)) (sym w.self-is)
           (subst (λ (h : Held). Ends peer key old h told told_w) (sym w.core-is)
           (inl (exchanges_on peer key old c.read_in.new.core told told_r w.write_out.new.core told_w
-          w.write_out.ensures.denied w.write_out.ensures.calls.asks false w.if-read_in.ensures.told w.if-write_out.ensures.told)))
+          w.write_out.ensures.denied w.write_out.ensures.calls.asks false w.if-read_in.ensures.course w.if-write_out.ensures.course)))
       | else-read_in-via-else-read_in w ↦
           subst (λ (s : Server g.row.D.Denot). Ends peer key old mid told (g.D.Door.told s.door.now)) (sym w.self-is)
           (subst (λ (h : Held). Ends peer key old h told told_r) (sym w.core-is)
-          (inl (exchanges_lost peer key old c.read_in.new.core told told_r w.if-read_in.ensures.told)))
+          (inl (exchanges_lost peer key old c.read_in.new.core told told_r w.if-read_in.ensures.course)))
     ] in
     visit_ends peer key old mid told told_mid c.let_go.new.core (g.D.Door.told c.let_go.new.self.door.now) c.let_go.ensures.denied
-    c.let_go.ensures.calls.asks c.let_go.ensures.told first
+    c.let_go.ensures.calls.asks c.let_go.ensures.course first

@@ -21,7 +21,7 @@ returns-then-not-visit-clause-course g c =
     VisitsPlace c.args.place c.args.core.now before s.places held after (slice_set owns c.args.place None))
     (sym c.visit.ensures.places)
     (place_goes c.args.place None c.in-Some.seat c.args.core.now held before after s.places
-    (sym c.seat.ensures ∙ c.in-Some.is) c.if-not-visit.ensures.told))
+    (sym c.seat.ensures ∙ c.in-Some.is) c.if-not-visit.ensures.course))
 
 pub returns-else-not-visit-clause-course : goal.returns-else-not-visit-clause-course
 returns-else-not-visit-clause-course g c =
@@ -32,4 +32,4 @@ returns-else-not-visit-clause-course g c =
     subst (λ (owns : List (Option Own)). VisitsPlace c.args.place c.args.core.now before s.places held after owns)
     (sym c.visit.ensures.places)
     (place_stays c.args.place None c.in-Some.seat c.args.core.now held before after s.places
-    (sym c.seat.ensures ∙ c.in-Some.is) c.if-not-visit.ensures.told)
+    (sym c.seat.ensures ∙ c.in-Some.is) c.if-not-visit.ensures.course)

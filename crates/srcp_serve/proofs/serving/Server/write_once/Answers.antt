@@ -7,25 +7,25 @@ use Rattle.srcp_serve.proofs.OneWriteFollows.{sends, wrote_absent, wrote_none, w
 use Rattle.srcp_serve.proofs.DoorIsCalled.{calls_none, calls_one}
 use Rattle.srcp_serve.proofs.serving.Server.write_once.Goals as goal
 
-pub returns-in_default-clause-told : goal.returns-in_default-clause-told
-returns-in_default-clause-told g c =
+pub returns-in_default-clause-course : goal.returns-in_default-clause-course
+returns-in_default-clause-course g c =
     wrote_absent c.args.seat.peer c.args.seat.key c.args.core.now (g.D.Door.told c.args.self.now.door.now) c.outgoing.follows.lender-at-none
     (g.D.Door.told c.args.self.now.door.now) Less c.in_default.ensures.absent.1
 
-pub returns-then-is_empty-clause-told : goal.returns-then-is_empty-clause-told
-returns-then-is_empty-clause-told g c =
+pub returns-then-is_empty-clause-course : goal.returns-then-is_empty-clause-course
+returns-then-is_empty-clause-course g c =
     wrote_none _ _ _ _ _ c.outgoing.follows.holds-at-none c.in-Ok.lent.now c.in-Ok.ensures.bytes
     (sym c.is_empty.ensures ∙ c.if-is_empty.true)
 
-pub returns-then-count-handed-clause-told : goal.returns-then-count-handed-clause-told
-returns-then-count-handed-clause-told g c =
+pub returns-then-count-handed-clause-course : goal.returns-then-count-handed-clause-course
+returns-then-count-handed-clause-course g c =
     wrote_less _ _ _ _ c.in-Ok.lent.now _ _ _ c.in-Ok.ensures.bytes
     (sends c.args.seat.key c.in-Ok-write.count c.args.core.now c.outgoing.follows.lender-at-none c.sent.new.self
     c.outgoing.follows.holds-at-none c.sent.ensures c.in-Ok.lent.now c.in-Ok.ensures.bytes
     c.in-Ok-write.ensures.count) c.in-Ok-write.ensures.told c.if-count-handed.true
 
-pub returns-else-count-handed-clause-told : goal.returns-else-count-handed-clause-told
-returns-else-count-handed-clause-told g c =
+pub returns-else-count-handed-clause-course : goal.returns-else-count-handed-clause-course
+returns-else-count-handed-clause-course g c =
     let full : c.in-Ok-write.count ≡ length c.in-Ok.lent.now = omega (arith, c.in-Ok-write.ensures.count, c.if-count-handed.false) in
     wrote_all _ _ _ _ c.in-Ok.lent.now _ _ _ c.in-Ok.ensures.bytes
     (sends c.args.seat.key c.in-Ok-write.count c.args.core.now c.outgoing.follows.lender-at-none c.sent.new.self
@@ -33,8 +33,8 @@ returns-else-count-handed-clause-told g c =
     c.in-Ok-write.ensures.count) c.in-Ok-write.ensures.told full
     (sym c.is_empty.ensures ∙ c.if-is_empty.false)
 
-pub returns-in_default-write-clause-told : goal.returns-in_default-write-clause-told
-returns-in_default-write-clause-told g c =
+pub returns-in_default-write-clause-course : goal.returns-in_default-write-clause-course
+returns-in_default-write-clause-course g c =
     wrote_failed _ _ _ _ _ c.outgoing.follows.holds-at-none c.in-Ok.lent.now _ _ c.in-Ok.ensures.bytes c.in_default-write.ensures.told
     (sym c.is_empty.ensures ∙ c.if-is_empty.false)
 

@@ -8,7 +8,7 @@ loop-init g c = record {
   places = refl;
   calls = calls_none _ _ c.args.self.now c.requires;
   denied = refl;
-  told = takes_first c.args.seat.peer c.args.seat.key c.args.core.now (g.D.Door.told c.args.self.now.door.now);
+  course = takes_first c.args.seat.peer c.args.seat.key c.args.core.now (g.D.Door.told c.args.self.now.door.now);
 }
 
 pub loop-preserved : goal.loop-preserved
@@ -16,40 +16,40 @@ loop-preserved g c = record {
   places = c.write_once.ensures.places ∙ c.loop.invariant.places;
   calls = calls_on _ _ _ _ _ c.loop.invariant.calls c.write_once.ensures.calls;
   denied = c.write_once.ensures.denied ∙ c.loop.invariant.denied;
-  told =
+  course =
       takes_on c.args.seat.peer c.args.seat.key c.args.core.now c.loop.core c.write_once.new.core (g.D.Door.told c.args.self.now.door.now)
       (g.D.Door.told c.loop.self.door.now)
-      (g.D.Door.told c.write_once.new.self.door.now) c.loop.counter c.loop.invariant.told c.write_once.ensures.calls.asks c.in-All.ensures.told;
+      (g.D.Door.told c.write_once.new.self.door.now) c.loop.counter c.loop.invariant.course c.write_once.ensures.calls.asks c.in-All.ensures.course;
 }
 
 pub returns-in-Less-clause-calls : goal.returns-in-Less-clause-calls
 returns-in-Less-clause-calls g c = calls_on _ _ _ _ _ c.loop.invariant.calls c.write_once.ensures.calls
 
-pub returns-in-Less-clause-told : goal.returns-in-Less-clause-told
-returns-in-Less-clause-told g c =
+pub returns-in-Less-clause-course : goal.returns-in-Less-clause-course
+returns-in-Less-clause-course g c =
     ends_less c.args.seat.peer c.args.seat.key c.args.core.now c.loop.core c.write_once.new.core (g.D.Door.told c.args.self.now.door.now)
     (g.D.Door.told c.loop.self.door.now)
     (g.D.Door.told
-    c.write_once.new.self.door.now) c.loop.counter c.loop.invariant.told c.write_once.ensures.calls.asks c.loop-test.true c.in-Less.ensures.told
+    c.write_once.new.self.door.now) c.loop.counter c.loop.invariant.course c.write_once.ensures.calls.asks c.loop-test.true c.in-Less.ensures.course
 
 pub returns-in-Failed-clause-calls : goal.returns-in-Failed-clause-calls
 returns-in-Failed-clause-calls g c = calls_on _ _ _ _ _ c.loop.invariant.calls c.write_once.ensures.calls
 
-pub returns-in-Failed-clause-told : goal.returns-in-Failed-clause-told
-returns-in-Failed-clause-told g c =
+pub returns-in-Failed-clause-course : goal.returns-in-Failed-clause-course
+returns-in-Failed-clause-course g c =
     ends_failed c.args.seat.peer c.args.seat.key c.args.core.now c.loop.core c.write_once.new.core (g.D.Door.told c.args.self.now.door.now)
     (g.D.Door.told c.loop.self.door.now)
     (g.D.Door.told
-    c.write_once.new.self.door.now) c.loop.counter c.loop.invariant.told c.write_once.ensures.calls.asks c.loop-test.true c.in-Failed.ensures.told
+    c.write_once.new.self.door.now) c.loop.counter c.loop.invariant.course c.write_once.ensures.calls.asks c.loop-test.true c.in-Failed.ensures.course
 
 pub returns-clause-calls : goal.returns-clause-calls
 returns-clause-calls g c = c.loop.invariant.calls
 
-pub returns-clause-told : goal.returns-clause-told
-returns-clause-told g c =
+pub returns-clause-course : goal.returns-clause-course
+returns-clause-course g c =
     let most : c.loop.counter ≡ 300 = omega (arith, c.loop-test.false, c.loop.auto.counter-end) in
     ends_full c.args.seat.peer c.args.seat.key c.args.core.now c.loop.core (g.D.Door.told c.args.self.now.door.now)
-    (g.D.Door.told c.loop.self.door.now) c.loop.counter most c.loop.invariant.told
+    (g.D.Door.told c.loop.self.door.now) c.loop.counter most c.loop.invariant.course
 
 pub returns-in-Less-clause-places : goal.returns-in-Less-clause-places
 returns-in-Less-clause-places g c = c.write_once.ensures.places ∙ c.loop.invariant.places

@@ -9,5 +9,5 @@ invariant-loop g l = record {
   places : l.self.places ≡ l.fn.self.places;
   calls : CallsDoor g.D.Door.faults g.D.Door.told AsksPeers l.fn.self l.self;
   denied : l.core.denied ≡ l.fn.core.denied;
-  told : TakesSoFar l.seat.peer l.seat.key l.fn.core (g.D.Door.told l.fn.self.door.now) l.core (g.D.Door.told l.self.door.now) l.counter;
+  course : TakesSoFar l.seat.peer l.seat.key l.fn.core (g.D.Door.told l.fn.self.door.now) l.core (g.D.Door.told l.self.door.now) l.counter;
 }
