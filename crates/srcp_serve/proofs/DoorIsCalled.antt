@@ -23,7 +23,8 @@ module _ {D : Type 0} (faults : D → ℕ) (told : D → Option (List Call)) whe
   }
 
   -- some calls, and then others
-  pub calls_then : (A B C : (old new : Option (List Call)) → Type 0) → ((old mid new : Option (List Call)) → A old mid → B mid new → C old new)
+  pub calls_then : (A B C : (old new : Option (List Call)) → Type 0)
+      → ((old mid new : Option (List Call)) → A old mid → B mid new → C old new)
       → (s t u : Server D) → CallsDoor faults told A s t → CallsDoor faults told B t u → CallsDoor faults told C s u
   calls_then A B C join s t u first second = record {
     same_door = second.same_door ∙ first.same_door;

@@ -8,7 +8,6 @@ use Rattle.std.specs.List.{list_all, AllByRecursion}
 use Rattle.std.specs.Prelude.{◌&&◌, flat_map}
 use Rattle.srcp_serve.specs.Calls.{Call, Tells, ExpectCall, NowCall, AcceptCall, ReadCall, WriteCall, CloseCall, IsFair, is_expect, turns}
 use Rattle.srcp_serve.specs.Turns.{AreTurns, AsksMoment, AsksNewcomer, AsksPeers, AsksTurn, AsksTurns, IsTurn, is_of_peer}
-use Rattle.srcp_serve.specs.Visits.{Closes}
 use Rattle.srcp_serve.specs.declared.door.DoorFault.{DoorFault}
 use Rattle.srcp_serve.proofs.PartsAddUp.{one_part, parts-append}
 use Rattle.srcp_serve.proofs.CallsAreAdded.{adds_none, adds_one, adds_then}
@@ -25,14 +24,6 @@ asks_one call old new e fair h told is = record {
   adds = adds_one call old new told h is;
   peers = ap (λ t. t && true) e;
   fair = (fair, tt);
-}
-
-pub asks_close : (peer : ℕ) (old new : Option (List Call)) → Closes peer old new → AsksPeers old new
-asks_close peer old new closes told is = let c = closes told is in record {
-  calls = CloseCall peer c.answer ∷ [];
-  adds = c.adds;
-  peers = refl;
-  fair = (tt, tt);
 }
 
 pub asks_then : (a b c : Option (List Call)) → AsksPeers a b → AsksPeers b c → AsksPeers a c

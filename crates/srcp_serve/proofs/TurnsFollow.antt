@@ -409,7 +409,9 @@ makes_turn opens old mid between new told_old told_mid told_between told_new own
       calls = all;
       keys = x.keys;
       adds = adds_all;
-      counted = refusals_then old between new begins seen (b.settled.counted ∙ ap (λ k. denied_by k (answers_of begins)) same_count) x.counted;
+      counted =
+          refusals_then old between new begins seen (b.settled.counted ∙ ap (λ k. denied_by k (answers_of begins)) same_count)
+          x.counted;
       asked_for = subst (λ (s : Stand). CountsAsked buses stand.events s.events old new) (sym ends)
           (asked_then buses stand.events first_stand.events (second_stand.events ++ made_by (visits_of x.round)) old mid new
           (asked_moment buses t.answer stand old mid same_count)
@@ -426,8 +428,8 @@ makes_turn opens old mid between new told_old told_mid told_between told_new own
         peers = of_peers;
       };
       asked =
-          turn_asked buses stand t.due t.slack t.answer b.answer b.granted b.early x.round of_peers x.own x.seats_are b.settled.hosting.differ
-          b.settled.others t.asked b.settled.asked x.asked;
+          turn_asked buses stand t.due t.slack t.answer b.answer b.granted b.early x.round of_peers x.own x.seats_are
+          b.settled.hosting.differ b.settled.others t.asked b.settled.asked x.asked;
       known = subst (λ (s : Stand). AllByRecursion (IsOneOf peers_then) s.places) (sym ends) known_last;
       hosting = subst (λ (s : Stand). IsHosting buses s x.keys new owns_new) (sym ends) x.hosting;
       opened = ap (λ (s : Stand). length s.guests) ends ∙ b.settled.opened ∙ ap (λ n. n + one_if opens) (guests_timed buses t.answer stand);

@@ -17,7 +17,8 @@ use Rattle.srcp_serve.specs.Given.{Call, WriteCall}
 use Rattle.srcp_serve.specs.Serving.{Writes, question, count_of, is_write, loses, loses_writing, falls_short, lent, lent_none_last, rooms}
 use Rattle.srcp_serve.specs.Serving.{handed, unless_nil}
 use Rattle.srcp_serve.specs.Turns.{AsksPeers}
-use Rattle.srcp_serve.specs.Visits.{AddsGiven, AreWritesTo, FromEveryCourse, IsWrittenTo, TookAll, TookLess, TookNone, WasLentNone, WritesOnce}
+use Rattle.srcp_serve.specs.Visits.{AddsGiven, AreWritesTo, FromEveryCourse, IsWrittenTo, TookAll, TookLess, TookNone, WasLentNone}
+use Rattle.srcp_serve.specs.Visits.{WritesOnce}
 use Rattle.srcp_serve.specs.Visits.{WritesOut}
 use Rattle.srcp_serve.specs.declared.serving.visit.Wrote.TheVariants.{All, Less, Failed}
 use Rattle.srcp_serve.proofs.HandedWriteAfterWrite.{AreFull, texts, handed-append, full-more, unless_some}

@@ -11,9 +11,9 @@ use Rattle.srcp_core.specs.Recording.{key_of}
 use Rattle.srcp_core.specs.Stands.{StandsFor}
 use Rattle.srcp_core.specs.Under.{Event}
 use Rattle.srcp_serve.specs.Calls.{Call as DoorCall, Adds, PeersDiffer, peer_of}
-use Rattle.srcp_serve.specs.Given.{Guest, Call, ExpectCall, NowCall, AcceptCall, CountsRefusals, told_call}
+use Rattle.srcp_serve.specs.Given.{Call, ExpectCall, NowCall, AcceptCall, CountsRefusals, told_call}
 use Rattle.srcp_serve.specs.Serving.{Seat, Stand, Question, Expects, expects, IsServed, question, newcomer_of, is_about}
-use Rattle.srcp_serve.specs.Serving.{is_close, visit_events, visit_asks, timed, turned, turn_asks, turns_away, welcomed}
+use Rattle.srcp_serve.specs.Serving.{is_close, visit_events, visit_asks, timed, turned, turn_asks, turns_away}
 use Rattle.srcp_serve.specs.Serving.{accepted, stand_after, events_of, SendsWhatIsTaken}
 use Rattle.srcp_serve.specs.Turns.{is_of_peer}
 use Rattle.srcp_serve.specs.Visits.{AddsGiven, AreAbout, CountsAsked}

@@ -15,7 +15,8 @@ returns-in-Ok-clause-course g c = closes_by _ _ _ _ c.close.ensures.told
 
 pub returns-in-Err-clause-calls : goal.returns-in-Err-clause-calls
 returns-in-Err-clause-calls g c =
-    calls_one _ _ _ c.args.self.now _ refl (one_failed _ _ _ _ c.requires (ap (λ (t : Tally). t.faults) c.fault.ensures) c.in-Err.ensures.err) refl
+    calls_one _ _ _ c.args.self.now _ refl
+    (one_failed _ _ _ _ c.requires (ap (λ (t : Tally). t.faults) c.fault.ensures) c.in-Err.ensures.err) refl
     tt c.close.ensures.told
 
 pub returns-in-Err-clause-course : goal.returns-in-Err-clause-course

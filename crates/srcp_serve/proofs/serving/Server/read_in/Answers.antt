@@ -64,5 +64,6 @@ returns-in-Ok-Ended-clause-calls g c =
 
 pub returns-in-Err-clause-calls : goal.returns-in-Err-clause-calls
 returns-in-Err-clause-calls g c =
-    calls_one _ _ _ c.args.self.now _ refl (one_failed _ _ _ _ c.requires (ap (λ (t : Tally). t.faults) c.fault.ensures) c.in-Err.ensures.err) refl
+    calls_one _ _ _ c.args.self.now _ refl
+    (one_failed _ _ _ _ c.requires (ap (λ (t : Tally). t.faults) c.fault.ensures) c.in-Err.ensures.err) refl
     (fair_read c.args.seat.peer c.read.result _ c.read.new.buf c.read.ensures.count c.read.auto.buf) c.read.ensures.told

@@ -1,4 +1,4 @@
-use Rattle.std.proofs.Common.{◌≡◌, ◌∙◌, ℕ, arith, refl, subst, sym}
+use Rattle.std.proofs.Common.{◌≡◌, ◌∙◌, ℕ, arith, subst, sym}
 use Rattle.srcp_serve.specs.Places.{AreFreeFrom}
 use Rattle.srcp_serve.proofs.PlacesBehindStayFree.{length_kept, places_rest, still_free}
 use Rattle.srcp_serve.proofs.PlacesFollow.{places_first, places_on}

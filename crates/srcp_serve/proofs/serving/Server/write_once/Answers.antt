@@ -56,5 +56,6 @@ returns-else-count-handed-clause-calls g c =
 
 pub returns-in_default-write-clause-calls : goal.returns-in_default-write-clause-calls
 returns-in_default-write-clause-calls g c =
-    calls_one _ _ _ c.args.self.now _ refl (one_failed _ _ _ _ c.requires (ap (λ (t : Tally). t.faults) c.fault.ensures) c.in_default-write.ensures.err) refl
+    calls_one _ _ _ c.args.self.now _ refl
+    (one_failed _ _ _ _ c.requires (ap (λ (t : Tally). t.faults) c.fault.ensures) c.in_default-write.ensures.err) refl
     (fair_write c.args.seat.peer c.in-Ok.lent.now c.write.result c.write.ensures.count) c.write.ensures.told

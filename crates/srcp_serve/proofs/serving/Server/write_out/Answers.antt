@@ -19,7 +19,8 @@ loop-preserved g c = record {
   course =
       takes_on c.args.seat.peer c.args.seat.key c.args.core.now c.loop.core c.write_once.new.core (g.D.Door.told c.args.self.now.door.now)
       (g.D.Door.told c.loop.self.door.now)
-      (g.D.Door.told c.write_once.new.self.door.now) c.loop.counter c.loop.invariant.course c.write_once.ensures.calls.asks c.in-All.ensures.course;
+      (g.D.Door.told c.write_once.new.self.door.now) c.loop.counter c.loop.invariant.course
+      c.write_once.ensures.calls.asks c.in-All.ensures.course;
 }
 
 pub returns-in-Less-clause-calls : goal.returns-in-Less-clause-calls
@@ -30,7 +31,8 @@ returns-in-Less-clause-course g c =
     ends_less c.args.seat.peer c.args.seat.key c.args.core.now c.loop.core c.write_once.new.core (g.D.Door.told c.args.self.now.door.now)
     (g.D.Door.told c.loop.self.door.now)
     (g.D.Door.told
-    c.write_once.new.self.door.now) c.loop.counter c.loop.invariant.course c.write_once.ensures.calls.asks c.loop-test.true c.in-Less.ensures.course
+    c.write_once.new.self.door.now) c.loop.counter c.loop.invariant.course
+    c.write_once.ensures.calls.asks c.loop-test.true c.in-Less.ensures.course
 
 pub returns-in-Failed-clause-calls : goal.returns-in-Failed-clause-calls
 returns-in-Failed-clause-calls g c = calls_on _ _ _ _ _ c.loop.invariant.calls c.write_once.ensures.calls
@@ -40,7 +42,8 @@ returns-in-Failed-clause-course g c =
     ends_failed c.args.seat.peer c.args.seat.key c.args.core.now c.loop.core c.write_once.new.core (g.D.Door.told c.args.self.now.door.now)
     (g.D.Door.told c.loop.self.door.now)
     (g.D.Door.told
-    c.write_once.new.self.door.now) c.loop.counter c.loop.invariant.course c.write_once.ensures.calls.asks c.loop-test.true c.in-Failed.ensures.course
+    c.write_once.new.self.door.now) c.loop.counter c.loop.invariant.course
+    c.write_once.ensures.calls.asks c.loop-test.true c.in-Failed.ensures.course
 
 pub returns-clause-calls : goal.returns-clause-calls
 returns-clause-calls g c = c.loop.invariant.calls
