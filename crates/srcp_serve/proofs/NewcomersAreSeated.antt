@@ -25,7 +25,7 @@ use Rattle.srcp_serve.specs.Visits.{Closes, CountsAsked}
 use Rattle.srcp_serve.specs.declared.door.DoorFault.{DoorFault}
 use Rattle.srcp_serve.specs.declared.serving.visit.Seat.{Seat as Own}
 use Rattle.srcp_serve.proofs.PlacesAreTakenAndFreed.{count_append, count_cons, count_seated}
-use Rattle.srcp_serve.proofs.PlacesAreTakenAndFreed.{differ_seated}
+use Rattle.srcp_serve.proofs.PlacesAreTakenAndFreed.{differ_seated, hosts_on}
 use Rattle.srcp_serve.proofs.PlacesAreTakenAndFreed.{free_in, free_is, new_apart, none_free, sit_pushed, sit_seated}
 use Rattle.srcp_serve.proofs.RefusalsWereAskedFor.{asked_one}
 use Rattle.srcp_serve.proofs.CallsAreAdded.{adds_none}
@@ -102,14 +102,8 @@ seats_full peer old mid cause told_old told_new owns closes turned_away buses st
             others =
                 subst (λ (s : Stand). AllByRecursion (IsLeftOut (CloseCall peer c.answer ∷ [])) s.places) (sym w)
                 (close_left_out peer c.answer stand.places new);
-            hosting = subst (λ (s : Stand). IsHosting buses s keys mid owns) (sym w) (record {
-              layout = hosting.layout;
-              sit = hosting.sit;
-              few = hosting.few;
-              differ = hosting.differ;
-              long = hosting.long;
-              stands = after_open;
-            });
+            hosting = subst (λ (s : Stand). IsHosting buses s keys mid owns) (sym w)
+                (hosts_on buses stand (stand.events ++ Open granted ∷ []) keys old mid owns hosting after_open);
             opened = ap (λ (s : Stand). length s.guests) w ∙ no_more (length stand.guests);
           };
         }

@@ -5,15 +5,33 @@ use Rattle.std.proofs.lemmas.Bool.Decides.{nat_tests}
 use Rattle.std.proofs.lemmas.List.Sums.{sum_by-append, sum_by-cons}
 use Rattle.std.specs.List.{list_any, count_by, slice_index_or, slice_set, prefix_len, AllByRecursion}
 use Rattle.std.specs.Prelude.{not, is_some, is_none, position, nat_lt}
+use Rattle.srcp_grammar.specs.declared.layout.Bus.{Bus}
+use Rattle.srcp_core.specs.Course.{course}
+use Rattle.srcp_core.specs.Held.{Held}
 use Rattle.srcp_core.specs.Recording.{key_of, without_key}
+use Rattle.srcp_core.specs.Stands.{StandsFor}
+use Rattle.srcp_core.specs.Under.{Event}
 use Rattle.srcp_core.proofs.Agreement.NumbersAndKeys.{key_push, key_within, without_other}
 use Rattle.srcp_serve.specs.Given.{Call, ExpectCall, NowCall, AcceptCall, ReadCall, WriteCall, CloseCall}
-use Rattle.srcp_serve.specs.Serving.{Seat, seated, seats, kept, visit, is_about, is_close}
+use Rattle.srcp_serve.specs.Serving.{Seat, Stand, seated, seats, kept, visit, is_about, is_close}
 use Rattle.srcp_serve.specs.Places.{Visit, calls_of, visits_of, seat_of, left_by, AreOwn, SitsAt, Sit, IsApartFrom, SeatsDiffer, IsNotOf}
-use Rattle.srcp_serve.specs.Places.{IsOneOf, IsOther, IsLeftOut}
+use Rattle.srcp_serve.specs.Places.{IsHosting, IsOneOf, IsOther, IsLeftOut}
 use Rattle.srcp_serve.specs.Visits.{AreAbout}
 use Rattle.srcp_serve.specs.declared.serving.visit.Seat.{Seat as Own}
 use Rattle.srcp_serve.proofs.VisitsAreSeenAgain.{AreApart, one_visit}
+
+-- the slots stay, and the core goes on to the course of these events
+pub hosts_on : (buses : List Bus) (stand : Stand) (events : List Event) (keys : List (Option ℕ)) (old held : Held) (owns : List (Option Own))
+    → IsHosting buses stand keys old owns → StandsFor buses keys held (course buses events)
+    → IsHosting buses (record stand { events = events }) keys held owns
+hosts_on buses stand events keys old held owns h stands = record {
+  layout = h.layout;
+  sit = h.sit;
+  few = h.few;
+  differ = h.differ;
+  long = h.long;
+  stands = stands;
+}
 
 same_no : (a b : ℕ) → (a == b) ≡ false → (b == a) ≡ false
 same_no a b e = grind (arith, nat_tests)

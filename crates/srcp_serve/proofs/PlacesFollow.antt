@@ -1,12 +1,15 @@
 -- The visits of the places follow the course.
-use Rattle.std.proofs.Common.{◌≡◌, ◌∙◌, ℕ, ◌+◌, ◌<◌, true, false, List, [], ◌∷◌, ◌++◌, map, length, if◌then◌else◌, Option, Some}
+use Rattle.std.proofs.Common.{◌≡◌, ◌∙◌, ℕ, ◌+◌, ◌<◌, Bool, true, false, List, [], ◌∷◌, ◌++◌, map, length, if◌then◌else◌, Option, Some}
 use Rattle.std.proofs.Common.{None, refl, ap, sym, subst, arith, append_assoc, append-nil, length-append}
 use Rattle.std.proofs.lemmas.Grind.{flat_map-append}
 use Rattle.std.proofs.lemmas.List.{map-append, length-map}
 use Rattle.std.specs.List.{slice_index_or, slice_set}
+use Rattle.std.specs.Prelude.{not}
 use Rattle.srcp_grammar.specs.declared.layout.Bus.{Bus}
+use Rattle.srcp_core.specs.Course.{course}
 use Rattle.srcp_core.specs.Held.{Held}
-use Rattle.srcp_core.specs.Recording.{without_key}
+use Rattle.srcp_core.specs.Recording.{key_of, without_key}
+use Rattle.srcp_core.specs.Stands.{StandsFor}
 use Rattle.srcp_core.specs.Under.{Event}
 use Rattle.srcp_core.proofs.Agreement.NumbersAndKeys.{length_without}
 use Rattle.srcp_serve.specs.Calls.{Call as DoorCall}
@@ -19,7 +22,7 @@ use Rattle.srcp_serve.specs.Places.{VisitsPlaces, VisitsSoFar}
 use Rattle.srcp_serve.specs.Turns.{AsksPeers}
 use Rattle.srcp_serve.specs.Visits.{AddsGiven, CountsAsked, Visits}
 use Rattle.srcp_serve.specs.declared.serving.visit.Seat.{Seat as Own}
-use Rattle.srcp_serve.proofs.PlacesAreTakenAndFreed.{count_cleared, count_without, differ_cleared}
+use Rattle.srcp_serve.proofs.PlacesAreTakenAndFreed.{count_cleared, count_without, differ_cleared, hosts_on}
 use Rattle.srcp_serve.proofs.PlacesAreTakenAndFreed.{length-sit, own_append}
 use Rattle.srcp_serve.proofs.PlacesAreTakenAndFreed.{sit_without}
 use Rattle.srcp_serve.proofs.PlacesAreTakenAndFreed.{sits_here, visits-append}
@@ -53,35 +56,38 @@ place_free place d old told_old owns here buses stand keys told hosting is front
 
 module _ (place : ℕ) (d : Option Own) (own : Own) (old new : Held) (told_old told_new : Option (List DoorCall)) (owns : List (Option Own))
     (here : slice_index_or owns place d ≡ Some own) where
-  pub place_stays : Visits own.peer own.key old told_old new told_new true → VisitsPlace place old told_old owns new told_new owns
-  place_stays visits buses stand keys told hosting is front None ahead e at =
+  -- the peer of the slot was visited, and has the slot still or not
+  place_visited : (stays : Bool) (owns_after : List (Option Own)) → Visits own.peer own.key old told_old new told_new stays
+      → ((buses : List Bus) (stand : Stand) (events : List Event) (keys : List (Option ℕ)) (front : List (Option Seat)) (seat : Seat)
+      (ahead : List (Option Seat)) → length front ≡ place
+      → IsHosting buses (record stand { places = front ++ Some seat ∷ ahead }) keys old owns → key_of seat.conn keys ≡ Some own.key
+      → StandsFor buses (if stays then keys else without_key seat.conn keys) new (course buses events)
+      → IsHosting buses
+      (record { events = events; guests = stand.guests; places = front ++ (if not stays then None else Some seat) ∷ ahead })
+      (if stays then keys else without_key seat.conn keys) new owns_after)
+      → VisitsPlace place old told_old owns new told_new owns_after
+  place_visited stays owns_after visits hosts buses stand keys told hosting is front None ahead e at =
       absurd (subst (λ (o : Option Own). SitsAt keys o None) here
       (sits_here keys owns front None ahead place d e (subst (λ (all : List (Option Seat)). Sit keys owns all) at hosting.sit)))
-  place_stays visits buses stand keys told hosting is front (Some seat) ahead e at =
-      let h : IsHosting buses (record { events = stand.events; guests = stand.guests; places = front ++ Some seat ∷ ahead }) keys old owns =
-      subst (λ (all : List (Option Seat)).
-      IsHosting buses (record { events = stand.events; guests = stand.guests; places = all }) keys old owns)
-      at hosting in
+  place_visited stays owns_after visits hosts buses stand keys told hosting is front (Some seat) ahead e at =
+      let h : IsHosting buses (record stand { places = front ++ Some seat ∷ ahead }) keys old owns =
+      subst (λ (all : List (Option Seat)). IsHosting buses (record stand { places = all }) keys old owns) at hosting in
       let sits : SitsAt keys (Some own) (Some seat) =
       subst (λ (o : Option Own). SitsAt keys o (Some seat)) here (sits_here keys owns front (Some seat) ahead place d e h.sit) in
-      let visit : Visits seat.peer own.key old told_old new told_new true =
-      subst (λ (p : ℕ). Visits p own.key old told_old new told_new true) sits.0 visits in
+      let visit : Visits seat.peer own.key old told_old new told_new stays =
+      subst (λ (p : ℕ). Visits p own.key old told_old new told_new stays) sits.0 visits in
       let x = visit buses stand.events keys seat.conn told (record { layout = h.layout; named = sits.1; stands = h.stands }) is in
-      let left : left_by (Some (seat, x.calls)) ≡ Some seat = ap (λ b. if b then None else Some seat) x.closes in
-      let after : IsHosting buses
-      (record {
-        events = stand.events ++ visit_events x.calls seat;
-        guests = stand.guests;
-        places = front ++ Some seat ∷ ahead;
-      }) keys new owns =
-      record { layout = h.layout; sit = h.sit; few = h.few; differ = h.differ; long = h.long; stands = x.stands } in
+      let events : List Event = visit_events x.calls seat in
+      let left : left_by (Some (seat, x.calls)) ≡ (if not stays then None else Some seat) =
+      ap (λ b. if b then None else Some seat) x.closes in
+      let keys_after : List (Option ℕ) = if stays then keys else without_key seat.conn keys in
       record {
         round = Some (seat, x.calls) ∷ [];
-        keys = keys;
+        keys = keys_after;
         adds = subst (λ (c : List Call). AddsGiven told_old told c) (sym (append-nil x.calls)) x.adds;
         counted = subst (λ (c : List Call). CountsRefusals old c new) (sym (append-nil x.calls)) x.counted;
         asked_for = subst (λ (more : List Event). CountsAsked buses stand.events (stand.events ++ more) old new)
-            (sym (append-nil (visit_events x.calls seat))) x.asked_for;
+            (sym (append-nil events)) x.asked_for;
         seats_are = refl;
         own = (x.own, tt);
         asked = ap (map question) (append-nil x.calls) ∙ x.asked ∙ sym (append-nil _);
@@ -93,76 +99,32 @@ module _ (place : ℕ) (d : Option Own) (own : Own) (old new : Held) (told_old t
               guests = stand.guests;
               places = front ++ left_by (Some (seat, x.calls)) ∷ ahead;
             })
-            keys new owns)
-            (sym (append-nil (visit_events x.calls seat)))
+            keys_after new owns_after)
+            (sym (append-nil events))
             (subst (λ (o : Option Seat).
-            IsHosting buses
-            (record { events = stand.events ++ visit_events x.calls seat; guests = stand.guests; places = front ++ o ∷ ahead })
-            keys new owns)
-            (sym left) after);
+            IsHosting buses (record { events = stand.events ++ events; guests = stand.guests; places = front ++ o ∷ ahead })
+            keys_after new owns_after)
+            (sym left) (hosts buses stand (stand.events ++ events) keys front seat ahead e h sits.1 x.stands));
       }
+
+  pub place_stays : Visits own.peer own.key old told_old new told_new true → VisitsPlace place old told_old owns new told_new owns
+  place_stays visits = place_visited true owns visits (λ buses stand events keys front seat ahead e h named stands.
+      hosts_on buses (record stand { places = front ++ Some seat ∷ ahead }) events keys old new owns h stands)
 
   pub place_goes : Visits own.peer own.key old told_old new told_new false
       → VisitsPlace place old told_old owns new told_new (slice_set owns place None)
-  place_goes visits buses stand keys told hosting is front None ahead e at =
-      absurd (subst (λ (o : Option Own). SitsAt keys o None) here
-      (sits_here keys owns front None ahead place d e (subst (λ (all : List (Option Seat)). Sit keys owns all) at hosting.sit)))
-  place_goes visits buses stand keys told hosting is front (Some seat) ahead e at =
-      let owns_after : List (Option Own) = slice_set owns place None in
-      let h : IsHosting buses (record { events = stand.events; guests = stand.guests; places = front ++ Some seat ∷ ahead }) keys old owns =
-      subst (λ (all : List (Option Seat)).
-      IsHosting buses (record { events = stand.events; guests = stand.guests; places = all }) keys old owns)
-      at hosting in
-      let sits : SitsAt keys (Some own) (Some seat) =
-      subst (λ (o : Option Own). SitsAt keys o (Some seat)) here (sits_here keys owns front (Some seat) ahead place d e h.sit) in
-      let visit : Visits seat.peer own.key old told_old new told_new false =
-      subst (λ (p : ℕ). Visits p own.key old told_old new told_new false) sits.0 visits in
-      let x = visit buses stand.events keys seat.conn told (record { layout = h.layout; named = sits.1; stands = h.stands }) is in
-      let fewer : List (Option ℕ) = without_key seat.conn keys in
-      let left : left_by (Some (seat, x.calls)) ≡ None = ap (λ b. if b then None else Some seat) x.closes in
+  place_goes visits = place_visited false (slice_set owns place None) visits (λ buses stand events keys front seat ahead e h named stands.
       let a = count_cleared seat front ahead in
-      let b = count_without seat.conn keys own.key sits.1 in
+      let b = count_without seat.conn keys own.key named in
       let c = h.few in
-      let after : IsHosting buses
-      (record {
-        events = stand.events ++ visit_events x.calls seat;
-        guests = stand.guests;
-        places = front ++ None ∷ ahead;
-      }) fewer new owns_after =
       record {
         layout = h.layout;
         sit = sit_without keys owns front seat ahead place e h.differ h.sit;
         few = omega (arith, a, b, c);
         differ = differ_cleared front seat ahead h.differ;
         long = length_without seat.conn keys ∙ h.long;
-        stands = x.stands;
-      } in
-      record {
-        round = Some (seat, x.calls) ∷ [];
-        keys = fewer;
-        adds = subst (λ (c : List Call). AddsGiven told_old told c) (sym (append-nil x.calls)) x.adds;
-        counted = subst (λ (c : List Call). CountsRefusals old c new) (sym (append-nil x.calls)) x.counted;
-        asked_for = subst (λ (more : List Event). CountsAsked buses stand.events (stand.events ++ more) old new)
-            (sym (append-nil (visit_events x.calls seat))) x.asked_for;
-        seats_are = refl;
-        own = (x.own, tt);
-        asked = ap (map question) (append-nil x.calls) ∙ x.asked ∙ sym (append-nil _);
-        hosting =
-            subst (λ (more : List Event).
-            IsHosting buses
-            (record {
-              events = stand.events ++ more;
-              guests = stand.guests;
-              places = front ++ left_by (Some (seat, x.calls)) ∷ ahead;
-            })
-            fewer new owns_after)
-            (sym (append-nil (visit_events x.calls seat)))
-            (subst (λ (o : Option Seat).
-            IsHosting buses
-            (record { events = stand.events ++ visit_events x.calls seat; guests = stand.guests; places = front ++ o ∷ ahead })
-            fewer new owns_after)
-            (sym left) after);
-      }
+        stands = stands;
+      })
 
 -- ---- the places, one after another
 

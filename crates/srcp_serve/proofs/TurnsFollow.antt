@@ -28,7 +28,7 @@ use Rattle.srcp_serve.specs.Visits.{AddsGiven, CountsAsked}
 use Rattle.srcp_serve.specs.declared.door.DoorFault.{DoorFault}
 use Rattle.srcp_serve.specs.declared.serving.visit.Seat.{Seat as Own}
 use Rattle.srcp_serve.proofs.NewcomersAreSeated.{none_left_out}
-use Rattle.srcp_serve.proofs.PlacesAreTakenAndFreed.{all_here, all_seated, kept_by, known_left, round_seats, visits_apart}
+use Rattle.srcp_serve.proofs.PlacesAreTakenAndFreed.{all_here, all_seated, hosts_on, kept_by, known_left, round_seats, visits_apart}
 use Rattle.srcp_serve.proofs.RefusalsWereAskedFor.{asked_moment, asked_then}
 use Rattle.srcp_serve.proofs.CallsAreAdded.{adds_one, adds_then, given_then, refusals_then, same_calls}
 use Rattle.srcp_serve.proofs.SentIsTakenAfterAllTurns.{peers_told}
@@ -156,22 +156,8 @@ module _ (buses : List Bus) where
   hosting_timed : (answer : Result ℕ DoorFault) (stand : Stand) (keys : List (Option ℕ)) (old held : Held) (owns : List (Option Own))
       → IsHosting buses stand keys old owns → StandsFor buses keys held (course buses (timed buses stand (NowCall answer ∷ [])).events)
       → IsHosting buses (timed buses stand (NowCall answer ∷ [])) keys held owns
-  hosting_timed (Ok moment) stand keys old held owns h stands = record {
-    layout = h.layout;
-    sit = h.sit;
-    few = h.few;
-    differ = h.differ;
-    long = h.long;
-    stands = stands;
-  }
-  hosting_timed (Err failed) stand keys old held owns h stands = record {
-    layout = h.layout;
-    sit = h.sit;
-    few = h.few;
-    differ = h.differ;
-    long = h.long;
-    stands = stands;
-  }
+  hosting_timed (Ok moment) stand keys old held owns h stands = hosts_on buses stand _ keys old held owns h stands
+  hosting_timed (Err failed) stand keys old held owns h stands = hosts_on buses stand _ keys old held owns h stands
 
 -- ---- the newcomer of a turn
 
