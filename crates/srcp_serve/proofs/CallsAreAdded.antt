@@ -38,7 +38,7 @@ adds_then old mid_told mid told xs ys e a b =
     let same : b.before ≡ mid = same_Some b.before mid (sym b.was ∙ e) in
     record { before = a.before; was = a.was; is = b.is ∙ ap (λ calls. calls ++ ys) (same ∙ a.is) ∙ append_assoc a.before xs ys }
 
--- and so of calls as which memory answered
+-- the same of calls with the answers of memory
 pub given_then : (old mid_told : Option (List DoorCall)) (mid told : List DoorCall) (xs ys : List Call) → mid_told ≡ Some mid
     → AddsGiven old mid xs → AddsGiven mid_told told ys → AddsGiven old told (xs ++ ys)
 given_then old mid_told mid told xs ys e a b =
@@ -54,7 +54,7 @@ refusals_then old mid new xs ys a b =
     (answers_of ys))
     ∙ ap (denied_by old.denied) (sym (flat_map-append answers_in xs ys))
 
--- where none is counted, each answer gave
+-- if no refusal is counted, memory was given in each answer
 pub gives_all : GivesUnlessCounted
 gives_all old calls new counted none = (none_denied (answers_of calls) old.denied (sym counted ∙ none)).1
 

@@ -151,7 +151,7 @@ module _ (buses : List Bus) where
       (visits_ask buses (events ++ visit_events calls seat) calls all)
       (of_peers seat.peer _ (visit_own events (visit calls seat) seat)) (visits_peers (events ++ visit_events calls seat) calls all)
 
-  -- what the visits ask of a peer that has no place among theirs
+  -- what the visits ask of a peer that has no slot among theirs
   pub none_asked : (peer : ℕ) (events : List Event) (calls : List Call) (all : List Seat) → IsNoneOf peer all
       → filter (asks_of peer) (visits_ask buses events calls all) ≡ []
   none_asked peer events calls [] h = refl

@@ -47,7 +47,7 @@ one_peer_takes : SendsWhatIsTaken buses one_peer
 unfolding digits
 one_peer_takes = refl
 
--- the same where the second write fails
+-- the same if the second write fails
 abbrev failing : List Call
 failing =
     (ExpectCall None None ∷ NowCall (Ok 0) ∷ AcceptCall (Ok (Some 1)) true ∷ WriteCall 1 welcome (Ok 45) ∷ [])
@@ -123,7 +123,7 @@ timeless_is_served = record { turns_are = refl; asked = refl }
 
 -- ---- two peers
 
--- so many bytes, then zeros up to 256
+-- this many bytes, then zeros up to 256
 abbrev padded : List ℕ → List ℕ
 padded bytes = bytes ++ replicate (256 - length bytes) 0
 
@@ -159,7 +159,7 @@ two_peers_take : SendsWhatIsTaken buses two_peers
 unfolding digits
 two_peers_take = refl
 
--- ---- where memory is refused
+-- ---- memory is refused
 
 -- to a newcomer, which is turned away, and to the GO of the next one
 abbrev refused : List Call

@@ -6,7 +6,7 @@ use Rattle.srcp_core.specs.Under.{Event, Room}
 use Rattle.srcp_grammar.specs.declared.layout.Bus.{Bus}
 use Rattle.srcp_serve.specs.Serving.{lent, handed, unless_nil}
 
--- where there is something, it is the first
+-- if there is something, it is the first
 pub unless_some : (bytes : List ℕ) (more : List (List ℕ)) → 0 < length bytes → unless_nil bytes more ≡ bytes ∷ more
 unless_some [] more h = absurd (omega arith)
 unless_some (byte ∷ bytes) more h = refl

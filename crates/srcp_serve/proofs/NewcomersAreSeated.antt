@@ -1,4 +1,4 @@
--- A newcomer gets the first free place, or is closed.
+-- A newcomer gets the first free slot, or is closed.
 use Rattle.std.proofs.Common.{◌≡◌, ◌∙◌, ℕ, suc, ◌+◌, ◌<◌, Bool, true, false, List, [], ◌∷◌, ◌++◌, length, if◌then◌else◌, Option, Some}
 use Rattle.std.proofs.Common.{None, Result, refl, ap, sym, subst, arith, length-append}
 use Rattle.std.specs.List.{filter, slice_set, AllByRecursion}
@@ -50,7 +50,7 @@ module _ (buses : List Bus) where
       by true e = cc
       by false e = refl
 
-  -- and where memory is what is refused, there are not too many
+  -- if memory is what is refused, there are not too many
   few_open : (w : World) → fault buses w (Open false) ≡ Some MemoryFault → not (nat_lt (length (filter is_open w.connections)) 64) ≡ false
   few_open w e = by (nat_lt (length (filter is_open w.connections)) 64) e
     where
@@ -167,7 +167,7 @@ seats_in peer key free old mid told_old owns admitted place buses stand keys tol
       };
     }
 
--- a place is free where one is let in
+-- a slot is free if a peer is let in
 pub seats_none : (peer : ℕ) (opens : Bool) (old new : Held) (told_old told_new : Option (List DoorCall)) (owns : List (Option Own))
     → open_count old < 64 → length owns ≡ 64
     → position is_none owns ≡ None → SeatsPeer peer old told_old owns new told_new owns opens

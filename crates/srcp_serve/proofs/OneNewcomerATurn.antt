@@ -68,7 +68,7 @@ one_newcomer due slack (first ∷ now ∷ call ∷ calls) questions e h =
     by None e = inl e
     by (Some peer) e = inr (peer, e)
 
--- who is turned away has no place
+-- a peer that is turned away has no slot
 pub away_of_none : (due slack : Option ℕ) (buses : List Bus) (events : List Event) (peer : Guest) (all : List Seat) → IsNoneOf peer.peer all
     → IsOfNone buses (Expects due slack ∷ Moments ∷ Newcomers ∷ (turns_away buses events peer ++ [])) all
 away_of_none due slack buses events peer [] h = tt

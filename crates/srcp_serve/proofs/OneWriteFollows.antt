@@ -27,7 +27,7 @@ some_of : (xs : List ℕ) → (length xs == 0) ≡ false → 0 < length xs
 some_of [] e = absurd (let bad : true ≡ false = e in cc)
 some_of (x ∷ xs) e = omega arith
 
--- so many bytes of what was lent are sent
+-- this many bytes of what was lent are sent
 module _ (key count : ℕ) (old mid new : Held) (out : mid ≡ let_out key old) (sent : new ≡ changed_at key (without_sent count) mid) where
   pub sends : (bytes : List ℕ) → bytes ≡ unsent_at key (let_out key old) → count ≤ length bytes → LeadsAt key (λ n. Room n count) old new
   sends bytes lends few =

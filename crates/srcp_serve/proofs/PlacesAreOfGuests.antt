@@ -1,4 +1,4 @@
--- Who has a place as which guest: a newcomer takes one, and who is let go leaves one.
+-- Which guest has which slot: a newcomer takes one, and a peer that is closed frees one.
 use Rattle.std.proofs.Common.{◌≡◌, ◌∙◌, ℕ, zero, suc, ◌+◌, Bool, true, false, List, [], ◌∷◌, ◌++◌, map, length, if◌then◌else◌, Option, Some}
 use Rattle.std.proofs.Common.{None, refl, ap, sym, subst, arith, ◌==◌}
 use Rattle.std.specs.List.{list_any, AllByRecursion}
@@ -15,7 +15,7 @@ use Rattle.srcp_serve.proofs.OnlyRoomSends.{IsSending, sending_moment, sending_o
 use Rattle.srcp_serve.proofs.CallsByTurnAndPeer.{IsNoneOf, PeersApart}
 use Rattle.srcp_serve.proofs.GuestsAreSentTheirVisits.{IsGuest, AreGuests, turned_round}
 
--- ---- places
+-- ---- slots
 
 pub kept_all : (P : Seat → Type 0) (calls : List Call) (places : List (Option Seat)) → AllByRecursion P (seats places)
     → AllByRecursion P (seats (map (kept calls) places))
@@ -86,7 +86,7 @@ guest_other zero peer new (guest ∷ guests) h i = absurd i
 guest_other (suc zero) peer new (guest ∷ guests) h i = subst (λ (p : ℕ). (p == new) ≡ false) i.0 h.0
 guest_other (suc (suc n)) peer new (guest ∷ guests) h i = guest_other (suc n) peer new guests h.1 i.1
 
--- so it has no place
+-- so it has no slot
 pub new_unseated : (new : ℕ) (guests : List ℕ) (all : List Seat) → IsNew new guests → AreGuests guests all → IsNoneOf new all
 new_unseated new guests [] h k = tt
 new_unseated new guests (seat ∷ all) h k = (guest_other seat.conn seat.peer new guests h k.0, new_unseated new guests all h k.1)
@@ -102,7 +102,7 @@ guests_before new guests (seat ∷ all) h k = (
 -- ---- the beginning of a turn
 
 module _ (buses : List Bus) (before : ℕ → List ℕ) where
-  -- each guest was sent what was taken before, and those that have a place are guests
+  -- each guest was sent what was taken before, and those that have a slot are guests
   pub record IsSentAsTaken (stand : Stand) : Type 0 where
     pub sending : IsSending (map before stand.guests) (course buses stand.events).connections
     pub known : AreGuests stand.guests (seats stand.places)

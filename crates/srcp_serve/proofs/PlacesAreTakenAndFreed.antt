@@ -1,4 +1,4 @@
--- Laws of places: who sits where, who is let in and who is let go.
+-- Laws of slots: which peer has which, who is let in and who is let go.
 use Rattle.std.proofs.Common.{◌≡◌, ◌∙◌, ℕ, zero, suc, ◌+◌, ◌≤◌, Bool, true, false, ◌==◌, cond, List, [], ◌∷◌, ◌++◌, map, length}
 use Rattle.std.proofs.Common.{if◌then◌else◌, Option, Some, None, refl, ap, sym, subst, arith, append_assoc}
 use Rattle.std.proofs.lemmas.Bool.Decides.{nat_tests}
@@ -47,7 +47,7 @@ count_cons o xs = sum_by-cons (λ x. cond (is_some x) 1 0) o xs
 pub count_append : {X : Type 0} (xs ys : List (Option X)) → count_by is_some (xs ++ ys) ≡ count_by is_some xs + count_by is_some ys
 count_append xs ys = sum_by-append (λ x. cond (is_some x) 1 0) xs ys
 
--- one place more is free
+-- one slot more is free
 pub count_cleared : {X : Type 0} (x : X) (front ahead : List (Option X))
     → count_by is_some (front ++ None ∷ ahead) + 1 ≡ count_by is_some (front ++ Some x ∷ ahead)
 count_cleared x front ahead =
@@ -85,7 +85,7 @@ count_seated seat (Some other ∷ places) =
     let b = count_cons (Some other) (seated seat places) in
     omega (arith, a, b, h)
 
--- ---- who sits where
+-- ---- which peer has which slot
 
 pub length-sit : (keys : List (Option ℕ)) (owns : List (Option Own)) (places : List (Option Seat)) → Sit keys owns places
     → length owns ≡ length places
@@ -116,7 +116,7 @@ sit_cleared keys (own ∷ owns) (p ∷ front) place ahead zero e h = cc
 sit_cleared keys (own ∷ owns) (p ∷ front) place ahead (suc i) e h =
     let less : length front ≡ i = omega (arith, e) in (h.0, sit_cleared keys owns front place ahead i less h.1)
 
--- the number has no place
+-- the number has no slot
 abbrev IsNotNumber : ℕ → Option Seat → Type 0
 IsNotNumber n None = Unit {0}
 IsNotNumber n (Some seat) = (n == seat.conn) ≡ false
@@ -154,7 +154,7 @@ numbers_around (None ∷ front) seat ahead h = (tt, numbers_around front seat ah
 numbers_around (Some other ∷ front) seat ahead h =
     (same_no other.conn seat.conn (all_here (IsApartFrom other) front (Some seat) ahead h.0).0, numbers_around front seat ahead h.1)
 
--- who has that place is let go
+-- the peer that has that slot is let go
 pub sit_without : (keys : List (Option ℕ)) (owns : List (Option Own)) (front : List (Option Seat)) (seat : Seat)
     (ahead : List (Option Seat)) (i : ℕ)
     → length front ≡ i → SeatsDiffer (front ++ Some seat ∷ ahead) → Sit keys owns (front ++ Some seat ∷ ahead)
@@ -183,7 +183,7 @@ sit_pushed keys key (Some own ∷ owns) (None ∷ places) h = absurd h.0
 sit_pushed keys key (Some own ∷ owns) (Some seat ∷ places) h =
     ((h.0.0, key_push seat.conn keys (Some key) (key_within seat.conn keys own.key h.0.1).1 ∙ h.0.1), sit_pushed keys key owns places h.1)
 
--- which place is free, as the first
+-- which slot is free, as the first
 abbrev pub free_in : List (Option Own) → ℕ
 free_in owns = prefix_len (λ own. not (is_none own)) owns
 
@@ -219,7 +219,7 @@ all_taken keys (Some own ∷ owns) (Some seat ∷ places) h e =
     let c = count_cons (Some seat) places in
     omega (arith, ih, c)
 
--- where no place is free, all are taken
+-- if no slot is free, all are taken
 pub none_free : (keys : List (Option ℕ)) (owns : List (Option Own)) (places : List (Option Seat)) → Sit keys owns places
     → position is_none owns ≡ None → length owns ≤ count_by is_some places
 none_free keys owns places h e = all_taken keys owns places h (by (nat_lt (free_in owns) (length owns)) refl e)

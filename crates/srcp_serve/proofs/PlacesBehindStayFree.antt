@@ -1,4 +1,4 @@
--- The places from some place on stay free in a turn, and nobody is visited there.
+-- The slots from some slot on stay free in a turn, and no peer is visited there.
 use Rattle.std.proofs.Common.{◌≡◌, inl, inr, ℕ, zero, suc, ◌+◌, ◌-◌, ◌<◌, ◌≤◌, max, List, [], ◌∷◌, length, refl, ap, sym, ◌∙◌, subst}
 use Rattle.std.proofs.Common.{add-one, arith}
 use Rattle.std.specs.List.{slice_index_or}
@@ -19,7 +19,7 @@ pub length_kept : (place : ℕ) (old new : List (Option Own)) → MayFree place 
 length_kept place old new (inl e) = ap length e
 length_kept place old new (inr e) = ap length e ∙ length_set old place None
 
--- a place that is freed is free
+-- a slot that is freed is free
 free_set : (end place : ℕ) (owns : List (Option Own)) → AreFreeFrom end owns → AreFreeFrom end (slice_set owns place None)
 free_set end place [] free = free
 free_set zero zero (x ∷ owns) free = (refl, free.1)
@@ -31,7 +31,7 @@ pub still_free : (end place : ℕ) (old new : List (Option Own)) → MayFree pla
 still_free end place old new (inl e) free = subst (AreFreeFrom end) (sym e) free
 still_free end place old new (inr e) free = subst (AreFreeFrom end) (sym e) (free_set end place old free)
 
--- a place before those that are free is none of them
+-- a slot before those that are free is none of them
 set_before : (end place : ℕ) (own : Option Own) (owns : List (Option Own)) → place < end → AreFreeFrom end owns
     → AreFreeFrom end (slice_set owns place own)
 set_before end place own [] before free = free
@@ -47,13 +47,13 @@ later_on (suc end) zero owns most free = absurd (omega (arith, most))
 later_on (suc end) (suc later) [] most free = free
 later_on (suc end) (suc later) (x ∷ owns) most free = later_on end later owns (omega (arith, most)) free
 
--- behind a place that is given to a peer, and those that may be taken, all are free
+-- all are free behind a slot that is given to a peer and those that may be taken
 pub free_behind : (end place later : ℕ) (own : Option Own) (owns : List (Option Own)) → later ≡ max end (place + 1) → AreFreeFrom end owns
     → AreFreeFrom later (slice_set owns place own)
 free_behind end place later own owns is free =
     set_before later place own owns (omega (arith, is)) (later_on end later owns (omega (arith, is)) free)
 
--- the first of the places that are free, and the others
+-- the first of the slots that are free, and the others
 free_here : (place : ℕ) (owns : List (Option Own)) → AreFreeFrom place owns → slice_index_or owns place None ≡ None
 free_here zero [] free = refl
 free_here (suc place) [] free = refl
@@ -80,7 +80,7 @@ module _ (old now : Held) (told_old told_now : Option (List DoorCall)) (owns_old
         (places_on place old now now told_old told_now told_now owns_old owns owns long within (place_free place None now told_now owns
         (free_here place owns free)) so (asks_none told_now))
 
-    -- nobody is visited at places that are free
+    -- no peer is visited at slots that are free
     pub places_rest : (place : ℕ) → place ≤ 64 → AreFreeFrom place owns → VisitsSoFar place old told_old owns_old now told_now owns
         → VisitsPlaces old told_old owns_old now told_now owns
     places_rest place most free so =

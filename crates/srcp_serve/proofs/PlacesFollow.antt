@@ -1,4 +1,4 @@
--- The visits of the places follow the course.
+-- The visits of the slots follow the course.
 use Rattle.std.proofs.Common.{◌≡◌, ◌∙◌, ℕ, ◌+◌, ◌<◌, Bool, true, false, List, [], ◌∷◌, ◌++◌, map, length, if◌then◌else◌, Option, Some}
 use Rattle.std.proofs.Common.{None, refl, ap, sym, subst, arith, append_assoc, append-nil, length-append}
 use Rattle.std.proofs.lemmas.Grind.{flat_map-append}
@@ -126,7 +126,7 @@ module _ (place : ℕ) (d : Option Own) (own : Own) (old new : Held) (told_old t
         stands = stands;
       })
 
--- ---- the places, one after another
+-- ---- the slots, one after another
 
 pub places_first : (old : Held) (told_old : Option (List DoorCall)) (owns : List (Option Own))
     → VisitsSoFar 0 old told_old owns old told_old owns
@@ -151,7 +151,7 @@ places_first old told_old owns buses stand keys told hosting is = record {
 }
 
 module _ (buses : List Bus) (stand : Stand) (old : Option (List DoorCall)) (core_old : Held) (seats : List (Option Seat)) where
-  -- one place more was visited
+  -- one slot more was visited
   visited_then : (mid : List DoorCall) (told_mid : Option (List DoorCall)) (between new : Held) (owns owns_after : List (Option Own))
       (told : List DoorCall) (place : Option Seat) (ahead : List (Option Seat))
       → told_mid ≡ Some mid
@@ -206,7 +206,7 @@ module _ (buses : List Bus) (stand : Stand) (old : Option (List DoorCall)) (core
             places y.hosting);
       }
 
--- so many have places before and after their visits
+-- there are as many slots after the visits as before
 length-left : (round : List (Option Visit)) (seats : List (Option Seat)) → map seat_of round ≡ seats
     → length (map left_by round) ≡ length seats
 length-left round seats e = length-map round left_by ∙ sym (length-map round seat_of) ∙ ap length e

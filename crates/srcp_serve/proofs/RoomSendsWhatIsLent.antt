@@ -153,7 +153,7 @@ module _ (buses : List Bus) where
       ap (λ (v : World). option_map_or (lent_of buses v) (open_connection v n) []) next
       ∙ ap (λ o. option_map_or (lent_of buses (or_refused buses (Some NoSuch) (Room n 0) (counted w))) o []) e
 
-  -- the front of what is lent is sent, of an open connection
+  -- a prefix of what is lent is sent, of an open connection
   room_sends : (events : List Event) (n bytes : ℕ) (texts : List (List ℕ)) (conn : Connection)
       → open_connection (course buses events) n ≡ Some conn → bytes ≤ length (lent buses n events)
       → IsSending texts (course buses events).connections

@@ -29,7 +29,7 @@ module _ (buses : List Bus) (before : ℕ → List ℕ) (stand : Stand) (calls :
       ≡ expects buses stand.events ∷ Moments ∷ Newcomers ∷
       (flat_map (turns_away buses now.events) peers ++ visits_ask buses (after peers).events calls (seats (after peers).places))
 
-  -- what is asked before the visits, none of it of who has a place, and then the visits
+  -- what is asked before the visits, none of it about a peer that has a slot, and then the visits
   pub record Begins (peers : List Guest) : Type 0 where
     pub first : List Question
     pub still : no_writes first ≡ true

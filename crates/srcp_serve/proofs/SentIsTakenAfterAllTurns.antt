@@ -167,7 +167,7 @@ abbrev joined : List (List Call) → List Call
 joined all = flat_map (λ calls. calls) all
 
 module _ (buses : List Bus) where
-  -- in the turn, who has a place is a guest, no two are one peer, and each visit asked what it was to ask
+  -- in the turn, each peer that has a slot is a guest, no two are one peer, and each visit asked what it was to ask
   pub record IsTurnOfGuests (stand : Stand) (calls : List Call) : Type 0 where
     pub known : AreGuests (begun buses stand calls).guests (seats (begun buses stand calls).places)
     pub apart : PeersApart (seats (begun buses stand calls).places)

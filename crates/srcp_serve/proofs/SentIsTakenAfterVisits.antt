@@ -44,7 +44,7 @@ same_each f g (guest ∷ guests) h = ap (λ t. t ∷ map f guests) (h guest) ∙
 
 module _ (buses : List Bus) (before : ℕ → List ℕ) (stand : Stand) (calls : List Call) (first : List Question)
     (still : no_writes first ≡ true) (asked : map question calls ≡ first ++ visits_ask buses stand.events calls (seats stand.places)) where
-  -- of a peer that has no place nothing is taken
+  -- nothing is taken of a peer that has no slot
   pub nothing_taken : (peer : ℕ) → IsNoneOf peer (seats stand.places) → taken peer calls ≡ []
   nothing_taken peer none =
       let theirs : List Question = visits_ask buses stand.events calls (seats stand.places) in

@@ -10,7 +10,7 @@ use Rattle.srcp_serve.specs.Serving.{Stand, empty_stand, is_expect, question, tu
 use Rattle.srcp_serve.proofs.PartsAddUp.{one_part, parts-append}
 
 module _ (buses : List Bus) where
-  -- so many turns and then more make what the first make, and then what the others make of that
+  -- some turns and then others make what the first make, and then what the others make of that
   pub stand_after-append : (xs : List Call) (due slack : Option ℕ) (ys : List Call)
       → stand_after buses (xs ++ ExpectCall due slack ∷ ys) ≡ fold (turned buses) (stand_after buses xs) (turns (ExpectCall due slack ∷ ys))
   stand_after-append xs due slack ys =

@@ -252,7 +252,7 @@ module _ (buses : List Bus) (events : List Event) (keys : List (Option ℕ)) (n 
   abbrev shutting : Bool → List Event
   shutting b = if b then Shut n ∷ [] else []
 
-  -- it keeps its place
+  -- it keeps its slot
   pub visited_stays : (old : Option (List DoorCall)) (told : List DoorCall) (new : Held)
       → (x : IsExchanged buses events keys n peer old told new core_old true) → is_closing buses n (events ++ exchange n x.calls) ≡ false
       → IsVisited buses events keys n peer old told new core_old true

@@ -144,7 +144,7 @@ module _ (buses : List Bus) (peer conn : ℕ) where
       ∙ ap (λ k. front ++ (if not lost && (not short && nat_lt k 300) then 0 ∷ [] else [])) (written-count events counts last)
 
   module _ (keys : List (Option ℕ)) (old : Option (List DoorCall)) where
-    -- so many writes took all
+    -- this many writes took all
     pub record IsTaking (events : List Event) (told : List DoorCall) (now : Held) (times : ℕ) : Type 0 where
       pub counts : List ℕ
       pub many : length counts ≡ times
@@ -330,7 +330,7 @@ module _ (buses : List Bus) (peer conn : ℕ) where
 
 -- ---- the loop of the writes
 
--- so many writes took all
+-- this many writes took all
 abbrev pub TakesSoFar : (peer key : ℕ) (old : Held) (told_old : Option (List DoorCall)) (now : Held) (told_now : Option (List DoorCall))
     (times : ℕ)
     → Type 0

@@ -52,7 +52,7 @@ asked_by buses events (v ∷ visits) =
 abbrev pub AreOwn : List Visit → Type 0
 AreOwn visits = AllByRecursion (λ v. AreAbout v.0.peer v.1) visits
 
--- the visits of a round; a round has one entry for each slot, `None` if nobody has it
+-- the visits of a round; a round has one entry for each slot, `None` if it is free
 abbrev pub visits_of : List (Option Visit) → List Visit
 visits_of round = filter_map (λ place. place) round
 
@@ -61,7 +61,7 @@ abbrev pub seat_of : Option Visit → Option Seat
 seat_of None = None
 seat_of (Some v) = Some v.0
 
--- who has it after the visit: nobody if the visit closes the peer
+-- who has it after the visit; it is free if the visit closes the peer
 abbrev pub left_by : Option Visit → Option Seat
 left_by None = None
 left_by (Some v) = if list_any is_close v.1 then None else Some v.0

@@ -238,7 +238,7 @@ module _ (buses : List Bus) (n : ℕ) where
             panel_fed (Bytes n piece ∷ []) p.conn.fed (ap (λ (v : World). numbered n v.connections) (next ∙ after) ∙ p.is.there)
             (ap (λ (v : World). v.steps) (next ∙ after))
 
-    -- what others do changes nothing where no step has a change
+    -- what others do changes nothing if no step has a change
     pub panel_others : IsLayout buses → (more : List Event) → AreOfOthers n more → brought buses events more ≡ 0
         → Panel (events ++ more) bytes nexts
     panel_others layout more others none =

@@ -1,4 +1,4 @@
--- Who has a place keeps it while others come in, and is one of those that are visited; the events of the others are of others.
+-- A peer keeps its slot while others come in, and is visited. The events of other visits are about other connections.
 use Rattle.std.proofs.Common.{◌≡◌, ◌∙◌, ℕ, zero, suc, Bool, true, false, List, [], ◌∷◌, ◌++◌, map, if◌then◌else◌, Option, Some, None, refl}
 use Rattle.std.proofs.Common.{ap, sym, subst, arith, append-nil, append_assoc, ◌==◌}
 use Rattle.std.specs.Prelude.{filter_map, flat_map, fold, slice_get}
@@ -15,7 +15,7 @@ use Rattle.srcp_serve.proofs.CallsByTurnAndPeer.{IsNoneOf, PeersApart}
 use Rattle.srcp_serve.proofs.EventsOfATurn.{opening_events, opens}
 use Rattle.srcp_serve.proofs.Settling.OthersKeep.{AreOfOthers, is_of}
 
--- ---- places
+-- ---- slots
 
 abbrev pub HasPlace : ℕ → Seat → List (Option Seat) → Type 0
 HasPlace place seat places = slice_get places place ≡ Some (Some seat)

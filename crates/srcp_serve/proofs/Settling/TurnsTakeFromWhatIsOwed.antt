@@ -24,7 +24,7 @@ use Rattle.srcp_serve.proofs.Settling.SeatsStay.{HasPlace, among_seats, begun_st
 use Rattle.srcp_serve.proofs.Settling.StepsFollow.{brought_adds}
 use Rattle.srcp_serve.proofs.Settling.VisitsWriteUntilNothingIsLeft.{one_unless_nil, visited_whole}
 
--- a visit that lets nobody go
+-- a visit that does not close its peer
 pub stays_exchange : (calls : List Call) (seat : Seat) → list_any is_close (visit calls seat) ≡ false → visit_events calls seat
     ≡ exchange seat.conn (visit calls seat)
 stays_exchange calls seat e = ap (λ b. exchange seat.conn (visit calls seat) ++ (if b then Shut seat.conn ∷ [] else [])) e
@@ -34,7 +34,7 @@ neither : (a b : ℕ) → a + b ≡ 0 → (a ≡ 0) × (b ≡ 0)
 neither a b e = (omega arith, omega arith)
 
 module _ (buses : List Bus) (layout : IsLayout buses) (place : ℕ) (seat : Seat) where
-  -- after a turn it has its place still, nothing of it is unsent, and these lines are left to it: none, or it was handed 300
+  -- after a turn it has its slot still, nothing of it is unsent, and these lines are left to it: none, or it was handed 300
   pub record IsTurnedWhole (stand : Stand) (calls : List Call) (bytes : List ℕ) (nexts : List Next) : Type 0 where
     pub lines : List Next
     pub rest : List Next

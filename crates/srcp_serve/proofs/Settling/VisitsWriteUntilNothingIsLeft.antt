@@ -26,14 +26,14 @@ use Rattle.srcp_serve.proofs.Settling.PanelsTakeTheirLines.{Panel, first_text, o
 use Rattle.srcp_serve.proofs.Settling.PanelsTakeTheirLines.{panel_lends, panel_open}
 use Rattle.srcp_serve.proofs.Settling.PanelsTakeTheirLines.{panel_room}
 
--- the peer took all of it, where it is a write
+-- the peer took all of it, if it is a write
 abbrev pub IsWhole : Call → Type 0
 IsWhole call = IsFair call × (loses call ≡ false) × (falls_short call ≡ false)
 
 whole_count : (peer count : ℕ) (bytes : List ℕ) → IsWhole (WriteCall peer bytes (Ok count)) → count ≡ length bytes
 whole_count peer count bytes h = let low = ltb-false count (length bytes) h.2 in let high = h.0 in omega (arith, low, high)
 
--- one write more where something is unsent
+-- one write more if something is unsent
 abbrev pub one_unless_nil : List ℕ → ℕ
 one_unless_nil [] = 0
 one_unless_nil (byte ∷ bytes) = 1
@@ -98,7 +98,7 @@ module _ (buses : List Bus) (layout : IsLayout buses) (peer n : ℕ) where
     pub many : length lines + first ≡ length counts
     pub ends : (rest ≡ []) ⊎ (length counts ≡ most)
 
-  -- where no more is asked for, nothing is left, or no more may be
+  -- if no more is asked for, nothing is left, or no more may be
   no_more : (most : ℕ) (events : List Event) (bytes : List ℕ) (nexts : List Next) → Asked most events [] []
       → Panel buses n events bytes nexts → (first_text bytes nexts ≡ []) ⊎ (0 ≡ most)
   no_more zero events bytes nexts e p = inr refl
@@ -170,7 +170,7 @@ module _ (buses : List Bus) (layout : IsLayout buses) (peer n : ℕ) where
       (hands_lines calls f.left (events ++ Room n f.count ∷ []) nexts h.1
       (asked_then most events [] (what ∷ nexts) calls (filter_map count_of (call ∷ calls)) f) f.panel)
 
-  -- where some may be
+  -- if some may be
   pub hands_all : (calls : List Call) (most : ℕ) (events : List Event) (bytes : List ℕ) (nexts : List Next) → 0 < most
       → AllByRecursion IsWhole calls → Asked most events calls (map question calls)
       → Panel buses n events bytes nexts → IsHanded most (one_unless_nil bytes) nexts events (filter_map count_of calls)
