@@ -5,7 +5,7 @@ use Rattle.std.proofs.Common.{append-nil}
 use Rattle.std.proofs.lemmas.Bool.Decides.{nat_tests}
 use Rattle.std.proofs.lemmas.List.{map-append}
 use Rattle.std.proofs.lemmas.List.Elements.{filter_map-append}
-use Rattle.std.proofs.lemmas.List.Folds.{list_any-append}
+use Rattle.std.proofs.lemmas.List.Folds.{list_all-map, list_any-append}
 use Rattle.std.specs.List.{list_all, list_any, filter_map, AllByRecursion, IsDistinct}
 use Rattle.std.specs.Prelude.{◌||◌, not, flat_map}
 use Rattle.srcp_grammar.specs.declared.layout.Bus.{Bus}
@@ -32,6 +32,7 @@ use Rattle.srcp_serve.proofs.PlacesAreTakenAndFreed.{all_here, all_seated, hosts
 use Rattle.srcp_serve.proofs.RefusalsWereAskedFor.{asked_moment, asked_then}
 use Rattle.srcp_serve.proofs.CallsAreAdded.{adds_one, adds_then, given_then, refusals_then, same_calls}
 use Rattle.srcp_serve.proofs.SentIsTakenAfterAllTurns.{peers_told}
+use Rattle.srcp_serve.proofs.TurnsAskInOrder.{not_now as told_not_now}
 use Rattle.srcp_serve.proofs.VisitsAreSeenAgain.{AreApart, visits_asked, visits_make}
 
 no_newcomers : (calls : List Call) → list_all is_of_peer (map told_call calls) ≡ true → filter_map newcomer_of calls ≡ []
@@ -53,13 +54,7 @@ no_moments (WriteCall peer bytes answer ∷ calls) h = no_moments calls h
 no_moments (CloseCall peer answer ∷ calls) h = no_moments calls h
 
 pub not_now : (calls : List Call) → list_all is_of_peer (map told_call calls) ≡ true → list_all (λ call. not (is_expect call)) calls ≡ true
-not_now [] h = refl
-not_now (ExpectCall due slack ∷ calls) h = cc
-not_now (NowCall answer ∷ calls) h = cc
-not_now (AcceptCall answer granted ∷ calls) h = cc
-not_now (ReadCall peer answer buffer grants ∷ calls) h = not_now calls h
-not_now (WriteCall peer bytes answer ∷ calls) h = not_now calls h
-not_now (CloseCall peer answer ∷ calls) h = not_now calls h
+not_now calls h = sym (list_all-map (λ call. not (door.is_expect call)) told_call calls) ∙ told_not_now (map told_call calls) h
 
 pub fair_given : (calls : List Call) → AllByRecursion door.IsFair (map told_call calls) → AllByRecursion IsFair calls
 fair_given [] h = tt

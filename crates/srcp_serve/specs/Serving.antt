@@ -43,8 +43,7 @@ count_of other = None
 
 -- the call tells the door what to expect
 abbrev pub is_expect : Call → Bool
-is_expect (ExpectCall due slack) = true
-is_expect other = false
+is_expect call = door.is_expect (told_call call)
 
 -- the call is a write
 abbrev pub is_write : Call → Bool
