@@ -161,7 +161,7 @@ module _ (buses : List Bus) (stand : Stand) (old : Option (List DoorCall)) (told
     pub stands : StandsFor buses keys held (course buses (timed buses stand (NowCall answer ∷ [])).events)
 
   module _ (owns : List (Option Own)) (core_old : Held) where
-    -- the door was asked for a newcomer, and that was settled
+    -- the door was asked for a newcomer; if there was one, it has a slot or was closed
     pub record HasLetIn (opens : Bool) : Type 0 where
       pub answer : Result (Option ℕ) DoorFault
       pub granted : Bool
@@ -169,7 +169,7 @@ module _ (buses : List Bus) (stand : Stand) (old : Option (List DoorCall)) (told
       pub adds : AddsGiven old told (AcceptCall answer granted ∷ early)
       pub settled : IsSettled buses stand (AcceptCall answer granted) early core_old held owns opens
 
-    -- that newcomer, which the door had accepted, was settled
+    -- this peer, which the door had accepted, has a slot or was closed
     pub record HasSeated (peer : ℕ) (opens : Bool) : Type 0 where
       pub granted : Bool
       pub early : List Call
