@@ -10,7 +10,7 @@ use Rattle.srcp_peers.specs.Steps.{Clocks, Step, Tells, Waits}
 use Rattle.srcp_peers.specs.Accounts.{Account, is_short, account}
 use Rattle.srcp_peers.specs.Peers.{Agrees, IsKept, Spares, IsRead, after_wake, is_resting}
 use Rattle.srcp_peers.specs.AllPeers.{AreApart, AreKept, AreThose, AreWithin, IsAbsent}
-use Rattle.srcp_peers.proofs.Keeping.{alien, kept_after, kept_waited, skips}
+use Rattle.srcp_peers.proofs.Keeping.{alien, all_number, kept_after, kept_waited, skips}
 use Rattle.srcp_peers.proofs.Staying.{clocked_agrees}
 
 -- a peer of which nothing is told stays what its account says
@@ -135,6 +135,13 @@ woken_set peers i p q ready within there woken apart k d lt = ⊎_elim
     (λ (ne : k ≡ i → ⊥). get_or-set_other peers i k q d ne ∙ sym (woken_other (get_or peers k d) ready
     (λ same. apart k i d lt within ne (same ∙ sym there ∙ ap (λ (x : Peer). x.number) (get_or_default peers i p d within)))))
     (cases_eq k i)
+
+-- the sockets stay apart after some were found ready
+pub woken_apart : (before after : List Peer) (ready : List Ready) → length after ≡ length before
+    → ((k : ℕ) (d : Peer) → k < length before → slice_index_or after k d ≡ fold after_wake (slice_index_or before k d) ready)
+    → AreApart before → AreApart after
+woken_apart before after ready long woken apart = apart_later before after long
+    (λ k d lt. ap (λ (x : Peer). x.number) (woken k d lt) ∙ all_number (slice_index_or before k d) ready) apart
 
 -- all peers after a wait, which is long only where all rest
 pub waited_all : (old new : Option (List Step)) (peers later : List Peer) (most : Option ℕ) (count : ℕ) (ready : List Ready)

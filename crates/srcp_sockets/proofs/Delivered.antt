@@ -7,9 +7,9 @@ use Rattle.srcp_peers.specs.declared.readiness.Writing.{Writing}
 use Rattle.srcp_peers.specs.declared.readiness.Writing.TheVariants as output
 use Rattle.srcp_peers.specs.declared.system.Ready.{Ready}
 use Rattle.srcp_peers.specs.Accounts.{Sent, account, is_owed}
-use Rattle.srcp_sockets.specs.Delivery.{AreDelivered, HasWaited}
+use Rattle.srcp_sockets.specs.Delivery.{AreDelivered, HasEnded, HasWaited, HaveEnded, IsAllDelivered, IsOver}
 use Rattle.srcp_sockets.specs.Doors.{AreStanding, IsThere}
-use Rattle.srcp_peers.specs.AllPeers.{IsAbsent}
+use Rattle.srcp_peers.specs.AllPeers.{AreKept, IsAbsent}
 use Rattle.srcp_peers.specs.Peers.{WritesAs, is_lost, is_waiting}
 use Rattle.srcp_peers.specs.Steps.{Clocks, Step, Tells, Waits}
 use Rattle.srcp_peers.specs.Times.{KeepsTimes, Times, times, times_step}
@@ -32,16 +32,28 @@ delivered_as sent outgoing output.Full e h = inl (owed_is sent outgoing h.0 ∙ 
     alone false f = refl
 delivered_as sent outgoing output.Lost e h = inr h.1
 
-pub are_delivered : (told : Option (List Step)) (peers : List Peer) → AreStanding told peers
-    → All (λ peer. is_waiting peer ≡ false) peers → AreDelivered told
-are_delivered told peers standing none log is socket kept = ⊎_elim
+pub are_delivered : (told : Option (List Step)) (peers : List Peer) → AreKept told peers → All (λ peer. is_waiting peer ≡ false) peers
+    → AreDelivered told peers
+are_delivered told peers kept none log is k d lt =
+    let p : Peer = get_or peers k d in
+    delivered_as (account p.number log).sent p.outgoing p.output (none k d lt) (kept k d lt log is).writes
+
+-- every socket that is not closed has a peer
+is_all_delivered : (told : Option (List Step)) (peers : List Peer) → AreStanding told peers → AreDelivered told peers
+    → IsAllDelivered told
+is_all_delivered told peers standing delivered log is socket kept = ⊎_elim
     (λ (there : IsThere socket peers).
-    let p : Peer = get_or peers there.place nobody in
     subst (λ (n : ℕ). (is_owed (account n log).sent ≡ false) ⊎ ((account n log).sent.lost ≡ true)) (there.same nobody)
-    (delivered_as (account p.number log).sent p.outgoing p.output (none there.place nobody there.within)
-    (standing.2.kept there.place nobody there.within log is).writes))
+    (delivered log is there.place nobody there.within))
     (λ (absent : IsAbsent socket peers). absurd (true≢false (sym kept ∙ (standing.2.closed log is socket absent).kept)))
     (find socket peers)
+
+pub has_ended : (until : ℕ) (old new : Option (List Step)) (peers : List Peer) → AreStanding new peers → HaveEnded until old new peers
+    → HasEnded until old new
+has_ended until old new peers standing ended = ⊎_elim
+    (λ (delivered : AreDelivered new peers). inl (is_all_delivered new peers standing delivered))
+    (λ (other : IsOver until new ⊎ HasWaited 1000000 old new). inr other)
+    ended
 
 -- ---- how often it waited
 

@@ -1,14 +1,19 @@
 -- When a door ends: what its sockets took of what is queued.
-use Rattle.std.specs.Prelude.{◌≡◌, ◌⊎◌, ℕ, ◌+◌, ◌∷◌, ◌++◌, nat_le, Bool, true, false, List, []}
-use Rattle.std.specs.Prelude.{min, Option, Some, None}
+use Rattle.std.specs.Prelude.{◌≡◌, ◌⊎◌, ℕ, ◌+◌, ◌<◌, ◌∷◌, ◌++◌, nat_le, Bool, true, false, List, [], length}
+use Rattle.std.specs.Prelude.{min, slice_index_or, Option, Some, None}
+use Rattle.srcp_peers.specs.declared.peer.Peer.{Peer}
 use Rattle.srcp_peers.specs.Accounts.{account, is_owed}
 use Rattle.srcp_peers.specs.Steps.{Clocks, Step}
 use Rattle.srcp_peers.specs.Times.{times}
 
--- each socket that was accepted and is not closed took all that was taken for it, or a write found that it takes no
--- more
-abbrev pub AreDelivered : Option (List Step) → Type 0
-AreDelivered told = (log : List Step) → told ≡ Some log → (socket : ℕ) → (account socket log).leave.kept ≡ true
+-- the socket of each of these peers took all that was taken for it, or a write found that it takes no more
+abbrev pub AreDelivered : Option (List Step) → List Peer → Type 0
+AreDelivered told peers = (log : List Step) → told ≡ Some log → (k : ℕ) (d : Peer) → k < length peers
+    → (let a = account (slice_index_or peers k d).number log in (is_owed a.sent ≡ false) ⊎ (a.sent.lost ≡ true))
+
+-- so did each socket that was accepted and is not closed
+abbrev pub IsAllDelivered : Option (List Step) → Type 0
+IsAllDelivered told = (log : List Step) → told ≡ Some log → (socket : ℕ) → (account socket log).leave.kept ≡ true
     → (is_owed (account socket log).sent ≡ false) ⊎ ((account socket log).sent.lost ≡ true)
 
 -- the time of the clock until which is delivered at most, if it showed this: 10 seconds later
@@ -30,6 +35,10 @@ abbrev pub HasWaited : (count : ℕ) (old new : Option (List Step)) → Type 0
 HasWaited count old new = (later : List Step) → new ≡ Some later → (log : List Step) × (old ≡ Some log)
     × ((wall start : ℕ) → (times wall start later).waits ≡ (times wall start log).waits + count)
 
--- all is delivered, or its time is over, or a million waits were made
+-- these peers are delivered, or the time is over, or a million waits were made
+abbrev pub HaveEnded : (until : ℕ) (old new : Option (List Step)) → List Peer → Type 0
+HaveEnded until old new peers = AreDelivered new peers ⊎ (IsOver until new ⊎ HasWaited 1000000 old new)
+
+-- every socket is delivered, or the time is over, or a million waits were made
 abbrev pub HasEnded : (until : ℕ) (old new : Option (List Step)) → Type 0
-HasEnded until old new = AreDelivered new ⊎ (IsOver until new ⊎ HasWaited 1000000 old new)
+HasEnded until old new = IsAllDelivered new ⊎ (IsOver until new ⊎ HasWaited 1000000 old new)

@@ -1,8 +1,9 @@
 //! What a door does at its end: it delivers what was taken.
 
 ghost use Rattle.std.specs.Prelude.{◌≡◌, All, true, false};
-ghost use Rattle.srcp_sockets.specs.Delivery.{HasEnded, is_over};
+ghost use Rattle.srcp_sockets.specs.Delivery.{HasEnded, HaveEnded, is_over};
 ghost use Rattle.srcp_sockets.specs.Doors.{AreStanding};
+ghost use Rattle.srcp_peers.specs.AllPeers.{AreApart, AreKept};
 ghost use Rattle.srcp_peers.specs.Peers.{is_waiting};
 
 use srcp_peers::peers::{flush, wake};
@@ -18,9 +19,12 @@ pub(crate) fn deliver<S: System>(
     until: u64,
     ready: &mut [Ready],
 )
-    requires { AreStanding (S.told system.old) peers.old }
-    ensures standing { AreStanding (S.told system.new) peers.new }
-    ensures ended { HasEnded until (S.told system.old) (S.told system.new) }
+    requires kept { AreKept (S.told system.old) peers.old }
+    requires apart { AreApart peers.old }
+    ensures kept { AreKept (S.told system.new) peers.new }
+    ensures ended { HaveEnded until (S.told system.old) (S.told system.new) peers.new }
+    ensures standing { AreStanding (S.told system.old) peers.old → AreStanding (S.told system.new) peers.new }
+    ensures all { AreStanding (S.told system.old) peers.old → HasEnded until (S.told system.old) (S.told system.new) }
 {
     for _look in 0..LAST_LOOKS {
         flush(system, peers, Flush::All);
