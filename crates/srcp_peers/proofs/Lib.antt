@@ -8,3 +8,4 @@ pub mod Keeping
 pub mod Lists
 pub mod Tellings
 pub mod Lined
+pub mod Offering

@@ -5,10 +5,11 @@ use Rattle.std.specs.Prelude.{◌≢◌, All, Bool, false, true, fold, slice_ind
 use Rattle.std.proofs.lemmas.Bool.{cases_eq}
 use Rattle.std.proofs.lemmas.List.{get_or_default, length-set}
 use Rattle.srcp_peers.specs.declared.peer.Peer.{Peer}
+use Rattle.srcp_peers.specs.declared.stay.Stay.{Stay}
 use Rattle.srcp_peers.specs.declared.system.Ready.{Ready}
 use Rattle.srcp_peers.specs.Steps.{Clocks, Step, Tells, Waits}
 use Rattle.srcp_peers.specs.Accounts.{Account, is_short, account}
-use Rattle.srcp_peers.specs.Peers.{Agrees, IsKept, Spares, IsRead, after_wake, is_resting}
+use Rattle.srcp_peers.specs.Peers.{Agrees, IsKept, Spares, IsRead, after_wake, is_resting, stay_after}
 use Rattle.srcp_peers.specs.AllPeers.{AreApart, AreKept, AreThose, AreWithin, IsAbsent}
 use Rattle.srcp_peers.proofs.Keeping.{alien, all_number, kept_after, kept_waited, skips}
 use Rattle.srcp_peers.proofs.Staying.{clocked_agrees}
@@ -108,6 +109,9 @@ set_marked first peers i p q clear within marked rest before k d lt = ⊎_elim
     (λ (ne : k ≡ i → ⊥). ap (λ (x : Peer). x.share.mark) (get_or-set_other peers i k q d ne) ∙ before k d (omega (arith, lt, ne)))
     (cases_eq k i)
 
+abbrev pub StaysAfter : Stay → Peer → Type 0
+StaysAfter before p = p.stay ≡ stay_after before p.outgoing p.output
+
 -- so many lines may be queued for each that was visited
 pub set_rooms : (peers : List Peer) (i : ℕ) (q : Peer) (room : ℕ) → i < length peers → q.room ≡ room
     → ((k : ℕ) (d : Peer) → k < i → (slice_index_or peers k d).room ≡ room)
@@ -115,6 +119,21 @@ pub set_rooms : (peers : List Peer) (i : ℕ) (q : Peer) (room : ℕ) → i < le
 set_rooms peers i q room within is before k d lt = ⊎_elim
     (λ (e : k ≡ i). ap (λ (x : Peer). x.room) (ap (λ n. get_or (set peers i q) n d) e ∙ get_or-set_same peers i q d within) ∙ is)
     (λ (ne : k ≡ i → ⊥). ap (λ (x : Peer). x.room) (get_or-set_other peers i k q d ne) ∙ before k d (omega (arith, lt, ne)))
+    (cases_eq k i)
+
+-- each that was let go is shut down once its socket took all
+pub set_stays : (first peers : List Peer) (i : ℕ) (p q : Peer) → i < length peers
+    → q.stay ≡ stay_after (get_or peers i p).stay q.outgoing q.output
+    → ((k : ℕ) (d : Peer) → i ≤ k → slice_index_or peers k d ≡ slice_index_or first k d)
+    → ((k : ℕ) (d : Peer) → k < i → StaysAfter (slice_index_or first k d).stay (slice_index_or peers k d))
+    → (k : ℕ) (d : Peer) → k < i + 1 → StaysAfter (slice_index_or first k d).stay (slice_index_or (set peers i q) k d)
+set_stays first peers i p q within stays rest below k d lt = ⊎_elim
+    (λ (e : k ≡ i). subst (StaysAfter (slice_index_or first k d).stay)
+    (sym (ap (λ n. get_or (set peers i q) n d) e ∙ get_or-set_same peers i q d within))
+    (subst (λ (x : Peer). StaysAfter x.stay q)
+    (get_or_default peers i p d within ∙ rest i d (omega arith) ∙ ap (λ n. get_or first n d) (sym e)) stays))
+    (λ (ne : k ≡ i → ⊥). subst (StaysAfter (slice_index_or first k d).stay) (sym (get_or-set_other peers i k q d ne))
+    (below k d (omega (arith, lt, ne))))
     (cases_eq k i)
 
 pub set_rest : (first peers : List Peer) (i : ℕ) (q : Peer)

@@ -2,7 +2,8 @@
 use Rattle.std.specs.Prelude.{◌&&◌, ◌≡◌, ◌≢◌, ℕ, ◌<◌, ◌≤◌, Bool, List, length, slice_index_or, Option, not}
 use Rattle.srcp_peers.specs.declared.peer.Peer.{Peer}
 use Rattle.srcp_peers.specs.Steps.{Step}
-use Rattle.srcp_peers.specs.Peers.{IsKept}
+use Rattle.srcp_peers.specs.declared.readiness.Flush.{Flush}
+use Rattle.srcp_peers.specs.Peers.{IsKept, OffersDue, stay_after}
 
 -- each is what its account says
 abbrev pub AreKept : Option (List Step) → List Peer → Type 0
@@ -31,3 +32,13 @@ AreThose old new = (k : ℕ) (d : Peer) → k < length old → (slice_index_or n
 abbrev pub AreMarked : (clear : Bool) → (old new : List Peer) → Type 0
 AreMarked clear old new = (k : ℕ) (d : Peer) → k < length old → (slice_index_or new k d).share.mark
     ≡ (not clear && (slice_index_or old k d).share.mark)
+
+-- a turn that flushes `what` offers the socket of each what is queued for it, if that is flushed
+abbrev pub AreOffered : Flush → List Peer → (old new : Option (List Step)) → Type 0
+AreOffered what peers old new = (k : ℕ) (d : Peer) → k < length peers
+    → OffersDue what (slice_index_or peers k d) old new
+
+-- each that was let go is shut down once its socket took all
+abbrev pub AreShutDown : (old new : List Peer) → Type 0
+AreShutDown old new = (k : ℕ) (d : Peer) → k < length old
+    → (let p = slice_index_or new k d in p.stay ≡ stay_after (slice_index_or old k d).stay p.outgoing p.output)

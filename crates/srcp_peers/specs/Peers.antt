@@ -1,6 +1,6 @@
 -- What a peer's states mean.
-use Rattle.std.specs.Prelude.{◌≡◌, ◌⊎◌, ℕ, ◌==◌, ◌&&◌, ◌||◌, nat_lt, Bool, true, false, not, if◌then◌else◌, cond, List}
-use Rattle.std.specs.Prelude.{[], ◌++◌, ◌-◌, length, min, take, Option, Some, Result, Ok, Err}
+use Rattle.std.specs.Prelude.{◌≡◌, ◌≢◌, ◌⊎◌, ℕ, ◌==◌, ◌&&◌, ◌||◌, nat_lt, Bool, true, false, not, if◌then◌else◌, cond, List}
+use Rattle.std.specs.Prelude.{[], ◌∷◌, ◌++◌, ◌-◌, length, min, take, Option, Some, Result, Ok, Err}
 use Rattle.std.specs.Io.{StartsWith}
 use Rattle.std.specs.declared.io.ErrorKind.{ErrorKind}
 use Rattle.srcp_peers.specs.declared.system.Ready.{Ready}
@@ -94,6 +94,12 @@ Asks socket old new = (buffer : List ℕ) × (answer : Result ℕ ErrorKind) × 
 -- the step that came is a write of these bytes to this socket
 abbrev pub Offers : ℕ → List ℕ → Option (List Step) → Option (List Step) → Type 0
 Offers socket bytes old new = (answer : Result ℕ ErrorKind) × Tells old (Writes socket bytes answer) new
+
+-- among the steps that came is a write of these bytes to this socket
+abbrev pub IsOffered : ℕ → List ℕ → Option (List Step) → Option (List Step) → Type 0
+IsOffered socket bytes old new = (later : List Step) → new ≡ Some later
+    → (log : List Step) × (before : List Step) × (answer : Result ℕ ErrorKind) × (after : List Step)
+    × (old ≡ Some log) × (later ≡ log ++ (before ++ Writes socket bytes answer ∷ after))
 
 -- ---- what answers make of a peer
 
@@ -194,6 +200,28 @@ tries_again flush.Again = true
 abbrev pub is_due : Flush → Peer → Bool
 is_due what p = flushes_all what
     || (nat_lt 3160 (length p.outgoing) || (p.asked && (p.cut || (length p.incoming == 0))))
+
+-- what is flushed of a peer that stays so, in a turn that flushes `what`: all, if it was let go
+abbrev pub flush_of : Flush → Stay → Flush
+flush_of what stay.Here = what
+flush_of what (stay.Leaving since) = flush.All
+flush_of what (stay.Shut since) = flush.All
+
+-- how it stays behind that, if `outgoing` is still queued: it is shut down once its socket took all, if it was let go
+abbrev pub stay_after : Stay → (outgoing : List ℕ) → Writing → Stay
+stay_after stay.Here outgoing state = stay.Here
+stay_after (stay.Leaving since) outgoing state =
+    cond ((length outgoing == 0) && not (is_lost state)) (stay.Shut since) (stay.Leaving since)
+stay_after (stay.Shut since) outgoing state = stay.Shut since
+
+-- something is queued for it that is flushed, and its socket may take it
+abbrev pub IsFlushed : Flush → Peer → Type 0
+IsFlushed what p = (woken_output p.output (tries_again what) ≡ output.Open) × (p.outgoing ≢ [])
+    × (is_due what p ≡ true)
+
+-- a turn that flushes `what` offers its socket what is queued for it, if that is flushed
+abbrev pub OffersDue : Flush → Peer → Option (List Step) → Option (List Step) → Type 0
+OffersDue what p old new = IsFlushed (flush_of what p.stay) p → IsOffered p.number p.outgoing old new
 
 -- it is there
 abbrev pub is_here : Stay → Bool

@@ -43,7 +43,7 @@ calls log = filter_map call_of log
 -- the steps that came are no calls of the door
 abbrev pub SaysNothing : Option (List Step) → Option (List Step) → Type 0
 SaysNothing old new = (later : List Step) → new ≡ Some later
-    → (log : List Step) × (old ≡ Some log) × (calls later ≡ calls log)
+    → (log : List Step) × (came : List Step) × (old ≡ Some log) × (later ≡ log ++ came) × (calls came ≡ [])
 
 -- the steps that came are one call of the door, and calls of the system
 abbrev pub SaysOne : Option (List Step) → Call → Option (List Step) → Type 0

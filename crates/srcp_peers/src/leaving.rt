@@ -7,7 +7,8 @@ ghost use Rattle.std.specs.Prelude.{position};
 ghost use Rattle.srcp_peers.specs.declared.peer.Peer.{Peer};
 ghost use Rattle.srcp_peers.specs.Steps.{SaysNothing};
 ghost use Rattle.srcp_peers.specs.Times.{KeepsTimes};
-ghost use Rattle.srcp_peers.specs.Peers.{IsKept, Spares, is_closable, is_gone, is_here, is_lost, is_shut};
+ghost use Rattle.srcp_peers.specs.Peers.{IsKept, OffersDue, Spares, is_closable, is_gone, is_here, is_lost, is_shut};
+ghost use Rattle.srcp_peers.specs.Peers.{stay_after};
 
 use crate::peer::Peer;
 use crate::readiness::Flush;
@@ -37,6 +38,8 @@ impl Peer {
         ensures calls { SaysNothing (S.told system.old) (S.told system.new) }
         ensures times { KeepsTimes (S.told system.old) (S.told system.new) }
         ensures number { self.new.number ≡ self.old.number }
+        ensures offered { OffersDue what self.old (S.told system.old) (S.told system.new) }
+        ensures stay { self.new.stay ≡ stay_after self.old.stay self.new.outgoing self.new.output }
     {
         if self.stay.is_here() {
             self.flush(system, what);
@@ -54,6 +57,9 @@ impl Peer {
         ensures calls { SaysNothing (S.told system.old) (S.told system.new) }
         ensures times { KeepsTimes (S.told system.old) (S.told system.new) }
         ensures number { self.new.number ≡ self.old.number }
+        ensures offered { is_here self.old.stay ≡ false
+            → OffersDue Flush.All self.old (S.told system.old) (S.told system.new) }
+        ensures stay { self.new.stay ≡ stay_after self.old.stay self.new.outgoing self.new.output }
     {
         match self.stay {
             Stay::Here => (),
@@ -71,6 +77,8 @@ impl Peer {
         ensures calls { SaysNothing (S.told system.old) (S.told system.new) }
         ensures times { KeepsTimes (S.told system.old) (S.told system.new) }
         ensures number { self.new.number ≡ self.old.number }
+        ensures offered { OffersDue Flush.All self.old (S.told system.old) (S.told system.new) }
+        ensures stay { self.new.stay ≡ stay_after self.old.stay self.new.outgoing self.new.output }
     {
         self.flush(system, Flush::All);
         if self.outgoing.is_empty() && !self.output.is_lost() {
@@ -89,6 +97,7 @@ impl Peer {
         ensures calls { SaysNothing (S.told system.old) (S.told system.new) }
         ensures times { KeepsTimes (S.told system.old) (S.told system.new) }
         ensures number { self.new.number ≡ self.old.number }
+        ensures same { self.new ≡ record self.old { stay = Stay.Shut since } }
     {
         system.shutdown(self.number);
         self.stay = Stay::Shut { since };
@@ -103,6 +112,7 @@ impl Peer {
         ensures calls { SaysNothing (S.told system.old) (S.told system.new) }
         ensures times { KeepsTimes (S.told system.old) (S.told system.new) }
         ensures number { self.new.number ≡ self.old.number }
+        ensures stay { self.new.stay ≡ self.old.stay }
     {
         for _ in 0..MOST_DRAINED {
             if !self.input.is_ready() {

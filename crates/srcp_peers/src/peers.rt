@@ -5,7 +5,7 @@ ghost use Rattle.srcp_peers.specs.declared.peer.Peer.{Peer};
 ghost use Rattle.srcp_peers.specs.Steps.{SaysNothing};
 ghost use Rattle.srcp_peers.specs.Times.{KeepsTimes};
 ghost use Rattle.srcp_peers.specs.Peers.{Spares, IsRead, after_wake};
-ghost use Rattle.srcp_peers.specs.AllPeers.{AreApart, AreKept, AreMarked, AreThose, IsAbsent};
+ghost use Rattle.srcp_peers.specs.AllPeers.{AreApart, AreKept, AreMarked, AreOffered, AreShutDown, AreThose, IsAbsent};
 ghost use Rattle.srcp_peers.specs.Listeners.{woken_listening};
 
 use crate::peer::Peer;
@@ -22,6 +22,8 @@ pub fn flush<S: System>(system: &mut S, peers: &mut [Peer], what: Flush)
     ensures others { (other : ℕ) → IsAbsent other peers.old → Spares other (S.told system.old) (S.told system.new) }
     ensures calls { SaysNothing (S.told system.old) (S.told system.new) }
     ensures times { KeepsTimes (S.told system.old) (S.told system.new) }
+    ensures offered { AreOffered what peers.old (S.told system.old) (S.told system.new) }
+    ensures shut { AreShutDown peers.old peers.new }
 {
     for peer in peers.iter_mut() {
         peer.hand_over(system, what);

@@ -12,6 +12,7 @@ use Rattle.srcp_peers.specs.declared.system.Refusal.TheVariants.{Later, Again, F
 use Rattle.srcp_serve.specs.Calls.{AcceptCall, Call, peer_of}
 use Rattle.srcp_sockets.specs.Names.{IsNamed, Named}
 use Rattle.srcp_peers.specs.Steps.{SaysNothing, SaysOne, Step, calls}
+use Rattle.srcp_peers.proofs.Saying.{calls_stay}
 use Rattle.srcp_peers.specs.Times.{refused_newcomer}
 
 unequal_push : (x n : ℕ) (xs : List ℕ) → x < n → AllByRecursion (λ y. (x == y) ≡ false) xs → AllByRecursion (λ y. (x == y) ≡ false)
@@ -41,7 +42,7 @@ named_push xs last n below h = record {
 
 pub named_silent : (old new : Option (List Step)) (last : ℕ) → SaysNothing old new → IsNamed old last → IsNamed new last
 named_silent old new last says named later is =
-    let s = says later is in
+    let s = calls_stay old new says later is in
     subst (λ (xs : List ℕ). Named xs last) (ap (filter_map peer_of) (sym s.2)) (named s.0 s.1)
 
 pub named_call : (old new : Option (List Step)) (last : ℕ) (call : Call) → SaysOne old call new → filter_map peer_of (call ∷ []) ≡ []

@@ -1,12 +1,12 @@
 -- No moment is told while a peer is unread.
-use Rattle.std.proofs.Common.{◌≡◌, ◌∙◌, ℕ, ◌<◌, Bool, true, false, not, List, length, ap, sym, subst}
-use Rattle.std.proofs.Common.{⊎_elim, Option}
-use Rattle.std.specs.Prelude.{◌&&◌, slice_index_or, Result}
+use Rattle.std.proofs.Common.{◌≡◌, ◌∙◌, ℕ, ◌<◌, Bool, true, false, not, List, [], ◌∷◌, ◌++◌, length, ap, sym, subst}
+use Rattle.std.proofs.Common.{⊎_elim, None, Option, Some, refl}
+use Rattle.std.specs.Prelude.{◌&&◌, option_map, slice_index_or, Result}
 use Rattle.srcp_serve.specs.declared.door.DoorFault.{DoorFault}
-use Rattle.srcp_serve.specs.Calls.{NowCall}
+use Rattle.srcp_serve.specs.Calls.{Call, NowCall, Tells as Tells_call}
 use Rattle.srcp_peers.specs.declared.peer.Peer.{Peer}
 use Rattle.srcp_peers.specs.declared.waiting.Listening.{Listening}
-use Rattle.srcp_peers.specs.Steps.{Clocks, Step, Tells, Told}
+use Rattle.srcp_peers.specs.Steps.{Clocks, SaysOne, Step, Tells, Told, calls}
 use Rattle.srcp_peers.specs.Accounts.{Account, account, account_step, clocked}
 use Rattle.srcp_peers.specs.Peers.{Agrees, IsKept, IsRead}
 use Rattle.srcp_peers.specs.AllPeers.{IsAbsent}
@@ -87,3 +87,19 @@ stands_now old new peers l last answer read tells stands =
     stands_goes (λ socket a. (a.watched && a.unread) ≡ false) old new peers l last (Told (NowCall answer)) (now_goes answer l)
     (λ log is socket. read socket log is)
     (λ k d lt. kept_now old new (slice_index_or peers k d) answer read tells (stands.kept k d lt)) tells stands
+
+-- ---- what the door told of one call
+
+pub tells_one : (old new : Option (List Step)) (call : Call) → SaysOne old call new
+    → Tells_call (option_map calls old) call (option_map calls new)
+tells_one None None call says = refl
+tells_one None (Some later) call says = absurd (nothing (says later refl).0 (says later refl).1)
+  where
+    nothing : (log : List Step) → None ≡ Some log → ⊥
+    nothing log e = cc
+tells_one (Some log) None call says = tt
+tells_one (Some log) (Some later) call says =
+    let s = says later refl in
+    let is : Some log ≡ Some s.0 = s.1 in
+    let same : log ≡ s.0 = cc in
+    s.2 ∙ ap (λ (l : List Step). calls l ++ call ∷ []) (sym same)

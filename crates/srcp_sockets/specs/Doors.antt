@@ -1,14 +1,18 @@
 -- What holds of all sockets of a door.
-use Rattle.std.specs.Prelude.{⊤, ◌≡◌, ℕ, ◌<◌, Bool, true, false, List, [], length, slice_index_or}
+use Rattle.std.specs.Prelude.{⊤, ◌≡◌, ℕ, ◌<◌, ◌&&◌, Bool, true, false, not, List, [], length, slice_index_or}
 use Rattle.std.specs.Prelude.{Option, Some}
 use Rattle.std.specs.Io.{StartsWith}
+use Rattle.std.specs.List.{list_any}
 use Rattle.srcp_peers.specs.declared.peer.Peer.{Peer}
+use Rattle.srcp_peers.specs.declared.readiness.Flush.{Flush}
 use Rattle.srcp_peers.specs.declared.stay.Stay.TheVariants as stay
+use Rattle.srcp_peers.specs.declared.turn.Turn.{Turn}
 use Rattle.srcp_peers.specs.declared.waiting.Listening.{Listening}
 use Rattle.srcp_peers.specs.declared.waiting.Listening.TheVariants as listening
 use Rattle.srcp_peers.specs.Steps.{Step}
 use Rattle.srcp_peers.specs.Accounts.{Account, account}
-use Rattle.srcp_peers.specs.Peers.{IsRead, is_here}
+use Rattle.srcp_peers.specs.Peers.{IsRead, holds_input, is_here}
+use Rattle.srcp_peers.specs.Turns.{flushing, has_ticked}
 use Rattle.srcp_peers.specs.AllPeers.{AreKept, AreApart, AreWithin, IsAbsent}
 
 -- ---- the peers that are there
@@ -69,6 +73,13 @@ AreClosed told peers = (log : List Step) → told ≡ Some log → (socket : ℕ
 
 abbrev pub AreRead : Option (List Step) → Type 0
 AreRead told = (socket : ℕ) → IsRead told socket
+
+-- ---- what a turn flushes
+
+-- if the clock showed `flushed` when it was flushed last: a turn goes on with input that is held until the clock goes on
+abbrev pub flushed_in : Turn → (flushed : ℕ) → List Peer → Flush
+flushed_in turn flushed peers =
+    flushing (has_ticked turn flushed) (not (has_ticked turn flushed) && list_any holds_input peers) turn
 
 -- ---- the listener
 

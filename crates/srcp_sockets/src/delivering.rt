@@ -3,7 +3,7 @@
 ghost use Rattle.std.specs.Prelude.{◌≡◌, All, true, false};
 ghost use Rattle.srcp_sockets.specs.Delivery.{HasEnded, HaveEnded, is_over};
 ghost use Rattle.srcp_sockets.specs.Doors.{AreStanding};
-ghost use Rattle.srcp_peers.specs.AllPeers.{AreApart, AreKept};
+ghost use Rattle.srcp_peers.specs.AllPeers.{AreApart, AreKept, AreOffered};
 ghost use Rattle.srcp_peers.specs.Peers.{is_waiting};
 
 use srcp_peers::peers::{flush, wake};
@@ -25,6 +25,7 @@ pub(crate) fn deliver<S: System>(
     ensures ended { HaveEnded until (S.told system.old) (S.told system.new) peers.new }
     ensures standing { AreStanding (S.told system.old) peers.old → AreStanding (S.told system.new) peers.new }
     ensures all { AreStanding (S.told system.old) peers.old → HasEnded until (S.told system.old) (S.told system.new) }
+    ensures offered { AreOffered Flush.All peers.old (S.told system.old) (S.told system.new) }
 {
     for _look in 0..LAST_LOOKS {
         flush(system, peers, Flush::All);

@@ -14,8 +14,8 @@ ghost use Rattle.srcp_peers.specs.Turns.{first_turn, flushing, has_ticked, is_pe
 ghost use Rattle.srcp_peers.specs.Waiting.{IsWithin};
 ghost use Rattle.srcp_serve.specs.Calls.{ExpectCall, NowCall, ReadCall, WriteCall, CloseCall};
 ghost use Rattle.srcp_peers.specs.Steps.{SaysNothing, SaysOne};
-ghost use Rattle.srcp_peers.specs.AllPeers.{AreMarked};
-ghost use Rattle.srcp_sockets.specs.Doors.{AreRead, IsMissing, IsPresent, Stands};
+ghost use Rattle.srcp_peers.specs.AllPeers.{AreMarked, AreOffered};
+ghost use Rattle.srcp_sockets.specs.Doors.{AreRead, IsMissing, IsPresent, Stands, flushed_in};
 
 mod newcomers;
 
@@ -74,6 +74,8 @@ impl<S: System + Drop> Sockets<S> {
     pub(crate) fn begin_turn(&mut self, ready: &mut [Ready])
         ensures calls { SaysNothing (S.told self.old.system) (S.told self.new.system) }
         ensures read { AreRead (S.told self.new.system) }
+        ensures offered { AreOffered (flushed_in self.old.turn self.old.flushed self.old.peers.items)
+            self.old.peers.items (S.told self.old.system) (S.told self.new.system) }
     {
         let holds = self.holds_input();
         let held = self.goes_on(holds);
@@ -143,7 +145,8 @@ impl<S: System + Drop> Sockets<S> {
 
     /// Flushes each peer that is there, and goes on with those that were let go.
     fn flush(&mut self, what: Flush)
-        ensures { SaysNothing (S.told self.old.system) (S.told self.new.system) }
+        ensures calls { SaysNothing (S.told self.old.system) (S.told self.new.system) }
+        ensures offered { AreOffered what self.old.peers.items (S.told self.old.system) (S.told self.new.system) }
     {
         self.flushed = self.turn.clock;
         flush(&mut self.system, self.peers.as_mut_slice(), what);
@@ -184,7 +187,8 @@ impl<S: System + Drop> Sockets<S> {
 
     /// Delivers what was taken, for 10 seconds at most, and returns the system.
     pub(crate) fn deliver(self, ready: &mut [Ready]) -> S
-        ensures { HasEnded (patience_after self.turn.clock) (S.told self.system) (S.told result) }
+        ensures ended { HasEnded (patience_after self.turn.clock) (S.told self.system) (S.told result) }
+        ensures offered { AreOffered Flush.All self.peers.items (S.told self.system) (S.told result) }
     {
         let Sockets {
             mut system,

@@ -1,7 +1,8 @@
 use Rattle.std.proofs.Common.{arith, refl}
 use Rattle.srcp_peers.proofs.Saying.{says_none, says_then, keeps_none, keeps_then}
 use Rattle.srcp_peers.proofs.Keeping.{spares_none, spares_then}
-use Rattle.srcp_peers.proofs.Lists.{absent_there, set_apart, set_kept, set_those}
+use Rattle.srcp_peers.proofs.Lists.{absent_there, set_apart, set_kept, set_rest, set_stays, set_those}
+use Rattle.srcp_peers.proofs.Offering.{set_offered}
 use Rattle.srcp_peers.proofs.peers.flush.Goals as goal
 
 pub loop-peer-init : goal.loop-peer-init
@@ -12,6 +13,9 @@ loop-peer-init g c = record {
   others = λ other absent. spares_none other (g.S.System.told c.args.system.now);
   calls = says_none (g.S.System.told c.args.system.now);
   times = keeps_none (g.S.System.told c.args.system.now);
+  offered = λ k d lt. absurd (omega (arith, lt));
+  shut = λ k d lt. absurd (omega (arith, lt));
+  rest = λ k d late. refl;
 }
 
 pub loop-peer-preserved : goal.loop-peer-preserved
@@ -33,4 +37,10 @@ loop-peer-preserved g c = record {
       c.loop-peer.invariant.calls c.hand_over.ensures.calls;
   times = keeps_then (g.S.System.told c.args.system.now) (g.S.System.told c.loop-peer.system) (g.S.System.told c.hand_over.new.system)
       c.loop-peer.invariant.times c.hand_over.ensures.times;
+  offered = set_offered (g.S.System.told c.args.system.now) (g.S.System.told c.loop-peer.system) (g.S.System.told c.hand_over.new.system)
+      c.args.what c.args.peers.now c.loop-peer.peers c.loop-peer.peer-index c.peer-item.result (omega arith) c.loop-peer.invariant.rest
+      c.loop-peer.invariant.calls c.hand_over.ensures.calls c.hand_over.ensures.offered c.loop-peer.invariant.offered;
+  shut = set_stays c.args.peers.now c.loop-peer.peers c.loop-peer.peer-index c.peer-item.result c.hand_over.new.self (omega arith)
+      c.hand_over.ensures.stay c.loop-peer.invariant.rest c.loop-peer.invariant.shut;
+  rest = set_rest c.args.peers.now c.loop-peer.peers c.loop-peer.peer-index c.hand_over.new.self c.loop-peer.invariant.rest;
 }

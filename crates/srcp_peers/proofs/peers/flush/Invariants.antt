@@ -1,7 +1,8 @@
-use Rattle.std.specs.Prelude.{ℕ}
+use Rattle.std.specs.Prelude.{◌≡◌, ℕ, ◌<◌, ◌≤◌, slice_index_or}
+use Rattle.srcp_peers.specs.declared.peer.Peer.{Peer}
 use Rattle.srcp_peers.specs.Steps.{SaysNothing}
 use Rattle.srcp_peers.specs.Times.{KeepsTimes}
-use Rattle.srcp_peers.specs.Peers.{Spares}
+use Rattle.srcp_peers.specs.Peers.{OffersDue, Spares, stay_after}
 use Rattle.srcp_peers.specs.AllPeers.{AreApart, AreKept, AreThose, IsAbsent}
 use Rattle.srcp_peers.proofs.peers.flush.Given as goal
 
@@ -13,4 +14,9 @@ invariant-loop-peer g l = record {
   others : (other : ℕ) → IsAbsent other l.fn.peers → Spares other (g.S.System.told l.fn.system) (g.S.System.told l.system);
   calls : SaysNothing (g.S.System.told l.fn.system) (g.S.System.told l.system);
   times : KeepsTimes (g.S.System.told l.fn.system) (g.S.System.told l.system);
+  offered : (k : ℕ) (d : Peer) → k < l.peer-index
+      → OffersDue l.what (slice_index_or l.fn.peers k d) (g.S.System.told l.fn.system) (g.S.System.told l.system);
+  shut : (k : ℕ) (d : Peer) → k < l.peer-index → (let p = slice_index_or l.peers k d in
+      p.stay ≡ stay_after (slice_index_or l.fn.peers k d).stay p.outgoing p.output);
+  rest : (k : ℕ) (d : Peer) → l.peer-index ≤ k → slice_index_or l.peers k d ≡ slice_index_or l.fn.peers k d;
 }

@@ -1,7 +1,11 @@
-use Rattle.std.proofs.Common.{◌≡◌, ℕ, Some, arith, subst, sym, ◌∙◌, inl, inr, true≢false}
+use Rattle.std.proofs.Common.{◌≡◌, ℕ, Some, arith, refl, subst, sym, ◌∙◌, inl, inr, true≢false}
 use Rattle.std.specs.Prelude.{fold, take}
 use Rattle.srcp_peers.specs.AllPeers.{AreApart}
+use Rattle.srcp_peers.specs.declared.readiness.Flush.TheVariants as flush
 use Rattle.srcp_peers.specs.Listeners.{woken_listening}
+use Rattle.srcp_peers.specs.Steps.{Clocks, SaysNothing, Waits}
+use Rattle.srcp_peers.proofs.Offering.{all_offered_then, offered_first}
+use Rattle.srcp_peers.proofs.Saying.{says_none, says_step, says_then}
 use Rattle.srcp_peers.proofs.Lists.{apart_later, clocked_all, waited_all, woken_apart}
 use Rattle.srcp_sockets.specs.Delivery.{HasWaited, HaveEnded}
 use Rattle.srcp_sockets.specs.Doors.{AreStanding}
@@ -16,6 +20,9 @@ loop-look-init g c = record {
   kept = c.requires.kept;
   apart = c.requires.apart;
   standing = λ stands. stands;
+  calls = says_none (g.S.System.told c.args.system.now);
+  first = λ e. (refl, refl);
+  offered = λ some. absurd (omega (arith, some));
   waited = waited_none (g.S.System.told c.args.system.now);
 }
 
@@ -39,6 +46,8 @@ returns-then-are_delivered g c =
       ended = ended;
       standing = stands;
       all = λ stood. has_ended c.args.until first new peers (stands stood) ended;
+      offered = offered_first c.loop-look._look flush.All c.args.peers.now c.loop-look.peers first old new c.loop-look.invariant.first
+          c.loop-look.invariant.offered f.calls f.offered;
     }
 
 pub returns-then-is_over : goal.returns-then-is_over
@@ -64,6 +73,10 @@ returns-then-is_over g c =
       ended = ended;
       standing = stands;
       all = λ stood. has_ended c.args.until first clocked peers (stands stood) ended;
+      offered = all_offered_then flush.All c.args.peers.now first turned clocked
+          (offered_first c.loop-look._look flush.All c.args.peers.now c.loop-look.peers first old turned c.loop-look.invariant.first
+          c.loop-look.invariant.offered f.calls f.offered)
+          (says_step turned clocked (Clocks c.clock-clock.result) c.clock-clock.ensures refl);
     }
 
 pub loop-look-preserved : goal.loop-look-preserved
@@ -78,11 +91,19 @@ loop-look-preserved g c =
     let peers = c.flush.new.peers in
     let count = c.wait-count.result in
     let ready = c.wait-count.new.ready in
+    let more : SaysNothing turned waited = says_then turned clocked waited
+    (says_step turned clocked (Clocks c.clock-clock.result) c.clock-clock.ensures refl)
+    (says_step clocked waited (Waits (Some 8) count ready) c.wait-count.ensures.told refl) in
     let apart : AreApart peers = apart_later c.loop-look.peers peers c.flush.auto.peers f.those was.apart in
     record {
       kept = waited_all clocked waited peers c.wake.new.peers (Some 8) count ready (λ e. absurd (true≢false e))
           c.wait-count.ensures.told c.wake.auto.peers c.wake.ensures
           (clocked_all turned clocked peers c.clock-clock.result c.clock-clock.ensures f.kept);
+      calls = says_then first turned waited (says_then first old turned was.calls f.calls) more;
+      first = λ e. absurd (omega (arith, e));
+      offered = λ some. all_offered_then flush.All c.args.peers.now first turned waited
+          (offered_first c.loop-look._look flush.All c.args.peers.now c.loop-look.peers first old turned was.first was.offered f.calls
+          f.offered) more;
       apart = woken_apart peers c.wake.new.peers (take count ready) c.wake.auto.peers c.wake.ensures apart;
       standing = λ stood.
           let stands = was.standing stood in (
@@ -103,3 +124,6 @@ returns-clause-ended g c =
     let all : c.loop-look._look ≡ 1000000 = omega arith in
     inr (inr (subst (λ (n : ℕ). HasWaited n (g.S.System.told c.args.system.now) (g.S.System.told c.loop-look.system)) all
     c.loop-look.invariant.waited))
+
+pub returns-clause-offered : goal.returns-clause-offered
+returns-clause-offered g c = c.loop-look.invariant.offered (omega arith)

@@ -1,4 +1,7 @@
-use Rattle.srcp_peers.specs.AllPeers.{AreApart, AreKept}
+use Rattle.std.specs.Prelude.{◌≡◌, ◌<◌}
+use Rattle.srcp_peers.specs.declared.readiness.Flush.TheVariants as flush
+use Rattle.srcp_peers.specs.AllPeers.{AreApart, AreKept, AreOffered}
+use Rattle.srcp_peers.specs.Steps.{SaysNothing}
 use Rattle.srcp_sockets.specs.Delivery.{HasWaited}
 use Rattle.srcp_sockets.specs.Doors.{AreStanding}
 use Rattle.srcp_sockets.proofs.delivering.deliver.Given as goal
@@ -8,5 +11,8 @@ invariant-loop-look g l = record {
   kept : AreKept (g.S.System.told l.system) l.peers;
   apart : AreApart l.peers;
   standing : AreStanding (g.S.System.told l.fn.system) l.fn.peers → AreStanding (g.S.System.told l.system) l.peers;
+  calls : SaysNothing (g.S.System.told l.fn.system) (g.S.System.told l.system);
+  first : l._look ≡ 0 → (l.peers ≡ l.fn.peers) × (g.S.System.told l.system ≡ g.S.System.told l.fn.system);
+  offered : 0 < l._look → AreOffered flush.All l.fn.peers (g.S.System.told l.fn.system) (g.S.System.told l.system);
   waited : HasWaited l._look (g.S.System.told l.fn.system) (g.S.System.told l.system);
 }

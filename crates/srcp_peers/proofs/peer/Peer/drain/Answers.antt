@@ -12,6 +12,7 @@ loop-init g c = record {
   calls = says_none (g.S.System.told c.args.system.now);
   times = keeps_none (g.S.System.told c.args.system.now);
   number = refl;
+  stay = refl;
 }
 
 pub loop-preserved : goal.loop-preserved
@@ -28,4 +29,5 @@ loop-preserved g c =
       calls = says_then first old new was.calls c.skip.ensures.calls;
       times = keeps_then first old new was.times c.skip.ensures.times;
       number = c.skip.ensures.number ∙ was.number;
+      stay = c.skip.ensures.stay ∙ was.stay;
     }

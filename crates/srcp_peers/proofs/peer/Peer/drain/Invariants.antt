@@ -12,4 +12,5 @@ invariant-loop g l = record {
   calls : SaysNothing (g.S.System.told l.fn.system) (g.S.System.told l.system);
   times : KeepsTimes (g.S.System.told l.fn.system) (g.S.System.told l.system);
   number : l.self.number ≡ l.fn.self.number;
+  stay : l.self.stay ≡ l.fn.self.stay;
 }

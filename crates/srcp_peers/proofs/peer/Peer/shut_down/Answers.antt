@@ -15,4 +15,5 @@ returns g c =
       calls = says_step old new (Shuts c.args.self.now.number) tells refl;
       times = keeps_step old new (Shuts c.args.self.now.number) tells (λ t. refl);
       number = refl;
+      same = refl;
     }

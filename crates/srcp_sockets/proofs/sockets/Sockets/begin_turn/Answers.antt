@@ -1,4 +1,11 @@
+use Rattle.std.proofs.Common.{◌≡◌, ◌∙◌, ap, subst}
+use Rattle.std.specs.Prelude.{◌&&◌, not}
+use Rattle.srcp_peers.specs.declared.readiness.Flush.{Flush}
+use Rattle.srcp_peers.specs.AllPeers.{AreOffered}
+use Rattle.srcp_peers.specs.Turns.{flushing, has_ticked}
+use Rattle.srcp_peers.proofs.Offering.{all_offered_then}
 use Rattle.srcp_peers.proofs.Saying.{says_then}
+use Rattle.srcp_sockets.specs.Doors.{flushed_in}
 use Rattle.srcp_sockets.proofs.sockets.Sockets.begin_turn.Goals as goal
 
 pub returns-clause-calls : goal.returns-clause-calls
@@ -8,5 +15,22 @@ returns-clause-calls g c =
     let gone = g.S.System.told c.close_gone.new.self.system in
     let looked = g.S.System.told c.look.new.self.system in
     let new = g.S.System.told c.begin_visits.new.self.system in
-    says_then old gone new (says_then old flushed gone c.flush.ensures c.close_gone.ensures.calls)
+    says_then old gone new (says_then old flushed gone c.flush.ensures.calls c.close_gone.ensures.calls)
     (says_then gone looked new c.look.ensures c.begin_visits.ensures.calls)
+
+pub returns-clause-offered : goal.returns-clause-offered
+returns-clause-offered g c =
+    let was = c.args.self.now in
+    let old = g.S.System.told was.system in
+    let flushed = g.S.System.told c.flush.new.self.system in
+    let gone = g.S.System.told c.close_gone.new.self.system in
+    let looked = g.S.System.told c.look.new.self.system in
+    let new = g.S.System.told c.begin_visits.new.self.system in
+    let what = flushed_in was.turn was.flushed was.peers.items in
+    let ticked = has_ticked was.turn was.flushed in
+    let same : c.flushing-what.result ≡ what = c.flushing-what.ensures
+    ∙ ap (λ held. flushing ticked held was.turn) (c.goes_on-held.ensures ∙ ap (λ holds. not ticked && holds) c.holds_input-holds.ensures) in
+    all_offered_then what was.peers.items old flushed new
+    (subst (λ (f : Flush). AreOffered f was.peers.items old flushed) same c.flush.ensures.offered)
+    (says_then flushed gone new c.close_gone.ensures.calls
+    (says_then gone looked new c.look.ensures c.begin_visits.ensures.calls))

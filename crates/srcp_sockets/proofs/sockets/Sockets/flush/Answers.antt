@@ -1,6 +1,7 @@
 use Rattle.std.proofs.Common.{◌∙◌, List, rules, subst, sym}
 use Rattle.std.proofs.lemmas.List.{with_items_is}
 use Rattle.srcp_peers.specs.declared.peer.Peer.{Peer}
+use Rattle.srcp_peers.specs.AllPeers.{AreOffered}
 use Rattle.srcp_sockets.specs.Doors.{Stands}
 use Rattle.srcp_sockets.proofs.Naming.{named_silent}
 use Rattle.srcp_sockets.proofs.Standing.{stands_turned}
@@ -22,3 +23,9 @@ invariant_of-self g c =
       named = named_silent old new last c.flush.ensures.calls c.args.self.now.named;
       timed = timed_kept old new c.args.self.now.turn c.flush.ensures.times c.args.self.now.timed;
     }
+
+pub returns-clause-offered : goal.returns-clause-offered
+returns-clause-offered g c =
+    let old = g.S.System.told c.args.self.now.system in
+    let new = g.S.System.told c.flush.new.system in
+    subst (λ (ps : List Peer). AreOffered c.args.what ps old new) c.as_mut_slice.ensures.value c.flush.ensures.offered
