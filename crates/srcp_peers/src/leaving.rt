@@ -161,7 +161,8 @@ impl Peer {
 
     /// Returns whether it was let go and is owed nothing.
     fn is_shut(&self) -> bool
-        ensures { result ≡ is_shut self.now.stay }
+        ensures is { result ≡ is_shut self.now.stay }
+        ensures closable { (clock : ℕ) → result ≡ true → is_closable clock self.now ≡ true }
     {
         match self.stay {
             Stay::Here | Stay::Leaving { .. } => false,
@@ -180,6 +181,7 @@ pub fn count_leaving(peers: &[Peer]) -> usize
 /// Returns the index of the first peer for which nothing is left to do, at that time of the clock that is never set.
 pub fn first_gone(peers: &[Peer], clock: u64) -> Option<usize>
     ensures first { result ≡ position (is_gone clock) peers.now }
+    ensures gone { IfSome result (λ place. (d : Peer) → is_gone clock (slice_index_or peers.now place d) ≡ true) }
     ensures closable { IfSome result (λ place. (place < length peers.now)
         × ((d : Peer) → is_closable clock (slice_index_or peers.now place d) ≡ true)) }
 {

@@ -174,7 +174,8 @@ impl Turn {
 
     /// Returns what is told of a peer whose end is due: that, if the turn told no other.
     pub(crate) fn tell_end(&mut self) -> Result<Got, DoorFault>
-        ensures told { result ≡ cond self.old.ends (Ok Got.Ended) (Ok Got.Nothing) }
+        ensures exact { result ≡ cond self.old.ends (Ok Got.Ended) (Ok Got.Nothing) }
+        ensures told { (result ≡ Ok Got.Nothing) ⊎ (result ≡ Ok Got.Ended) }
         ensures new { (line : Line) (buffer : List ℕ) → self.new ≡ after_read self.old line result buffer }
         ensures ends { tells_end result ≡ true → self.old.ends ≡ true }
     {
