@@ -35,7 +35,9 @@ impl Queues {
     ///
     /// # Errors
     /// If memory is refused.
-    pub fn new(alloc: Global) -> Result<Queues, AllocError> {
+    pub fn new(alloc: Global) -> Result<Queues, AllocError>
+        ensures { IfOk result (λ queues. (queues.outgoing ≡ []) × (queues.incoming ≡ [])) }
+    {
         Ok(Queues {
             outgoing: Queue::new(alloc)?,
             incoming: Queue::new(alloc)?,
