@@ -19,7 +19,7 @@ pub enum Ending {
 
 impl Ending {
     /// Returns what follows the begin of a visit, if `ended` says whether the input is over and none of it held.
-    pub fn begin_visit(self, ended: bool) -> Ending
+    pub(crate) fn begin_visit(self, ended: bool) -> Ending
         ensures next { result ≡ begun self ended }
         ensures open { result ≡ Ending.Open ↔ (self ≡ Ending.Open) × (ended ≡ false) }
         ensures settled { result ≡ Ending.Settled → (self ≡ Ending.Settled)
@@ -34,7 +34,7 @@ impl Ending {
     }
 
     /// Returns what follows a write, of which all was taken or not.
-    pub fn written(self, all: bool) -> Ending
+    pub(crate) fn written(self, all: bool) -> Ending
         ensures next { result ≡ written self all }
         ensures cut { all ≡ false → result ≢ Ending.Open → (self ≡ Ending.Settled)
             ⊎ (result ≡ Ending.Settling MOST_WRITES) }
@@ -51,14 +51,14 @@ impl Ending {
     }
 
     /// Returns whether its input is not over.
-    pub fn is_open(self) -> bool
+    pub(crate) fn is_open(self) -> bool
         ensures { IsTrue result ↔ self ≡ Ending.Open }
     {
         matches!(self, Ending::Open)
     }
 
     /// Returns whether its end may be told once its socket took all.
-    pub fn is_settled(self) -> bool
+    pub(crate) fn is_settled(self) -> bool
         ensures { IsTrue result ↔ self ≡ Ending.Settled }
     {
         matches!(self, Ending::Settled)

@@ -115,7 +115,7 @@ impl Peer {
     }
 
     /// Notes what its socket was found ready for.
-    pub fn wake(&mut self, ready: Ready)
+    pub(crate) fn wake(&mut self, ready: Ready)
         ensures { self.new ≡ after_wake self.old ready }
     {
         if ready.socket == self.number {
@@ -128,7 +128,7 @@ impl Peer {
 
     /// Writes once what is queued, if its socket may take something, and what is flushed says that it is to.
     #[inline(always)]
-    pub fn flush<S: System>(&mut self, system: &mut S, what: Flush)
+    pub(crate) fn flush<S: System>(&mut self, system: &mut S, what: Flush)
         requires { IsKept (S.told system.old) self.old }
         ensures kept { IsKept (S.told system.new) self.new }
         ensures others { (other : ℕ) → other ≢ self.old.number → Spares other (S.told system.old) (S.told system.new) }
@@ -190,7 +190,7 @@ impl Peer {
 
     /// Begins a visit: reads its socket, and goes on on the way to its end. With `clear` its mark is cleared. At
     /// most `room` lines may be queued in the visit while its socket refuses more.
-    pub fn begin_visit<S: System>(&mut self, system: &mut S, clear: bool, room: u32)
+    pub(crate) fn begin_visit<S: System>(&mut self, system: &mut S, clear: bool, room: u32)
         requires { IsKept (S.told system.old) self.old }
         ensures kept { IsKept (S.told system.new) self.new }
         ensures others { (other : ℕ) → other ≢ self.old.number → Spares other (S.told system.old) (S.told system.new) }
@@ -435,7 +435,7 @@ impl Peer {
     }
 
     /// Returns whether it is there, and nothing happens to it unless its socket is found ready.
-    pub fn is_resting(&self) -> bool
+    pub(crate) fn is_resting(&self) -> bool
         ensures { result ≡ is_resting self.now }
     {
         self.stay.is_here() && self.has_rest()

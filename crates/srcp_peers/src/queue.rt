@@ -69,7 +69,7 @@ impl<const MOST: usize> Queue<MOST> {
     ///
     /// # Errors
     /// If memory is refused.
-    pub fn new(alloc: Global) -> Result<Queue<MOST>, AllocError>
+    pub(crate) fn new(alloc: Global) -> Result<Queue<MOST>, AllocError>
         ensures { IfOk result (λ held. held ≡ []) }
     {
         let mut buffer = Vec::new(alloc);
@@ -82,7 +82,7 @@ impl<const MOST: usize> Queue<MOST> {
     }
 
     /// Returns how many are held.
-    pub fn len(&self) -> usize
+    pub(crate) fn len(&self) -> usize
         ensures count { result ≡ length self.now }
         ensures most { result ≤ MOST }
     {
@@ -90,14 +90,14 @@ impl<const MOST: usize> Queue<MOST> {
     }
 
     /// Returns whether none is held.
-    pub fn is_empty(&self) -> bool
+    pub(crate) fn is_empty(&self) -> bool
         ensures { result ≡ (length self.now == 0) }
     {
         self.start == self.end
     }
 
     /// Takes bytes, as many as there is space for, and returns how many those are.
-    pub fn take(&mut self, bytes: &[u8]) -> usize
+    pub(crate) fn take(&mut self, bytes: &[u8]) -> usize
         ensures count { result ≡ min (length bytes.now) (MOST - length self.old) }
         ensures held { self.new ≡ self.old ++ take result bytes.now }
     {
@@ -128,7 +128,11 @@ impl<const MOST: usize> Queue<MOST> {
     ///
     /// # Errors
     /// Those of the system. Then the bytes stay as they are.
-    pub fn read_from<S: System>(&mut self, system: &mut S, socket: u32) -> Result<usize, ErrorKind>
+    pub(crate) fn read_from<S: System>(
+        &mut self,
+        system: &mut S,
+        socket: u32,
+    ) -> Result<usize, ErrorKind>
         requires { length self.old < MOST }
         ensures { (buffer : List ℕ) × (length buffer ≡ MOST - length self.old)
             × Tells (S.told system.old) (Reads socket buffer result) (S.told system.new)
@@ -148,14 +152,14 @@ impl<const MOST: usize> Queue<MOST> {
     }
 
     /// Returns the bytes, the one that came first in front.
-    pub fn front(&self) -> &[u8]
+    pub(crate) fn front(&self) -> &[u8]
         ensures { result.now ≡ self.now }
     {
         &self.buffer[self.start..self.end]
     }
 
     /// Drops `count` bytes, from the first on.
-    pub fn drop_front(&mut self, count: usize)
+    pub(crate) fn drop_front(&mut self, count: usize)
         requires { count ≤ length self.old }
         ensures { self.new ≡ drop count self.old }
     {

@@ -15,7 +15,7 @@ invariant-loop-peer g l = record {
   calls : SaysNothing (g.S.System.told l.fn.system) (g.S.System.told l.system);
   times : KeepsTimes (g.S.System.told l.fn.system) (g.S.System.told l.system);
   offered : (k : ℕ) (d : Peer) → k < l.peer-index
-      → OffersDue l.what (slice_index_or l.fn.peers k d) (g.S.System.told l.fn.system) (g.S.System.told l.system);
+      → OffersDue l.fn.what (slice_index_or l.fn.peers k d) (g.S.System.told l.fn.system) (g.S.System.told l.system);
   shut : (k : ℕ) (d : Peer) → k < l.peer-index → (let p = slice_index_or l.peers k d in
       p.stay ≡ stay_after (slice_index_or l.fn.peers k d).stay p.outgoing p.output);
   rest : (k : ℕ) (d : Peer) → l.peer-index ≤ k → slice_index_or l.peers k d ≡ slice_index_or l.fn.peers k d;
