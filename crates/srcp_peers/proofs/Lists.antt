@@ -121,7 +121,7 @@ set_rooms peers i q room within is before k d lt = ⊎_elim
     (λ (ne : k ≡ i → ⊥). ap (λ (x : Peer). x.room) (get_or-set_other peers i k q d ne) ∙ before k d (omega (arith, lt, ne)))
     (cases_eq k i)
 
--- each that was let go is shut down once its socket took all
+-- each that lingers is shut down once its socket took all
 pub set_stays : (first peers : List Peer) (i : ℕ) (p q : Peer) → i < length peers
     → q.stay ≡ stay_after (get_or peers i p).stay q.outgoing q.output
     → ((k : ℕ) (d : Peer) → i ≤ k → slice_index_or peers k d ≡ slice_index_or first k d)

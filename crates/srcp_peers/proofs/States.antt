@@ -154,7 +154,7 @@ woken_reads received incoming input.Quiet false false h = (h.0, h.1, h.2, ap (λ
 woken_reads received incoming input.Ended readable closed h = h
 woken_reads received incoming input.Failed readable closed h = h
 
--- ---- the input of a peer that may have been let go
+-- ---- the input of a peer that may linger
 
 -- one that is there
 pub comes_here : (received : Received) (incoming : List ℕ) (state : Reading) (here : Stay) → here ≡ stay.Here

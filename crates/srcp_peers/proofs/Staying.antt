@@ -1,4 +1,4 @@
--- How far a peer is let go, by its account.
+-- How a peer lingers, by its account.
 use Rattle.std.proofs.Common.{◌≡◌, ◌∙◌, ℕ, Bool, true, false, not, List, [], ◌++◌, drop, length, refl, ap, sym, subst, arith, ◌==◌}
 use Rattle.std.proofs.Common.{true≢false, Option, append-nil, ⊎_elim}
 use Rattle.std.specs.Prelude.{◌&&◌, ◌||◌, cond}
@@ -54,7 +54,7 @@ clocked_agrees a p answer h = record {
   rested = h.rested;
 }
 
--- ---- it is let go
+-- ---- the core closes it
 
 pub let_go_agrees : (a : Account) (p : Peer) (since : ℕ) → p.stay ≡ stay.Here → a.leave.clock ≡ since → Agrees a p
     → Agrees (let_go a) (record p { stay = stay.Leaving since })
@@ -73,7 +73,7 @@ let_go_agrees a p since here clock h =
       rested = h.rested;
     }
 
--- one that was let go before
+-- one that the core closed before
 stays_gone : (a : Account) (outgoing : List ℕ) (here : Stay) → is_here here ≡ false → StaysAs a.watched a.leave outgoing here
     → StaysAs false (record a.leave { since = cond a.watched a.leave.clock a.leave.since }) outgoing here
 stays_gone a outgoing stay.Here e h = absurd (true≢false e)
@@ -94,7 +94,7 @@ gone_agrees a p gone h = record {
   rested = h.rested;
 }
 
--- what was read of one that was let go is dropped
+-- what was read of one that lingers is dropped
 dropped_as : (received : Received) (incoming : List ℕ) (state : Reading) (here : Stay) → is_here here ≡ false
     → ComesAs received incoming state here → ComesAs received [] state here
 dropped_as received incoming state stay.Here e h = absurd (true≢false e)
@@ -236,7 +236,7 @@ may_fail_then a p here failed h = ⊎_elim
     fails_write (not a.watched) a.received.failed a.sent.lost (lost_is a.sent p.outgoing p.output e h.writes))
     failed
 
--- one that was let go is not there by its account
+-- one that lingers is not there by its account
 pub gone_unwatched : (a : Account) (outgoing : List ℕ) (here : Stay) → is_here here ≡ false
     → StaysAs a.watched a.leave outgoing here → a.watched ≡ false
 gone_unwatched a outgoing stay.Here e h = absurd (true≢false e)

@@ -26,10 +26,10 @@ pub record Received : Type 0 where
   pub ended : Bool  -- a read found its end
   pub failed : Bool  -- a read failed
 
--- how it was let go
+-- how it lingers
 pub record Leave : Type 0 where
-  pub clock : ℕ  -- what the clock that is never set showed last, in milliseconds; 0 until it is read
-  pub since : ℕ  -- what it showed when the socket was let go
+  pub clock : ℕ  -- what the monotonic clock showed last, in milliseconds; 0 until it is read
+  pub since : ℕ  -- what it showed when the core closed it
   pub kept : Bool  -- it was accepted, and was not closed
   pub shut : Bool  -- it was told that nothing more is written to it
   pub rightly : Bool  -- it was shut down and closed only when it might be
@@ -38,7 +38,7 @@ pub record Account : Type 0 where
   pub sent : Sent
   pub received : Received
   pub leave : Leave
-  pub watched : Bool  -- it was accepted, and was not let go
+  pub watched : Bool  -- it was accepted, and the core did not close it
   pub honest : Bool  -- its end, and that it is lost, was told only when it might be
   pub unread : Bool  -- a read might find something when a wait was over, with less than a piece held, and none was made
   pub served : Bool  -- no moment was told while it was there and unread
@@ -98,11 +98,11 @@ is_short (Some most) = nat_lt most 9
 
 -- ---- when it may be shut down and closed
 
--- it was let go, and is not closed
+-- the core closed it, and its socket is not closed
 abbrev pub is_leaving : Account → Bool
 is_leaving a = not a.watched && a.leave.kept
 
--- a peer that was let go then is kept no longer now
+-- a peer that the core closed then lingers no longer now
 abbrev pub is_overdue : (clock since : ℕ) → Bool
 is_overdue clock since = nat_le 10000 (clock - since)
 
@@ -197,7 +197,7 @@ abbrev pub heard : Received → Result Unit ErrorKind → Received
 heard received (Ok done) = received
 heard received (Err fault) = heard_refusal received (refusal_told fault)
 
--- the core lets it go
+-- the core closes it
 abbrev pub let_go : Account → Account
 let_go a = record a {
   watched = false;

@@ -38,7 +38,7 @@ abbrev pub AreOffered : Flush → List Peer → (old new : Option (List Step)) �
 AreOffered what peers old new = (k : ℕ) (d : Peer) → k < length peers
     → OffersDue what (slice_index_or peers k d) old new
 
--- each that was let go is shut down once its socket took all
+-- each that lingers is shut down once its socket took all
 abbrev pub AreShutDown : (old new : List Peer) → Type 0
 AreShutDown old new = (k : ℕ) (d : Peer) → k < length old
     → (let p = slice_index_or new k d in p.stay ≡ stay_after (slice_index_or old k d).stay p.outgoing p.output)

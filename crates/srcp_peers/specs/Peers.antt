@@ -1,6 +1,6 @@
 -- What a peer's states mean.
-use Rattle.std.specs.Prelude.{◌≡◌, ◌≢◌, ◌⊎◌, ℕ, ◌==◌, ◌&&◌, ◌||◌, nat_lt, Bool, true, false, not, if◌then◌else◌, cond, List}
-use Rattle.std.specs.Prelude.{[], ◌∷◌, ◌++◌, ◌-◌, length, min, take, Option, Some, Result, Ok, Err}
+use Rattle.std.specs.Prelude.{◌≡◌, ◌≢◌, ◌⊎◌, ℕ, ◌==◌, ◌&&◌, ◌||◌, nat_lt, Bool, true, false, not, if◌then◌else◌, cond}
+use Rattle.std.specs.Prelude.{List, [], ◌∷◌, ◌++◌, ◌-◌, length, min, take, Option, Some, Result, Ok, Err}
 use Rattle.std.specs.Io.{StartsWith}
 use Rattle.std.specs.declared.io.ErrorKind.{ErrorKind}
 use Rattle.srcp_peers.specs.declared.system.Ready.{Ready}
@@ -39,7 +39,7 @@ WritesAs sent outgoing output.Open = (sent.written ≡ sent.took ++ outgoing) ×
 WritesAs sent outgoing output.Full = (sent.written ≡ sent.took ++ outgoing) × (sent.lost ≡ false) × (sent.full ≡ true)
 WritesAs sent outgoing output.Lost = StartsWith sent.written sent.took × (sent.lost ≡ true)
 
--- what is known of what came of a peer: what comes of one that was let go is dropped
+-- what is known of what came of a peer: what comes of one that lingers is dropped
 abbrev pub ComesAs : Received → List ℕ → Reading → Stay → Type 0
 ComesAs received incoming state stay.Here = ReadsAs received incoming state
 ComesAs received incoming state (stay.Leaving since) = StartsWith received.gave received.handed
@@ -201,13 +201,13 @@ abbrev pub is_due : Flush → Peer → Bool
 is_due what p = flushes_all what
     || (nat_lt 3160 (length p.outgoing) || (p.asked && (p.cut || (length p.incoming == 0))))
 
--- what is flushed of a peer that stays so, in a turn that flushes `what`: all, if it was let go
+-- what is flushed of a peer that stays so, in a turn that flushes `what`: all, if it lingers
 abbrev pub flush_of : Flush → Stay → Flush
 flush_of what stay.Here = what
 flush_of what (stay.Leaving since) = flush.All
 flush_of what (stay.Shut since) = flush.All
 
--- how it stays behind that, if `outgoing` is still queued: it is shut down once its socket took all, if it was let go
+-- how it stays behind that, if `outgoing` is still queued: it is shut down once its socket took all, if it lingers
 abbrev pub stay_after : Stay → (outgoing : List ℕ) → Writing → Stay
 stay_after stay.Here outgoing state = stay.Here
 stay_after (stay.Leaving since) outgoing state =
@@ -229,7 +229,7 @@ is_here stay.Here = true
 is_here (stay.Leaving since) = false
 is_here (stay.Shut since) = false
 
--- it was let go, and is owed nothing
+-- it lingers, and is owed nothing
 abbrev pub is_shut : Stay → Bool
 is_shut stay.Here = false
 is_shut (stay.Leaving since) = false
@@ -292,7 +292,7 @@ closable_as clock state stay.Here = false
 closable_as clock state (stay.Leaving since) = is_lost state || is_overdue clock since
 closable_as clock state (stay.Shut since) = true
 
--- it was let go, and is owed nothing, or lost, or its time is over
+-- it lingers, and is owed nothing, or lost, or its time is over
 abbrev pub is_closable : (clock : ℕ) → Peer → Bool
 is_closable clock p = closable_as clock p.output p.stay
 
@@ -309,7 +309,7 @@ gone_as clock came state stay.Here = false
 gone_as clock came state (stay.Leaving since) = is_lost state || is_overdue clock since
 gone_as clock came state (stay.Shut since) = is_lost state || (has_ended came || is_overdue clock since)
 
--- nothing is left to do for it: it was let go, and is owed nothing and ended too, or lost, or its time is over
+-- nothing is left to do for it: it lingers, and is owed nothing and ended too, or lost, or its time is over
 abbrev pub is_gone : (clock : ℕ) → Peer → Bool
 is_gone clock p = gone_as clock p.input p.output p.stay
 

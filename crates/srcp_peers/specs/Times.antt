@@ -20,7 +20,7 @@ use Rattle.srcp_peers.specs.Turns.{is_pending, moment_at, tells_end, time_left, 
 
 pub record Times : Type 0 where
   pub turn : Turn  -- the turn, by the calls so far
-  pub clock : ℕ  -- what the clock that is never set showed last; 0 before it is read
+  pub clock : ℕ  -- what the monotonic clock showed last; 0 before it is read
   pub waits : ℕ  -- how often the door waited
   pub exact : Bool  -- each moment was the one that was to be told
   pub punctual : Bool  -- no wait ended past what falls due
@@ -29,7 +29,7 @@ pub record Times : Type 0 where
   pub lines : ℕ → Line  -- the line of each socket that is being handed out
   pub paced : Bool  -- the lines that were handed out weighed no more than might go
   pub single : Bool  -- the end of one peer was told in each turn at most
-  pub heard : Option (Result (Option ℕ) DoorFault)  -- what is to be told of who wants in, if the system was asked since
+  pub heard : Option (Result (Option ℕ) DoorFault)  -- what is to be told of a newcomer, if the system was asked since
   pub honest : Bool  -- what was told of it was that
 
 abbrev pub first_times : (wall start : ℕ) → Times
@@ -78,7 +78,7 @@ told_read t who answer buffer = record t {
   single = t.single && (not (tells_end answer) || t.turn.ends);
 }
 
--- what is to be told of who wants in, if an accept of the system failed
+-- what is to be told of a newcomer, if an accept of the system failed
 abbrev pub refused_newcomer : Refusal → Result (Option ℕ) DoorFault
 refused_newcomer Later = Ok None
 refused_newcomer Again = Ok None

@@ -14,7 +14,7 @@ use Rattle.srcp_peers.specs.declared.readiness.Flush.{Flush}
 use Rattle.srcp_peers.specs.declared.readiness.Flush.TheVariants.{Again, All, Answers}
 use Rattle.srcp_peers.specs.declared.turn.Turn.{Turn}
 
--- the turn that follows nothing, if the wall clock and the one that is never set showed this at the start
+-- the turn that follows nothing, if the wall clock and the monotonic clock showed this at the start
 abbrev pub first_turn : (wall start : ℕ) → Turn
 first_turn wall start = record {
   timekeeper = record { wall = wall; start = start; last = wall };
@@ -81,7 +81,7 @@ after_wait turn = record turn { busy = false }
 
 -- ---- the moment
 
--- the moment that is to be told, if the clock that is never set shows this time: what this stands for, or a step of
+-- the moment that is to be told, if the monotonic clock shows this time: what this stands for, or a step of
 -- 10 milliseconds if something falls due meanwhile; at most 10 minutes are made up in such steps
 abbrev pub moment_at : Turn → (time : ℕ) → ℕ
 moment_at turn time =

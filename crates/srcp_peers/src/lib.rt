@@ -1,14 +1,14 @@
 //! A peer of a door with its socket: what is queued for it, what was read of it, when its socket is written to and
-//! read, when its end may be told, and how it goes on once the core let it go. `peers` has what a turn does with all of
+//! read, when its end may be told, and how it lingers once the core closed it. `peers` has what a turn does with all of
 //! them, `Turn` what a door knows of its turn, and `longest_wait` says how long that may wait.
 //!
 //! `System` is the small trait of system calls. What the list of these calls says of one socket is its account, and
 //! whatever the system answers, a state of a peer means what its account says. The crate makes none of these calls
-//! itself, lets nobody in and closes no socket: `srcp_sockets` does that.
+//! itself, accepts nobody and closes no socket: `srcp_sockets` does that.
 #![tactic(auto)]
 
 mod ending;
-mod leaving;
+mod lingering;
 mod peer;
 pub mod peers;
 mod queue;
@@ -19,11 +19,11 @@ mod turn;
 mod waiting;
 
 pub use ending::Ending;
-pub use leaving::{MOST_LEAVING, count_leaving, first_gone, first_shut};
+pub use lingering::{MOST_LINGERING, count_lingering, first_gone, first_shut};
 pub use peer::{Handed, Peer};
 pub use queue::{MOST_INCOMING, MOST_OUTGOING, Outgoing, Queue, Queues};
 pub use readiness::{Flush, Reading, Writing};
-pub use stay::{PATIENCE, Stay};
+pub use stay::{LINGER, Stay};
 pub use system::{Ready, Refusal, System, refusal_of};
 pub use turn::Turn;
 pub use waiting::{Listening, PAUSE, longest_wait};

@@ -13,7 +13,7 @@ use crate::readiness::Flush;
 use crate::system::{Ready, System};
 use crate::waiting::Listening;
 
-/// Flushes each peer that is there, and goes on with those that were let go.
+/// Flushes each peer that is there, and goes on with those that linger.
 pub fn flush<S: System>(system: &mut S, peers: &mut [Peer], what: Flush)
     requires kept { AreKept (S.told system.old) peers.old }
     requires apart { AreApart peers.old }

@@ -1,22 +1,21 @@
-//! Whether a peer is there, and how far it is let go.
+//! Whether a peer is there, or lingers after the core closed it.
 
 ghost use Rattle.std.specs.Prelude.{◌≡◌, true};
 ghost use Rattle.srcp_peers.specs.Accounts.{is_overdue};
 ghost use Rattle.srcp_peers.specs.Peers.{is_here};
 
-/// How long a peer that was let go is kept at most, in milliseconds; and how long what was taken is delivered when the
-/// door ends.
-pub const PATIENCE: u64 = 10_000;
+/// How long a peer lingers at most, in milliseconds. When the door ends it delivers what was taken for as long.
+pub const LINGER: u64 = 10_000;
 
-/// Whether a peer is there, and how far it is let go.
+/// Whether a peer is there, or lingers after the core closed it.
 #[derive(Clone, Copy)]
 pub enum Stay {
     /// It is there.
     Here,
-    /// It was let go when the clock that is never set showed this. Its socket is still to take what is queued.
+    /// The core closed it when the monotonic clock showed this. Its socket is still to take what is queued.
     Leaving { since: u64 },
-    /// It was let go then. Its socket took all, and was told that nothing more is written. What still comes is dropped,
-    /// until it ends.
+    /// The core closed it then. Its socket took all, and was told that nothing more is written. What still comes is
+    /// dropped, until it ends.
     Shut { since: u64 },
 }
 
@@ -33,9 +32,9 @@ impl Stay {
     }
 }
 
-/// Returns whether a peer that was let go then is kept no longer.
+/// Returns whether a peer that the core closed then lingers no longer.
 pub(crate) fn is_overdue(clock: u64, since: u64) -> bool
     ensures { result ≡ is_overdue clock since }
 {
-    PATIENCE <= clock.saturating_sub(since)
+    LINGER <= clock.saturating_sub(since)
 }

@@ -13,7 +13,7 @@ use std::io::ErrorKind;
 pub struct Ready {
     /// The socket.
     pub socket: u32,
-    /// A read may find something, or somebody wants in.
+    /// A read may find something, or a newcomer may be accepted.
     pub readable: bool,
     /// Its input was found to be over, or the socket to have failed: a read has still to tell.
     pub closed: bool,
@@ -51,7 +51,7 @@ pub trait System {
     /// The calls so far, if they are told.
     ghost told: { Self → Option (List Step) } = { λ _. None };
 
-    /// Accepts the next peer that wants in: its socket has that number from then on.
+    /// Accepts the next newcomer: its socket has that number from then on.
     ///
     /// # Errors
     /// Those of the system.
@@ -89,7 +89,7 @@ pub trait System {
         ensures count { result ≤ length ready.new }
         ensures told { Tells (told self.old) (Waits most result ready.new) (told self.new) };
 
-    /// Returns what a clock shows that is never set, in milliseconds, or nothing if it cannot be read.
+    /// Returns what the monotonic clock shows, in milliseconds, or nothing if it cannot be read.
     fn clock(&mut self) -> Option<u64>
         ensures { Tells (told self.old) (Clocks result) (told self.new) };
 
@@ -101,7 +101,7 @@ pub trait System {
     fn told_now(&mut self, answer: Result<u64, DoorFault>)
         ensures { Tells (told self.old) (Told (NowCall answer)) (told self.new) };
 
-    /// Is told who wants in.
+    /// Is told who was accepted.
     fn told_accept(&mut self, answer: Result<Option<u32>, DoorFault>)
         ensures { Tells (told self.old) (Told (AcceptCall answer)) (told self.new) };
 
@@ -113,7 +113,7 @@ pub trait System {
     fn told_write(&mut self, peer: u32, bytes: &[u8], answer: Result<usize, DoorFault>)
         ensures { Tells (told self.old) (Told (WriteCall peer bytes.now answer)) (told self.new) };
 
-    /// Is told that a peer was let go.
+    /// Is told that the core closed a peer.
     fn told_close(&mut self, peer: u32, answer: Result<(), DoorFault>)
         ensures { Tells (told self.old) (Told (CloseCall peer answer)) (told self.new) };
 }

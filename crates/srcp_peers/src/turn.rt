@@ -27,7 +27,7 @@ const EARLIER: u64 = 128;
 pub struct Turn {
     /// The clocks at the start, and the moment that was told last.
     pub timekeeper: Timekeeper,
-    /// What the clock that is never set showed when that moment was told, in milliseconds; 0 before the first.
+    /// What the monotonic clock showed when that moment was told, in milliseconds; 0 before the first.
     pub clock: u64,
     /// The moment at which something falls due next, if anything does.
     pub due: Option<u64>,
@@ -46,7 +46,7 @@ pub struct Turn {
 }
 
 impl Turn {
-    /// Returns the turn that follows nothing, by the wall clock and the clock that is never set, in milliseconds.
+    /// Returns the turn that follows nothing, by the wall clock and the monotonic clock, in milliseconds.
     pub fn first(wall: u64, start: u64) -> Turn
         ensures { result ≡ first_turn wall start }
     {
@@ -129,7 +129,7 @@ impl Turn {
         self.busy = false;
     }
 
-    /// Returns the moment that is to be told, if the clock that is never set shows a time. Moments never go back. After
+    /// Returns the moment that is to be told, if the monotonic clock shows a time. Moments never go back. After
     /// a stall they catch up in steps of 10 milliseconds, from the moment on at which something falls due. From now on
     /// lines may be handed out again, as many as the panels can take, and the end of one peer may be told.
     ///
@@ -153,7 +153,7 @@ impl Turn {
         Ok(moment)
     }
 
-    /// Lets through what may go in a turn; `tick` says whether the clock went on.
+    /// Begins the pace of a turn; `tick` says whether the clock went on.
     fn begin(&mut self, tick: bool)
         ensures { self.new ≡ begun self.old tick }
     {

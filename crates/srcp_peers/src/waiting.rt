@@ -12,26 +12,25 @@ use crate::peer::Peer;
 use crate::system::Refusal;
 use crate::turn::Turn;
 
-/// How long a turn waits at most in milliseconds if a call of the system is to be made again, or a peer that was let
-/// go is kept.
+/// How long a turn waits at most in milliseconds if a call of the system is to be made again, or a peer lingers.
 pub const PAUSE: u64 = 8;
 
 /// How long a turn waits at most for what falls due, in milliseconds: an hour.
 const LONGEST_WAIT: u64 = 3_600_000;
 
-/// Whether somebody may want in.
+/// Whether a newcomer may be accepted.
 #[derive(Clone, Copy)]
 pub enum Listening {
-    /// Somebody may.
+    /// One may.
     Ready,
-    /// Somebody may, but the system refused the one that did.
+    /// One may, but the system refused the last.
     Refused,
-    /// Nobody does, until the listener is found ready.
+    /// None may, until the listener is found ready.
     Quiet,
 }
 
 impl Listening {
-    /// Returns whether nobody wants in.
+    /// Returns whether no newcomer may be accepted.
     pub fn is_quiet(self) -> bool
         ensures { IsTrue result ↔ self ≡ Listening.Quiet }
     {
@@ -53,7 +52,7 @@ impl Listening {
 /// Returns how many milliseconds a turn waits at most; `None` if only a socket ends the wait. While a peer that is
 /// there or the listener may have something, or a panel may have something coming, it does not wait; but if a panel is
 /// so far behind for the second turn that no line may go, it waits until the clock goes on. It waits neither past what
-/// falls due, nor longer than `most` if that is said, nor longer than the pause while a peer is kept that was let go.
+/// falls due, nor longer than `most` if that is said, nor longer than the pause while a peer lingers.
 pub fn longest_wait(
     peers: &[Peer],
     listening: Listening,

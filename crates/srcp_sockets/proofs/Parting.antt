@@ -1,4 +1,4 @@
--- A peer is let go, and its socket is closed.
+-- A peer lingers, and its socket is closed.
 use Rattle.std.proofs.Common.{◌≡◌, ◌∙◌, ℕ, ◌<◌, ◌≤◌, ◌+◌, ◌-◌, Bool, true, false, not, List, length, refl, ap, sym, subst, arith, ⊎_elim}
 use Rattle.std.proofs.Common.{get_or, set, ◌==◌, if◌then◌else◌, Option, Some, Ok, Err, ◌⊎◌, true≢false}
 use Rattle.std.specs.Prelude.{⊤, ◌≢◌, ◌&&◌, ◌||◌, nat_lt, slice_index_or, Result}
@@ -85,7 +85,7 @@ stands_clocked old new peers l last answer tells stands =
     stands_goes (λ socket a. ⊤) old new peers l last (Clocks answer) (clock_goes answer l)
     (λ log is socket. tt) (clocked_all old new peers answer tells stands.kept) tells stands
 
--- ---- one that is let go
+-- ---- one that the core closes
 
 let_go_goes : (number : ℕ) (answer : Result Unit DoorFault) (l : Listening) → Goes (λ socket a. ⊤) (Told (CloseCall number answer)) l
 let_go_goes number answer l = record {
@@ -125,7 +125,7 @@ let_go_goes number answer l = record {
     }
     heard false a h = h
 
--- nobody was there to be let go
+-- nobody was there to be closed
 pub stands_missing : (old new : Option (List Step)) (peers : List Peer) (l : Listening) (last number : ℕ) (answer : Result Unit DoorFault)
     → IsMissing number peers → Tells old (Told (CloseCall number answer)) new → Stands old peers l last → Stands new peers l last
 stands_missing old new peers l last number answer missing tells stands =
@@ -251,7 +251,7 @@ stands_unwritten old new peers l last number bytes fault missing tells stands =
     stands_judged old new peers l last number (WriteCall number bytes (Err fault)) (λ a. not a.watched) (λ socket a. refl)
     (λ a w. ap not w) missing tells stands
 
--- one that was there was let go
+-- one that was there was closed by the core
 pub stands_let_go : (old new : Option (List Step)) (peers : List Peer) (i : ℕ) (p q : Peer) (l : Listening) (last number since : ℕ)
     (answer : Result Unit DoorFault) → i < length peers → get_or peers i p ≡ p → p.number ≡ number → p.stay ≡ stay.Here
     → q ≡ record p { stay = stay.Leaving since } → ((log : List Step) → old ≡ Some log → (account number log).leave.clock ≡ since)
@@ -425,7 +425,7 @@ leaves_one number peers i within same apart = record {
         (cases_lt k i))
         (cases_lt j i)
 
--- the peer at a place was closed, where it may be at that time of the clock that is never set
+-- the peer at a place was closed, where it may be at that time of the monotonic clock
 pub stands_closed_at : (old new : Option (List Step)) (peers : List Peer) (i : ℕ) (p : Peer) (l : Listening) (last clock : ℕ)
     → i < length peers → get_or peers i p ≡ p → is_closable clock (get_or peers i p) ≡ true
     → ((log : List Step) → old ≡ Some log → (account p.number log).leave.clock ≡ clock) → Tells old (Closes p.number) new

@@ -95,7 +95,7 @@ timed_expect old new before after due slack is tells timed =
     (after_call before call) tells
     (λ t h. called t before call h) timed)
 
--- what was told of who wants in
+-- what was told of a newcomer
 accepted : (t : Times) (before : Turn) (answer : Result (Option ℕ) DoorFault) (heard : Option (Result (Option ℕ) DoorFault))
     → is_told heard answer ≡ true → Timed t before
     → Timed (told_accept (record t { heard = heard }) answer) (after_call before (AcceptCall answer))

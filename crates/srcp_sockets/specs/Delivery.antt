@@ -17,8 +17,8 @@ IsAllDelivered told = (log : List Step) → told ≡ Some log → (socket : ℕ)
     → (is_owed (account socket log).sent ≡ false) ⊎ ((account socket log).sent.lost ≡ true)
 
 -- the time of the clock until which is delivered at most, if it showed this: 10 seconds later
-abbrev pub patience_after : (clock : ℕ) → ℕ
-patience_after clock = min (clock + 10000) 18446744073709551615
+abbrev pub linger_end : (clock : ℕ) → ℕ
+linger_end clock = min (clock + 10000) 18446744073709551615
 
 -- a clock that shows that time or a later one, or cannot be read
 abbrev pub is_over : (until : ℕ) → Option ℕ → Bool

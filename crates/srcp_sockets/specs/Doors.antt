@@ -76,7 +76,7 @@ AreRead told = (socket : ℕ) → IsRead told socket
 
 -- ---- what a turn flushes
 
--- if the clock showed `flushed` when it was flushed last: a turn goes on with input that is held until the clock goes on
+-- if the clock showed `flushed` when it was flushed last: a turn goes on with held input until the clock goes on
 abbrev pub flushed_in : Turn → (flushed : ℕ) → List Peer → Flush
 flushed_in turn flushed peers =
     flushing (has_ticked turn flushed) (not (has_ticked turn flushed) && list_any holds_input peers) turn

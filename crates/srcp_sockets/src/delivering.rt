@@ -9,10 +9,10 @@ ghost use Rattle.srcp_peers.specs.Peers.{is_waiting};
 use srcp_peers::peers::{flush, wake};
 use srcp_peers::{Flush, PAUSE, Peer, Ready, System};
 
-/// How often the sockets are waited for at the end, at most.
-const LAST_LOOKS: u32 = 1_000_000;
+/// How often the door waits for the sockets at its end, at most.
+const MOST_LAST_WAITS: u32 = 1_000_000;
 
-/// Writes what is queued until the sockets took all, or until that time of the clock that is never set.
+/// Writes what is queued until the sockets took all, or until that time of the monotonic clock.
 pub(crate) fn deliver<S: System>(
     system: &mut S,
     peers: &mut [Peer],
@@ -27,7 +27,7 @@ pub(crate) fn deliver<S: System>(
     ensures all { AreStanding (S.told system.old) peers.old → HasEnded until (S.told system.old) (S.told system.new) }
     ensures offered { AreOffered Flush.All peers.old (S.told system.old) (S.told system.new) }
 {
-    for _look in 0..LAST_LOOKS {
+    for _look in 0..MOST_LAST_WAITS {
         flush(system, peers, Flush::All);
         if are_delivered(peers) {
             return;

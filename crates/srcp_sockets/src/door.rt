@@ -5,13 +5,14 @@ ghost use Rattle.srcp_serve.specs.Calls.{one_more};
 ghost use Rattle.srcp_peers.specs.Turns.{first_turn};
 
 use crate::sockets::Sockets;
-use srcp_peers::{Ready, System, Turn};
+use srcp_core::MOST_CONNECTIONS;
+use srcp_peers::{MOST_LINGERING, Ready, System, Turn};
 use srcp_serve::{Door, DoorFault, Got};
 use std::alloc::{AllocError, Global};
 use std::vec::Vec;
 
-/// How many peers there are at most: the 64 that the core seats, one that it turns away, and 64 that were let go.
-const MOST_PEERS: usize = 129;
+/// How many peers there are at most: the 64 that the core seats, one that it turns away, and 64 that linger.
+const MOST_PEERS: usize = MOST_CONNECTIONS + 1 + MOST_LINGERING;
 
 /// How many sockets may be found ready at once.
 pub(crate) const MOST_READY: usize = 128;
@@ -26,7 +27,7 @@ pub struct SocketDoor<S: System + Drop> {
 
 impl<S: System + Drop> SocketDoor<S> {
     /// Opens a door over a system that told nothing. Its moments begin with the wall clock at the start, and go on with
-    /// the clock that is never set, which showed `start` then; both in milliseconds.
+    /// the monotonic clock, which showed `start` then; both in milliseconds.
     ///
     /// # Errors
     /// If memory is refused.

@@ -87,7 +87,7 @@ pub fn waits_are_safe<S: System + Drop>(door: &SocketDoor<S>)
     let _sockets = &door.sockets;
 }
 
-/// A socket was shut down and closed once at most, after the core let its peer go. It was shut down when all that was
+/// A socket was shut down and closed once at most, after the core closed its peer. It was shut down when all that was
 /// taken for it was taken by the socket. It was closed when that was so and it was shut down, or a write had found that
 /// it takes no more, or 10 seconds were over by the clock that was read. A socket that was accepted and is not closed
 /// has a peer.
@@ -114,7 +114,7 @@ pub fn times_are_kept<S: System + Drop>(door: &SocketDoor<S>)
     let _sockets = &door.sockets;
 }
 
-/// What was told of who wants in was what the system had said: its number if the system accepted a peer under that, a
+/// What was told of a newcomer was what the system had said: its number if the system accepted a peer under that, a
 /// fault if it failed, and nobody if it found nobody or was interrupted. If the system was not asked, it was nobody; or
 /// a fault, since memory or the numbers ran out.
 pub fn newcomers_are_true<S: System + Drop>(door: &SocketDoor<S>)

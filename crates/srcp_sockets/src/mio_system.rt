@@ -17,8 +17,8 @@ use std::vec::Vec;
 /// The listener's token; a socket's is its number.
 const LISTENER: Token = Token(0);
 
-/// How long a wait rests that fails, in milliseconds.
-const REST: u64 = 8;
+/// How long it sleeps after a wait that failed, in milliseconds.
+const FAILED_WAIT: u64 = 8;
 
 /// A socket with its number.
 #[derive(Drop)]
@@ -168,7 +168,7 @@ impl<C: Clock + Drop> System for MioSystem<C> {
             .poll
             .poll(&mut self.events, most.map(Duration::from_millis));
         if waited.is_err() || self.events.is_empty() && self.ends_early(most) {
-            self.clock.sleep(Duration::from_millis(REST));
+            self.clock.sleep(Duration::from_millis(FAILED_WAIT));
             return 0;
         }
         let mut count = 0;

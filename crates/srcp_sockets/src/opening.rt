@@ -13,7 +13,7 @@ use std::time::{Clock, Duration};
 
 impl<C: Clock + Drop> SocketDoor<MioSystem<C>> {
     /// Opens a door at the port, at 127.0.0.1. Its moments begin with the wall clock as it stands now, and go on with
-    /// the clock that is never set. A clock that cannot be read, or stands before its zero, counts as 0.
+    /// the monotonic clock. A clock that cannot be read, or stands before its zero, counts as 0.
     ///
     /// # Errors
     /// Fails with `Port` if the port is taken or refused, or the system has no descriptors for it, and with `Memory` if

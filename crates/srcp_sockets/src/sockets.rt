@@ -3,7 +3,7 @@
 ghost use Rattle.std.specs.Prelude.{not, All, false, true, ◌≡◌, ◌<◌, ◌≤◌, ◌-◌, ◌&&◌, ℕ, ◌⊎◌, Some, None, Ok, Err};
 ghost use Rattle.std.specs.Prelude.{IfErr, IfNone, IfOk, IfSome, [], length, slice_index_or};
 ghost use Rattle.srcp_peers.specs.declared.peer.Peer.{Peer};
-ghost use Rattle.srcp_sockets.specs.Delivery.{HasEnded, patience_after};
+ghost use Rattle.srcp_sockets.specs.Delivery.{HasEnded, linger_end};
 ghost use Rattle.srcp_sockets.specs.Facts.{Stands-prop};
 ghost use Rattle.std.specs.List.{list_any};
 ghost use Rattle.srcp_sockets.specs.Names.{IsNamed, IsNamed-prop};
@@ -22,14 +22,14 @@ mod newcomers;
 use crate::delivering::deliver;
 use srcp_peers::peers::{begin_visits, flush, listen, wake};
 use srcp_peers::{
-    Flush, Listening, MOST_LEAVING, PATIENCE, Peer, Queues, Ready, System, Turn, first_gone,
+    Flush, LINGER, Listening, MOST_LINGERING, Peer, Queues, Ready, System, Turn, first_gone,
     longest_wait,
 };
 use srcp_serve::{DoorFault, Got, MOST_WRITES};
 use std::alloc::{AllocError, Global};
 use std::vec::Vec;
 
-/// The system's sockets, with their peers. Only `deliver` lets them go: they are not `Drop`.
+/// The system's sockets, with their peers. Only `deliver` drops them: they are not `Drop`.
 pub(crate) struct Sockets<S: System + Drop> {
     pub system: S,
     pub peers: Vec<Peer>,
@@ -47,7 +47,7 @@ pub(crate) struct Sockets<S: System + Drop> {
     refused: bool,
     // The queues that were taken for a newcomer who did not come: the next one has them.
     spare: Option<Queues>,
-    ghost stands: { Stands (S.told system) peers.items listening last } by { Stands-prop (S.told system) peers.items listening last },
+    ghost stands: { Stands (S.told system) peers.items listening last } by { Stands-prop _ _ _ _ },
     ghost named: { IsNamed (S.told system) last } by { IsNamed-prop (S.told system) last },
     ghost timed: { IsTimed (S.told system) turn } by { IsTimed-prop (S.told system) turn },
 }
@@ -68,7 +68,7 @@ impl<S: System + Drop> Sockets<S> {
         self.most = Some(milliseconds);
     }
 
-    /// Begins a turn: goes on with those that were let go, flushes the peers, waits, and begins their visits. All that
+    /// Begins a turn: goes on with those that linger, flushes the peers, waits, and begins their visits. All that
     /// is queued is flushed once the clock went on, or before a wait. Until then the system is not asked who is ready
     /// while input is held.
     pub(crate) fn begin_turn(&mut self, ready: &mut [Ready])
@@ -143,7 +143,7 @@ impl<S: System + Drop> Sockets<S> {
         self.wait(ready);
     }
 
-    /// Flushes each peer that is there, and goes on with those that were let go.
+    /// Flushes each peer that is there, and goes on with those that linger.
     fn flush(&mut self, what: Flush)
         ensures calls { SaysNothing (S.told self.old.system) (S.told self.new.system) }
         ensures offered { AreOffered what self.old.peers.items (S.told self.old.system) (S.told self.new.system) }
@@ -187,7 +187,7 @@ impl<S: System + Drop> Sockets<S> {
 
     /// Delivers what was taken, for 10 seconds at most, and returns the system.
     pub(crate) fn deliver(self, ready: &mut [Ready]) -> S
-        ensures ended { HasEnded (patience_after self.turn.clock) (S.told self.system) (S.told result) }
+        ensures ended { HasEnded (linger_end self.turn.clock) (S.told self.system) (S.told result) }
         ensures offered { AreOffered Flush.All self.peers.items (S.told self.system) (S.told result) }
     {
         let Sockets {
@@ -202,7 +202,7 @@ impl<S: System + Drop> Sockets<S> {
             refused: _,
             spare: _,
         } = self;
-        let until = turn.clock.saturating_add(PATIENCE);
+        let until = turn.clock.saturating_add(LINGER);
         deliver(&mut system, peers.as_mut_slice(), until, ready);
         system
     }
@@ -235,7 +235,7 @@ impl<S: System + Drop> Sockets<S> {
         })
     }
 
-    /// Lets a peer go. It is kept until its socket took what is queued and its input ended, 10 seconds at most.
+    /// Closes a peer. It lingers until its socket took what is queued and its input ended, 10 seconds at most.
     pub(crate) fn close(&mut self, number: u32) -> Result<(), DoorFault>
         ensures told { SaysOne (S.told self.old.system) (CloseCall number result) (S.told self.new.system) }
         ensures fault { IfErr result (λ fault. fault ≡ DoorFault.Close) }
@@ -245,18 +245,18 @@ impl<S: System + Drop> Sockets<S> {
             self.turn.note_close();
             return Err(DoorFault::Close);
         };
-        self.peers[place].let_go(self.turn.clock);
+        self.peers[place].linger(self.turn.clock);
         self.system.told_close(number, Ok(()));
         self.turn.note_close();
         Ok(())
     }
 
-    /// Closes the peers that were let go and for which nothing is left to do.
+    /// Closes the sockets of the lingering peers for which nothing is left to do.
     fn close_gone(&mut self)
         ensures calls { SaysNothing (S.told self.old.system) (S.told self.new.system) }
         ensures last { self.new.last ≡ self.old.last }
     {
-        for _ in 0..MOST_LEAVING {
+        for _ in 0..MOST_LINGERING {
             let Some(place) = first_gone(self.peers.as_slice(), self.turn.clock) else {
                 return;
             };

@@ -1,4 +1,4 @@
-//! How a newcomer is let in.
+//! How a newcomer is accepted.
 
 ghost use Rattle.std.specs.Prelude.{false, true, ◌≡◌, ◌<◌, ◌+◌, ◌⊎◌, None, Ok, Err, IfErr, length, vec_capacity};
 ghost use Rattle.std.specs.Prelude.{◌||◌, filter, nat_le, not};
@@ -9,21 +9,22 @@ ghost use Rattle.srcp_peers.specs.Steps.{SaysNothing, SaysOne};
 
 use super::Sockets;
 use srcp_peers::{
-    Listening, MOST_LEAVING, Peer, Queues, Refusal, System, count_leaving, first_shut, refusal_of,
+    Listening, MOST_LINGERING, Peer, Queues, Refusal, System, count_lingering, first_shut,
+    refusal_of,
 };
 use srcp_serve::DoorFault;
 use std::alloc::{AllocError, Global};
 
 impl<S: System + Drop> Sockets<S> {
-    /// Lets in the next peer that wants in, if one does. Its number is above those of all peers before it.
+    /// Accepts the next newcomer, if there is one. Its number is above those of all peers before it.
     ///
     /// # Errors
-    /// `Accept` if the system failed to let it in, or if memory or the numbers ran out.
+    /// `Accept` if the system failed to accept it, or if memory or the numbers ran out.
     pub(crate) fn accept(&mut self, alloc: Global) -> Result<Option<u32>, DoorFault>
         ensures told { SaysOne (S.told self.old.system) (AcceptCall result) (S.told self.new.system) }
         ensures fault { IfErr result (λ fault. fault ≡ DoorFault.Accept) }
     {
-        if !self.may_let_in() {
+        if !self.may_accept() {
             return self.tell_nobody(Ok(None));
         }
         let Some(number) = self.last.checked_add(1) else {
@@ -32,12 +33,11 @@ impl<S: System + Drop> Sockets<S> {
         let Ok(queues) = spare_or_new(&mut self.spare, alloc) else {
             return self.tell_nobody(Err(DoorFault::Accept));
         };
-        self.let_in(number, queues)
+        self.accept_next(number, queues)
     }
 
-    /// Returns whether the next peer that wants in may be let in now. If too many are kept that were let go, one of
-    /// them is closed first.
-    fn may_let_in(&mut self) -> bool
+    /// Returns whether the next newcomer may be accepted now. If too many linger, one of them is closed first.
+    fn may_accept(&mut self) -> bool
         ensures calls { SaysNothing (S.told self.old.system) (S.told self.new.system) }
         ensures room { result ≡ true → length self.new.peers.items < vec_capacity self.new.peers }
     {
@@ -65,8 +65,8 @@ impl<S: System + Drop> Sockets<S> {
         answer
     }
 
-    /// Lets in the next peer that wants in, under that number, if one does.
-    fn let_in(&mut self, number: u32, queues: Queues) -> Result<Option<u32>, DoorFault>
+    /// Accepts the next newcomer under that number, if there is one.
+    fn accept_next(&mut self, number: u32, queues: Queues) -> Result<Option<u32>, DoorFault>
         requires next { number ≡ self.old.last + 1 }
         requires room { length self.old.peers.items < vec_capacity self.old.peers }
         ensures told { SaysOne (S.told self.old.system) (AcceptCall result) (S.told self.new.system) }
@@ -92,17 +92,17 @@ impl<S: System + Drop> Sockets<S> {
         }
     }
 
-    /// Returns whether one that was let go has to be closed before anybody is let in.
+    /// Returns whether one that lingers has to be closed before a newcomer is accepted.
     fn is_crowded(&self) -> bool
         ensures is { result ≡ (nat_le (vec_capacity self.now.peers) (length self.now.peers.items)
-            || nat_le MOST_LEAVING (length (filter (λ peer. not (is_here peer.stay)) self.now.peers.items))) }
+            || nat_le MOST_LINGERING (length (filter (λ peer. not (is_here peer.stay)) self.now.peers.items))) }
         ensures room { result ≡ false → length self.now.peers.items < vec_capacity self.now.peers }
     {
         self.peers.len() >= self.peers.capacity()
-            || count_leaving(self.peers.as_slice()) >= MOST_LEAVING
+            || count_lingering(self.peers.as_slice()) >= MOST_LINGERING
     }
 
-    /// Closes the first peer that was let go and is owed nothing. If there is none, nobody is let in until one is
+    /// Closes the first peer that lingers and is owed nothing. If there is none, no newcomer is accepted until one is
     /// closed.
     fn make_room(&mut self)
         ensures calls { SaysNothing (S.told self.old.system) (S.told self.new.system) }
@@ -123,7 +123,7 @@ fn spare_or_new(spare: &mut Option<Queues>, alloc: Global) -> Result<Queues, All
     }
 }
 
-/// Returns what is told of who wants in after an accept that failed.
+/// Returns what is told of a newcomer after an accept that failed.
 fn nobody(said: Refusal) -> Result<Option<u32>, DoorFault>
     ensures told { result ≡ refused_newcomer said }
     ensures fault { IfErr result (λ fault. fault ≡ DoorFault.Accept) }

@@ -1,4 +1,4 @@
-//! What becomes of a peer that was let go: its socket is written what is queued, is shut down behind that, and is read
+//! How a peer lingers that the core closed: its socket is written what is queued, is shut down behind that, and is read
 //! until its input ends. A socket that is closed with input in it would reset the connection, and the peer would
 //! lose what it did not read.
 
@@ -15,21 +15,21 @@ use crate::readiness::Flush;
 use crate::stay::{Stay, is_overdue};
 use crate::system::System;
 
-/// How often the socket of a peer that was let go is read in a turn: what still comes is dropped as fast as it comes.
+/// How often the socket of a lingering peer is read in a turn: what still comes is dropped as fast as it comes.
 const MOST_DRAINED: u32 = 64;
 
-/// How many peers that were let go are kept before one goes for a newcomer.
-pub const MOST_LEAVING: usize = 64;
+/// How many peers linger before one is closed for a newcomer.
+pub const MOST_LINGERING: usize = 64;
 
 impl Peer {
-    /// Lets it go, at that time of the clock that is never set.
-    pub fn let_go(&mut self, since: u64)
+    /// Notes that the core closed it, at that time of the monotonic clock.
+    pub fn linger(&mut self, since: u64)
         ensures { self.new ≡ record self.old { stay = Stay.Leaving since } }
     {
         self.stay = Stay::Leaving { since };
     }
 
-    /// Flushes a peer that is there, and goes on with one that was let go.
+    /// Flushes a peer that is there, and goes on with one that lingers.
     #[inline(always)]
     pub(crate) fn hand_over<S: System>(&mut self, system: &mut S, what: Flush)
         requires { IsKept (S.told system.old) self.old }
@@ -48,7 +48,7 @@ impl Peer {
         }
     }
 
-    /// Goes on with a peer that was let go.
+    /// Goes on with a peer that lingers.
     #[inline(never)]
     fn part<S: System>(&mut self, system: &mut S)
         requires { IsKept (S.told system.old) self.old }
@@ -159,7 +159,7 @@ impl Peer {
         }
     }
 
-    /// Returns whether it was let go and is owed nothing.
+    /// Returns whether it lingers and is owed nothing.
     fn is_shut(&self) -> bool
         ensures is { result ≡ is_shut self.now.stay }
         ensures closable { (clock : ℕ) → result ≡ true → is_closable clock self.now ≡ true }
@@ -171,14 +171,14 @@ impl Peer {
     }
 }
 
-/// Returns how many were let go.
-pub fn count_leaving(peers: &[Peer]) -> usize
+/// Returns how many linger.
+pub fn count_lingering(peers: &[Peer]) -> usize
     ensures { result ≡ length (filter (λ peer. not (is_here peer.stay)) peers.now) }
 {
     peers.iter().filter(|peer| !peer.stay.is_here()).count()
 }
 
-/// Returns the index of the first peer for which nothing is left to do, at that time of the clock that is never set.
+/// Returns the index of the first peer for which nothing is left to do, at that time of the monotonic clock.
 pub fn first_gone(peers: &[Peer], clock: u64) -> Option<usize>
     ensures first { result ≡ position (is_gone clock) peers.now }
     ensures gone { IfSome result (λ place. (d : Peer) → is_gone clock (slice_index_or peers.now place d) ≡ true) }
@@ -188,7 +188,7 @@ pub fn first_gone(peers: &[Peer], clock: u64) -> Option<usize>
     peers.iter().position(|peer| peer.is_gone(clock))
 }
 
-/// Returns the index of the first peer that was let go and is owed nothing.
+/// Returns the index of the first peer that lingers and is owed nothing.
 pub fn first_shut(peers: &[Peer]) -> Option<usize>
     ensures first { result ≡ position (λ peer. is_shut peer.stay) peers.now }
     ensures closable { IfSome result (λ place. (place < length peers.now)

@@ -15,7 +15,7 @@ use Rattle.srcp_sockets.proofs.Naming.{named_call, named_come, named_silent, nob
 use Rattle.srcp_sockets.proofs.Coming.{stands_came, stands_refused}
 use Rattle.srcp_sockets.proofs.Standing.{stands_told}
 use Rattle.srcp_sockets.proofs.Timing.{timed_asked}
-use Rattle.srcp_sockets.proofs.sockets.Sockets.let_in.Goals as goal
+use Rattle.srcp_sockets.proofs.sockets.Sockets.accept_next.Goals as goal
 
 pub invariant_of-self : goal.invariant_of-self
 invariant_of-self g c =
