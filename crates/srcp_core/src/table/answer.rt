@@ -131,12 +131,7 @@ impl<'a, R: Rows> Core<'a, R> {
 
     /// Answers a line of a command session.
     #[inline(always)]
-    fn command(
-        &mut self,
-        conn: usize,
-        session: u32,
-        command: &Result<Command, Code>,
-    ) -> LineRecord
+    fn command(&mut self, conn: usize, session: u32, command: &Result<Command, Code>) -> LineRecord
         requires session { IsSessionAt session conn self.old }
         requires row { is_there (session_device session) self.old.rows ≡ true }
         requires command { IfOk command.now (IsCommandOf self.old.buses) }
