@@ -2,17 +2,13 @@
 use Rattle.std.proofs.Common.{◌≡◌, ℕ, zero, suc, inl, inr, ◌⊎◌, ⊎_elim, ◌+◌, ◌-◌, ◌<◌, ◌≤◌, min, Bool, true, false, List, [], ◌∷◌, ◌++◌}
 use Rattle.std.proofs.Common.{length, drop, refl, ap, sym, ◌∙◌, arith, append_assoc, length-append, length-drop}
 use Rattle.std.proofs.lemmas.Bool.{leb-false, leb-true, lt-ltb, ltb-true, ltb-false}
-use Rattle.std.proofs.lemmas.List.{map-append, drop-append-le, drop-drop, drop_at, drop_all}
+use Rattle.std.proofs.lemmas.List.{map-append, drop-append-le, drop-drop, drop_all}
 use Rattle.std.proofs.lemmas.List.Concat.{flat_map-append}
 use Rattle.std.proofs.Math.Bool.{or-false}
 use Rattle.std.specs.List.{flat_map}
 use Rattle.std.specs.Option.{option_or}
 use Rattle.std.specs.Prelude.{nat_le, nat_lt, ◌||◌, Option, Some, None, ◌==◌, ◌&&◌, if◌then◌else◌}
 use Rattle.srcp_feed.specs.declared.next.Next.{Next}
-use Rattle.srcp_grammar.specs.declared.layout.Bus.{Bus}
-use Rattle.srcp_text.specs.Marks.{marks, rest as begun}
-use Rattle.srcp_text.proofs.MarkLaws.{marks-append}
-use Rattle.srcp_core.specs.Course.{new_marks}
 use Rattle.srcp_core.specs.Connection.{Connection, line_of, front, fitting, is_nil, items_of, available, exhausts, given, unsent, text}
 use Rattle.srcp_core.specs.Connection.{took}
 use Rattle.srcp_core.proofs.CourseLaws.RoomGivesWhatIsOwed.{text_items, front_short, front_none, pos-eqb}

@@ -15,7 +15,7 @@ use Rattle.srcp_core.specs.Handshake.{greets}
 use Rattle.srcp_core.specs.Held.{Place, Held, IsSound, at}
 use Rattle.srcp_core.specs.Machine.{asked_of, heard_from, heard, heard_in, heard_at, longest_answer, unsent_of, unsent_at, line_begun_of}
 use Rattle.srcp_core.specs.Machine.{line_begun_at, answered, line_answered, lines_answered, steps_answered, steps_of_line, steps_in}
-use Rattle.srcp_core.specs.Machine.{HasRoom, IsAsked, IsLineAnswered, CountsEach, IsReceived, is_panel}
+use Rattle.srcp_core.specs.Machine.{HasRoom, IsAsked, IsLineAnswered, CountsEach, is_panel}
 use Rattle.srcp_core.specs.Under.{denied_by}
 use Rattle.srcp_core.specs.declared.line.LineRecord.{LineRecord}
 use Rattle.srcp_core.specs.declared.line.Asked.{Asked}

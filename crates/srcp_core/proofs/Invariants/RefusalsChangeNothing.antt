@@ -1,6 +1,6 @@
 -- What a refusal leaves, and what it says of a command that was obeyed.
 use Rattle.std.proofs.Common.{◌≡◌, ◌≢◌, ℕ, Bool, true, false, cond, List, [], refl, ap, sym, ◌∙◌, inl, inr}
-use Rattle.std.specs.Prelude.{Option, Some, None, Result, Ok, Err, ◌==◌, ◌&&◌}
+use Rattle.std.specs.Prelude.{Option, Some, None, Result, Ok, Err, ◌==◌}
 use Rattle.srcp_info.specs.declared.change.Code.{Code}
 use Rattle.srcp_info.specs.declared.change.Code.TheVariants.{C414, C415, C416, C418, C500}
 use Rattle.srcp_info.specs.declared.change.Reply.TheVariants.{Accepted, Refused}
@@ -14,7 +14,6 @@ use Rattle.srcp_rules.specs.declared.obeyed.Obeyed.{Obeyed}
 use Rattle.srcp_rules.specs.Effect.{Effect, effect, refused, accepted, showing, done, checked, term_session, set_gl, set_ga, set_lock}
 use Rattle.srcp_rules.specs.Obeyed.{IsObeyed, Took}
 use Rattle.srcp_rules.specs.State.{State, Update, updated_all}
-use Rattle.srcp_core.specs.Under.{is_accepted, wants_memory}
 
 -- a refusal changes nothing
 abbrev ChangesNothing : (code : Code) → Effect → Type 0
