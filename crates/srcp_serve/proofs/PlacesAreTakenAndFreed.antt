@@ -21,8 +21,8 @@ use Rattle.srcp_serve.specs.declared.serving.visit.Seat.{Seat as Own}
 use Rattle.srcp_serve.proofs.VisitsAreSeenAgain.{AreApart, one_visit}
 
 -- the slots stay, and the core goes on to the course of these events
-pub hosts_on : (buses : List Bus) (stand : Stand) (events : List Event) (keys : List (Option ℕ)) (old held : Held) (owns : List (Option Own))
-    → IsHosting buses stand keys old owns → StandsFor buses keys held (course buses events)
+pub hosts_on : (buses : List Bus) (stand : Stand) (events : List Event) (keys : List (Option ℕ)) (old held : Held)
+    (owns : List (Option Own)) → IsHosting buses stand keys old owns → StandsFor buses keys held (course buses events)
     → IsHosting buses (record stand { events = events }) keys held owns
 hosts_on buses stand events keys old held owns h stands = record {
   layout = h.layout;

@@ -12,7 +12,8 @@ use Rattle.srcp_core.proofs.table.Core.end.Goals as goal
 pub free_all-requires-clause-panels : goal.free_all-requires-clause-panels
 free_all-requires-clause-panels g c =
     let there = sym c.get_mut.ensures.value ∙ ap option_copied_mut c.in-Some.is in
-    c.as_slice.ensures.value ∙ c.self.invariant.3 ∙ sym (panels_set _ c.args.conn _ c.end.new.self there (ap (λ (p : Place). is_panel p.panel) c.end.ensures))
+    c.as_slice.ensures.value ∙ c.self.invariant.3
+    ∙ sym (panels_set _ c.args.conn _ c.end.new.self there (ap (λ (p : Place). is_panel p.panel) c.end.ensures))
 
 pub invariant_of-self-2 : goal.invariant_of-self-2
 invariant_of-self-2 g c =

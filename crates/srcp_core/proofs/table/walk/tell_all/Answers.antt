@@ -25,7 +25,8 @@ loop-key-preserved c =
         | in-Some w ↦
             let there = sym c.get_mut.ensures.value ∙ ap option_copied_mut w.in-Some.is in
             ap (λ (s : Slab Place). s.slots) w.connections-is
-            ∙ set_as _ _ (told_place change) _ _ there (w.tell.ensures ∙ ap (λ (c : Change). told_place c w.in-Some.connection.now) c.new-told.ensures)
+            ∙ set_as _ _ (told_place change) _ _ there
+            (w.tell.ensures ∙ ap (λ (c : Change). told_place c w.in-Some.connection.now) c.new-told.ensures)
             ∙ ap (λ slots. told_key change slots (get_or c.args.panels.now c.loop-key.key-index 0)) c.loop-key.invariant.slots ∙ sym more
         | in_default w ↦
             let none = sym c.get_mut.ensures.value ∙ ap option_copied_mut w.in_default.is in
