@@ -15,31 +15,21 @@ pub(crate) fn parse_functions(mut words: Words<'_>) -> Result<Result<Bits, Code>
     ensures { result ≡ (if nat_lt MOST_FUNCTIONS (length words.entry) then Err TooLong else Ok (bits_of words.entry)) }
 {
     let mut functions = Bits::new();
-    while let Some(read) = parse_next_function(&mut words) {
+    while functions.len() < Bits::CAPACITY
+        && let Some(bit) = words.next_bit()
+    {
+        functions.push(bit);
+    }
+    while let Some(word) = words.next() {
         if functions.len() == Bits::CAPACITY {
             return Err(Code::TOO_LONG);
         }
-        match read {
+        match parse_bit(word) {
             Ok(bit) => functions.push(bit),
             Err(code) => return refused(functions.len(), words, code),
         }
     }
     Ok(Ok(functions))
-}
-
-/// Reads the next function. Returns `None` if no word is left.
-#[inline(always)]
-fn parse_next_function(words: &mut Words<'_>) -> Option<Result<bool, Code>>
-    ensures { MatchOption result (words.old ≡ [])
-        (λ read. (word : List ℕ) × (words.old ≡ word ∷ words.new) × (read ≡ bit_of word)) }
-{
-    if let Some(bit) = words.next_bit() {
-        return Some(Ok(bit));
-    }
-    match words.next() {
-        Some(word) => Some(parse_bit(word)),
-        None => None,
-    }
 }
 
 /// Refuses a function that is neither 0 nor 1 behind `before` others. With those that follow they may be too many,

@@ -15,7 +15,7 @@ use crate::word_count::no_more;
 use srcp_info::Code;
 use srcp_text::Words;
 
-fn parse_session_command(operation: Operation, words: Words<'_>) -> Result<Command, Code>
+pub(crate) fn parse_session_command(operation: Operation, words: Words<'_>) -> Result<Command, Code>
     ensures { (bus : Bus) → result ≡ asked operation named.Session bus words.entry }
 {
     match operation {
@@ -25,7 +25,11 @@ fn parse_session_command(operation: Operation, words: Words<'_>) -> Result<Comma
     }
 }
 
-fn parse_power_command(operation: Operation, bus: &Bus, words: Words<'_>) -> Result<Command, Code>
+pub(crate) fn parse_power_command(
+    operation: Operation,
+    bus: &Bus,
+    words: Words<'_>,
+) -> Result<Command, Code>
     ensures { result ≡ asked operation named.Power bus.now words.entry }
 {
     let number = bus.number;
@@ -41,7 +45,11 @@ fn parse_power_command(operation: Operation, bus: &Bus, words: Words<'_>) -> Res
     }
 }
 
-fn parse_gl_command(operation: Operation, bus: &Bus, words: Words<'_>) -> Result<Command, Code>
+pub(crate) fn parse_gl_command(
+    operation: Operation,
+    bus: &Bus,
+    words: Words<'_>,
+) -> Result<Command, Code>
     ensures { result ≡ asked operation named.Gl bus.now words.entry }
 {
     let number = bus.number;
@@ -61,7 +69,11 @@ fn parse_gl_command(operation: Operation, bus: &Bus, words: Words<'_>) -> Result
     }
 }
 
-fn parse_ga_command(operation: Operation, bus: &Bus, words: Words<'_>) -> Result<Command, Code>
+pub(crate) fn parse_ga_command(
+    operation: Operation,
+    bus: &Bus,
+    words: Words<'_>,
+) -> Result<Command, Code>
     ensures { result ≡ asked operation named.Ga bus.now words.entry }
 {
     let number = bus.number;
@@ -78,7 +90,11 @@ fn parse_ga_command(operation: Operation, bus: &Bus, words: Words<'_>) -> Result
     }
 }
 
-fn parse_fb_command(operation: Operation, bus: &Bus, words: Words<'_>) -> Result<Command, Code>
+pub(crate) fn parse_fb_command(
+    operation: Operation,
+    bus: &Bus,
+    words: Words<'_>,
+) -> Result<Command, Code>
     ensures { result ≡ asked operation named.Fb bus.now words.entry }
 {
     let number = bus.number;
@@ -94,7 +110,11 @@ fn parse_fb_command(operation: Operation, bus: &Bus, words: Words<'_>) -> Result
     }
 }
 
-fn parse_lock_command(operation: Operation, bus: &Bus, words: Words<'_>) -> Result<Command, Code>
+pub(crate) fn parse_lock_command(
+    operation: Operation,
+    bus: &Bus,
+    words: Words<'_>,
+) -> Result<Command, Code>
     ensures { result ≡ asked operation named.Lock bus.now words.entry }
 {
     match operation {
@@ -117,25 +137,5 @@ fn parse_lock_command(operation: Operation, bus: &Bus, words: Words<'_>) -> Resu
             })
         }
         _ => Err(Code::UNSUPPORTED_OPERATION),
-    }
-}
-
-/// Reads the words of a command of that operation and group.
-#[inline(always)]
-pub(crate) fn parse_group_command(
-    operation: Operation,
-    group: Named,
-    bus: &Bus,
-    words: Words<'_>,
-) -> Result<Command, Code>
-    ensures { result ≡ asked operation group bus.now words.entry }
-{
-    match group {
-        Named::Session => parse_session_command(operation, words),
-        Named::Power => parse_power_command(operation, bus, words),
-        Named::Gl => parse_gl_command(operation, bus, words),
-        Named::Ga => parse_ga_command(operation, bus, words),
-        Named::Fb => parse_fb_command(operation, bus, words),
-        Named::Lock => parse_lock_command(operation, bus, words),
     }
 }

@@ -9,9 +9,12 @@ ghost use Rattle.srcp_grammar.specs.Grammar.{commanded, directed, reads};
 ghost use Rattle.srcp_grammar.specs.Layout.{bus_at};
 
 use crate::buses::{bus_at, has_group};
-use crate::command::{Command, Operation};
+use crate::command::{Command, Named};
 use crate::layout::{Bus, Layout};
-use crate::operations::parse_group_command;
+use crate::operations::{
+    parse_fb_command, parse_ga_command, parse_gl_command, parse_lock_command, parse_power_command,
+    parse_session_command,
+};
 use crate::single_words::{parse_group, parse_operation};
 use crate::word_count::next_word;
 use srcp_info::{Code, GREATEST_BUS};
@@ -30,32 +33,29 @@ fn parse_bus(buses: &[Bus], word: &[u8]) -> Result<Bus, Code>
     }
 }
 
-/// Reads the bus, then the group, which has to be on it, and what the operation asks for.
-fn parse_directed(
-    buses: &[Bus],
-    operation: Operation,
-    mut words: Words<'_>,
-) -> Result<Command, Code>
-    ensures { result ≡ directed buses.now operation words.entry }
-{
-    let first = next_word(&mut words)?;
-    let second = next_word(&mut words)?;
-    let bus = parse_bus(buses, first)?;
-    let group = parse_group(second)?;
-    if !has_group(&bus, group) {
-        return Err(Code::UNSUPPORTED_DEVICE_GROUP);
-    }
-    parse_group_command(operation, group, &bus, words)
-}
-
-/// Reads the operation, then what it is directed at.
+/// Reads the operation, the bus and the group, which has to be on it, and what the operation asks for.
 fn parse_words(buses: &[Bus], mut words: Words<'_>) -> Result<Command, Code>
     ensures { result ≡ commanded buses.now words.entry }
 {
     let Some(first) = words.next() else {
         return Err(Code::UNKNOWN_COMMAND);
     };
-    parse_directed(buses, parse_operation(first)?, words)
+    let operation = parse_operation(first)?;
+    let second = next_word(&mut words)?;
+    let third = next_word(&mut words)?;
+    let bus = parse_bus(buses, second)?;
+    let group = parse_group(third)?;
+    if !has_group(&bus, group) {
+        return Err(Code::UNSUPPORTED_DEVICE_GROUP);
+    }
+    match group {
+        Named::Session => parse_session_command(operation, words),
+        Named::Power => parse_power_command(operation, &bus, words),
+        Named::Gl => parse_gl_command(operation, &bus, words),
+        Named::Ga => parse_ga_command(operation, &bus, words),
+        Named::Fb => parse_fb_command(operation, &bus, words),
+        Named::Lock => parse_lock_command(operation, &bus, words),
+    }
 }
 
 /// Returns the command of the layout that a line of a command session is. Keywords are in capital or small letters.
