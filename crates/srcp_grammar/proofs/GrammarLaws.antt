@@ -23,6 +23,9 @@ use Rattle.srcp_grammar.specs.declared.command.Named.{Named}
 use Rattle.srcp_grammar.specs.declared.command.Named.TheVariants.{Session, Power, Gl, Ga, Fb, Lock}
 use Rattle.srcp_grammar.specs.declared.command.Lockable.{Lockable}
 use Rattle.srcp_grammar.specs.declared.command.Lockable.TheVariants as lockable
+use Rattle.srcp_grammar.specs.declared.command.Place.{Place}
+use Rattle.srcp_grammar.specs.declared.command.NewGl.{NewGl}
+use Rattle.srcp_grammar.specs.declared.command.NewGa.{NewGa}
 use Rattle.srcp_grammar.specs.declared.command.Drive.{Drive}
 use Rattle.srcp_grammar.specs.declared.command.Switch.{Switch}
 use Rattle.srcp_grammar.specs.declared.command.PowerSwitch.{PowerSwitch}
@@ -35,7 +38,7 @@ use Rattle.srcp_grammar.specs.declared.command.Command.TheVariants.{SetFb, Check
 use Rattle.srcp_grammar.specs.Layout.{IsBus, IsLayout, IsKeyOf, server, bus_at, has_group, address_max, is_within, rows_if, rows_on}
 use Rattle.srcp_grammar.specs.Layout.{row_count}
 use Rattle.srcp_grammar.specs.Devices.{key_at, device_in, lock_on}
-use Rattle.srcp_grammar.specs.Command.{IsCommandOf, IsDrive, IsPowerSwitch, IsSensor, IsSwitch, IsTimedLock}
+use Rattle.srcp_grammar.specs.Command.{IsCommandOf, IsDrive, IsLock, IsNewGa, IsNewGl, IsPowerSwitch, IsSensor, IsSwitch, IsTimedLock}
 use Rattle.srcp_grammar.specs.Grammar.{◌>>=◌, number_in, bit_of, bits_of, letter_of, switch_of, text_of, time_of, lockable_on, groups}
 use Rattle.srcp_grammar.specs.Grammar.{operations, named_in, alone, addressed, get_session, term_session, powered, driven, init_gl, ga_port}
 use Rattle.srcp_grammar.specs.Grammar.{get_ga, switched, init_ga, sensed, named_lock, timed_lock, asked, directed, commanded, reads}
@@ -230,39 +233,42 @@ module _ (buses : List Bus) (layout : IsLayout buses) (bus : Bus) (found : bus_a
       with_mode : (address mode : ℕ) → Result Drive Code
       with_mode address mode = number_in 0 65535 v >>= (λ speed. with_speed address mode speed)
 
-  init_gl_fits : (words : List (List ℕ)) → Fits (init_gl bus words)
+  abbrev new_gl : (address : ℕ) → Letter → (version steps functions : ℕ) → NewGl
+  new_gl address letter version steps functions =
+      record { bus = bus.number; address = address; letter = letter; version = version; steps = steps; functions = functions }
+
+  init_gl_fits : (words : List (List ℕ)) → IfOk (init_gl bus words) (IsNewGl buses)
   init_gl_fits [] = tt
   init_gl_fits (a ∷ []) = tt
   init_gl_fits (a ∷ l ∷ []) =
-      then_ok (IsCommandOf buses) (is_keyword (codes "P") l) C419
-      (number_in 1 bus.gl_max a >>= (λ address. Ok (InitGl bus.number address P 1 28 5)))
+      then_ok (IsNewGl buses) (is_keyword (codes "P") l) C419 (number_in 1 bus.gl_max a >>= (λ address. Ok (new_gl address P 1 28 5)))
       (λ e.
-      read (IsCommandOf buses) (λ n. (1 ≤ n) × (n ≤ bus.gl_max)) (number_in 1 bus.gl_max a)
-      (λ address. Ok (InitGl bus.number address P 1 28 5)) (number_in_range 1 bus.gl_max a)
+      read (IsNewGl buses) (λ n. (1 ≤ n) × (n ≤ bus.gl_max)) (number_in 1 bus.gl_max a)
+      (λ address. Ok (new_gl address P 1 28 5)) (number_in_range 1 bus.gl_max a)
       (λ address r. let two = gl_rows address r.0 r.1 in
       (omega (arith, two), (refl, refl, omega arith, (omega arith, omega arith), omega arith))))
   init_gl_fits (a ∷ l ∷ v ∷ []) = tt
   init_gl_fits (a ∷ l ∷ v ∷ s ∷ []) = tt
   init_gl_fits (a ∷ l ∷ v ∷ s ∷ f ∷ []) =
-      read (IsCommandOf buses) (λ n. (1 ≤ n) × (n ≤ bus.gl_max)) (number_in 1 bus.gl_max a)
+      read (IsNewGl buses) (λ n. (1 ≤ n) × (n ≤ bus.gl_max)) (number_in 1 bus.gl_max a)
       (λ address. letter_of l >>= (λ protocol. version_of address protocol)) (number_in_range 1 bus.gl_max a) (λ address r.
-      read_any (IsCommandOf buses) (letter_of l) (λ protocol. version_of address protocol) (λ protocol.
-      read (IsCommandOf buses) (λ n. (0 ≤ n) × (n ≤ 255)) (number_in 0 255 v) (λ version. steps_of address protocol version)
+      read_any (IsNewGl buses) (letter_of l) (λ protocol. version_of address protocol) (λ protocol.
+      read (IsNewGl buses) (λ n. (0 ≤ n) × (n ≤ 255)) (number_in 0 255 v) (λ version. steps_of address protocol version)
       (number_in_range 0 255 v) (λ version r2.
-      read (IsCommandOf buses) (λ n. (1 ≤ n) × (n ≤ 1000)) (number_in 1 1000 s)
+      read (IsNewGl buses) (λ n. (1 ≤ n) × (n ≤ 1000)) (number_in 1 1000 s)
       (λ steps. functions_after_steps address protocol version steps) (number_in_range 1 1000 s) (λ steps r3.
-      read (IsCommandOf buses) (λ n. (0 ≤ n) × (n ≤ 29)) (number_in 0 29 f)
-      (λ functions. Ok (InitGl bus.number address protocol version steps functions)) (number_in_range 0 29 f) (λ functions r4.
+      read (IsNewGl buses) (λ n. (0 ≤ n) × (n ≤ 29)) (number_in 0 29 f)
+      (λ functions. Ok (new_gl address protocol version steps functions)) (number_in_range 0 29 f) (λ functions r4.
       let two = gl_rows address r.0 r.1 in (omega (arith, two), (refl, refl, r2.1, r3, r4.1)))))))
     where
-      functions_after_steps : (address : ℕ) (protocol : Letter) (version steps : ℕ) → Result Command Code
+      functions_after_steps : (address : ℕ) (protocol : Letter) (version steps : ℕ) → Result NewGl Code
       functions_after_steps address protocol version steps =
-          number_in 0 29 f >>= (λ functions. Ok (InitGl bus.number address protocol version steps functions))
+          number_in 0 29 f >>= (λ functions. Ok (new_gl address protocol version steps functions))
 
-      steps_of : (address : ℕ) (protocol : Letter) (version : ℕ) → Result Command Code
+      steps_of : (address : ℕ) (protocol : Letter) (version : ℕ) → Result NewGl Code
       steps_of address protocol version = number_in 1 1000 s >>= (λ steps. functions_after_steps address protocol version steps)
 
-      version_of : (address : ℕ) (protocol : Letter) → Result Command Code
+      version_of : (address : ℕ) (protocol : Letter) → Result NewGl Code
       version_of address protocol = number_in 0 255 v >>= (λ version. steps_of address protocol version)
   init_gl_fits (a ∷ l ∷ v ∷ s ∷ f ∷ w ∷ ws) = tt
 
@@ -310,17 +316,19 @@ module _ (buses : List Bus) (layout : IsLayout buses) (bus : Bus) (found : bus_a
       on_tail address port = bit_of v >>= (λ on. time_of t >>= (λ milliseconds. Ok (switch address port on milliseconds)))
   switched_fits (a ∷ p ∷ v ∷ t ∷ w ∷ ws) = tt
 
-  init_ga_fits : (words : List (List ℕ)) → Fits (init_ga bus words)
+  init_ga_fits : (words : List (List ℕ)) → IfOk (init_ga bus words) (IsNewGa buses)
   init_ga_fits [] = tt
   init_ga_fits (a ∷ []) = tt
   init_ga_fits (a ∷ l ∷ ws) =
-      read (IsCommandOf buses) (λ n. (1 ≤ n) × (n ≤ bus.ga_max)) (number_in 1 bus.ga_max a)
-      (λ address. letter_of l >>= (λ protocol. Ok (InitGa bus.number address protocol bus.ga_ports))) (number_in_range 1 bus.ga_max a)
-      (λ address r.
-      read_any (IsCommandOf buses) (letter_of l) (λ protocol. Ok (InitGa bus.number address protocol bus.ga_ports)) (λ protocol.
+      read (IsNewGa buses) (λ n. (1 ≤ n) × (n ≤ bus.ga_max)) (number_in 1 bus.ga_max a)
+      (λ address. letter_of l >>= (λ protocol. Ok (new_ga address protocol))) (number_in_range 1 bus.ga_max a) (λ address r.
+      read_any (IsNewGa buses) (letter_of l) (λ protocol. Ok (new_ga address protocol)) (λ protocol.
       let low = r.0 in
       let high = r.1 in
       (ga_rows address low high, (ports (omega (arith, low, high))).1)))
+    where
+      new_ga : (address : ℕ) → Letter → NewGa
+      new_ga address letter = record { bus = bus.number; address = address; letter = letter; ports = bus.ga_ports }
 
   sensed_fits : (words : List (List ℕ)) → IfOk (sensed bus words) (IsSensor buses)
   sensed_fits [] = tt
@@ -335,18 +343,19 @@ module _ (buses : List Bus) (layout : IsLayout buses) (bus : Bus) (found : bus_a
       sensor port on = record { bus = bus.number; port = port; on = on }
   sensed_fits (p ∷ v ∷ w ∷ ws) = tt
 
-  named_lock_fits : (make : Lockable → ℕ → Command) (words : List (List ℕ))
-      → ((g : Lockable) (a : ℕ) → row_count buses (lock_on g bus.number a) ≡ 1 → IsCommandOf buses (make g a))
-      → Fits (named_lock bus make words)
-  named_lock_fits make [] h = tt
-  named_lock_fits make (g ∷ []) h = tt
-  named_lock_fits make (g ∷ a ∷ []) h =
-      read_any (IsCommandOf buses) (lockable_on bus g)
-      (λ group. number_in 1 (address_max bus group) a >>= (λ address. Ok (make group address))) (λ group.
-      read (IsCommandOf buses) (λ n. (1 ≤ n) × (n ≤ address_max bus group)) (number_in 1 (address_max bus group) a)
-      (λ address. Ok (make group address)) (number_in_range 1 (address_max bus group) a) (λ address r.
-      h group address (lock_rows group address r.0 r.1)))
-  named_lock_fits make (g ∷ a ∷ w ∷ ws) h = tt
+  abbrev place : Lockable → (address : ℕ) → Place
+  place group address = record { bus = bus.number; group = group; address = address }
+
+  named_lock_fits : (words : List (List ℕ)) → IfOk (named_lock bus words) (IsLock buses)
+  named_lock_fits [] = tt
+  named_lock_fits (g ∷ []) = tt
+  named_lock_fits (g ∷ a ∷ []) =
+      read_any (IsLock buses) (lockable_on bus g)
+      (λ group. number_in 1 (address_max bus group) a >>= (λ address. Ok (place group address))) (λ group.
+      read (IsLock buses) (λ n. (1 ≤ n) × (n ≤ address_max bus group)) (number_in 1 (address_max bus group) a)
+      (λ address. Ok (place group address)) (number_in_range 1 (address_max bus group) a) (λ address r.
+      let one = lock_rows group address r.0 r.1 in omega (arith, one)))
+  named_lock_fits (g ∷ a ∷ w ∷ ws) = tt
 
   timed_lock_fits : (words : List (List ℕ)) → IfOk (timed_lock bus words) (IsTimedLock buses)
   timed_lock_fits [] = tt
@@ -365,7 +374,7 @@ module _ (buses : List Bus) (layout : IsLayout buses) (bus : Bus) (found : bus_a
       let one = lock_rows group address r.0 r.1 in (omega (arith, one), r2.1))))
     where
       lock : (group : Lockable) (address seconds : ℕ) → TimedLock
-      lock group address seconds = record { bus = bus.number; group = group; address = address; seconds = seconds }
+      lock group address seconds = record { place = place group address; seconds = seconds }
   timed_lock_fits (g ∷ a ∷ s ∷ w ∷ ws) = tt
 
   -- ---- the pairs
@@ -387,7 +396,8 @@ module _ (buses : List Bus) (layout : IsLayout buses) (bus : Bus) (found : bus_a
       read (IsCommandOf buses) (IsDrive buses) (driven bus words) (λ drive. Ok (SetGl drive)) (driven_fits words) (λ drive fits. fits)
   asked_fits Check Gl words on =
       read (IsCommandOf buses) (IsDrive buses) (driven bus words) (λ drive. Ok (CheckGl drive)) (driven_fits words) (λ drive fits. fits)
-  asked_fits Init Gl words on = init_gl_fits words
+  asked_fits Init Gl words on =
+      read (IsCommandOf buses) (IsNewGl buses) (init_gl bus words) (λ gl. Ok (InitGl gl)) (init_gl_fits words) (λ gl fits. fits)
   asked_fits Term Gl words on =
       addressed_fits bus.gl_max (TermGl bus.number) words (λ a low high. let two = gl_rows a low high in omega (arith, two))
   asked_fits Get Ga words on = get_ga_fits words
@@ -397,7 +407,8 @@ module _ (buses : List Bus) (layout : IsLayout buses) (bus : Bus) (found : bus_a
   asked_fits Check Ga words on =
       read (IsCommandOf buses) (IsSwitch buses) (switched bus words) (λ switch. Ok (CheckGa switch)) (switched_fits words)
       (λ switch fits. fits)
-  asked_fits Init Ga words on = init_ga_fits words
+  asked_fits Init Ga words on =
+      read (IsCommandOf buses) (IsNewGa buses) (init_ga bus words) (λ ga. Ok (InitGa ga)) (init_ga_fits words) (λ ga fits. fits)
   asked_fits Term Ga words on =
       addressed_fits bus.ga_max (TermGa bus.number) words (λ a low high. let rows = ga_rows a low high in omega (arith, rows))
   asked_fits Get Fb words on =
@@ -407,14 +418,18 @@ module _ (buses : List Bus) (layout : IsLayout buses) (bus : Bus) (found : bus_a
   asked_fits Check Fb words on =
       read (IsCommandOf buses) (IsSensor buses) (sensed bus words) (λ sensor. Ok (CheckFb sensor)) (sensed_fits words) (λ sensor fits. fits)
   asked_fits Init Fb words on = tt
-  asked_fits Get Lock words on = named_lock_fits (GetLock bus.number) words (λ g a one. omega (arith, one))
+  asked_fits Get Lock words on =
+      read (IsCommandOf buses) (IsLock buses) (named_lock bus words) (λ place. Ok (GetLock place)) (named_lock_fits words)
+      (λ place fits. fits)
   asked_fits Set Lock words on =
       read (IsCommandOf buses) (IsTimedLock buses) (timed_lock bus words) (λ lock. Ok (SetLock lock)) (timed_lock_fits words)
       (λ lock fits. fits)
   asked_fits Check Lock words on =
       read (IsCommandOf buses) (IsTimedLock buses) (timed_lock bus words) (λ lock. Ok (CheckLock lock)) (timed_lock_fits words)
       (λ lock fits. fits)
-  asked_fits Term Lock words on = named_lock_fits (TermLock bus.number) words (λ g a one. omega (arith, one))
+  asked_fits Term Lock words on =
+      read (IsCommandOf buses) (IsLock buses) (named_lock bus words) (λ place. Ok (TermLock place)) (named_lock_fits words)
+      (λ place fits. fits)
   asked_fits operation g words on = tt
 
 -- ---- the whole line

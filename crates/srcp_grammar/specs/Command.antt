@@ -6,13 +6,14 @@ use Rattle.srcp_info.specs.declared.value.Value.TheVariants as value
 use Rattle.srcp_info.specs.WellFormed.{IsValueAt}
 use Rattle.srcp_grammar.specs.declared.layout.Bus.{Bus}
 use Rattle.srcp_grammar.specs.declared.command.Lockable.TheVariants as lockable
-use Rattle.srcp_grammar.specs.declared.command.Named.{Named}
-use Rattle.srcp_grammar.specs.declared.command.Named.TheVariants as named
 use Rattle.srcp_grammar.specs.declared.command.Drive.{Drive}
 use Rattle.srcp_grammar.specs.declared.command.Switch.{Switch}
 use Rattle.srcp_grammar.specs.declared.command.PowerSwitch.{PowerSwitch}
 use Rattle.srcp_grammar.specs.declared.command.Sensor.{Sensor}
+use Rattle.srcp_grammar.specs.declared.command.Place.{Place}
 use Rattle.srcp_grammar.specs.declared.command.TimedLock.{TimedLock}
+use Rattle.srcp_grammar.specs.declared.command.NewGl.{NewGl}
+use Rattle.srcp_grammar.specs.declared.command.NewGa.{NewGa}
 use Rattle.srcp_grammar.specs.declared.command.Command.{Command}
 use Rattle.srcp_grammar.specs.declared.command.Command.TheVariants.{GetSession, TermSession, GetPower, SetPower}
 use Rattle.srcp_grammar.specs.declared.command.Command.TheVariants.{CheckPower, InitPower, GetGl, SetGl, CheckGl}
@@ -20,7 +21,7 @@ use Rattle.srcp_grammar.specs.declared.command.Command.TheVariants.{InitGl, Term
 use Rattle.srcp_grammar.specs.declared.command.Command.TheVariants.{TermGa, GetFb, SetFb, CheckFb, InitFb, GetLock}
 use Rattle.srcp_grammar.specs.declared.command.Command.TheVariants.{SetLock, CheckLock, TermLock}
 use Rattle.srcp_grammar.specs.Layout.{IsKeyOf, row_count}
-use Rattle.srcp_grammar.specs.Devices.{key_at, power_device, fb_device, device_in, lock_on}
+use Rattle.srcp_grammar.specs.Devices.{key_at, power_device, fb_device, device_in, lock_at}
 
 -- the layout has the row at the device's port, and the value is one that this row may have
 abbrev pub IsSetting : List Bus → Device → (port : ℕ) → Value → Type 0
@@ -50,9 +51,23 @@ IsPowerSwitch buses power = IsSetting buses (power_device power.bus) 0 (value.Po
 abbrev pub IsSensor : List Bus → Sensor → Type 0
 IsSensor buses sensor = IsKeyOf buses (key_at (fb_device sensor.bus sensor.port) 0)
 
+-- the lock of a device of the layout
+abbrev pub IsLock : List Bus → Place → Type 0
+IsLock buses place = IsKeyOf buses (key_at (lock_at place) 0)
+
 -- the settings of a lock
 abbrev pub IsTimedLock : List Bus → TimedLock → Type 0
-IsTimedLock buses lock = IsKeyOf buses (key_at (lock_on lock.group lock.bus lock.address) 0) × (lock.seconds ≤ 86400)
+IsTimedLock buses lock = IsLock buses lock.place × (lock.seconds ≤ 86400)
+
+-- the parameters of a new locomotive
+abbrev pub IsNewGl : List Bus → NewGl → Type 0
+IsNewGl buses gl =
+    IsSetting buses (device_in lockable.Gl gl.bus gl.address) 0
+    (value.GlInit gl.letter gl.version gl.steps gl.functions)
+
+-- a new accessory with the ports that its bus gives it
+abbrev pub IsNewGa : List Bus → NewGa → Type 0
+IsNewGa buses ga = (row_count buses (device_in lockable.Ga ga.bus ga.address) ≡ 1 + ga.ports) × (ga.ports ≤ 8)
 
 -- a command of the layout, and all that the grammar reads is one: the device is one of the layout, the words are in
 -- range; INIT of sensors asks for nothing
@@ -66,47 +81,18 @@ IsCommandOf buses (InitPower bus) = IsKeyOf buses (key_at (power_device bus) 0)
 IsCommandOf buses (GetGl bus address) = IsKeyOf buses (key_at (device_in lockable.Gl bus address) 1)
 IsCommandOf buses (SetGl drive) = IsDrive buses drive
 IsCommandOf buses (CheckGl drive) = IsDrive buses drive
-IsCommandOf buses (InitGl bus address letter version steps functions) =
-    IsSetting buses (device_in lockable.Gl bus address) 0 (value.GlInit letter version steps functions)
+IsCommandOf buses (InitGl gl) = IsNewGl buses gl
 IsCommandOf buses (TermGl bus address) = IsKeyOf buses (key_at (device_in lockable.Gl bus address) 0)
 IsCommandOf buses (GetGa bus address port) = IsKeyOf buses (key_at (device_in lockable.Ga bus address) (1 + port))
 IsCommandOf buses (SetGa switch) = IsSwitch buses switch
 IsCommandOf buses (CheckGa switch) = IsSwitch buses switch
-IsCommandOf buses (InitGa bus address letter ports) =
-    (row_count buses (device_in lockable.Ga bus address) ≡ 1 + ports) × (ports ≤ 8)
+IsCommandOf buses (InitGa ga) = IsNewGa buses ga
 IsCommandOf buses (TermGa bus address) = IsKeyOf buses (key_at (device_in lockable.Ga bus address) 0)
 IsCommandOf buses (GetFb bus port) = IsKeyOf buses (key_at (fb_device bus port) 0)
 IsCommandOf buses (SetFb sensor) = IsSensor buses sensor
 IsCommandOf buses (CheckFb sensor) = IsSensor buses sensor
 IsCommandOf buses (InitFb bus) = ⊤
-IsCommandOf buses (GetLock bus group address) = IsKeyOf buses (key_at (lock_on group bus address) 0)
+IsCommandOf buses (GetLock place) = IsLock buses place
 IsCommandOf buses (SetLock lock) = IsTimedLock buses lock
 IsCommandOf buses (CheckLock lock) = IsTimedLock buses lock
-IsCommandOf buses (TermLock bus group address) = IsKeyOf buses (key_at (lock_on group bus address) 0)
-
--- what the third word of the command names
-abbrev pub named_of : Command → Named
-named_of (GetSession session) = named.Session
-named_of (TermSession session) = named.Session
-named_of (GetPower bus) = named.Power
-named_of (SetPower power) = named.Power
-named_of (CheckPower power) = named.Power
-named_of (InitPower bus) = named.Power
-named_of (GetGl bus address) = named.Gl
-named_of (SetGl drive) = named.Gl
-named_of (CheckGl drive) = named.Gl
-named_of (InitGl bus address letter version steps functions) = named.Gl
-named_of (TermGl bus address) = named.Gl
-named_of (GetGa bus address port) = named.Ga
-named_of (SetGa switch) = named.Ga
-named_of (CheckGa switch) = named.Ga
-named_of (InitGa bus address letter ports) = named.Ga
-named_of (TermGa bus address) = named.Ga
-named_of (GetFb bus port) = named.Fb
-named_of (SetFb sensor) = named.Fb
-named_of (CheckFb sensor) = named.Fb
-named_of (InitFb bus) = named.Fb
-named_of (GetLock bus group address) = named.Lock
-named_of (SetLock lock) = named.Lock
-named_of (CheckLock lock) = named.Lock
-named_of (TermLock bus group address) = named.Lock
+IsCommandOf buses (TermLock place) = IsLock buses place

@@ -6,6 +6,7 @@ use Rattle.srcp_info.specs.declared.key.Key.{Key}
 use Rattle.srcp_info.specs.declared.key.Device.{Device}
 use Rattle.srcp_grammar.specs.declared.command.Lockable.{Lockable}
 use Rattle.srcp_grammar.specs.declared.command.Lockable.TheVariants as lockable
+use Rattle.srcp_grammar.specs.declared.command.Place.{Place}
 
 -- the key of a device's row
 abbrev pub key_at : Device → (port : ℕ) → Key
@@ -40,3 +41,11 @@ device_in group bus address = record { bus = bus; group = device_group group; ad
 -- the lock of that device, which is a device of its own
 abbrev pub lock_on : Lockable → (bus address : ℕ) → Device
 lock_on group bus address = record { bus = bus; group = lock_group group; address = address }
+
+-- the locomotive or the accessory that is named
+abbrev pub device_at : Place → Device
+device_at place = device_in place.group place.bus place.address
+
+-- and its lock
+abbrev pub lock_at : Place → Device
+lock_at place = lock_on place.group place.bus place.address

@@ -17,11 +17,14 @@ use Rattle.srcp_grammar.specs.declared.command.Named.{Named}
 use Rattle.srcp_grammar.specs.declared.command.Named.TheVariants.{Session, Power, Gl, Ga, Fb, Lock}
 use Rattle.srcp_grammar.specs.declared.command.Lockable.{Lockable}
 use Rattle.srcp_grammar.specs.declared.command.Lockable.TheVariants as lockable
+use Rattle.srcp_grammar.specs.declared.command.Place.{Place}
 use Rattle.srcp_grammar.specs.declared.command.Drive.{Drive}
 use Rattle.srcp_grammar.specs.declared.command.Switch.{Switch}
 use Rattle.srcp_grammar.specs.declared.command.PowerSwitch.{PowerSwitch}
 use Rattle.srcp_grammar.specs.declared.command.Sensor.{Sensor}
 use Rattle.srcp_grammar.specs.declared.command.TimedLock.{TimedLock}
+use Rattle.srcp_grammar.specs.declared.command.NewGl.{NewGl}
+use Rattle.srcp_grammar.specs.declared.command.NewGa.{NewGa}
 use Rattle.srcp_grammar.specs.declared.command.Command.{Command}
 use Rattle.srcp_grammar.specs.declared.command.Command.TheVariants.{GetSession, TermSession, GetPower, SetPower}
 use Rattle.srcp_grammar.specs.declared.command.Command.TheVariants.{CheckPower, InitPower, GetGl, SetGl, CheckGl}
@@ -176,18 +179,26 @@ driven bus (a ∷ m ∷ v ∷ x ∷ fs) =
 driven bus words = Err C419
 
 -- address, letter, version, steps and number of functions, of which P alone stands for P 1 28 5
-abbrev pub init_gl : Bus → List (List ℕ) → Result Command Code
+abbrev pub init_gl : Bus → List (List ℕ) → Result NewGl Code
 init_gl bus (a ∷ l ∷ []) =
     if is_keyword (codes "P") l then (do
       address ← number_in 1 bus.gl_max a
-      Ok (InitGl bus.number address P 1 28 5)) else Err C419
+      Ok (record { bus = bus.number; address = address; letter = P; version = 1; steps = 28; functions = 5 }))
+    else Err C419
 init_gl bus (a ∷ l ∷ v ∷ s ∷ f ∷ []) = do
   address ← number_in 1 bus.gl_max a
   protocol ← letter_of l
   version ← number_in 0 255 v
   steps ← number_in 1 1000 s
   functions ← number_in 0 29 f
-  Ok (InitGl bus.number address protocol version steps functions)
+  Ok (record {
+    bus = bus.number;
+    address = address;
+    letter = protocol;
+    version = version;
+    steps = steps;
+    functions = functions;
+  })
 init_gl bus words = miscounted 5 words
 
 -- an accessory's port, from 0 on
@@ -213,11 +224,11 @@ switched bus (a ∷ p ∷ v ∷ t ∷ []) = do
 switched bus words = miscounted 4 words
 
 -- address and letter, then any words
-abbrev pub init_ga : Bus → List (List ℕ) → Result Command Code
+abbrev pub init_ga : Bus → List (List ℕ) → Result NewGa Code
 init_ga bus (a ∷ l ∷ ws) = do
   address ← number_in 1 bus.ga_max a
   protocol ← letter_of l
-  Ok (InitGa bus.number address protocol bus.ga_ports)
+  Ok (record { bus = bus.number; address = address; letter = protocol; ports = bus.ga_ports })
 init_ga bus words = Err C419
 
 -- port and value
@@ -229,12 +240,12 @@ sensed bus (p ∷ v ∷ []) = do
 sensed bus words = miscounted 2 words
 
 -- group and address
-abbrev pub named_lock : Bus → (Lockable → ℕ → Command) → List (List ℕ) → Result Command Code
-named_lock bus make (g ∷ a ∷ []) = do
+abbrev pub named_lock : Bus → List (List ℕ) → Result Place Code
+named_lock bus (g ∷ a ∷ []) = do
   group ← lockable_on bus g
   address ← number_in 1 (address_max bus group) a
-  Ok (make group address)
-named_lock bus make words = miscounted 2 words
+  Ok (record { bus = bus.number; group = group; address = address })
+named_lock bus words = miscounted 2 words
 
 -- group, address and seconds
 abbrev pub timed_lock : Bus → List (List ℕ) → Result TimedLock Code
@@ -242,7 +253,7 @@ timed_lock bus (g ∷ a ∷ s ∷ []) = do
   group ← lockable_on bus g
   address ← number_in 1 (address_max bus group) a
   seconds ← number_in 0 86400 s
-  Ok (record { bus = bus.number; group = group; address = address; seconds = seconds })
+  Ok (record { place = record { bus = bus.number; group = group; address = address }; seconds = seconds })
 timed_lock bus words = miscounted 3 words
 
 -- ---- the whole line
@@ -258,21 +269,21 @@ asked Init Power bus words = Ok (InitPower bus.number)
 asked Get Gl bus words = addressed bus.gl_max (GetGl bus.number) words
 asked Set Gl bus words = driven bus words >>= (λ drive. Ok (SetGl drive))
 asked Check Gl bus words = driven bus words >>= (λ drive. Ok (CheckGl drive))
-asked Init Gl bus words = init_gl bus words
+asked Init Gl bus words = init_gl bus words >>= (λ gl. Ok (InitGl gl))
 asked Term Gl bus words = addressed bus.gl_max (TermGl bus.number) words
 asked Get Ga bus words = get_ga bus words
 asked Set Ga bus words = switched bus words >>= (λ switch. Ok (SetGa switch))
 asked Check Ga bus words = switched bus words >>= (λ switch. Ok (CheckGa switch))
-asked Init Ga bus words = init_ga bus words
+asked Init Ga bus words = init_ga bus words >>= (λ ga. Ok (InitGa ga))
 asked Term Ga bus words = addressed bus.ga_max (TermGa bus.number) words
 asked Get Fb bus words = addressed bus.fb_ports (GetFb bus.number) words
 asked Set Fb bus words = sensed bus words >>= (λ sensor. Ok (SetFb sensor))
 asked Check Fb bus words = sensed bus words >>= (λ sensor. Ok (CheckFb sensor))
 asked Init Fb bus words = Ok (InitFb bus.number)
-asked Get Lock bus words = named_lock bus (GetLock bus.number) words
+asked Get Lock bus words = named_lock bus words >>= (λ place. Ok (GetLock place))
 asked Set Lock bus words = timed_lock bus words >>= (λ lock. Ok (SetLock lock))
 asked Check Lock bus words = timed_lock bus words >>= (λ lock. Ok (CheckLock lock))
-asked Term Lock bus words = named_lock bus (TermLock bus.number) words
+asked Term Lock bus words = named_lock bus words >>= (λ place. Ok (TermLock place))
 asked operation group bus words = Err C423
 
 -- the bus, then the group, which has to be on it

@@ -1,13 +1,14 @@
 //! The words behind the group, by what each command asks for.
 
 ghost use Rattle.std.specs.Prelude.{◌≡◌, ℕ, Ok, Err, MatchResult};
-ghost use Rattle.srcp_grammar.specs.declared.command.Lockable.{Lockable};
 ghost use Rattle.srcp_grammar.specs.declared.command.Command.{Command};
 ghost use Rattle.srcp_grammar.specs.Layout.{address_max};
 ghost use Rattle.srcp_grammar.specs.Grammar.{addressed, driven, ga_port, get_ga, get_session, init_ga, init_gl};
 ghost use Rattle.srcp_grammar.specs.Grammar.{named_lock, powered, sensed, switched, term_session, timed_lock};
 
-use crate::command::{Command, Drive, Lockable, PowerSwitch, Sensor, Switch, TimedLock};
+use crate::command::{
+    Command, Drive, Lockable, NewGa, NewGl, Place, PowerSwitch, Sensor, Switch, TimedLock,
+};
 use crate::functions::parse_functions;
 use crate::layout::Bus;
 use crate::power_text::parse_text;
@@ -96,12 +97,12 @@ pub(crate) fn parse_switch(bus: &Bus, mut words: Words<'_>) -> Result<Switch, Co
 }
 
 /// Reads address and letter. Any words may follow.
-pub(crate) fn parse_init_ga(bus: &Bus, mut words: Words<'_>) -> Result<Command, Code>
+pub(crate) fn parse_init_ga(bus: &Bus, mut words: Words<'_>) -> Result<NewGa, Code>
     ensures { result ≡ init_ga bus.now words.entry }
 {
     let first = next_word(&mut words)?;
     let second = next_word(&mut words)?;
-    Ok(Command::InitGa {
+    Ok(NewGa {
         bus: bus.number,
         address: parse_number(1, bus.ga_max, first)?,
         letter: parse_letter(second)?,
@@ -134,16 +135,18 @@ fn address_max(bus: &Bus, group: Lockable) -> u32
 }
 
 /// Reads group and address.
-pub(crate) fn parse_lock(bus: &Bus, mut words: Words<'_>) -> Result<(Lockable, u32), Code>
-    ensures { (make : Lockable → ℕ → Command)
-        → MatchResult result (λ l. named_lock bus.now make words.entry ≡ Ok (make l.0 l.1))
-        (λ code. named_lock bus.now make words.entry ≡ Err code) }
+pub(crate) fn parse_lock(bus: &Bus, mut words: Words<'_>) -> Result<Place, Code>
+    ensures { result ≡ named_lock bus.now words.entry }
 {
     let first = next_word(&mut words)?;
     let second = next_word(&mut words)?;
     no_more(words)?;
     let group = parse_lockable(bus, first)?;
-    Ok((group, parse_number(1, address_max(bus, group), second)?))
+    Ok(Place {
+        bus: bus.number,
+        group,
+        address: parse_number(1, address_max(bus, group), second)?,
+    })
 }
 
 /// Reads group, address and seconds.
@@ -155,16 +158,19 @@ pub(crate) fn parse_timed_lock(bus: &Bus, mut words: Words<'_>) -> Result<TimedL
     let third = next_word(&mut words)?;
     no_more(words)?;
     let group = parse_lockable(bus, first)?;
-    Ok(TimedLock {
+    let place = Place {
         bus: bus.number,
         group,
         address: parse_number(1, address_max(bus, group), second)?,
+    };
+    Ok(TimedLock {
+        place,
         seconds: parse_number(0, MOST_SECONDS, third)?,
     })
 }
 
 /// Reads address, letter, version, steps and number of functions. P alone is short for P 1 28 5.
-pub(crate) fn parse_init_gl(bus: &Bus, mut words: Words<'_>) -> Result<Command, Code>
+pub(crate) fn parse_init_gl(bus: &Bus, mut words: Words<'_>) -> Result<NewGl, Code>
     ensures { result ≡ init_gl bus.now words.entry }
 {
     let first = next_word(&mut words)?;
@@ -173,7 +179,7 @@ pub(crate) fn parse_init_gl(bus: &Bus, mut words: Words<'_>) -> Result<Command, 
         if !is_keyword(b"P", second) {
             return Err(Code::TOO_SHORT);
         }
-        return Ok(Command::InitGl {
+        return Ok(NewGl {
             bus: bus.number,
             address: parse_number(1, bus.gl_max, first)?,
             letter: Letter::P,
@@ -185,7 +191,7 @@ pub(crate) fn parse_init_gl(bus: &Bus, mut words: Words<'_>) -> Result<Command, 
     let fourth = next_word(&mut words)?;
     let fifth = next_word(&mut words)?;
     no_more(words)?;
-    Ok(Command::InitGl {
+    Ok(NewGl {
         bus: bus.number,
         address: parse_number(1, bus.gl_max, first)?,
         letter: parse_letter(second)?,

@@ -1,8 +1,5 @@
 //! What a command asks for: one variant for each pair of an operation and a group.
 
-ghost use Rattle.std.specs.Prelude.{◌≡◌};
-ghost use Rattle.srcp_grammar.specs.Command.{named_of};
-
 use srcp_info::{Bits, Letter, Text};
 
 /// Lists the operations, which the first word of a command names.
@@ -36,6 +33,17 @@ pub enum Lockable {
     Gl,
     /// Accessories.
     Ga,
+}
+
+/// Names a locomotive or an accessory.
+#[derive(Clone, Copy, Debug, PartialEq, Eq)]
+pub struct Place {
+    /// The bus.
+    pub bus: u8,
+    /// The group of the device.
+    pub group: Lockable,
+    /// The device's address.
+    pub address: u32,
 }
 
 /// Says what SET and CHECK ask of a locomotive.
@@ -96,14 +104,40 @@ pub struct Sensor {
 /// Says what SET and CHECK ask of a lock.
 #[derive(Clone, Copy, Debug, PartialEq, Eq)]
 pub struct TimedLock {
-    /// The bus.
-    pub bus: u8,
-    /// The group of the device.
-    pub group: Lockable,
-    /// The device's address.
-    pub address: u32,
+    /// The device.
+    pub place: Place,
     /// For how many seconds, from 0 to 86400. If they are 0 it stays as long as the session.
     pub seconds: u32,
+}
+
+/// Says what INIT makes of a locomotive.
+#[derive(Clone, Copy, Debug, PartialEq, Eq)]
+pub struct NewGl {
+    /// The bus.
+    pub bus: u8,
+    /// The locomotive's address.
+    pub address: u32,
+    /// The protocol of its decoder.
+    pub letter: Letter,
+    /// The version of that protocol, from 0 to 255.
+    pub version: u32,
+    /// How many speed steps the decoder has, from 1 to 1000.
+    pub steps: u32,
+    /// How many functions it has, from 0 to 29.
+    pub functions: u32,
+}
+
+/// Says what INIT makes of an accessory.
+#[derive(Clone, Copy, Debug, PartialEq, Eq)]
+pub struct NewGa {
+    /// The bus.
+    pub bus: u8,
+    /// The accessory's address.
+    pub address: u32,
+    /// The protocol of its decoder.
+    pub letter: Letter,
+    /// How many ports the bus gives each accessory, from 2 to 8.
+    pub ports: u8,
 }
 
 /// A command of SRCP 0.8, one variant for each pair of an operation and a group, with the words as read. `bus` is the
@@ -146,20 +180,7 @@ pub enum Command {
     /// Answers as `SetGl` does, and changes nothing.
     CheckGl(Drive),
     /// Makes a locomotive, or makes it anew if it has other parameters.
-    InitGl {
-        /// The bus.
-        bus: u8,
-        /// The locomotive's address.
-        address: u32,
-        /// The protocol of its decoder.
-        letter: Letter,
-        /// The version of that protocol, from 0 to 255.
-        version: u32,
-        /// How many speed steps the decoder has, from 1 to 1000.
-        steps: u32,
-        /// How many functions it has, from 0 to 29.
-        functions: u32,
-    },
+    InitGl(NewGl),
     /// Removes a locomotive, and its lock first.
     TermGl {
         /// The bus.
@@ -181,16 +202,7 @@ pub enum Command {
     /// Answers as `SetGa` does, and changes nothing.
     CheckGa(Switch),
     /// Makes an accessory, or makes it anew if it has another protocol.
-    InitGa {
-        /// The bus.
-        bus: u8,
-        /// The accessory's address.
-        address: u32,
-        /// The protocol of its decoder.
-        letter: Letter,
-        /// How many ports the bus gives each accessory, from 2 to 8.
-        ports: u8,
-    },
+    InitGa(NewGa),
     /// Removes an accessory, and its lock first.
     TermGa {
         /// The bus.
@@ -215,59 +227,11 @@ pub enum Command {
         bus: u8,
     },
     /// Asks for the lock of a device.
-    GetLock {
-        /// The bus.
-        bus: u8,
-        /// The group of the device.
-        group: Lockable,
-        /// The device's address.
-        address: u32,
-    },
+    GetLock(Place),
     /// Locks a device for the session, or renews its lock.
     SetLock(TimedLock),
     /// Answers as `SetLock` does, and changes nothing.
     CheckLock(TimedLock),
     /// Removes the lock of a device.
-    TermLock {
-        /// The bus.
-        bus: u8,
-        /// The group of the device.
-        group: Lockable,
-        /// The device's address.
-        address: u32,
-    },
-}
-
-impl Command {
-    /// Returns what the third word of the command names.
-    #[inline]
-    pub fn named(&self) -> Named
-        ensures { result ≡ named_of self.now }
-    {
-        match self {
-            Command::GetSession { .. } | Command::TermSession { .. } => Named::Session,
-            Command::GetPower { .. }
-            | Command::SetPower(_)
-            | Command::CheckPower(_)
-            | Command::InitPower { .. } => Named::Power,
-            Command::GetGl { .. }
-            | Command::SetGl(_)
-            | Command::CheckGl(_)
-            | Command::InitGl { .. }
-            | Command::TermGl { .. } => Named::Gl,
-            Command::GetGa { .. }
-            | Command::SetGa(_)
-            | Command::CheckGa(_)
-            | Command::InitGa { .. }
-            | Command::TermGa { .. } => Named::Ga,
-            Command::GetFb { .. }
-            | Command::SetFb(_)
-            | Command::CheckFb(_)
-            | Command::InitFb { .. } => Named::Fb,
-            Command::GetLock { .. }
-            | Command::SetLock(_)
-            | Command::CheckLock(_)
-            | Command::TermLock { .. } => Named::Lock,
-        }
-    }
+    TermLock(Place),
 }

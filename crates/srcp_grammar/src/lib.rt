@@ -19,6 +19,8 @@ mod single_words;
 mod word_count;
 
 pub use buses::SERVER;
-pub use command::{Command, Drive, Lockable, Named, PowerSwitch, Sensor, Switch, TimedLock};
+pub use command::{
+    Command, Drive, Lockable, NewGa, NewGl, Place, PowerSwitch, Sensor, Switch, TimedLock,
+};
 pub use layout::{Bus, Layout, LayoutFault};
 pub use parse::parse_command;

@@ -60,7 +60,7 @@ pub(crate) fn parse_gl_command(
         }),
         Operation::Set => Ok(Command::SetGl(parse_drive(bus, words)?)),
         Operation::Check => Ok(Command::CheckGl(parse_drive(bus, words)?)),
-        Operation::Init => parse_init_gl(bus, words),
+        Operation::Init => Ok(Command::InitGl(parse_init_gl(bus, words)?)),
         Operation::Term => Ok(Command::TermGl {
             bus: number,
             address: parse_address(bus.gl_max, words)?,
@@ -81,7 +81,7 @@ pub(crate) fn parse_ga_command(
         Operation::Get => parse_get_ga(bus, words),
         Operation::Set => Ok(Command::SetGa(parse_switch(bus, words)?)),
         Operation::Check => Ok(Command::CheckGa(parse_switch(bus, words)?)),
-        Operation::Init => parse_init_ga(bus, words),
+        Operation::Init => Ok(Command::InitGa(parse_init_ga(bus, words)?)),
         Operation::Term => Ok(Command::TermGa {
             bus: number,
             address: parse_address(bus.ga_max, words)?,
@@ -118,24 +118,10 @@ pub(crate) fn parse_lock_command(
     ensures { result ≡ asked operation named.Lock bus.now words.entry }
 {
     match operation {
-        Operation::Get => {
-            let (group, address) = parse_lock(bus, words)?;
-            Ok(Command::GetLock {
-                bus: bus.number,
-                group,
-                address,
-            })
-        }
+        Operation::Get => Ok(Command::GetLock(parse_lock(bus, words)?)),
         Operation::Set => Ok(Command::SetLock(parse_timed_lock(bus, words)?)),
         Operation::Check => Ok(Command::CheckLock(parse_timed_lock(bus, words)?)),
-        Operation::Term => {
-            let (group, address) = parse_lock(bus, words)?;
-            Ok(Command::TermLock {
-                bus: bus.number,
-                group,
-                address,
-            })
-        }
+        Operation::Term => Ok(Command::TermLock(parse_lock(bus, words)?)),
         _ => Err(Code::UNSUPPORTED_OPERATION),
     }
 }
