@@ -13,10 +13,10 @@ use Rattle.srcp_grammar.specs.declared.command.Command.TheVariants.{GetSession, 
 use Rattle.srcp_grammar.specs.declared.command.Command.TheVariants.{GetGl, SetGl, CheckGl, InitGl, TermGl, GetGa, SetGa, CheckGa, InitGa}
 use Rattle.srcp_grammar.specs.declared.command.Command.TheVariants.{TermGa, GetFb, SetFb, CheckFb, InitFb, GetLock, SetLock, CheckLock}
 use Rattle.srcp_grammar.specs.declared.command.Command.TheVariants.{TermLock}
-use Rattle.srcp_grammar.specs.Devices.{key_at, session_device, power_device, fb_device, device_in, lock_on}
+use Rattle.srcp_grammar.specs.Devices.{key_at, session_device, power_device, fb_device, device_in, lock_at}
 use Rattle.srcp_rules.specs.State.{State, Update, row_at}
 use Rattle.srcp_rules.specs.Effect.{Effect, effect, accepted, refused, showing, done, checked, set_gl, set_ga, set_lock, term_lock}
-use Rattle.srcp_rules.specs.Effect.{term_device, init_device, fresh_gl, fresh_ga, term_session}
+use Rattle.srcp_rules.specs.Effect.{term_device, init_device, fresh_gl, fresh_ga, term_session, gl_init}
 use Rattle.srcp_rules.specs.Laws.{ChangesNothing, AnswersAs, set_of}
 
 -- a refusal changes nothing
@@ -59,25 +59,26 @@ refused_calm state session moment (InitPower bus) = calm_accepted []
 refused_calm state session moment (GetGl bus address) = calm_showing (row_at (key_at (device_in lockable.Gl bus address) 1) state)
 refused_calm state session moment (SetGl drive) = calm_done (set_gl state session moment drive)
 refused_calm state session moment (CheckGl drive) = calm_checked (set_gl state session moment drive)
-refused_calm state session moment (InitGl bus address letter version steps functions) =
-    calm_done (init_device state session moment lockable.Gl bus address (value.GlInit letter version steps functions)
-    (fresh_gl moment bus address letter version steps functions))
+refused_calm state session moment (InitGl gl) =
+    calm_done (init_device state session moment lockable.Gl gl.bus gl.address (gl_init gl) (fresh_gl moment gl))
 refused_calm state session moment (TermGl bus address) = calm_done (term_device state session moment lockable.Gl bus address)
 refused_calm state session moment (GetGa bus address port) =
     calm_showing (row_at (key_at (device_in lockable.Ga bus address) (1 + port)) state)
 refused_calm state session moment (SetGa switch) = calm_done (set_ga state session moment switch)
 refused_calm state session moment (CheckGa switch) = calm_checked (set_ga state session moment switch)
-refused_calm state session moment (InitGa bus address letter ports) =
-    calm_done (init_device state session moment lockable.Ga bus address (value.GaInit letter) (fresh_ga moment bus address letter ports))
+refused_calm state session moment (InitGa ga) =
+    calm_done (init_device state session moment lockable.Ga ga.bus ga.address (value.GaInit ga.letter) (fresh_ga moment ga))
 refused_calm state session moment (TermGa bus address) = calm_done (term_device state session moment lockable.Ga bus address)
 refused_calm state session moment (GetFb bus port) = calm_showing (row_at (first_key (fb_device bus port)) state)
 refused_calm state session moment (SetFb sensor) = calm_accepted (effect state session moment (SetFb sensor)).updates
 refused_calm state session moment (CheckFb sensor) = calm_accepted []
 refused_calm state session moment (InitFb bus) = calm_accepted []
-refused_calm state session moment (GetLock bus g address) = calm_showing (row_at (first_key (lock_on g bus address)) state)
+refused_calm state session moment (GetLock place) =
+    calm_showing (row_at (first_key (lock_at place)) state)
 refused_calm state session moment (SetLock lock) = calm_done (set_lock state session moment lock)
 refused_calm state session moment (CheckLock lock) = calm_checked (set_lock state session moment lock)
-refused_calm state session moment (TermLock bus g address) = calm_done (term_lock state session moment g bus address)
+refused_calm state session moment (TermLock place) =
+    calm_done (term_lock state session moment place.group place.bus place.address)
 
 -- what is checked is answered as what is done
 pub checked_as_done : (r : Result (List Update) Code) → AnswersAs (checked r) (done r)

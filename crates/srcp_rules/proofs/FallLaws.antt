@@ -17,7 +17,7 @@ use Rattle.srcp_info.specs.WellFormed.{IsMoment, IsValueAt, is_lock}
 use Rattle.srcp_grammar.specs.declared.layout.Bus.{Bus}
 use Rattle.srcp_grammar.specs.declared.command.Lockable.TheVariants as lockable
 use Rattle.srcp_grammar.specs.declared.command.Command.TheVariants.{SetLock}
-use Rattle.srcp_grammar.specs.Devices.{key_at, device_in, lock_on}
+use Rattle.srcp_grammar.specs.Devices.{key_at, device_in, lock_at}
 use Rattle.srcp_rules.specs.State.{State, Update, IsWhole, IsRowOf, MayFall, row_at, updated, updated_all, row_put}
 use Rattle.srcp_rules.specs.Effect.{done, unless_refused, refusals, put_at, port_end, lock_end, moment_after}
 use Rattle.srcp_rules.specs.Due.{due, due_change, is_due}
@@ -196,7 +196,7 @@ port_set state session moment switch e =
 
 pub lock_set : LocksAreSet
 lock_set state session moment lock e =
-    put_there (refusals state session lock.group lock.bus lock.address) moment (first_key (lock_on lock.group lock.bus lock.address))
+    put_there (refusals state session lock.place.group lock.place.bus lock.place.address) moment (first_key (lock_at lock.place))
     (value.Lock lock.seconds session) (lock_end moment lock.seconds) state e
 
 -- ---- and what becomes of it
@@ -221,7 +221,7 @@ port_falls buses state session moment later bus address port milliseconds may be
 
 pub lock_runs_out : LocksRunOut
 lock_runs_out buses state session moment later lock may begins now some e after is =
-    let key = first_key (lock_on lock.group lock.bus lock.address) in
+    let key = first_key (lock_at lock.place) in
     let whole : IsWhole buses after =
     subst (IsWhole buses) (sym is)
     (effect_kept buses state may.whole session moment may.begun begins (SetLock lock) may.of) in

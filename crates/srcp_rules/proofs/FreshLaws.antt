@@ -14,8 +14,10 @@ use Rattle.srcp_grammar.specs.declared.command.Lockable.TheVariants as lockable
 use Rattle.srcp_grammar.specs.declared.command.Command.TheVariants.{InitGl, InitGa}
 use Rattle.srcp_grammar.specs.Layout.{row_count}
 use Rattle.srcp_grammar.specs.Devices.{device_in, key_at}
+use Rattle.srcp_grammar.specs.declared.command.NewGl.{NewGl}
+use Rattle.srcp_grammar.specs.declared.command.NewGa.{NewGa}
 use Rattle.srcp_rules.specs.State.{State, IsRowOf, put_of, row_put}
-use Rattle.srcp_rules.specs.Effect.{put_at, fresh_ga}
+use Rattle.srcp_rules.specs.Effect.{put_at, fresh_ga, gl_init}
 use Rattle.srcp_rules.specs.Obeyed.{MayObey}
 use Rattle.srcp_rules.specs.Rows.{AreRowsOf}
 use Rattle.srcp_rules.proofs.StepLaws.{IsRowOf-put}
@@ -24,23 +26,23 @@ use Rattle.srcp_rules.proofs.AddsNoRowLaws.{gl_count}
 module _ (buses : List Bus) (state : State) (session moment : ℕ) (now : IsMoment moment) where
   -- ---- a locomotive
 
-  pub gl_rows : (bus address : ℕ) (letter : Letter) (version steps functions : ℕ)
-      → MayObey buses state session (InitGl bus address letter version steps functions)
-      → AreRowsOf buses (device_in lockable.Gl bus address)
-      (row_put moment (key_at (device_in lockable.Gl bus address) 0) (value.GlInit letter version steps functions) None
-      ∷ row_put moment (key_at (device_in lockable.Gl bus address) 1) (value.GlState 1 0 0 (replicate functions false)) None ∷ [])
-  gl_rows bus address letter version steps functions may =
-      let device = device_in lockable.Gl bus address in
+  pub gl_rows : (gl : NewGl) → MayObey buses state session (InitGl gl)
+      → AreRowsOf buses (device_in lockable.Gl gl.bus gl.address)
+      (row_put moment (key_at (device_in lockable.Gl gl.bus gl.address) 0) (gl_init gl) None
+      ∷ row_put moment (key_at (device_in lockable.Gl gl.bus gl.address) 1) (value.GlState 1 0 0 (replicate gl.functions false)) None ∷ [])
+  gl_rows gl may =
+      let functions = gl.functions in
+      let device = device_in lockable.Gl gl.bus gl.address in
       let some : 0 < row_count buses device = may.of.0 in
       let fits = may.of.1 in
-      let count : row_count buses device ≡ 2 = gl_count buses bus address some in
+      let count : row_count buses device ≡ 2 = gl_count buses gl.bus gl.address some in
       let most : functions ≤ 29 = fits.4 in
       let long = length-replicate functions false in
       record {
         keys = ap (λ n. map (key_at device) (range_with_len 0 n)) (sym count);
         few = omega arith;
         each = (
-          IsRowOf-put buses may.whole.laid_out (key_at device 0) moment (value.GlInit letter version steps functions) None some now fits tt,
+          IsRowOf-put buses may.whole.laid_out (key_at device 0) moment (gl_init gl) None some now fits tt,
           (
             IsRowOf-put buses may.whole.laid_out (key_at device 1) moment (value.GlState 1 0 0 (replicate functions false)) None
                 (omega (arith, count)) now
@@ -75,11 +77,10 @@ module _ (buses : List Bus) (state : State) (session moment : ℕ) (now : IsMome
       ap (λ updates. put_at moment (key_at (device_in lockable.Ga bus address) first) (value.GaPort false) None ∷ updates)
       (puts-ports bus address (first + 1) n)
 
-  pub ga_puts : (bus address : ℕ) (letter : Letter) (ports : ℕ)
-      → map put_of (ga_fresh (device_in lockable.Ga bus address) letter ports) ≡ fresh_ga moment bus address letter ports
-  ga_puts bus address letter ports =
-      ap (λ updates. put_at moment (key_at (device_in lockable.Ga bus address) 0) (value.GaInit letter) None ∷ updates)
-      (puts-ports bus address 1 ports)
+  pub ga_puts : (ga : NewGa) → map put_of (ga_fresh (device_in lockable.Ga ga.bus ga.address) ga.letter ga.ports) ≡ fresh_ga moment ga
+  ga_puts ga =
+      ap (λ updates. put_at moment (key_at (device_in lockable.Ga ga.bus ga.address) 0) (value.GaInit ga.letter) None ∷ updates)
+      (puts-ports ga.bus ga.address 1 ga.ports)
 
   keys-ports : (device : Device) (first n : ℕ)
       → map (λ row. row.shown.key) (map (port_row device) (range_with_len first n)) ≡ map (key_at device) (range_with_len first n)
@@ -90,23 +91,24 @@ module _ (buses : List Bus) (state : State) (session moment : ℕ) (now : IsMome
   length-ports device first zero = refl
   length-ports device first (suc n) = ap suc (length-ports device (first + 1) n)
 
-  each_port : (bus address : ℕ) (letter : Letter) (ports : ℕ) → MayObey buses state session (InitGa bus address letter ports)
-      → (first n : ℕ) → 1 ≤ first → first + n ≤ 1 + ports
-      → AllByRecursion (IsRowOf buses) (map (port_row (device_in lockable.Ga bus address)) (range_with_len first n))
-  each_port bus address letter ports may first zero low high = tt
-  each_port bus address letter ports may first (suc n) low high =
-      let device = device_in lockable.Ga bus address in
-      let count : row_count buses device ≡ 1 + ports = may.of.0 in
-      let few : ports ≤ 8 = may.of.1 in (
+  each_port : (ga : NewGa) → MayObey buses state session (InitGa ga) → (first n : ℕ) → 1 ≤ first → first + n ≤ 1 + ga.ports
+      → AllByRecursion (IsRowOf buses) (map (port_row (device_in lockable.Ga ga.bus ga.address)) (range_with_len first n))
+  each_port ga may first zero low high = tt
+  each_port ga may first (suc n) low high =
+      let device = device_in lockable.Ga ga.bus ga.address in
+      let count : row_count buses device ≡ 1 + ga.ports = may.of.0 in
+      let few : ga.ports ≤ 8 = may.of.1 in (
         IsRowOf-put buses may.whole.laid_out (key_at device first) moment (value.GaPort false) None (omega (arith, count)) now
             (refl, (low, omega arith)) tt,
-        each_port bus address letter ports may (first + 1) n (omega arith) (omega arith),
+        each_port ga may (first + 1) n (omega arith) (omega arith),
       )
 
-  pub ga_rows : (bus address : ℕ) (letter : Letter) (ports : ℕ) → MayObey buses state session (InitGa bus address letter ports)
-      → AreRowsOf buses (device_in lockable.Ga bus address) (ga_fresh (device_in lockable.Ga bus address) letter ports)
-  ga_rows bus address letter ports may =
-      let device = device_in lockable.Ga bus address in
+  pub ga_rows : (ga : NewGa) → MayObey buses state session (InitGa ga)
+      → AreRowsOf buses (device_in lockable.Ga ga.bus ga.address)
+      (ga_fresh (device_in lockable.Ga ga.bus ga.address) ga.letter ga.ports)
+  ga_rows ga may =
+      let ports = ga.ports in
+      let device = device_in lockable.Ga ga.bus ga.address in
       let count : row_count buses device ≡ 1 + ports = may.of.0 in
       let more : row_count buses device ≡ suc ports = omega (arith, count) in
       let few : ports ≤ 8 = may.of.1 in
@@ -116,8 +118,8 @@ module _ (buses : List Bus) (state : State) (session moment : ℕ) (now : IsMome
             ap (λ keys. key_at device 0 ∷ keys) (keys-ports device 1 ports) ∙ ap (λ n. map (key_at device) (range_with_len 0 n)) (sym more);
         few = omega (arith, few, long);
         each = (
-          IsRowOf-put buses may.whole.laid_out (key_at device 0) moment (value.GaInit letter) None (omega (arith, count)) now
+          IsRowOf-put buses may.whole.laid_out (key_at device 0) moment (value.GaInit ga.letter) None (omega (arith, count)) now
               (refl, refl) tt,
-          each_port bus address letter ports may 1 ports (omega arith) (omega arith),
+          each_port ga may 1 ports (omega arith) (omega arith),
         );
       }

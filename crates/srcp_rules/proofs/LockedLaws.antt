@@ -1,5 +1,5 @@
 -- No command of a session touches a device that another session has locked.
-use Rattle.std.specs.Prelude.{◌≡◌, ℕ, zero, suc, ◌+◌, Bool, true, false, not, cond, ◌==◌, ◌&&◌, map, List, [], ◌∷◌, ◌++◌}
+use Rattle.std.specs.Prelude.{◌≡◌, ℕ, zero, suc, ◌+◌, Bool, true, false, cond, ◌==◌, ◌&&◌, map, List, [], ◌∷◌, ◌++◌}
 use Rattle.std.specs.Prelude.{Option, Some, None}
 use Rattle.std.proofs.Common.{refl, sym, ap, ◌∙◌, true≢false}
 use Rattle.std.specs.List.{AllByRecursion, range_with_len}
@@ -9,7 +9,7 @@ use Rattle.srcp_info.specs.declared.value.Value.{Value}
 use Rattle.srcp_info.specs.declared.value.Value.TheVariants as value
 use Rattle.srcp_info.specs.declared.change.Change.{Change}
 use Rattle.srcp_info.specs.declared.change.Change.TheVariants.{Put, Gone}
-use Rattle.srcp_info.specs.declared.change.Code.TheVariants.{C414, C415, C416}
+use Rattle.srcp_info.specs.declared.change.Code.TheVariants.{C414, C415}
 use Rattle.srcp_info.specs.declared.change.Reply.TheVariants.{Accepted}
 use Rattle.srcp_info.specs.Key.{group_place, first_key, key_of, owns}
 use Rattle.srcp_info.proofs.KeyLaws.{owns-device_of, device_from_owns}
@@ -22,12 +22,13 @@ use Rattle.srcp_grammar.specs.declared.command.Command.TheVariants.{GetGl, SetGl
 use Rattle.srcp_grammar.specs.declared.command.Command.TheVariants.{TermGa, GetFb, SetFb, CheckFb, InitFb, GetLock, SetLock, CheckLock}
 use Rattle.srcp_grammar.specs.declared.command.Command.TheVariants.{TermLock}
 use Rattle.srcp_grammar.specs.Devices.{key_at, session_device, power_device, fb_device, device_in, device_group, lock_on, lock_group}
+use Rattle.srcp_grammar.specs.Devices.{lock_at}
 use Rattle.srcp_rules.specs.State.{State, Update, row_at, is_there}
 use Rattle.srcp_rules.specs.State.{updated, updated_by, updated_all}
 use Rattle.srcp_rules.specs.Effect.{effect, refused, done, refusals, is_locked, put_at, gone_at, removal, removals}
 use Rattle.srcp_rules.specs.Effect.{set_gl, set_ga, set_lock, fresh_gl, fresh_ga, init_device, has_init, ga_put, gl_put, gl_refusals}
 use Rattle.srcp_rules.specs.Effect.{lock_put, term_device}
-use Rattle.srcp_rules.specs.Effect.{term_session}
+use Rattle.srcp_rules.specs.Effect.{term_session, gl_init, lock_refusals}
 use Rattle.srcp_rules.specs.Laws.{IsKept}
 use Rattle.srcp_rules.proofs.KeyLaws.{same_key, same_key-true}
 use Rattle.srcp_rules.proofs.StateLaws.{row_at-put_other, row_at-without}
@@ -213,9 +214,9 @@ module _ (state : State) (session moment : ℕ) (g : Lockable) (bus address : �
       accepted_updates AllApart tt (gl_refusals state session drive) (gl_put state moment drive ∷ [])
       (λ none. (row_apart lockable.Gl drive.bus drive.address 1 (other_device lockable.Gl drive.bus drive.address none.1.1.0), tt))
   effect_apart (CheckGl drive) = checked_updates AllApart tt (set_gl state session moment drive)
-  effect_apart (InitGl b a letter version steps functions) =
-      init_apart lockable.Gl b a (value.GlInit letter version steps functions) (fresh_gl moment b a letter version steps functions)
-      (λ other. (row_apart lockable.Gl b a 0 other, (row_apart lockable.Gl b a 1 other, tt)))
+  effect_apart (InitGl gl) =
+      init_apart lockable.Gl gl.bus gl.address (gl_init gl) (fresh_gl moment gl)
+      (λ other. (row_apart lockable.Gl gl.bus gl.address 0 other, (row_apart lockable.Gl gl.bus gl.address 1 other, tt)))
   effect_apart (TermGl b a) = term_apart lockable.Gl b a
   effect_apart (GetGa b a port) = showing_updates AllApart tt (row_at (key_at (device_in lockable.Ga b a) (1 + port)) state)
   effect_apart (SetGa switch) =
@@ -223,9 +224,9 @@ module _ (state : State) (session moment : ℕ) (g : Lockable) (bus address : �
       (λ none.
       (row_apart lockable.Ga switch.bus switch.address (1 + switch.port) (other_device lockable.Ga switch.bus switch.address none.1.0), tt))
   effect_apart (CheckGa switch) = checked_updates AllApart tt (set_ga state session moment switch)
-  effect_apart (InitGa b a letter ports) =
-      init_apart lockable.Ga b a (value.GaInit letter) (fresh_ga moment b a letter ports)
-      (λ other. (row_apart lockable.Ga b a 0 other, ports_apart b a 1 ports other))
+  effect_apart (InitGa ga) =
+      init_apart lockable.Ga ga.bus ga.address (value.GaInit ga.letter) (fresh_ga moment ga)
+      (λ other. (row_apart lockable.Ga ga.bus ga.address 0 other, ports_apart ga.bus ga.address 1 ga.ports other))
   effect_apart (TermGa b a) = term_apart lockable.Ga b a
   effect_apart (GetFb b port) = showing_updates AllApart tt (row_at (first_key (fb_device b port)) state)
   effect_apart (SetFb sensor) = (
@@ -237,15 +238,17 @@ module _ (state : State) (session moment : ℕ) (g : Lockable) (bus address : �
   )
   effect_apart (CheckFb sensor) = tt
   effect_apart (InitFb b) = tt
-  effect_apart (GetLock b h a) = showing_updates AllApart tt (row_at (first_key (lock_on h b a)) state)
+  effect_apart (GetLock place) =
+      showing_updates AllApart tt (row_at (first_key (lock_at place)) state)
   effect_apart (SetLock lock) =
-      accepted_updates AllApart tt (refusals state session lock.group lock.bus lock.address) (lock_put session moment lock ∷ [])
-      (λ none. (lock_apart lock.group lock.bus lock.address (other_device lock.group lock.bus lock.address none.1.0), tt))
+      let place = lock.place in
+      accepted_updates AllApart tt (refusals state session place.group place.bus place.address) (lock_put session moment lock ∷ [])
+      (λ none. (lock_apart place.group place.bus place.address (other_device place.group place.bus place.address none.1.0), tt))
   effect_apart (CheckLock lock) = checked_updates AllApart tt (set_lock state session moment lock)
-  effect_apart (TermLock b h a) =
-      accepted_updates AllApart tt ((not (is_there (lock_on h b a) state), C416) ∷ (is_locked state session h b a, C414) ∷ [])
-      (gone_at moment (lock_on h b a) ∷ [])
-      (λ none. (lock_apart h b a (other_device h b a none.1.0), tt))
+  effect_apart (TermLock place) =
+      accepted_updates AllApart tt (lock_refusals state session place.group place.bus place.address)
+      (gone_at moment (lock_at place) ∷ [])
+      (λ none. (lock_apart place.group place.bus place.address (other_device place.group place.bus place.address none.1.0), tt))
 
   device_side : (updates : List Update) → AllApart updates → AreApart (device_in g bus address) updates
   device_side [] h = tt

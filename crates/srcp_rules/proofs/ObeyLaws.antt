@@ -20,7 +20,7 @@ use Rattle.srcp_grammar.specs.declared.command.PowerSwitch.{PowerSwitch}
 use Rattle.srcp_grammar.specs.declared.command.Sensor.{Sensor}
 use Rattle.srcp_grammar.specs.declared.command.TimedLock.{TimedLock}
 use Rattle.srcp_grammar.specs.declared.command.Command.TheVariants.{SetPower, SetGl, SetGa, SetFb, SetLock}
-use Rattle.srcp_grammar.specs.Devices.{key_at, power_device, fb_device, device_in, lock_on}
+use Rattle.srcp_grammar.specs.Devices.{key_at, power_device, fb_device, device_in, lock_at}
 use Rattle.srcp_rules.specs.State.{State, Update, IsRowOf, IsWhole, has_row, row_at, is_there}
 use Rattle.srcp_rules.specs.State.{functions_of, row_put}
 use Rattle.srcp_rules.specs.Effect.{done, first_refusal, refused, accepted, unless_refused, lock_end, port_end}
@@ -98,12 +98,12 @@ module _ (buses : List Bus) (state : State) (session moment : ℕ) (now : IsMome
   -- the row of a lock
   pub lock_row : (lock : TimedLock) → MayObey buses state session (SetLock lock)
       → IsRowOf buses
-      (row_put moment (first_key (lock_on lock.group lock.bus lock.address)) (value.Lock lock.seconds session)
+      (row_put moment (first_key (lock_at lock.place)) (value.Lock lock.seconds session)
       (lock_end moment lock.seconds))
   lock_row lock may =
-      IsRowOf-put buses may.whole.laid_out (first_key (lock_on lock.group lock.bus lock.address)) moment
+      IsRowOf-put buses may.whole.laid_out (first_key (lock_at lock.place)) moment
       (value.Lock lock.seconds session) (lock_end moment lock.seconds) may.of.0 now
-      (lock_value buses state may.whole session moment may.begun now lock.group lock.seconds may.of.1)
+      (lock_value buses state may.whole session moment may.begun now lock.place.group lock.seconds may.of.1)
       (lock_end_fits moment lock.seconds session)
 
   -- all rows of a device that is there are there

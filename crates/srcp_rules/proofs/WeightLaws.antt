@@ -20,17 +20,16 @@ use Rattle.srcp_grammar.specs.declared.command.Operation.{Operation}
 use Rattle.srcp_grammar.specs.declared.command.Operation.TheVariants.{Get, Set, Check, Init, Term, Wait, Verify, Reset}
 use Rattle.srcp_grammar.specs.declared.command.Named.{Named}
 use Rattle.srcp_grammar.specs.declared.command.Named.TheVariants.{Session, Power, Gl, Ga, Fb, Lock}
-use Rattle.srcp_grammar.specs.declared.command.Lockable.{Lockable}
 use Rattle.srcp_grammar.specs.declared.command.Lockable.TheVariants as lockable
 use Rattle.srcp_grammar.specs.declared.command.Command.{Command}
 use Rattle.srcp_grammar.specs.declared.command.Command.TheVariants.{GetSession, TermSession, GetPower, SetPower, CheckPower, GetGl, SetGl}
 use Rattle.srcp_grammar.specs.declared.command.Command.TheVariants.{CheckGl, GetGa, SetGa, CheckGa, GetFb, SetFb, CheckFb, GetLock, SetLock}
 use Rattle.srcp_grammar.specs.declared.command.Command.TheVariants.{CheckLock}
-use Rattle.srcp_grammar.specs.Layout.{bus_at, has_group, address_max}
-use Rattle.srcp_grammar.specs.Devices.{key_at, session_device, power_device, fb_device, device_in, lock_on}
+use Rattle.srcp_grammar.specs.Layout.{bus_at, has_group}
+use Rattle.srcp_grammar.specs.Devices.{key_at, session_device, power_device, fb_device, device_in, lock_at}
 use Rattle.srcp_rules.specs.State.{State, Update, row_at}
 use Rattle.srcp_grammar.specs.Command.{IsCommandOf}
-use Rattle.srcp_grammar.specs.Grammar.{◌>>=◌, number_in, lockable_on, groups, named_in, alone, addressed, get_session, term_session}
+use Rattle.srcp_grammar.specs.Grammar.{◌>>=◌, number_in, groups, named_in, alone, addressed, get_session, term_session}
 use Rattle.srcp_grammar.specs.Grammar.{powered, driven, ga_port, get_ga, switched, sensed, named_lock, timed_lock, asked, directed}
 use Rattle.srcp_grammar.specs.Grammar.{commanded}
 use Rattle.srcp_rules.specs.Effect.{effect, refused, done, checked, shown_at, unless_refused, refusals, gl_refusals}
@@ -79,15 +78,6 @@ module _ (P : Command → Type 0) where
       (λ address. read_any P (ga_port bus p) (λ port. Ok (GetGa bus.number address port)) (h address))
   get_ga_all bus (a ∷ p ∷ w ∷ ws) h = tt
 
-  get_lock_all : (bus : Bus) (make : Lockable → ℕ → Command) (words : List (List ℕ))
-      → ((g : Lockable) (a : ℕ) → P (make g a)) → All (named_lock bus make words)
-  get_lock_all bus make [] h = tt
-  get_lock_all bus make (g ∷ []) h = tt
-  get_lock_all bus make (g ∷ a ∷ []) h =
-      read_any P (lockable_on bus g) (λ group. number_in 1 (address_max bus group) a >>= (λ address. Ok (make group address)))
-      (λ group. read_any P (number_in 1 (address_max bus group) a) (λ address. Ok (make group address)) (h group))
-  get_lock_all bus make (g ∷ a ∷ w ∷ ws) h = tt
-
   -- the words after the operation
   directed_all : (buses : List Bus) (operation : Operation) (words : List (List ℕ))
       → ((g : Named) (bus : Bus) (ws : List (List ℕ)) → All (asked operation g bus ws)) → All (directed buses operation words)
@@ -121,7 +111,9 @@ module _ (state : State) (session moment : ℕ) where
       (λ a. shown (key_at (device_in lockable.Gl bus.number a) 1))
   gets_none Ga bus words = get_ga_all (Brings 0) bus words (λ a p. shown (key_at (device_in lockable.Ga bus.number a) (1 + p)))
   gets_none Fb bus words = addressed_all (Brings 0) bus.fb_ports (GetFb bus.number) words (λ p. shown (first_key (fb_device bus.number p)))
-  gets_none Lock bus words = get_lock_all (Brings 0) bus (GetLock bus.number) words (λ g a. shown (first_key (lock_on g bus.number a)))
+  gets_none Lock bus words =
+      read_any (Brings 0) (named_lock bus words) (λ place. Ok (GetLock place))
+      (λ place. shown (first_key (lock_at place)))
 
   tried : (r : Result (List Update) Code) → AtMost 0 (checked r).updates
   tried r = checked_updates (AtMost 0) (none 0) r
@@ -152,7 +144,7 @@ module _ (state : State) (session moment : ℕ) where
   sets_one Fb bus words = read_any (Brings 1) (sensed bus words) (λ sensor. Ok (SetFb sensor)) (λ sensor. omega arith)
   sets_one Lock bus words =
       read_any (Brings 1) (timed_lock bus words) (λ lock. Ok (SetLock lock))
-      (λ lock. one (refusals state session lock.group lock.bus lock.address) (lock_put session moment lock))
+      (λ lock. one (refusals state session lock.place.group lock.place.bus lock.place.address) (lock_put session moment lock))
 
   -- a session's command shows its row, or ends it
   ended : (id : Option ℕ) → Brings 0 (TermSession id)

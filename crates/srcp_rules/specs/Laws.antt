@@ -21,7 +21,7 @@ use Rattle.srcp_grammar.specs.declared.command.Command.{Command}
 use Rattle.srcp_grammar.specs.declared.command.Command.TheVariants.{SetPower, CheckPower, SetGl, CheckGl, SetGa}
 use Rattle.srcp_grammar.specs.declared.command.Command.TheVariants.{CheckGa, SetFb, CheckFb, SetLock, CheckLock}
 use Rattle.srcp_grammar.specs.Layout.{IsLayout}
-use Rattle.srcp_grammar.specs.Devices.{key_at, session_device, device_in, lock_on}
+use Rattle.srcp_grammar.specs.Devices.{key_at, session_device, device_in, lock_at, lock_on}
 use Rattle.srcp_rules.specs.State.{State, Update, AddsNoRow, IsRising, IsWhole, opening, row_at, is_there}
 use Rattle.srcp_rules.specs.State.{updated, updated_all, row_put}
 use Rattle.srcp_grammar.specs.Command.{IsCommandOf}
@@ -239,9 +239,9 @@ PortsAreSet = (state : State) (session moment : ℕ) (switch : Switch)
 abbrev pub LocksAreSet : Type 0
 LocksAreSet = (state : State) (session moment : ℕ) (lock : TimedLock)
     → (effect state session moment (SetLock lock)).reply ≡ Accepted
-    → row_at (first_key (lock_on lock.group lock.bus lock.address))
+    → row_at (first_key (lock_at lock.place))
     (updated_all (effect state session moment (SetLock lock)).updates state)
-    ≡ Some (row_put moment (first_key (lock_on lock.group lock.bus lock.address)) (value.Lock lock.seconds session)
+    ≡ Some (row_put moment (first_key (lock_at lock.place)) (value.Lock lock.seconds session)
     (lock_end moment lock.seconds))
 
 -- a port that was set to 1 for some milliseconds is 1 at each moment before their end, and 0 at each from it on
@@ -265,9 +265,9 @@ LocksRunOut = (buses : List Bus) (state : State) (session moment later : ℕ) (l
     → 0 < lock.seconds → (effect state session moment (SetLock lock)).reply ≡ Accepted
     → (after : State)
     → after ≡ updated_all (effect state session moment (SetLock lock)).updates state
-    → row_at (first_key (lock_on lock.group lock.bus lock.address)) (updated_all (due after later) after)
+    → row_at (first_key (lock_at lock.place)) (updated_all (due after later) after)
     ≡ (if nat_le (moment_after moment (1000 * lock.seconds)) later then None
-    else Some (row_put moment (first_key (lock_on lock.group lock.bus lock.address)) (value.Lock lock.seconds session)
+    else Some (row_put moment (first_key (lock_at lock.place)) (value.Lock lock.seconds session)
     (Some (moment_after moment (1000 * lock.seconds)))))
 
 -- that many milliseconds later if there is such a moment, and else the greatest one

@@ -1,29 +1,26 @@
-//! Carries out a command: goes by its group to one function, and from there by its operation.
+//! Carries out a command, by one match of all that there are.
 
-ghost use Rattle.std.specs.Prelude.{◌≡◌, ℕ, ◌≤◌, [], ◌∷◌, IsTrue, None, length};
+ghost use Rattle.std.specs.Prelude.{◌≡◌, ◌≤◌, [], ◌∷◌, IsTrue, None, length};
 ghost use Rattle.std.specs.List.{AllByRecursion};
 ghost use Rattle.srcp_info.specs.Key.{first_key};
 ghost use Rattle.srcp_info.specs.WellFormed.{IsWellFormed, IsWellFormedReply};
 ghost use Rattle.srcp_info.specs.declared.value.Value.TheVariants as value;
-ghost use Rattle.srcp_grammar.specs.Command.{IsCommandOf, named_of};
-ghost use Rattle.srcp_grammar.specs.declared.command.Named.TheVariants as named;
-ghost use Rattle.srcp_rules.specs.Effect.{accepted, put_at, term_session};
+ghost use Rattle.srcp_grammar.specs.Command.{IsCommandOf};
+ghost use Rattle.srcp_rules.specs.Effect.{accepted, put_at, shown_at, term_session};
 ghost use Rattle.srcp_rules.specs.Obeyed.{IsObeyed, IsTold, MayObey, Took};
-ghost use Rattle.srcp_grammar.specs.Devices.{fb_device, power_device, session_device};
+ghost use Rattle.srcp_grammar.specs.Devices.{device_at, fb_device, key_at, power_device, session_device};
 ghost use Rattle.srcp_rules.specs.State.{IsWhole, is_there};
 
-use crate::device::{
-    BusAddress, device_in, fb_device, key_at, lock_on, power_device, session_device,
-};
+use crate::device::{device_at, fb_device, ga, gl, key_at, lock_at, power_device, session_device};
 use crate::drive::{gl_refusal, set_ga, set_gl};
 use crate::init::term_device;
 use crate::lock::{refusal, refuse_if, set_lock, term_lock};
-use crate::new_device::{Decoder, init_ga, init_gl};
+use crate::new_device::{init_ga, init_gl};
 use crate::obeyed::{MOST_CHANGES, Obeyed};
 use crate::registry::{set_one, show};
 use crate::rows::Rows;
 use crate::sender::Sender;
-use srcp_grammar::{Command, Lockable, Named, PowerSwitch, Sensor, Switch, TimedLock};
+use srcp_grammar::{Command, Place, PowerSwitch, Sensor, Switch};
 use srcp_info::{Code, Value};
 
 /// Answers TERM of a session. A session ends itself alone.
@@ -49,14 +46,8 @@ fn set_power<R: Rows>(rows: &mut R, sender: Sender, power: &PowerSwitch, obeyed:
 {
     let PowerSwitch { bus, on, text } = *power;
     let key = power_device(bus).first_key();
-    set_one(
-        rows,
-        sender.moment,
-        key,
-        Value::Power { on, text },
-        None,
-        obeyed,
-    );
+    let value = Value::Power { on, text };
+    set_one(rows, sender.moment, key, value, None, obeyed);
 }
 
 /// Carries out SET of a feedback port.
@@ -73,176 +64,13 @@ fn set_fb<R: Rows>(rows: &mut R, sender: Sender, sensor: Sensor, obeyed: &mut Ob
     set_one(rows, sender.moment, key, Value::Fb { on }, None, obeyed);
 }
 
-/// Answers a command of a session.
-fn answer_session<R: Rows>(rows: &R, session: u32, command: &Command, obeyed: &mut Obeyed)
-    requires named { named_of command.now ≡ named.Session }
-    requires blank { IsTold (accepted []) obeyed.old }
-    ensures { (moment : ℕ) → IsObeyed (R.state rows.now) (R.state rows.now) session moment command.now obeyed.new }
+/// Answers GET of a locomotive or an accessory with its row at a port.
+fn show_at<R: Rows>(rows: &R, place: Place, port: u8, obeyed: &mut Obeyed)
+    requires { IsTold (accepted []) obeyed.old }
+    ensures { Took (shown_at (key_at (device_at place) port) (R.state rows.now))
+        (R.state rows.now) (R.state rows.now) obeyed.new }
 {
-    match *command {
-        Command::GetSession { session: id } => show(rows, &session_device(id).first_key(), obeyed),
-        Command::TermSession { session: named } => end_session(session, named, obeyed),
-        _ => unreachable!(),
-    }
-}
-
-/// Answers a command of the power of a bus.
-fn answer_power<R: Rows>(rows: &mut R, sender: Sender, command: &Command, obeyed: &mut Obeyed)
-    requires blank { IsTold (accepted []) obeyed.old }
-    requires may { MayObey (R.buses rows.old) (R.state rows.old) sender.session command.now }
-    requires named { named_of command.now ≡ named.Power }
-    ensures obeyed { IsObeyed (R.state rows.old) (R.state rows.new)
-        sender.session sender.moment command.now obeyed.new }
-    ensures layout { R.buses rows.new ≡ R.buses rows.old }
-{
-    match *command {
-        Command::GetPower { bus } => show(rows, &power_device(bus).first_key(), obeyed),
-        Command::SetPower(ref power) => set_power(rows, sender, power, obeyed),
-        Command::CheckPower(_) => {}
-        Command::InitPower { .. } => {}
-        _ => unreachable!(),
-    }
-}
-
-/// Answers a command of a locomotive.
-fn answer_gl<R: Rows>(rows: &mut R, sender: Sender, command: &Command, obeyed: &mut Obeyed)
-    requires blank { IsTold (accepted []) obeyed.old }
-    requires may { MayObey (R.buses rows.old) (R.state rows.old) sender.session command.now }
-    requires named { named_of command.now ≡ named.Gl }
-    ensures obeyed { IsObeyed (R.state rows.old) (R.state rows.new)
-        sender.session sender.moment command.now obeyed.new }
-    ensures layout { R.buses rows.new ≡ R.buses rows.old }
-{
-    match *command {
-        Command::GetGl { bus, address } => {
-            let place = BusAddress { bus, address };
-            show(rows, &key_at(device_in(Lockable::Gl, place), 1), obeyed)
-        }
-        Command::SetGl(ref drive) => set_gl(rows, sender, drive, obeyed),
-        Command::CheckGl(ref drive) => refuse_if(gl_refusal(rows, sender.session, drive), obeyed),
-        Command::InitGl {
-            bus,
-            address,
-            letter,
-            version,
-            steps,
-            functions,
-        } => {
-            let place = BusAddress { bus, address };
-            let decoder = Decoder {
-                letter,
-                version,
-                steps,
-            };
-            init_gl(rows, sender, place, decoder, functions, obeyed)
-        }
-        Command::TermGl { bus, address } => {
-            let place = BusAddress { bus, address };
-            term_device(rows, sender, Lockable::Gl, place, obeyed)
-        }
-        _ => unreachable!(),
-    }
-}
-
-/// Answers a command of an accessory.
-fn answer_ga<R: Rows>(rows: &mut R, sender: Sender, command: &Command, obeyed: &mut Obeyed)
-    requires blank { IsTold (accepted []) obeyed.old }
-    requires may { MayObey (R.buses rows.old) (R.state rows.old) sender.session command.now }
-    requires named { named_of command.now ≡ named.Ga }
-    ensures obeyed { IsObeyed (R.state rows.old) (R.state rows.new)
-        sender.session sender.moment command.now obeyed.new }
-    ensures layout { R.buses rows.new ≡ R.buses rows.old }
-{
-    match *command {
-        Command::GetGa { bus, address, port } => {
-            let place = BusAddress { bus, address };
-            show(
-                rows,
-                &key_at(device_in(Lockable::Ga, place), 1 + port),
-                obeyed,
-            )
-        }
-        Command::SetGa(ref switch) => set_ga(rows, sender, switch, obeyed),
-        Command::CheckGa(Switch { bus, address, .. }) => {
-            let place = BusAddress { bus, address };
-            refuse_if(refusal(rows, sender.session, Lockable::Ga, place), obeyed)
-        }
-        Command::InitGa {
-            bus,
-            address,
-            letter,
-            ports,
-        } => init_ga(
-            rows,
-            sender,
-            BusAddress { bus, address },
-            letter,
-            ports,
-            obeyed,
-        ),
-        Command::TermGa { bus, address } => {
-            let place = BusAddress { bus, address };
-            term_device(rows, sender, Lockable::Ga, place, obeyed)
-        }
-        _ => unreachable!(),
-    }
-}
-
-/// Answers a command of a feedback port.
-fn answer_fb<R: Rows>(rows: &mut R, sender: Sender, command: &Command, obeyed: &mut Obeyed)
-    requires blank { IsTold (accepted []) obeyed.old }
-    requires may { MayObey (R.buses rows.old) (R.state rows.old) sender.session command.now }
-    requires named { named_of command.now ≡ named.Fb }
-    ensures obeyed { IsObeyed (R.state rows.old) (R.state rows.new)
-        sender.session sender.moment command.now obeyed.new }
-    ensures layout { R.buses rows.new ≡ R.buses rows.old }
-{
-    match *command {
-        Command::GetFb { bus, port } => show(rows, &fb_device(bus, port).first_key(), obeyed),
-        Command::SetFb(sensor) => set_fb(rows, sender, sensor, obeyed),
-        Command::CheckFb(_) => {}
-        Command::InitFb { .. } => {}
-        _ => unreachable!(),
-    }
-}
-
-/// Answers a command of a lock.
-fn answer_lock<R: Rows>(rows: &mut R, sender: Sender, command: &Command, obeyed: &mut Obeyed)
-    requires blank { IsTold (accepted []) obeyed.old }
-    requires may { MayObey (R.buses rows.old) (R.state rows.old) sender.session command.now }
-    requires named { named_of command.now ≡ named.Lock }
-    ensures obeyed { IsObeyed (R.state rows.old) (R.state rows.new)
-        sender.session sender.moment command.now obeyed.new }
-    ensures layout { R.buses rows.new ≡ R.buses rows.old }
-{
-    match *command {
-        Command::GetLock {
-            bus,
-            group,
-            address,
-        } => {
-            let place = BusAddress { bus, address };
-            show(rows, &lock_on(group, place).first_key(), obeyed)
-        }
-        Command::SetLock(lock) => set_lock(rows, sender, lock, obeyed),
-        Command::CheckLock(
-            TimedLock {
-                bus,
-                group,
-                address,
-                ..
-            },
-        ) => refuse_if(
-            refusal(rows, sender.session, group, BusAddress { bus, address }),
-            obeyed,
-        ),
-        Command::TermLock {
-            bus,
-            group,
-            address,
-        } => term_lock(rows, sender, group, BusAddress { bus, address }, obeyed),
-        _ => unreachable!(),
-    }
+    show(rows, &key_at(device_at(place), port), obeyed);
 }
 
 /// Answers the command.
@@ -253,13 +81,31 @@ fn answer<R: Rows>(rows: &mut R, sender: Sender, command: &Command, obeyed: &mut
         sender.session sender.moment command.now obeyed.new }
     ensures layout { R.buses rows.new ≡ R.buses rows.old }
 {
-    match command.named() {
-        Named::Session => answer_session(rows, sender.session, command, obeyed),
-        Named::Power => answer_power(rows, sender, command, obeyed),
-        Named::Gl => answer_gl(rows, sender, command, obeyed),
-        Named::Ga => answer_ga(rows, sender, command, obeyed),
-        Named::Fb => answer_fb(rows, sender, command, obeyed),
-        Named::Lock => answer_lock(rows, sender, command, obeyed),
+    match *command {
+        Command::GetSession { session } => show(rows, &session_device(session).first_key(), obeyed),
+        Command::TermSession { session } => end_session(sender.session, session, obeyed),
+        Command::GetPower { bus } => show(rows, &power_device(bus).first_key(), obeyed),
+        Command::SetPower(ref power) => set_power(rows, sender, power, obeyed),
+        Command::CheckPower(_) | Command::InitPower { .. } => {}
+        Command::GetGl { bus, address } => show_at(rows, gl(bus, address), 1, obeyed),
+        Command::SetGl(ref drive) => set_gl(rows, sender, drive, obeyed),
+        Command::CheckGl(ref drive) => refuse_if(gl_refusal(rows, sender.session, drive), obeyed),
+        Command::InitGl(ref decoder) => init_gl(rows, sender, decoder, obeyed),
+        Command::TermGl { bus, address } => term_device(rows, sender, gl(bus, address), obeyed),
+        Command::GetGa { bus, address, port } => show_at(rows, ga(bus, address), 1 + port, obeyed),
+        Command::SetGa(ref switch) => set_ga(rows, sender, switch, obeyed),
+        Command::CheckGa(Switch { bus, address, .. }) => {
+            refuse_if(refusal(rows, sender.session, ga(bus, address)), obeyed)
+        }
+        Command::InitGa(ref decoder) => init_ga(rows, sender, decoder, obeyed),
+        Command::TermGa { bus, address } => term_device(rows, sender, ga(bus, address), obeyed),
+        Command::GetFb { bus, port } => show(rows, &fb_device(bus, port).first_key(), obeyed),
+        Command::SetFb(sensor) => set_fb(rows, sender, sensor, obeyed),
+        Command::CheckFb(_) | Command::InitFb { .. } => {}
+        Command::GetLock(place) => show(rows, &lock_at(place).first_key(), obeyed),
+        Command::SetLock(lock) => set_lock(rows, sender, lock, obeyed),
+        Command::CheckLock(lock) => refuse_if(refusal(rows, sender.session, lock.place), obeyed),
+        Command::TermLock(place) => term_lock(rows, sender, place, obeyed),
     }
 }
 

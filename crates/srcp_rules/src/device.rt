@@ -1,9 +1,10 @@
 //! The devices that a command names, and the keys of their rows.
 
 ghost use Rattle.std.specs.Prelude.{◌≡◌};
-ghost use Rattle.srcp_grammar.specs.Devices.{device_in, fb_device, key_at, lock_on, power_device, session_device};
+ghost use Rattle.srcp_grammar.specs.declared.command.Lockable.TheVariants as lockable;
+ghost use Rattle.srcp_grammar.specs.Devices.{device_at, fb_device, key_at, lock_at, power_device, session_device};
 
-use srcp_grammar::Lockable;
+use srcp_grammar::{Lockable, Place};
 use srcp_info::{Device, Group, Key};
 
 /// Returns the device of a session's row.
@@ -39,18 +40,33 @@ pub(crate) fn fb_device(bus: u8, port: u32) -> Device
     }
 }
 
-/// Names the bus and the address of a locomotive or an accessory.
-#[derive(Clone, Copy)]
-pub(crate) struct BusAddress {
-    pub(crate) bus: u8,
-    pub(crate) address: u32,
+/// Names a locomotive.
+pub(crate) fn gl(bus: u8, address: u32) -> Place
+    ensures { result ≡ record { bus = bus; group = lockable.Gl; address = address } }
+{
+    Place {
+        bus,
+        group: Lockable::Gl,
+        address,
+    }
+}
+
+/// Names an accessory.
+pub(crate) fn ga(bus: u8, address: u32) -> Place
+    ensures { result ≡ record { bus = bus; group = lockable.Ga; address = address } }
+{
+    Place {
+        bus,
+        group: Lockable::Ga,
+        address,
+    }
 }
 
 /// Returns the device of a locomotive or an accessory.
-pub(crate) fn device_in(group: Lockable, place: BusAddress) -> Device
-    ensures { result ≡ device_in group place.bus place.address }
+pub(crate) fn device_at(place: Place) -> Device
+    ensures { result ≡ device_at place }
 {
-    let group = match group {
+    let group = match place.group {
         Lockable::Gl => Group::Gl,
         Lockable::Ga => Group::Ga,
     };
@@ -62,10 +78,10 @@ pub(crate) fn device_in(group: Lockable, place: BusAddress) -> Device
 }
 
 /// Returns the lock of a locomotive or an accessory. It is a device of its own.
-pub(crate) fn lock_on(group: Lockable, place: BusAddress) -> Device
-    ensures { result ≡ lock_on group place.bus place.address }
+pub(crate) fn lock_at(place: Place) -> Device
+    ensures { result ≡ lock_at place }
 {
-    let group = match group {
+    let group = match place.group {
         Lockable::Gl => Group::LockGl,
         Lockable::Ga => Group::LockGa,
     };

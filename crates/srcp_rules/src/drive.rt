@@ -10,25 +10,25 @@ ghost use Rattle.srcp_rules.specs.Obeyed.{IsTold, MayObey, Took};
 ghost use Rattle.srcp_grammar.specs.Devices.{device_in};
 ghost use Rattle.srcp_rules.specs.State.{IsWhole, functions_of, is_there};
 
-use crate::device::{BusAddress, device_in, key_at};
+use crate::device::{device_at, ga, gl, key_at};
 use crate::lock::{is_locked, refusal};
 use crate::obeyed::Obeyed;
 use crate::registry::set_one;
 use crate::rows::Rows;
 use crate::sender::Sender;
-use srcp_grammar::{Command, Drive, Lockable, Switch};
+use srcp_grammar::{Command, Drive, Switch};
 use srcp_info::{Bits, Code, DriveMode, Value};
 
 /// Returns the functions of a locomotive, or `None` if it is not there. Its state row answers both, since a device has
 /// all its rows or none.
 #[tactic(auto, using(crate::proofs::ObeyLaws::gl_there))]
-fn functions_of<R: Rows>(rows: &R, place: BusAddress) -> Option<Bits>
+fn functions_of<R: Rows>(rows: &R, bus: u8, address: u32) -> Option<Bits>
     requires whole { IsWhole (R.buses rows.now) (R.state rows.now) }
-    ensures there { is_some result ≡ is_there (device_in lockable.Gl place.bus place.address) (R.state rows.now) }
+    ensures there { is_some result ≡ is_there (device_in lockable.Gl bus address) (R.state rows.now) }
     ensures functions { IfSome result
-        (λ functions. functions ≡ functions_of place.bus place.address (R.state rows.now)) }
+        (λ functions. functions ≡ functions_of bus address (R.state rows.now)) }
 {
-    let locomotive = device_in(Lockable::Gl, place);
+    let locomotive = device_at(gl(bus, address));
     let row = rows.row(&key_at(locomotive, 1))?;
     match row.shown.value {
         Value::GlState { functions, .. } => Some(functions),
@@ -56,17 +56,14 @@ fn functions_to_drive<R: Rows>(rows: &R, session: u32, drive: &Drive) -> Result<
         (λ before. before ≡ functions_of drive.now.bus drive.now.address (R.state rows.now)) }
     ensures refusal { result_err result ≡ first_refusal (gl_refusals (R.state rows.now) session drive.now) }
 {
-    let place = BusAddress {
-        bus: drive.bus,
-        address: drive.address,
-    };
-    let Some(before) = functions_of(rows, place) else {
+    let place = gl(drive.bus, drive.address);
+    let Some(before) = functions_of(rows, drive.bus, drive.address) else {
         return Err(Code::NO_SUCH_DEVICE);
     };
     if before.len() < drive.functions.len() {
         return Err(Code::TOO_LONG);
     }
-    if is_locked(rows, session, Lockable::Gl, place) {
+    if is_locked(rows, session, place) {
         return Err(Code::DEVICE_LOCKED);
     }
     Ok(before)
@@ -109,11 +106,7 @@ pub(crate) fn set_gl<R: Rows>(rows: &mut R, sender: Sender, drive: &Drive, obeye
         vmax: drive.vmax,
         functions: functions_after(&drive.functions, &before),
     };
-    let place = BusAddress {
-        bus: drive.bus,
-        address: drive.address,
-    };
-    let key = key_at(device_in(Lockable::Gl, place), 1);
+    let key = key_at(device_at(gl(drive.bus, drive.address)), 1);
     set_one(rows, sender.moment, key, driven, None, obeyed);
 }
 
@@ -144,11 +137,11 @@ pub(crate) fn set_ga<R: Rows>(rows: &mut R, sender: Sender, switch: &Switch, obe
         on,
         time,
     } = *switch;
-    let place = BusAddress { bus, address };
-    if let Some(code) = refusal(rows, sender.session, Lockable::Ga, place) {
+    let place = ga(bus, address);
+    if let Some(code) = refusal(rows, sender.session, place) {
         return obeyed.refuse(code);
     }
-    let key = key_at(device_in(Lockable::Ga, place), 1 + port);
+    let key = key_at(device_at(place), 1 + port);
     let due = port_end(sender.moment, on, time);
     set_one(rows, sender.moment, key, Value::GaPort { on }, due, obeyed);
 }

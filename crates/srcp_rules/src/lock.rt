@@ -1,23 +1,23 @@
 //! SET and TERM of a lock, and whether a lock keeps a session from a device.
 
 ghost use Rattle.std.specs.Prelude.{◌≡◌, []};
-ghost use Rattle.srcp_rules.specs.Effect.{accepted, first_refusal, is_locked, lock_end, lock_refusals};
+ghost use Rattle.srcp_rules.specs.Effect.{accepted, first_refusal, is_locked, lock_end};
 ghost use Rattle.srcp_rules.specs.Effect.{refusals, refused_or_not, term_lock, done};
 ghost use Rattle.srcp_rules.specs.Obeyed.{IsObeyed, IsTold, MayObey, Took};
 
-use crate::device::{BusAddress, device_in, lock_on};
+use crate::device::{device_at, lock_at};
 use crate::obeyed::Obeyed;
 use crate::registry::{is_there, put_of, remove, row_put, set_one};
 use crate::rows::Rows;
 use crate::sender::Sender;
-use srcp_grammar::{Command, Lockable, TimedLock};
+use srcp_grammar::{Command, Place, TimedLock};
 use srcp_info::{Code, Value};
 
 /// Returns whether another session has the device's lock.
-pub(crate) fn is_locked<R: Rows>(rows: &R, session: u32, group: Lockable, place: BusAddress) -> bool
-    ensures { result ≡ is_locked (R.state rows.now) session group place.bus place.address }
+pub(crate) fn is_locked<R: Rows>(rows: &R, session: u32, place: Place) -> bool
+    ensures { result ≡ is_locked (R.state rows.now) session place.group place.bus place.address }
 {
-    match rows.row(&lock_on(group, place).first_key()) {
+    match rows.row(&lock_at(place).first_key()) {
         Some(row) => match row.shown.value {
             Value::Lock {
                 session: holder,
@@ -31,18 +31,13 @@ pub(crate) fn is_locked<R: Rows>(rows: &R, session: u32, group: Lockable, place:
 
 /// Returns why the session may not change the device, if it may not: the device is not there, or another session has
 /// its lock.
-pub(crate) fn refusal<R: Rows>(
-    rows: &R,
-    session: u32,
-    group: Lockable,
-    place: BusAddress,
-) -> Option<Code>
-    ensures { result ≡ first_refusal (refusals (R.state rows.now) session group place.bus place.address) }
+pub(crate) fn refusal<R: Rows>(rows: &R, session: u32, place: Place) -> Option<Code>
+    ensures { result ≡ first_refusal (refusals (R.state rows.now) session place.group place.bus place.address) }
 {
-    if !is_there(rows, device_in(group, place)) {
+    if !is_there(rows, device_at(place)) {
         return Some(Code::NO_SUCH_DEVICE);
     }
-    if is_locked(rows, session, group, place) {
+    if is_locked(rows, session, place) {
         return Some(Code::DEVICE_LOCKED);
     }
     None
@@ -77,17 +72,11 @@ pub(crate) fn set_lock<R: Rows>(rows: &mut R, sender: Sender, lock: TimedLock, o
         (Command.SetLock lock) obeyed.new }
     ensures layout { R.buses rows.new ≡ R.buses rows.old }
 {
-    let TimedLock {
-        bus,
-        group,
-        address,
-        seconds,
-    } = lock;
-    let place = BusAddress { bus, address };
-    if let Some(code) = refusal(rows, sender.session, group, place) {
+    let TimedLock { place, seconds } = lock;
+    if let Some(code) = refusal(rows, sender.session, place) {
         return obeyed.refuse(code);
     }
-    let device = lock_on(group, place);
+    let device = lock_at(place);
     let value = Value::Lock {
         seconds,
         session: sender.session,
@@ -104,24 +93,18 @@ pub(crate) fn set_lock<R: Rows>(rows: &mut R, sender: Sender, lock: TimedLock, o
 }
 
 /// Carries out TERM of a lock.
-pub(crate) fn term_lock<R: Rows>(
-    rows: &mut R,
-    sender: Sender,
-    group: Lockable,
-    place: BusAddress,
-    obeyed: &mut Obeyed,
-)
+pub(crate) fn term_lock<R: Rows>(rows: &mut R, sender: Sender, place: Place, obeyed: &mut Obeyed)
     requires blank { IsTold (accepted []) obeyed.old }
     ensures took { Took (done
-        (term_lock (R.state rows.old) sender.session sender.moment group place.bus place.address))
+        (term_lock (R.state rows.old) sender.session sender.moment place.group place.bus place.address))
         (R.state rows.old) (R.state rows.new) obeyed.new }
     ensures layout { R.buses rows.new ≡ R.buses rows.old }
 {
-    let lock = lock_on(group, place);
+    let lock = lock_at(place);
     if !is_there(rows, lock) {
         return obeyed.refuse(Code::NO_SUCH_DEVICE);
     }
-    if is_locked(rows, sender.session, group, place) {
+    if is_locked(rows, sender.session, place) {
         return obeyed.refuse(Code::DEVICE_LOCKED);
     }
     obeyed.changes.push(remove(rows, sender.moment, lock));

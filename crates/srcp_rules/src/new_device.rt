@@ -8,13 +8,13 @@ ghost use Rattle.srcp_rules.specs.Effect.{accepted};
 ghost use Rattle.srcp_grammar.specs.Devices.{key_at};
 ghost use Rattle.srcp_rules.specs.State.{row_put};
 
-use crate::device::{BusAddress, device_in, key_at};
+use crate::device::{device_at, ga, gl, key_at};
 use crate::init::init_device;
 use crate::obeyed::Obeyed;
 use crate::registry::row_put;
 use crate::rows::{MOST_ROWS, Rows};
 use crate::sender::Sender;
-use srcp_grammar::{Command, Lockable};
+use srcp_grammar::{Command, NewGa, NewGl};
 use srcp_info::{Bits, Device, DriveMode, Letter, MOST_FUNCTIONS, MOST_PORTS, Row, Value};
 
 /// Makes the rows of a new locomotive: it stands still, forward, with all functions off.
@@ -36,43 +36,23 @@ fn gl_rows(moment: u64, device: Device, init: &Value, functions: u32) -> [Row; 2
     ]
 }
 
-/// Describes the decoder of a locomotive as INIT gives it: its protocol, the protocol's version, its speed steps.
-#[derive(Clone, Copy)]
-pub(crate) struct Decoder {
-    pub(crate) letter: Letter,
-    pub(crate) version: u32,
-    pub(crate) steps: u32,
-}
-
 /// Carries out INIT of a locomotive: it stands still, forward, with all functions off.
-pub(crate) fn init_gl<R: Rows>(
-    rows: &mut R,
-    sender: Sender,
-    place: BusAddress,
-    decoder: Decoder,
-    functions: u32,
-    obeyed: &mut Obeyed,
-)
+pub(crate) fn init_gl<R: Rows>(rows: &mut R, sender: Sender, decoder: &NewGl, obeyed: &mut Obeyed)
     requires blank { IsTold (accepted []) obeyed.old }
-    requires may { MayObey (R.buses rows.old) (R.state rows.old) sender.session
-        (Command.InitGl place.bus place.address decoder.letter decoder.version decoder.steps functions) }
+    requires may { MayObey (R.buses rows.old) (R.state rows.old) sender.session (Command.InitGl decoder.now) }
     ensures obeyed { IsObeyed (R.state rows.old) (R.state rows.new) sender.session sender.moment
-        (Command.InitGl place.bus place.address decoder.letter decoder.version decoder.steps functions) obeyed.new }
+        (Command.InitGl decoder.now) obeyed.new }
     ensures layout { R.buses rows.new ≡ R.buses rows.old }
 {
+    let place = gl(decoder.bus, decoder.address);
     let init = Value::GlInit {
         letter: decoder.letter,
         version: decoder.version,
         steps: decoder.steps,
-        functions,
+        functions: decoder.functions,
     };
-    let fresh = gl_rows(
-        sender.moment,
-        device_in(Lockable::Gl, place),
-        &init,
-        functions,
-    );
-    init_device(rows, sender, Lockable::Gl, place, &init, &fresh, obeyed);
+    let fresh = gl_rows(sender.moment, device_at(place), &init, decoder.functions);
+    init_device(rows, sender, place, &init, &fresh, obeyed);
 }
 
 /// Makes the row of a new accessory's port, 0.
@@ -108,30 +88,17 @@ fn ga_rows(moment: u64, device: Device, letter: Letter) -> [Row; MOST_ROWS]
 }
 
 /// Carries out INIT of an accessory: all its ports are 0.
-pub(crate) fn init_ga<R: Rows>(
-    rows: &mut R,
-    sender: Sender,
-    place: BusAddress,
-    letter: Letter,
-    ports: u8,
-    obeyed: &mut Obeyed,
-)
+pub(crate) fn init_ga<R: Rows>(rows: &mut R, sender: Sender, decoder: &NewGa, obeyed: &mut Obeyed)
     requires blank { IsTold (accepted []) obeyed.old }
-    requires may { MayObey (R.buses rows.old) (R.state rows.old) sender.session
-        (Command.InitGa place.bus place.address letter ports) }
+    requires may { MayObey (R.buses rows.old) (R.state rows.old) sender.session (Command.InitGa decoder.now) }
     ensures obeyed { IsObeyed (R.state rows.old) (R.state rows.new) sender.session sender.moment
-        (Command.InitGa place.bus place.address letter ports) obeyed.new }
+        (Command.InitGa decoder.now) obeyed.new }
     ensures layout { R.buses rows.new ≡ R.buses rows.old }
 {
-    let most = ga_rows(sender.moment, device_in(Lockable::Ga, place), letter);
+    let place = ga(decoder.bus, decoder.address);
+    let letter = decoder.letter;
     let init = Value::GaInit { letter };
-    init_device(
-        rows,
-        sender,
-        Lockable::Ga,
-        place,
-        &init,
-        &most[..1 + usize::from(ports)],
-        obeyed,
-    );
+    let most = ga_rows(sender.moment, device_at(place), letter);
+    let fresh = &most[..1 + usize::from(decoder.ports)];
+    init_device(rows, sender, place, &init, fresh, obeyed);
 }

@@ -1,4 +1,4 @@
-use Rattle.srcp_grammar.specs.Devices.{device_in}
+use Rattle.srcp_grammar.specs.Devices.{device_at}
 use Rattle.srcp_rules.proofs.PutRowsLaws.{each_there}
 use Rattle.srcp_rules.proofs.InitLaws.{unlocked, unlocked_whole, unlocked_there, changes_remade, rows_remade}
 use Rattle.srcp_rules.proofs.init.remake.Goals as goal
@@ -7,24 +7,23 @@ pub set_all-requires : goal.set_all-requires
 set_all-requires g c =
     let buses = g.R.Rows.buses c.args.rows.now in
     let state = g.R.Rows.state c.args.rows.now in
-    let there =
-    unlocked_there buses state c.requires.whole c.args.moment c.args.group c.args.place.bus c.args.place.address c.requires.there in
-    rw (c.remove_if_there.ensures.layout, c.remove_if_there.ensures.rows, c.lock_on.ensures)
-    (each_there buses (device_in c.args.group c.args.place.bus c.args.place.address) c.args.fresh.now c.requires.fresh
-    (unlocked buses state c.requires.whole c.args.moment c.args.group c.args.place.bus c.args.place.address)
-    (unlocked_whole buses state c.requires.whole c.args.moment c.args.group c.args.place.bus c.args.place.address) there)
+    let place = c.args.place in
+    let there = unlocked_there buses state c.requires.whole c.args.moment place.group place.bus place.address c.requires.there in
+    rw (c.remove_if_there.ensures.layout, c.remove_if_there.ensures.rows, c.lock_at.ensures)
+    (each_there buses (device_at place) c.args.fresh.now c.requires.fresh
+    (unlocked buses state c.requires.whole c.args.moment place.group place.bus place.address)
+    (unlocked_whole buses state c.requires.whole c.args.moment place.group place.bus place.address) there)
 
 pub returns-clause-changes : goal.returns-clause-changes
 returns-clause-changes g c =
-    rw (c.push_puts.ensures, c.push.ensures.items, c.remove_if_there.ensures.changes, c.lock_on.ensures, c.device_in.ensures)
-    (changes_remade (g.R.Rows.buses c.args.rows.now)
-    (g.R.Rows.state
-    c.args.rows.now) c.requires.whole c.args.moment c.args.group c.args.place.bus c.args.place.address c.args.fresh.now c.requires.there)
+    let place = c.args.place in
+    rw (c.push_puts.ensures, c.push.ensures.items, c.remove_if_there.ensures.changes, c.lock_at.ensures, c.device_at.ensures)
+    (changes_remade (g.R.Rows.buses c.args.rows.now) (g.R.Rows.state c.args.rows.now) c.requires.whole c.args.moment
+    place.group place.bus place.address c.args.fresh.now c.requires.there)
 
 pub returns-clause-rows : goal.returns-clause-rows
 returns-clause-rows g c =
-    rw (c.set_all.ensures.rows, c.remove_if_there.ensures.rows, c.lock_on.ensures)
-    (rows_remade (g.R.Rows.buses c.args.rows.now)
-    (g.R.Rows.state
-    c.args.rows.now) c.requires.whole c.args.moment c.args.group c.args.place.bus c.args.place.address c.args.fresh.now c.requires.there
-    c.requires.fresh)
+    let place = c.args.place in
+    rw (c.set_all.ensures.rows, c.remove_if_there.ensures.rows, c.lock_at.ensures)
+    (rows_remade (g.R.Rows.buses c.args.rows.now) (g.R.Rows.state c.args.rows.now) c.requires.whole c.args.moment
+    place.group place.bus place.address c.args.fresh.now c.requires.there c.requires.fresh)

@@ -3,7 +3,7 @@ use Rattle.srcp_info.specs.declared.key.Device.{Device}
 use Rattle.srcp_info.specs.declared.value.Value.TheVariants as value
 use Rattle.srcp_rules.specs.Effect.{Effect, lock_end, lock_put, refusals}
 use Rattle.srcp_rules.specs.Obeyed.{Took}
-use Rattle.srcp_grammar.specs.Devices.{lock_on}
+use Rattle.srcp_grammar.specs.Devices.{lock_at}
 use Rattle.srcp_rules.specs.State.{is_there}
 use Rattle.srcp_rules.proofs.AddingLaws.{single_added}
 use Rattle.srcp_rules.proofs.EffectLaws.{one_lock}
@@ -12,7 +12,7 @@ use Rattle.srcp_rules.proofs.lock.set_lock.Goals as goal
 
 pub set_one-requires-clause-fits : goal.set_one-requires-clause-fits
 set_one-requires-clause-fits g c =
-    rw (c.first_key.ensures, c.lock_on-device.ensures, c.lock_end-due.ensures)
+    rw (c.first_key.ensures, c.lock_at-device.ensures, c.lock_end-due.ensures)
     (lock_row (g.R.Rows.buses c.args.rows.now) (g.R.Rows.state c.args.rows.now)
     c.args.sender.session c.args.sender.moment c.args.sender.fits c.args.lock c.requires.may)
 
@@ -20,22 +20,22 @@ pub add-requires : goal.add-requires
 add-requires g c =
     let buses = g.R.Rows.buses c.args.rows.now in
     let state = g.R.Rows.state c.args.rows.now in
-    let device = lock_on c.args.lock.group c.args.lock.bus c.args.lock.address in
+    let device = lock_at c.args.lock.place in
     let absent : is_there device state ≡ false =
-    ap (λ (d : Device). is_there d state) (sym c.lock_on-device.ensures) ∙ sym c.is_there.ensures ∙ c.if-is_there.false in
+    ap (λ (d : Device). is_there d state) (sym c.lock_at-device.ensures) ∙ sym c.is_there.ensures ∙ c.if-is_there.false in
     let fits = lock_row buses state c.args.sender.session c.args.sender.moment c.args.sender.fits c.args.lock c.requires.may in (
       device,
-      rw (c.row_put-row.ensures, c.first_key-2.ensures, c.lock_on-device.ensures, c.lock_end-due.ensures)
+      rw (c.row_put-row.ensures, c.first_key-2.ensures, c.lock_at-device.ensures, c.lock_end-due.ensures)
           (single_added buses state c.requires.may.whole device c.args.sender.moment (value.Lock c.args.lock.seconds c.args.sender.session)
           (lock_end c.args.sender.moment c.args.lock.seconds) c.requires.may.of.0
-          (one_lock buses c.args.lock.group c.args.lock.bus c.args.lock.address) absent fits),
+          (one_lock buses c.args.lock.place.group c.args.lock.place.bus c.args.lock.place.address) absent fits),
     )
 
 pub returns-in-Some-clause-obeyed : goal.returns-in-Some-clause-obeyed
 returns-in-Some-clause-obeyed g c =
     let state = g.R.Rows.state c.args.rows.now in
     let lock = c.args.lock in
-    let refused = refusals state c.args.sender.session lock.group lock.bus lock.address in
+    let refused = refusals state c.args.sender.session lock.place.group lock.place.bus lock.place.address in
     let put = lock_put c.args.sender.session c.args.sender.moment lock in
     inl (subst (λ (did : Effect). Took did state state c.refuse.new.self)
     (refused_done refused (put ∷ []) c.in-Some.code c.in-Some.ensures) (record { told = c.refuse.ensures; rows = refl }))

@@ -6,7 +6,7 @@ use Rattle.srcp_info.specs.declared.value.Value.TheVariants as value
 use Rattle.srcp_info.specs.WellFormed.{IsMoment}
 use Rattle.srcp_grammar.specs.declared.layout.Bus.{Bus}
 use Rattle.srcp_grammar.specs.declared.command.Lockable.TheVariants as lockable
-use Rattle.srcp_grammar.specs.Devices.{device_in}
+use Rattle.srcp_grammar.specs.Devices.{device_in, device_at}
 use Rattle.srcp_rules.specs.State.{State, Update, is_there, put_of}
 use Rattle.srcp_rules.specs.Effect.{done, init_device}
 use Rattle.srcp_rules.specs.Obeyed.{TookUnless}
@@ -27,30 +27,34 @@ pub init_device-requires-clause-fresh : goal.init_device-requires-clause-fresh
 init_device-requires-clause-fresh g c =
     let buses = g.R.Rows.buses c.args.rows.now in
     let state = g.R.Rows.state c.args.rows.now in
-    let device = device_in lockable.Ga c.args.place.bus c.args.place.address in
+    let ga = c.args.decoder.now in
+    let device = device_in lockable.Ga ga.bus ga.address in
+    let made : c.device_at.result ≡ device = c.device_at.ensures ∙ ap device_at c.ga-place.ensures in
     let rows =
-    handed buses state c.args.sender.session c.args.sender.moment c.args.sender.fits c.ga_rows-most.result c.device_in.result device
-    c.args.letter c.args.ports c.from.result c.requires.may.of.1 c.ga_rows-most.ensures c.device_in.ensures c.from.ensures in
-    subst (λ (rows : List Row). AreRowsOf buses device rows) (sym rows)
-    (ga_rows buses state c.args.sender.session c.args.sender.moment c.args.sender.fits c.args.place.bus c.args.place.address
-    c.args.letter c.args.ports c.requires.may)
+    handed buses state c.args.sender.session c.args.sender.moment c.args.sender.fits c.ga_rows-most.result c.device_at.result device
+    ga.letter ga.ports c.from.result c.requires.may.of.1 c.ga_rows-most.ensures made c.from.ensures in
+    rw (c.ga-place.ensures)
+    (subst (λ (rows : List Row). AreRowsOf buses device rows) (sym rows)
+    (ga_rows buses state c.args.sender.session c.args.sender.moment c.args.sender.fits ga c.requires.may))
 
 pub returns-clause-obeyed : goal.returns-clause-obeyed
 returns-clause-obeyed g c =
     let buses = g.R.Rows.buses c.args.rows.now in
     let state = g.R.Rows.state c.args.rows.now in
-    let device = device_in lockable.Ga c.args.place.bus c.args.place.address in
+    let ga = c.args.decoder.now in
+    let device = device_in lockable.Ga ga.bus ga.address in
+    let made : c.device_at.result ≡ device = c.device_at.ensures ∙ ap device_at c.ga-place.ensures in
     let rows =
-    handed buses state c.args.sender.session c.args.sender.moment c.args.sender.fits c.ga_rows-most.result c.device_in.result device
-    c.args.letter c.args.ports c.from.result c.requires.may.of.1 c.ga_rows-most.ensures c.device_in.ensures c.from.ensures in
+    handed buses state c.args.sender.session c.args.sender.moment c.args.sender.fits c.ga_rows-most.result c.device_at.result device
+    ga.letter ga.ports c.from.result c.requires.may.of.1 c.ga_rows-most.ensures made c.from.ensures in
+    let took = c.init_device.ensures.took in
     subst
     (λ (updates : List Update).
     TookUnless (not (is_there device state))
     (done
-    (init_device state c.args.sender.session c.args.sender.moment lockable.Ga c.args.place.bus c.args.place.address
-    (value.GaInit c.args.letter) updates)) state
+    (init_device state c.args.sender.session c.args.sender.moment lockable.Ga ga.bus ga.address
+    (value.GaInit ga.letter) updates)) state
     (g.R.Rows.state c.init_device.new.rows) c.init_device.new.obeyed)
     (ap (map put_of) rows
-    ∙ ga_puts buses state c.args.sender.session c.args.sender.moment c.args.sender.fits c.args.place.bus c.args.place.address
-    c.args.letter c.args.ports)
-    c.init_device.ensures.took
+    ∙ ga_puts buses state c.args.sender.session c.args.sender.moment c.args.sender.fits ga)
+    (rw (c.ga-place.ensures) at took)

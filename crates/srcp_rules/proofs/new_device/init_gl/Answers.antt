@@ -6,6 +6,5 @@ init_device-requires-clause-fresh g c =
     let fresh =
     gl_rows (g.R.Rows.buses c.args.rows.now)
     (g.R.Rows.state
-    c.args.rows.now) c.args.sender.session c.args.sender.moment c.args.sender.fits c.args.place.bus c.args.place.address
-    c.args.decoder.letter c.args.decoder.version c.args.decoder.steps c.args.functions c.requires.may in
-    rw (c.gl_rows-fresh.ensures, c.device_in.ensures) fresh
+    c.args.rows.now) c.args.sender.session c.args.sender.moment c.args.sender.fits c.args.decoder.now c.requires.may in
+    rw (c.gl_rows-fresh.ensures, c.device_at.ensures, c.gl-place.ensures) fresh

@@ -5,7 +5,7 @@ use Rattle.srcp_grammar.specs.Command.{IsCommandOf}
 use Rattle.srcp_grammar.specs.Layout.{row_count}
 use Rattle.srcp_grammar.specs.Devices.{device_in}
 use Rattle.srcp_grammar.proofs.LayoutLaws.{ga_few}
-use Rattle.srcp_rules.proofs.commands.answer_ga.Goals as goal
+use Rattle.srcp_rules.proofs.commands.answer.Goals as goal
 
 pub overflow_add-port : goal.overflow_add-port
 overflow_add-port g c =
