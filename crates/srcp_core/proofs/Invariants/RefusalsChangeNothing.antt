@@ -53,21 +53,21 @@ refused_changes code state session moment (InitPower bus) = accepts code _
 refused_changes code state session moment (GetGl bus address) = shows code _
 refused_changes code state session moment (SetGl drive) = does code _
 refused_changes code state session moment (CheckGl drive) = checks code _
-refused_changes code state session moment (InitGl bus address letter version steps functions) = does code _
+refused_changes code state session moment (InitGl gl) = does code _
 refused_changes code state session moment (TermGl bus address) = does code _
 refused_changes code state session moment (GetGa bus address port) = shows code _
 refused_changes code state session moment (SetGa switch) = does code _
 refused_changes code state session moment (CheckGa switch) = checks code _
-refused_changes code state session moment (InitGa bus address letter ports) = does code _
+refused_changes code state session moment (InitGa ga) = does code _
 refused_changes code state session moment (TermGa bus address) = does code _
 refused_changes code state session moment (GetFb bus port) = shows code _
 refused_changes code state session moment (SetFb sensor) = accepts code _
 refused_changes code state session moment (CheckFb sensor) = accepts code _
 refused_changes code state session moment (InitFb bus) = accepts code _
-refused_changes code state session moment (GetLock bus group address) = shows code _
+refused_changes code state session moment (GetLock place) = shows code _
 refused_changes code state session moment (SetLock lock) = does code _
 refused_changes code state session moment (CheckLock lock) = checks code _
-refused_changes code state session moment (TermLock bus group address) = does code _
+refused_changes code state session moment (TermLock place) = does code _
 
 -- ---- no command is refused with 500
 
@@ -124,24 +124,24 @@ never_denied state session moment (SetGl drive) =
 never_denied state session moment (CheckGl drive) =
     never_checked (set_gl state session moment drive)
     (refuses _ C416 _ c416 (refuses _ C418 _ c418 (refuses _ C414 _ c414 (fine _))))
-never_denied state session moment (InitGl bus address letter version steps functions) = never_done _ (refuses _ C414 _ c414 (fine _))
+never_denied state session moment (InitGl gl) = never_done _ (refuses _ C414 _ c414 (fine _))
 never_denied state session moment (TermGl bus address) = never_done _ (refuses _ C416 _ c416 (refuses _ C414 _ c414 (fine _)))
 never_denied state session moment (GetGa bus address port) = never_shown _
 never_denied state session moment (SetGa switch) = never_done _ (refuses _ C416 _ c416 (refuses _ C414 _ c414 (fine _)))
 never_denied state session moment (CheckGa switch) =
     never_checked (set_ga state session moment switch) (refuses _ C416 _ c416 (refuses _ C414 _ c414 (fine _)))
-never_denied state session moment (InitGa bus address letter ports) = never_done _ (refuses _ C414 _ c414 (fine _))
+never_denied state session moment (InitGa ga) = never_done _ (refuses _ C414 _ c414 (fine _))
 never_denied state session moment (TermGa bus address) = never_done _ (refuses _ C416 _ c416 (refuses _ C414 _ c414 (fine _)))
 never_denied state session moment (GetFb bus port) = never_shown _
 never_denied state session moment (SetFb sensor) = λ e. cc
 never_denied state session moment (CheckFb sensor) = λ e. cc
 never_denied state session moment (InitFb bus) = λ e. cc
-never_denied state session moment (GetLock bus group address) = never_shown _
+never_denied state session moment (GetLock place) = never_shown _
 never_denied state session moment (SetLock lock) =
     never_done _ (refuses _ C416 _ c416 (refuses _ C414 _ c414 (fine _)))
 never_denied state session moment (CheckLock lock) =
     never_checked (set_lock state session moment lock) (refuses _ C416 _ c416 (refuses _ C414 _ c414 (fine _)))
-never_denied state session moment (TermLock bus group address) = never_done _ (refuses _ C416 _ c416 (refuses _ C414 _ c414 (fine _)))
+never_denied state session moment (TermLock place) = never_done _ (refuses _ C416 _ c416 (refuses _ C414 _ c414 (fine _)))
 
 module _ (state after : State) (session moment : ℕ) (command : Command) (obeyed : Obeyed) where
   -- where 500 was answered, the registry is as it was
