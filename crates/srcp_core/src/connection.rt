@@ -1,6 +1,6 @@
 //! One connection.
 ghost use Rattle.std.specs.Prelude.{◌≡◌, ◌≤◌, ◌+◌, ◌++◌, ◌⊎◌, [], length, drop, true, ◌&&◌, ◌||◌, IfOk, Some};
-ghost use Rattle.std.specs.Prelude.{vec_capacity};
+ghost use Rattle.std.specs.Prelude.{option_map, vec_capacity};
 ghost use Rattle.srcp_rules.specs.State.{shown_rows};
 ghost use Rattle.std.specs.List.{AllByRecursion};
 ghost use Rattle.srcp_info.specs.Line.{reply_line};
@@ -205,42 +205,52 @@ impl Connection {
         }
     }
 
-    /// Reads a piece on from `start`. Returns the offset after its next line, and what that asks for.
+    /// Reads a piece on from `start`. Returns the offset after its next line, and writes what that asks for to `asked`:
+    /// a command is large, and would be copied on its way out.
     #[inline(always)]
     pub(crate) fn hear(
         &mut self,
         piece: &[u8],
         start: usize,
         layout: &Layout,
-    ) -> Option<(usize, Asked)>
+        asked: &mut Asked,
+    ) -> Option<usize>
         requires { start ≤ length piece.now }
-        ensures { (result, self.new) ≡ heard layout.now piece.now start self.old }
+        ensures { (option_map (λ stop. (stop, asked.new)) result, self.new)
+            ≡ heard layout.now piece.now start self.old }
     {
         match self.reader.feed(piece, start) {
             Fed::More => None,
-            Fed::Line { stop } => Some((stop, self.asked(layout))),
-            Fed::TooLong { stop } => Some((stop, self.asked_too_long())),
+            Fed::Line { stop } => {
+                self.ask(layout, asked);
+                Some(stop)
+            }
+            Fed::TooLong { stop } => {
+                *asked = self.asked_too_long();
+                Some(stop)
+            }
         }
     }
 
-    /// Returns what the line that was found asks for.
-    fn asked(&self, layout: &Layout) -> Asked
-        ensures { result ≡ asked_of layout.now self.now (Line self.now.reader.line) }
+    /// Writes what the line that was found asks for.
+    fn ask(&self, layout: &Layout, asked: &mut Asked)
+        ensures { asked.new ≡ asked_of layout.now self.now (Line self.now.reader.line) }
     {
         if self.is_panel() || self.ended {
-            return Asked::Dropped;
+            *asked = Asked::Dropped;
+            return;
         }
         let line = self.reader.line();
         if self.session == 0 {
-            Asked::Greets {
+            *asked = Asked::Greets {
                 mode: self.mode,
                 greeting: greet(line),
-            }
+            };
         } else {
-            Asked::Commands {
+            *asked = Asked::Commands {
                 session: self.session,
                 command: parse_command(line, layout),
-            }
+            };
         }
     }
 

@@ -1,5 +1,6 @@
 //! Bytes that come in: the lines that end in them, and what each of them asks for.
 ghost use Rattle.std.specs.Prelude.{◌≡◌, ◌≤◌, [], length, Some, None, IfNone, IfSome, OnOk, OnErr, MatchResult};
+ghost use Rattle.std.specs.Prelude.{option_map};
 ghost use Rattle.srcp_core.specs.Held.{IsSound};
 ghost use Rattle.srcp_core.specs.Machine.{unsent_at, bytes_fault, heard_at, IsReceived, HasRoom, IsLineAnswered};
 
@@ -75,18 +76,20 @@ impl<'a, R: Rows> Core<'a, R> {
         ensures none { IfNone result ((None, self.new) ≡ heard_at conn piece.now start self.old) }
         ensures line { IfSome result (λ r. IsLineAnswered conn piece.now start r.0 r.1 self.old self.new) }
     {
-        let (stop, asked) = self.hear(conn, piece, start)?;
+        let mut asked = Asked::Dropped;
+        let stop = self.hear(conn, piece, start, &mut asked)?;
         Some((stop, self.answer(conn, &asked)))
     }
 
-    /// Reads the piece on from `start`. Returns the offset after its next line, and what that line asks for.
+    /// Reads the piece on from `start`. Returns the offset after its next line, and writes what that line asks for.
     #[inline(always)]
-    fn hear(&mut self, conn: usize, piece: &[u8], start: usize) -> Option<(usize, Asked)>
+    fn hear(&mut self, conn: usize, piece: &[u8], start: usize, asked: &mut Asked) -> Option<usize>
         requires { start ≤ length piece.now }
-        ensures heard { (result, self.new) ≡ heard_at conn piece.now start self.old }
+        ensures heard { (option_map (λ stop. (stop, asked.new)) result, self.new)
+            ≡ heard_at conn piece.now start self.old }
         ensures sound { IsSound self.new }
     {
         let connection = self.connections.get_mut(conn)?;
-        connection.hear(piece, start, self.layout)
+        connection.hear(piece, start, self.layout, asked)
     }
 }
