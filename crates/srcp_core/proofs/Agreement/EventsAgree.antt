@@ -25,14 +25,13 @@ use Rattle.srcp_core.proofs.Agreement.LinesAgree.{IsFine}
 use Rattle.srcp_core.proofs.Invariants.PlacesCover.{Where, Here, Away, where_is, place_set, place_set_here, no_place}
 use Rattle.srcp_core.proofs.Agreement.NumbersAndKeys.{opens, one_if, opens_with, opens_push, length_with, length_without, without_here}
 use Rattle.srcp_core.proofs.Agreement.NumbersAndKeys.{without_other, key_within, key_push, key_push_last, key_push_is, numbered_push_is}
-use Rattle.srcp_core.proofs.Agreement.NumbersAndKeys.{numbered_within}
+use Rattle.srcp_core.proofs.Agreement.NumbersAndKeys.{numbered_within, Source, look_with}
 use Rattle.srcp_core.proofs.Agreement.PlacesChange.{is_over_place, untold_shut, place_overran, place_unsent}
 use Rattle.srcp_core.proofs.CourseLaws.ShownRegistry.{length_history}
 use Rattle.srcp_core.proofs.CourseLaws.SessionsOfACourse.{anything, at_number}
 use Rattle.srcp_core.proofs.CourseLaws.ClientHoldsPassedRows.{untold_by}
 use Rattle.srcp_core.proofs.Agreement.StandsAfterAChange.{Anything, Fine, AllFine, Found, found_at, stands_did, other_key}
 use Rattle.srcp_core.proofs.Invariants.EveryPlaceIsTold.{count_by_cons}
-use Rattle.srcp_core.proofs.CourseLaws.RegistryStaysWhole.{Source, look_with}
 use Rattle.srcp_core.proofs.CourseLaws.SessionsAreKept.{sound_at, stands_shut, concerning_start}
 
 -- ---- what an overrun is

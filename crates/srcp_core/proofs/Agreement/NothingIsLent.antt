@@ -20,7 +20,8 @@ use Rattle.srcp_core.specs.Course.{or_refused, rows, start}
 use Rattle.srcp_core.specs.Held.{Held}
 use Rattle.srcp_core.specs.Machine.{let_out, unsent_at}
 use Rattle.srcp_core.proofs.Agreement.AnswersAgree.{lends_agrees}
-use Rattle.srcp_core.proofs.CourseLaws.RoomsAddUp.{left_after, rooms_add_up, takes_within}
+use Rattle.srcp_core.proofs.CourseLaws.RoomAfterRoom.{left_after}
+use Rattle.srcp_core.proofs.CourseLaws.RoomsAddUp.{rooms_add_up, takes_within}
 use Rattle.srcp_core.proofs.CourseLaws.LinesHaveBytes.{AreFull, owed_full}
 use Rattle.srcp_core.proofs.Agreement.NumbersAndKeys.{numbered_with}
 use Rattle.srcp_core.proofs.CourseLaws.RoomSettles.{sends_replies}

@@ -2,6 +2,7 @@
 use Rattle.std.proofs.Common.{◌≡◌, ◌≢◌, ℕ, zero, suc, ◌+◌, ◌<◌, ◌≤◌, ⊎_elim, inl, inr, ◌⊎◌, Bool, true, false, cond, List, [], ◌∷◌, ◌++◌}
 use Rattle.std.proofs.Common.{length, length-append, refl, ap, sym, ◌∙◌, arith}
 use Rattle.std.proofs.lemmas.List.Elements.{filter-append}
+use Rattle.std.proofs.Math.Nat.{suc-ne-zero, suc_inj}
 use Rattle.std.specs.List.{filter}
 use Rattle.std.specs.Prelude.{Option, Some, None, option_map}
 use Rattle.srcp_core.specs.Connection.{Connection, is_open}
@@ -153,3 +154,43 @@ numbered_push_is (suc (suc n)) [] x y e = cc
 numbered_push_is (suc zero) (z ∷ xs) x y e = inl e
 numbered_push_is (suc (suc n)) (z ∷ xs) x y e =
     ⊎_elim (λ h. inl h) (λ h. inr (ap (λ k. suc k) h.0, h.1)) (numbered_push_is (suc n) xs x y e)
+
+-- ---- the connection of a number after a change of one
+
+-- where it comes from
+pub record Source (m n : ℕ) (f : Connection → Connection) (xs : List Connection) (y : Connection) : Type 0 where
+  pub x : Connection
+  pub there : numbered m xs ≡ Some x
+  pub from : ((m ≡ n → ⊥) × (y ≡ x)) ⊎ ((m ≡ n) × (y ≡ f x))
+
+pub look_with : (m n : ℕ) (f : Connection → Connection) (xs : List Connection) (y : Connection) → numbered m (with_numbered n f xs) ≡ Some y
+    → Source m n f xs y
+look_with zero n f xs y e = cc
+look_with (suc m) n f [] y e = cc
+look_with (suc m) zero f (x ∷ xs) y e = record { x = y; there = e; from = inl (λ z. suc-ne-zero m z, refl) }
+look_with (suc zero) (suc zero) f (x ∷ xs) y e = let same : f x ≡ y = cc in record { x = x; there = refl; from = inr (refl, sym same) }
+look_with (suc zero) (suc (suc n)) f (x ∷ xs) y e = record {
+  x = y;
+  there = e;
+  from = inl (λ z. suc-ne-zero n (sym (suc_inj {m = zero} {n = suc n} z)), refl);
+}
+look_with (suc (suc m)) (suc zero) f (x ∷ xs) y e = record {
+  x = y;
+  there = e;
+  from = inl (λ z. suc-ne-zero m (suc_inj {m = suc m} {n = zero} z), refl);
+}
+look_with (suc (suc m)) (suc (suc n)) f (x ∷ xs) y e =
+    let s = look_with (suc m) (suc n) f xs y e in
+    record {
+      x = s.x;
+      there = s.there;
+      from = ⊎_elim (λ h. inl (λ z. h.0 (suc_inj {m = suc m} {n = suc n} z), h.1)) (λ h. inr (ap (λ k. suc k) h.0, h.1)) s.from;
+    }
+
+-- and after one more was opened
+pub look_push : (m : ℕ) (xs : List Connection) (x y : Connection) → numbered m (xs ++ x ∷ []) ≡ Some y → (numbered m xs ≡ Some y) ⊎ (y ≡ x)
+look_push zero xs x y e = cc
+look_push (suc zero) [] x y e = let same : x ≡ y = cc in inr (sym same)
+look_push (suc (suc m)) [] x y e = cc
+look_push (suc zero) (z ∷ xs) x y e = inl e
+look_push (suc (suc m)) (z ∷ xs) x y e = look_push (suc m) xs x y e

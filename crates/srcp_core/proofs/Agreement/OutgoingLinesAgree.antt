@@ -30,7 +30,8 @@ use Rattle.srcp_core.specs.Recording.{record_of, with_item}
 use Rattle.srcp_core.specs.Stands.{placed, place_of}
 use Rattle.srcp_core.specs.declared.record.ConnRecord.{ConnRecord}
 use Rattle.srcp_core.specs.declared.record.Item.{Item}
-use Rattle.srcp_core.proofs.CourseLaws.RoomsAddUp.{owed_plain, none_taken}
+use Rattle.srcp_core.proofs.CourseLaws.RoomAfterRoom.{none_taken}
+use Rattle.srcp_core.proofs.CourseLaws.RoomsAddUp.{owed_plain}
 use Rattle.srcp_core.proofs.CourseLaws.Histories.{rows_after, cursor_by}
 use Rattle.srcp_core.proofs.Agreement.PlacesChange.{plain_place, plain_is, is_over_place, untold_shut}
 use Rattle.srcp_core.proofs.CourseLaws.RoomGivesWhatIsOwed.{text_items, done_owes, nothing_owed, fitting_none}

@@ -16,12 +16,11 @@ use Rattle.srcp_core.specs.Recording.{key_of}
 use Rattle.srcp_core.specs.Stands.{StandsBy, IsAt, IsOwned, place_of}
 use Rattle.srcp_core.specs.declared.record.Item.{Item}
 use Rattle.srcp_core.proofs.Invariants.PlacesCover.{Where, Here, Away, where_is, place_set, place_set_here, set_count, told_each_count}
-use Rattle.srcp_core.proofs.Agreement.NumbersAndKeys.{opens_same, length_with, key_within, numbered_none}
+use Rattle.srcp_core.proofs.Agreement.NumbersAndKeys.{opens_same, length_with, key_within, numbered_none, look_with}
 use Rattle.srcp_core.proofs.Agreement.PlacesChange.{told_places, told_each_at, told_place_of}
 use Rattle.srcp_core.proofs.CourseLaws.ShownRegistry.{history_push}
 use Rattle.srcp_core.proofs.CourseLaws.RoomGivesWhatIsOwed.{Stands}
 use Rattle.srcp_core.proofs.CourseLaws.SessionsOfACourse.{open_shut, fits_open}
-use Rattle.srcp_core.proofs.CourseLaws.RegistryStaysWhole.{look_with}
 
 abbrev pub Anything : History → ℕ → List Item → Option ℕ → Type 0
 Anything history go items end = Unit {0}

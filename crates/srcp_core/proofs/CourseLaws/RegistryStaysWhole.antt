@@ -1,9 +1,9 @@
 -- Over every course the registry stays whole: each session that began and did not end has its row, under an id of its own.
-use Rattle.std.proofs.Common.{◌≡◌, ℕ, zero, suc, ◌+◌, ◌^◌, ◌<◌, ◌≤◌, max, Bool, true, false, List, [], ◌∷◌, ◌++◌, length, take, refl, ap}
+use Rattle.std.proofs.Common.{◌≡◌, ℕ, ◌+◌, ◌^◌, ◌<◌, ◌≤◌, max, Bool, true, false, List, [], ◌∷◌, ◌++◌, length, take, refl, ap}
 use Rattle.std.proofs.Common.{sym, ◌∙◌, subst, arith, add-one, inl, inr, ◌⊎◌, ⊎_elim}
 use Rattle.std.proofs.lemmas.Bool.{le-leb, true≢false, ltb-true, eqb-false}
 use Rattle.std.proofs.lemmas.List.Sums.{fold-append}
-use Rattle.std.proofs.Math.Nat.{suc-ne-zero, suc_inj, pos_of_ne-zero}
+use Rattle.std.proofs.Math.Nat.{pos_of_ne-zero}
 use Rattle.std.specs.List.{fold}
 use Rattle.std.specs.Prelude.{nat_lt, ◌==◌, ◌&&◌, ◌||◌, Option, Some, None, is_some, option_map, IfOk, if◌then◌else◌, Result, Ok, Err}
 use Rattle.srcp_info.specs.Key.{first_key}
@@ -37,48 +37,8 @@ use Rattle.srcp_core.specs.declared.record.CoreFault.{CoreFault}
 use Rattle.srcp_core.proofs.Agreement.MemoryAnswers.{effect_law, ordered_law}
 use Rattle.srcp_core.proofs.CourseLaws.StepsKeepWhole.{IsStepOf, AreSteps, are_steps_push, steps_whole, front_whole, history_told}
 use Rattle.srcp_core.proofs.CourseLaws.StepsKeepWhole.{keys_kept, whole_opening}
-use Rattle.srcp_core.proofs.Agreement.NumbersAndKeys.{numbered_with, no_connection}
+use Rattle.srcp_core.proofs.Agreement.NumbersAndKeys.{numbered_with, no_connection, look_with, look_push}
 use Rattle.srcp_core.proofs.CourseLaws.SessionsAreKept.{opened}
-
--- ---- the connection of a number after a change of one
-
--- where it comes from
-pub record Source (m n : ℕ) (f : Connection → Connection) (xs : List Connection) (y : Connection) : Type 0 where
-  pub x : Connection
-  pub there : numbered m xs ≡ Some x
-  pub from : ((m ≡ n → ⊥) × (y ≡ x)) ⊎ ((m ≡ n) × (y ≡ f x))
-
-pub look_with : (m n : ℕ) (f : Connection → Connection) (xs : List Connection) (y : Connection) → numbered m (with_numbered n f xs) ≡ Some y
-    → Source m n f xs y
-look_with zero n f xs y e = cc
-look_with (suc m) n f [] y e = cc
-look_with (suc m) zero f (x ∷ xs) y e = record { x = y; there = e; from = inl (λ z. suc-ne-zero m z, refl) }
-look_with (suc zero) (suc zero) f (x ∷ xs) y e = let same : f x ≡ y = cc in record { x = x; there = refl; from = inr (refl, sym same) }
-look_with (suc zero) (suc (suc n)) f (x ∷ xs) y e = record {
-  x = y;
-  there = e;
-  from = inl (λ z. suc-ne-zero n (sym (suc_inj {m = zero} {n = suc n} z)), refl);
-}
-look_with (suc (suc m)) (suc zero) f (x ∷ xs) y e = record {
-  x = y;
-  there = e;
-  from = inl (λ z. suc-ne-zero m (suc_inj {m = suc m} {n = zero} z), refl);
-}
-look_with (suc (suc m)) (suc (suc n)) f (x ∷ xs) y e =
-    let s = look_with (suc m) (suc n) f xs y e in
-    record {
-      x = s.x;
-      there = s.there;
-      from = ⊎_elim (λ h. inl (λ z. h.0 (suc_inj {m = suc m} {n = suc n} z), h.1)) (λ h. inr (ap (λ k. suc k) h.0, h.1)) s.from;
-    }
-
--- and after one more was opened
-pub look_push : (m : ℕ) (xs : List Connection) (x y : Connection) → numbered m (xs ++ x ∷ []) ≡ Some y → (numbered m xs ≡ Some y) ⊎ (y ≡ x)
-look_push zero xs x y e = cc
-look_push (suc zero) [] x y e = let same : x ≡ y = cc in inr (sym same)
-look_push (suc (suc m)) [] x y e = cc
-look_push (suc zero) (z ∷ xs) x y e = inl e
-look_push (suc (suc m)) (z ∷ xs) x y e = look_push (suc m) xs x y e
 
 -- ---- the invariant
 

@@ -1,12 +1,11 @@
 -- Rooms add up at every open connection of a course.
-use Rattle.std.proofs.Common.{◌≡◌, ℕ, zero, suc, ◌+◌, ◌-◌, ◌<◌, ◌≤◌, min, Bool, true, false, List, [], ◌∷◌, ◌++◌, take, length, drop, map}
-use Rattle.std.proofs.Common.{refl, ap, sym, ◌∙◌, subst, arith, append-nil, append_assoc, length-append, length-drop}
+use Rattle.std.proofs.Common.{◌≡◌, ℕ, zero, suc, ◌+◌, ◌<◌, ◌≤◌, min, Bool, true, false, List, [], ◌∷◌, ◌++◌, take, length, drop, map}
+use Rattle.std.proofs.Common.{refl, ap, sym, ◌∙◌, subst, arith, append-nil, length-append, length-drop}
 use Rattle.std.proofs.lemmas.Bool.Decides.{nat_tests}
-use Rattle.std.proofs.lemmas.List.{map-append, drop-append-le, take_all}
-use Rattle.std.proofs.lemmas.List.Concat.{flat_map-append}
+use Rattle.std.proofs.lemmas.List.{take_all}
 use Rattle.std.proofs.lemmas.List.Elements.{filter_map-append}
 use Rattle.std.proofs.lemmas.List.Sums.{fold-append}
-use Rattle.std.proofs.lemmas.Bool.{false≢true, le-ltb, ltb-false, lt-ltb}
+use Rattle.std.proofs.lemmas.Bool.{le-ltb, ltb-false, lt-ltb}
 use Rattle.std.specs.List.{filter, flat_map, AllByRecursion}
 use Rattle.std.specs.Option.{option_or}
 use Rattle.std.specs.Prelude.{nat_le, nat_lt, ◌||◌, Option, Some, None, ◌==◌, ◌&&◌, if◌then◌else◌, option_map, is_none}
@@ -20,162 +19,22 @@ use Rattle.srcp_grammar.specs.declared.layout.Bus.{Bus}
 use Rattle.srcp_grammar.specs.Layout.{IsLayout}
 use Rattle.srcp_rules.specs.State.{opening, shown_rows}
 use Rattle.srcp_core.specs.Under.{Event, Room}
-use Rattle.srcp_core.specs.Connection.{Connection, History, heard, line_of, front, fitting, is_nil, is_open, is_done_by, items_of, sent}
+use Rattle.srcp_core.specs.Connection.{Connection, History, heard, line_of, fitting, is_open, is_done_by, items_of, sent}
 use Rattle.srcp_core.specs.Connection.{untold, cursor_at, available, exhausts, given, told_change, unsent, text, owed, overran, took}
 use Rattle.srcp_core.specs.Connection.{given_room}
 use Rattle.srcp_core.specs.Course.{World, numbered, with_numbered, if_open, counted, absent_fault, or_refused, accepted, start, happens}
 use Rattle.srcp_core.specs.Course.{course, rows, history}
 use Rattle.srcp_core.specs.Laws.{AddsUp, without_events}
 use Rattle.srcp_core.specs.declared.record.Item.{Item}
-use Rattle.srcp_core.proofs.CourseLaws.RoomInTwoParts.{took_adds, done_rule, no_bytes}
 use Rattle.srcp_core.proofs.CourseLaws.LinesHaveBytes.{first_empty, owed_full}
 use Rattle.srcp_core.proofs.CourseLaws.Histories.{last_of, concerning_by, concerning_same, cursor_by, cursor_before}
-use Rattle.srcp_core.proofs.CourseLaws.RoomGivesWhatIsOwed.{no_lists, text_items, fitting_none, pos-eqb}
+use Rattle.srcp_core.proofs.CourseLaws.RoomGivesWhatIsOwed.{no_lists, fitting_none}
 use Rattle.srcp_core.proofs.CourseLaws.SessionsOfACourse.{anything, at_number, fits_open, open_shut, opening_in_order}
 use Rattle.srcp_core.proofs.CourseLaws.ClientHoldsPassedRows.{Fits, tolds}
 use Rattle.srcp_core.proofs.CourseLaws.RoomSettles.{after_room, owes_after, OwesAfter}
 use Rattle.srcp_core.proofs.Agreement.NumbersAndKeys.{numbered_with}
 use Rattle.srcp_core.proofs.CourseLaws.SessionsAreKept.{sound, concerning_start}
-
--- ---- a room for no bytes first
-
-fitting_some : (a : ℕ) (left : List ℕ) (nexts : List Next) → 0 < a → fitting a left nexts ≡ front (a - length left) nexts
-fitting_some a left nexts h = let z = pos-eqb a h in rw z refl
-
--- the line that is put in where nothing waits is the first that any room gives
-pub fitting_first : (a : ℕ) (left : List ℕ) (nexts rest : List Next) → 0 < a → nexts ≡ fitting 0 left nexts ++ rest
-    → fitting a left nexts ≡ fitting 0 left nexts ++ fitting a (left ++ flat_map line_of (fitting 0 left nexts)) rest
-fitting_first a [] [] rest h e = ap (fitting a []) e
-fitting_first a [] (what ∷ nexts) rest h e =
-    let tail : nexts ≡ rest = cc in
-    fitting_some a [] (what ∷ nexts) h
-    ∙ ap (λ k. front k (what ∷ nexts)) (nothing a)
-    ∙ first a h
-    ∙ ap (λ ns. what ∷ front (a - length (line_of what)) ns) tail
-    ∙ ap (λ l. what ∷ front (a - length l) rest) (sym (append-nil (line_of what)))
-    ∙ ap (λ ns. what ∷ ns) (sym (fitting_some a (line_of what ++ []) rest h))
-  where
-    nothing : (k : ℕ) → k - 0 ≡ k
-    nothing k = omega arith
-
-    first : (k : ℕ) → 0 < k → front k (what ∷ nexts) ≡ what ∷ front (k - length (line_of what)) nexts
-    first zero h = absurd (omega arith)
-    first (suc k) h = refl
-fitting_first a (x ∷ left) nexts rest h e =
-    let none : fitting 0 (x ∷ left) nexts ≡ [] = ap (λ k. front k nexts) (nothing (length (x ∷ left))) in
-    let all : nexts ≡ rest = e ∙ ap (λ ns. ns ++ rest) none in
-    ap (fitting a (x ∷ left)) all
-    ∙ ap (λ l. fitting a l rest) (sym (append-nil (x ∷ left)))
-    ∙ sym (ap (λ ns. ns ++ fitting a ((x ∷ left) ++ flat_map line_of ns) rest) none)
-  where
-    nothing : (k : ℕ) → 0 - k ≡ 0
-    nothing k = omega arith
-
-pub none_taken : (taken size : ℕ) → taken + min 0 size ≡ taken
-none_taken taken size = omega arith
-
--- what is unsent after a room for no bytes
-pub left_after : (n : ℕ) (nexts : List Next) (conn : Connection) → conn.taken ≤ length (given conn)
-    → unsent (took 0 n nexts conn) ≡ unsent conn ++ flat_map line_of (fitting 0 (unsent conn) nexts)
-left_after n nexts conn within =
-    ap (λ k. drop k (conn.out ++ text (conn.items ++ items_of n (fitting 0 (unsent conn) nexts))))
-    (none_taken conn.taken (length (available (unsent conn) nexts)))
-    ∙ ap (λ t. drop conn.taken (conn.out ++ t)) (text_items n conn.items (fitting 0 (unsent conn) nexts))
-    ∙ ap (drop conn.taken) (sym (append_assoc conn.out (text conn.items) (flat_map line_of (fitting 0 (unsent conn) nexts))))
-    ∙ drop-append-le conn.taken (given conn) (flat_map line_of (fitting 0 (unsent conn) nexts)) within
-
--- room for no bytes, and then for some
-pub took_first : (a n : ℕ) (nexts rest : List Next) (conn : Connection) → 0 < a → conn.taken ≤ length (given conn)
-    → nexts ≡ fitting 0 (unsent conn) nexts ++ rest → took a n rest (took 0 n nexts conn) ≡ took a n nexts conn
-took_first a n nexts rest conn pa within e =
-    ap (λ items.
-    record conn {
-      items = items;
-      taken =
-          conn.taken + min 0 (length (available (unsent conn) nexts))
-          + min a (length (available (unsent (took 0 n nexts conn)) rest));
-      done = done_after;
-    })
-    items_same
-    ∙ ap (λ taken. record conn { items = conn.items ++ items_of n (fitting a (unsent conn) nexts); taken = taken; done = done_after })
-    taken_same
-    ∙ ap (λ done.
-    record conn {
-      items = conn.items ++ items_of n (fitting a (unsent conn) nexts);
-      taken = conn.taken + min a (length (available (unsent conn) nexts));
-      done = done;
-    })
-    done_same
-  where
-    done_after : Option ℕ
-    done_after = (took a n rest (took 0 n nexts conn)).done
-
-    available_same : available (unsent (took 0 n nexts conn)) rest ≡ available (unsent conn) nexts
-    available_same =
-        ap (λ u. u ++ flat_map line_of rest) (left_after n nexts conn within)
-        ∙ append_assoc (unsent conn) (flat_map line_of (fitting 0 (unsent conn) nexts)) (flat_map line_of rest)
-        ∙ ap (λ l. unsent conn ++ l) (sym (flat_map-append line_of (fitting 0 (unsent conn) nexts) rest))
-        ∙ ap (λ ns. unsent conn ++ flat_map line_of ns) (sym e)
-
-    items_same : (conn.items ++ items_of n (fitting 0 (unsent conn) nexts)) ++ items_of n (fitting a (unsent (took 0 n nexts conn)) rest)
-        ≡ conn.items ++ items_of n (fitting a (unsent conn) nexts)
-    items_same =
-        ap (λ u. (conn.items ++ items_of n (fitting 0 (unsent conn) nexts)) ++ items_of n (fitting a u rest))
-        (left_after n nexts conn within)
-        ∙ append_assoc conn.items (items_of n (fitting 0 (unsent conn) nexts))
-        (items_of n (fitting a (unsent conn ++ flat_map line_of (fitting 0 (unsent conn) nexts)) rest))
-        ∙ ap (λ is. conn.items ++ is)
-        (sym
-        (map-append (λ what. record { steps = n; what = what }) (fitting 0 (unsent conn) nexts)
-        (fitting a (unsent conn ++ flat_map line_of (fitting 0 (unsent conn) nexts)) rest)))
-        ∙ ap (λ ns. conn.items ++ items_of n ns) (sym (fitting_first a (unsent conn) nexts rest pa e))
-
-    taken_same : conn.taken + min 0 (length (available (unsent conn) nexts))
-        + min a (length (available (unsent (took 0 n nexts conn)) rest))
-        ≡ conn.taken + min a (length (available (unsent conn) nexts))
-    taken_same =
-        ap (λ bytes. conn.taken + min 0 (length (available (unsent conn) nexts)) + min a (length bytes)) available_same
-        ∙ plain conn.taken (length (available (unsent conn) nexts)) (min a (length (available (unsent conn) nexts)))
-      where
-        plain : (t m k : ℕ) → t + min 0 m + k ≡ t + k
-        plain t m k = omega arith
-
-    done_same : done_after ≡ (took a n nexts conn).done
-    done_same =
-        done_rule conn.info (exhausts 0 (unsent conn) nexts) (exhausts a (unsent (took 0 n nexts conn)) rest)
-        (exhausts a (unsent conn) nexts) conn.done n
-        (λ t. second ∙ nothing_there t) (λ t. nothing_there t) (λ t. second)
-      where
-        second : exhausts a (unsent (took 0 n nexts conn)) rest ≡ exhausts a (unsent conn) nexts
-        second =
-            no_bytes (is_nil (unsent (took 0 n nexts conn)) && is_nil rest) (length (available (unsent (took 0 n nexts conn)) rest)) a pa
-            ∙ ap (λ bytes. nat_lt (length bytes) a) available_same
-            ∙ sym (no_bytes (is_nil (unsent conn) && is_nil nexts) (length (available (unsent conn) nexts)) a pa)
-
-        empty : (u : List ℕ) (ns : List Next) → is_nil u && is_nil ns ≡ true → length (available u ns) ≡ 0
-        empty [] [] t = refl
-        empty [] (what ∷ ns) t = absurd (false≢true t)
-        empty (x ∷ u) ns t = absurd (false≢true t)
-
-        nothing_there : exhausts 0 (unsent conn) nexts ≡ true → exhausts a (unsent conn) nexts ≡ true
-        nothing_there t =
-            let nils : is_nil (unsent conn) && is_nil nexts ≡ true =
-            ap (λ b. b || (is_nil (unsent conn) && is_nil nexts))
-            (sym (le-ltb (length (available (unsent conn) nexts)) 0 (omega arith)))
-            ∙ t in
-            let size = empty (unsent conn) nexts nils in
-            let less : length (available (unsent conn) nexts) < a = omega arith in
-            no_bytes (is_nil (unsent conn) && is_nil nexts) (length (available (unsent conn) nexts)) a pa
-            ∙ lt-ltb (length (available (unsent conn) nexts)) a less
-
--- any room, and then room for some bytes
-pub took_both : (a b n : ℕ) (nexts rest : List Next) (conn : Connection) → 0 < b → conn.taken ≤ length (given conn)
-    → nexts ≡ fitting a (unsent conn) nexts ++ rest → took b n rest (took a n nexts conn) ≡ took (a + b) n nexts conn
-took_both zero b n nexts rest conn pb within e = took_first b n nexts rest conn pb within e ∙ ap (λ m. took m n nexts conn) zero_plus
-  where
-    zero_plus : b ≡ 0 + b
-    zero_plus = omega arith
-took_both (suc a) b n nexts rest conn pb within e = took_adds (suc a) b n nexts rest conn (omega arith) pb within e
+use Rattle.srcp_core.proofs.CourseLaws.RoomAfterRoom.{left_after, took_both}
 
 -- ---- a room and overruns
 

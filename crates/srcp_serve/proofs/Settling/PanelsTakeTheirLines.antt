@@ -21,7 +21,8 @@ use Rattle.srcp_core.proofs.Agreement.NumbersAndKeys.{numbered_with}
 use Rattle.srcp_core.proofs.CourseLaws.ClientHoldsPassedRows.{Fits}
 use Rattle.srcp_core.proofs.CourseLaws.LinesHaveBytes.{AreFull, owed_full}
 use Rattle.srcp_core.proofs.CourseLaws.RoomSettles.{OwesAfter, owes_after}
-use Rattle.srcp_core.proofs.CourseLaws.RoomsAddUp.{left_after, takes_within, took_overran}
+use Rattle.srcp_core.proofs.CourseLaws.RoomAfterRoom.{left_after}
+use Rattle.srcp_core.proofs.CourseLaws.RoomsAddUp.{takes_within, took_overran}
 use Rattle.srcp_core.proofs.CourseLaws.SessionsOfACourse.{anything, fits_open, open_shut, stands}
 use Rattle.srcp_serve.specs.Serving.{lent}
 use Rattle.srcp_serve.proofs.LentAndTakenIsSent.{first_some, fits_left, given_more}
