@@ -73,12 +73,10 @@ refused_calm state session moment (GetFb bus port) = calm_showing (row_at (first
 refused_calm state session moment (SetFb sensor) = calm_accepted (effect state session moment (SetFb sensor)).updates
 refused_calm state session moment (CheckFb sensor) = calm_accepted []
 refused_calm state session moment (InitFb bus) = calm_accepted []
-refused_calm state session moment (GetLock place) =
-    calm_showing (row_at (first_key (lock_at place)) state)
+refused_calm state session moment (GetLock place) = calm_showing (row_at (first_key (lock_at place)) state)
 refused_calm state session moment (SetLock lock) = calm_done (set_lock state session moment lock)
 refused_calm state session moment (CheckLock lock) = calm_checked (set_lock state session moment lock)
-refused_calm state session moment (TermLock place) =
-    calm_done (term_lock state session moment place.group place.bus place.address)
+refused_calm state session moment (TermLock place) = calm_done (term_lock state session moment place.group place.bus place.address)
 
 -- what is checked is answered as what is done
 pub checked_as_done : (r : Result (List Update) Code) → AnswersAs (checked r) (done r)

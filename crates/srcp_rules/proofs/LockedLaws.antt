@@ -238,16 +238,14 @@ module _ (state : State) (session moment : ℕ) (g : Lockable) (bus address : �
   )
   effect_apart (CheckFb sensor) = tt
   effect_apart (InitFb b) = tt
-  effect_apart (GetLock place) =
-      showing_updates AllApart tt (row_at (first_key (lock_at place)) state)
+  effect_apart (GetLock place) = showing_updates AllApart tt (row_at (first_key (lock_at place)) state)
   effect_apart (SetLock lock) =
       let place = lock.place in
       accepted_updates AllApart tt (refusals state session place.group place.bus place.address) (lock_put session moment lock ∷ [])
       (λ none. (lock_apart place.group place.bus place.address (other_device place.group place.bus place.address none.1.0), tt))
   effect_apart (CheckLock lock) = checked_updates AllApart tt (set_lock state session moment lock)
   effect_apart (TermLock place) =
-      accepted_updates AllApart tt (lock_refusals state session place.group place.bus place.address)
-      (gone_at moment (lock_at place) ∷ [])
+      accepted_updates AllApart tt (lock_refusals state session place.group place.bus place.address) (gone_at moment (lock_at place) ∷ [])
       (λ none. (lock_apart place.group place.bus place.address (other_device place.group place.bus place.address none.1.0), tt))
 
   device_side : (updates : List Update) → AllApart updates → AreApart (device_in g bus address) updates

@@ -98,8 +98,7 @@ module _ (buses : List Bus) (state : State) (session moment : ℕ) (now : IsMome
   -- the row of a lock
   pub lock_row : (lock : TimedLock) → MayObey buses state session (SetLock lock)
       → IsRowOf buses
-      (row_put moment (first_key (lock_at lock.place)) (value.Lock lock.seconds session)
-      (lock_end moment lock.seconds))
+      (row_put moment (first_key (lock_at lock.place)) (value.Lock lock.seconds session) (lock_end moment lock.seconds))
   lock_row lock may =
       IsRowOf-put buses may.whole.laid_out (first_key (lock_at lock.place)) moment
       (value.Lock lock.seconds session) (lock_end moment lock.seconds) may.of.0 now

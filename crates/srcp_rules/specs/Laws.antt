@@ -239,8 +239,7 @@ PortsAreSet = (state : State) (session moment : ℕ) (switch : Switch)
 abbrev pub LocksAreSet : Type 0
 LocksAreSet = (state : State) (session moment : ℕ) (lock : TimedLock)
     → (effect state session moment (SetLock lock)).reply ≡ Accepted
-    → row_at (first_key (lock_at lock.place))
-    (updated_all (effect state session moment (SetLock lock)).updates state)
+    → row_at (first_key (lock_at lock.place)) (updated_all (effect state session moment (SetLock lock)).updates state)
     ≡ Some (row_put moment (first_key (lock_at lock.place)) (value.Lock lock.seconds session)
     (lock_end moment lock.seconds))
 

@@ -35,6 +35,7 @@ fn end_session(session: u32, named: Option<u32>, obeyed: &mut Obeyed)
 }
 
 /// Carries out SET of the power of a bus.
+#[tactic(auto, using(crate::proofs::ObeyLaws::power_row))]
 fn set_power<R: Rows>(rows: &mut R, sender: Sender, power: &PowerSwitch, obeyed: &mut Obeyed)
     requires blank { IsTold (accepted []) obeyed.old }
     requires may { MayObey (R.buses rows.old) (R.state rows.old) sender.session (Command.SetPower power.now) }
@@ -51,6 +52,7 @@ fn set_power<R: Rows>(rows: &mut R, sender: Sender, power: &PowerSwitch, obeyed:
 }
 
 /// Carries out SET of a feedback port.
+#[tactic(auto, using(crate::proofs::ObeyLaws::fb_row))]
 fn set_fb<R: Rows>(rows: &mut R, sender: Sender, sensor: Sensor, obeyed: &mut Obeyed)
     requires blank { IsTold (accepted []) obeyed.old }
     requires may { MayObey (R.buses rows.old) (R.state rows.old) sender.session (Command.SetFb sensor) }
@@ -74,6 +76,7 @@ fn show_at<R: Rows>(rows: &R, place: Place, port: u8, obeyed: &mut Obeyed)
 }
 
 /// Answers the command.
+#[tactic(auto, using(srcp_grammar::proofs::LayoutLaws::ga_few))]
 fn answer<R: Rows>(rows: &mut R, sender: Sender, command: &Command, obeyed: &mut Obeyed)
     requires blank { IsTold (accepted []) obeyed.old }
     requires may { MayObey (R.buses rows.old) (R.state rows.old) sender.session command.now }
