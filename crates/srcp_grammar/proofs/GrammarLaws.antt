@@ -23,7 +23,7 @@ use Rattle.srcp_grammar.specs.declared.command.Named.{Named}
 use Rattle.srcp_grammar.specs.declared.command.Named.TheVariants.{Session, Power, Gl, Ga, Fb, Lock}
 use Rattle.srcp_grammar.specs.declared.command.Lockable.{Lockable}
 use Rattle.srcp_grammar.specs.declared.command.Lockable.TheVariants as lockable
-use Rattle.srcp_grammar.specs.declared.command.Place.{Place}
+use Rattle.srcp_grammar.specs.declared.command.Target.{Target}
 use Rattle.srcp_grammar.specs.declared.command.NewGl.{NewGl}
 use Rattle.srcp_grammar.specs.declared.command.NewGa.{NewGa}
 use Rattle.srcp_grammar.specs.declared.command.Drive.{Drive}
@@ -343,17 +343,17 @@ module _ (buses : List Bus) (layout : IsLayout buses) (bus : Bus) (found : bus_a
       sensor port on = record { bus = bus.number; port = port; on = on }
   sensed_fits (p ∷ v ∷ w ∷ ws) = tt
 
-  abbrev place : Lockable → (address : ℕ) → Place
-  place group address = record { bus = bus.number; group = group; address = address }
+  abbrev target : Lockable → (address : ℕ) → Target
+  target group address = record { bus = bus.number; group = group; address = address }
 
   named_lock_fits : (words : List (List ℕ)) → IfOk (named_lock bus words) (IsLock buses)
   named_lock_fits [] = tt
   named_lock_fits (g ∷ []) = tt
   named_lock_fits (g ∷ a ∷ []) =
       read_any (IsLock buses) (lockable_on bus g)
-      (λ group. number_in 1 (address_max bus group) a >>= (λ address. Ok (place group address))) (λ group.
+      (λ group. number_in 1 (address_max bus group) a >>= (λ address. Ok (target group address))) (λ group.
       read (IsLock buses) (λ n. (1 ≤ n) × (n ≤ address_max bus group)) (number_in 1 (address_max bus group) a)
-      (λ address. Ok (place group address)) (number_in_range 1 (address_max bus group) a) (λ address r.
+      (λ address. Ok (target group address)) (number_in_range 1 (address_max bus group) a) (λ address r.
       let one = lock_rows group address r.0 r.1 in omega (arith, one)))
   named_lock_fits (g ∷ a ∷ w ∷ ws) = tt
 
@@ -374,7 +374,7 @@ module _ (buses : List Bus) (layout : IsLayout buses) (bus : Bus) (found : bus_a
       let one = lock_rows group address r.0 r.1 in (omega (arith, one), r2.1))))
     where
       lock : (group : Lockable) (address seconds : ℕ) → TimedLock
-      lock group address seconds = record { place = place group address; seconds = seconds }
+      lock group address seconds = record { target = target group address; seconds = seconds }
   timed_lock_fits (g ∷ a ∷ s ∷ w ∷ ws) = tt
 
   -- ---- the pairs

@@ -10,7 +10,7 @@ use Rattle.srcp_grammar.specs.declared.command.Drive.{Drive}
 use Rattle.srcp_grammar.specs.declared.command.Switch.{Switch}
 use Rattle.srcp_grammar.specs.declared.command.PowerSwitch.{PowerSwitch}
 use Rattle.srcp_grammar.specs.declared.command.Sensor.{Sensor}
-use Rattle.srcp_grammar.specs.declared.command.Place.{Place}
+use Rattle.srcp_grammar.specs.declared.command.Target.{Target}
 use Rattle.srcp_grammar.specs.declared.command.TimedLock.{TimedLock}
 use Rattle.srcp_grammar.specs.declared.command.NewGl.{NewGl}
 use Rattle.srcp_grammar.specs.declared.command.NewGa.{NewGa}
@@ -52,12 +52,12 @@ abbrev pub IsSensor : List Bus → Sensor → Type 0
 IsSensor buses sensor = IsKeyOf buses (key_at (fb_device sensor.bus sensor.port) 0)
 
 -- the lock of a device of the layout
-abbrev pub IsLock : List Bus → Place → Type 0
-IsLock buses place = IsKeyOf buses (key_at (lock_at place) 0)
+abbrev pub IsLock : List Bus → Target → Type 0
+IsLock buses target = IsKeyOf buses (key_at (lock_at target) 0)
 
 -- the settings of a lock
 abbrev pub IsTimedLock : List Bus → TimedLock → Type 0
-IsTimedLock buses lock = IsLock buses lock.place × (lock.seconds ≤ 86400)
+IsTimedLock buses lock = IsLock buses lock.target × (lock.seconds ≤ 86400)
 
 -- the parameters of a new locomotive
 abbrev pub IsNewGl : List Bus → NewGl → Type 0
@@ -92,7 +92,7 @@ IsCommandOf buses (GetFb bus port) = IsKeyOf buses (key_at (fb_device bus port) 
 IsCommandOf buses (SetFb sensor) = IsSensor buses sensor
 IsCommandOf buses (CheckFb sensor) = IsSensor buses sensor
 IsCommandOf buses (InitFb bus) = ⊤
-IsCommandOf buses (GetLock place) = IsLock buses place
+IsCommandOf buses (GetLock target) = IsLock buses target
 IsCommandOf buses (SetLock lock) = IsTimedLock buses lock
 IsCommandOf buses (CheckLock lock) = IsTimedLock buses lock
-IsCommandOf buses (TermLock place) = IsLock buses place
+IsCommandOf buses (TermLock target) = IsLock buses target

@@ -6,7 +6,7 @@ use Rattle.srcp_info.specs.declared.key.Key.{Key}
 use Rattle.srcp_info.specs.declared.key.Device.{Device}
 use Rattle.srcp_grammar.specs.declared.command.Lockable.{Lockable}
 use Rattle.srcp_grammar.specs.declared.command.Lockable.TheVariants as lockable
-use Rattle.srcp_grammar.specs.declared.command.Place.{Place}
+use Rattle.srcp_grammar.specs.declared.command.Target.{Target}
 
 -- the key of a device's row
 abbrev pub key_at : Device → (port : ℕ) → Key
@@ -43,9 +43,9 @@ abbrev pub lock_on : Lockable → (bus address : ℕ) → Device
 lock_on group bus address = record { bus = bus; group = lock_group group; address = address }
 
 -- the locomotive or the accessory that is named
-abbrev pub device_at : Place → Device
-device_at place = device_in place.group place.bus place.address
+abbrev pub device_at : Target → Device
+device_at target = device_in target.group target.bus target.address
 
 -- and its lock
-abbrev pub lock_at : Place → Device
-lock_at place = lock_on place.group place.bus place.address
+abbrev pub lock_at : Target → Device
+lock_at target = lock_on target.group target.bus target.address

@@ -17,7 +17,7 @@ use Rattle.srcp_grammar.specs.declared.command.Named.{Named}
 use Rattle.srcp_grammar.specs.declared.command.Named.TheVariants.{Session, Power, Gl, Ga, Fb, Lock}
 use Rattle.srcp_grammar.specs.declared.command.Lockable.{Lockable}
 use Rattle.srcp_grammar.specs.declared.command.Lockable.TheVariants as lockable
-use Rattle.srcp_grammar.specs.declared.command.Place.{Place}
+use Rattle.srcp_grammar.specs.declared.command.Target.{Target}
 use Rattle.srcp_grammar.specs.declared.command.Drive.{Drive}
 use Rattle.srcp_grammar.specs.declared.command.Switch.{Switch}
 use Rattle.srcp_grammar.specs.declared.command.PowerSwitch.{PowerSwitch}
@@ -240,7 +240,7 @@ sensed bus (p ∷ v ∷ []) = do
 sensed bus words = miscounted 2 words
 
 -- group and address
-abbrev pub named_lock : Bus → List (List ℕ) → Result Place Code
+abbrev pub named_lock : Bus → List (List ℕ) → Result Target Code
 named_lock bus (g ∷ a ∷ []) = do
   group ← lockable_on bus g
   address ← number_in 1 (address_max bus group) a
@@ -253,7 +253,7 @@ timed_lock bus (g ∷ a ∷ s ∷ []) = do
   group ← lockable_on bus g
   address ← number_in 1 (address_max bus group) a
   seconds ← number_in 0 86400 s
-  Ok (record { place = record { bus = bus.number; group = group; address = address }; seconds = seconds })
+  Ok (record { target = record { bus = bus.number; group = group; address = address }; seconds = seconds })
 timed_lock bus words = miscounted 3 words
 
 -- ---- the whole line

@@ -7,7 +7,7 @@ ghost use Rattle.srcp_grammar.specs.Grammar.{addressed, driven, ga_port, get_ga,
 ghost use Rattle.srcp_grammar.specs.Grammar.{named_lock, powered, sensed, switched, term_session, timed_lock};
 
 use crate::command::{
-    Command, Drive, Lockable, NewGa, NewGl, Place, PowerSwitch, Sensor, Switch, TimedLock,
+    Command, Drive, Lockable, NewGa, NewGl, PowerSwitch, Sensor, Switch, Target, TimedLock,
 };
 use crate::functions::parse_functions;
 use crate::layout::Bus;
@@ -135,14 +135,14 @@ fn address_max(bus: &Bus, group: Lockable) -> u32
 }
 
 /// Reads group and address.
-pub(crate) fn parse_lock(bus: &Bus, mut words: Words<'_>) -> Result<Place, Code>
+pub(crate) fn parse_lock(bus: &Bus, mut words: Words<'_>) -> Result<Target, Code>
     ensures { result ≡ named_lock bus.now words.entry }
 {
     let first = next_word(&mut words)?;
     let second = next_word(&mut words)?;
     no_more(words)?;
     let group = parse_lockable(bus, first)?;
-    Ok(Place {
+    Ok(Target {
         bus: bus.number,
         group,
         address: parse_number(1, address_max(bus, group), second)?,
@@ -158,13 +158,13 @@ pub(crate) fn parse_timed_lock(bus: &Bus, mut words: Words<'_>) -> Result<TimedL
     let third = next_word(&mut words)?;
     no_more(words)?;
     let group = parse_lockable(bus, first)?;
-    let place = Place {
+    let target = Target {
         bus: bus.number,
         group,
         address: parse_number(1, address_max(bus, group), second)?,
     };
     Ok(TimedLock {
-        place,
+        target,
         seconds: parse_number(0, MOST_SECONDS, third)?,
     })
 }

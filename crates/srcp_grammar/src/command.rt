@@ -37,7 +37,7 @@ pub enum Lockable {
 
 /// Names a locomotive or an accessory.
 #[derive(Clone, Copy, Debug, PartialEq, Eq)]
-pub struct Place {
+pub struct Target {
     /// The bus.
     pub bus: u8,
     /// The group of the device.
@@ -105,7 +105,7 @@ pub struct Sensor {
 #[derive(Clone, Copy, Debug, PartialEq, Eq)]
 pub struct TimedLock {
     /// The device.
-    pub place: Place,
+    pub target: Target,
     /// For how many seconds, from 0 to 86400. If they are 0 it stays as long as the session.
     pub seconds: u32,
 }
@@ -227,11 +227,11 @@ pub enum Command {
         bus: u8,
     },
     /// Asks for the lock of a device.
-    GetLock(Place),
+    GetLock(Target),
     /// Locks a device for the session, or renews its lock.
     SetLock(TimedLock),
     /// Answers as `SetLock` does, and changes nothing.
     CheckLock(TimedLock),
     /// Removes the lock of a device.
-    TermLock(Place),
+    TermLock(Target),
 }

@@ -196,7 +196,7 @@ port_set state session moment switch e =
 
 pub lock_set : LocksAreSet
 lock_set state session moment lock e =
-    put_there (refusals state session lock.place.group lock.place.bus lock.place.address) moment (first_key (lock_at lock.place))
+    put_there (refusals state session lock.target.group lock.target.bus lock.target.address) moment (first_key (lock_at lock.target))
     (value.Lock lock.seconds session) (lock_end moment lock.seconds) state e
 
 -- ---- and what becomes of it
@@ -221,7 +221,7 @@ port_falls buses state session moment later bus address port milliseconds may be
 
 pub lock_runs_out : LocksRunOut
 lock_runs_out buses state session moment later lock may begins now some e after is =
-    let key = first_key (lock_at lock.place) in
+    let key = first_key (lock_at lock.target) in
     let whole : IsWhole buses after =
     subst (IsWhole buses) (sym is)
     (effect_kept buses state may.whole session moment may.begun begins (SetLock lock) may.of) in

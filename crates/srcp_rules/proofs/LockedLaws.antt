@@ -240,7 +240,7 @@ module _ (state : State) (session moment : ℕ) (g : Lockable) (bus address : �
   effect_apart (InitFb b) = tt
   effect_apart (GetLock place) = showing_updates AllApart tt (row_at (first_key (lock_at place)) state)
   effect_apart (SetLock lock) =
-      let place = lock.place in
+      let place = lock.target in
       accepted_updates AllApart tt (refusals state session place.group place.bus place.address) (lock_put session moment lock ∷ [])
       (λ none. (lock_apart place.group place.bus place.address (other_device place.group place.bus place.address none.1.0), tt))
   effect_apart (CheckLock lock) = checked_updates AllApart tt (set_lock state session moment lock)

@@ -98,11 +98,11 @@ module _ (buses : List Bus) (state : State) (session moment : ℕ) (now : IsMome
   -- the row of a lock
   pub lock_row : (lock : TimedLock) → MayObey buses state session (SetLock lock)
       → IsRowOf buses
-      (row_put moment (first_key (lock_at lock.place)) (value.Lock lock.seconds session) (lock_end moment lock.seconds))
+      (row_put moment (first_key (lock_at lock.target)) (value.Lock lock.seconds session) (lock_end moment lock.seconds))
   lock_row lock may =
-      IsRowOf-put buses may.whole.laid_out (first_key (lock_at lock.place)) moment
+      IsRowOf-put buses may.whole.laid_out (first_key (lock_at lock.target)) moment
       (value.Lock lock.seconds session) (lock_end moment lock.seconds) may.of.0 now
-      (lock_value buses state may.whole session moment may.begun now lock.place.group lock.seconds may.of.1)
+      (lock_value buses state may.whole session moment may.begun now lock.target.group lock.seconds may.of.1)
       (lock_end_fits moment lock.seconds session)
 
   -- all rows of a device that is there are there

@@ -144,7 +144,7 @@ module _ (state : State) (session moment : ℕ) where
   sets_one Fb bus words = read_any (Brings 1) (sensed bus words) (λ sensor. Ok (SetFb sensor)) (λ sensor. omega arith)
   sets_one Lock bus words =
       read_any (Brings 1) (timed_lock bus words) (λ lock. Ok (SetLock lock))
-      (λ lock. one (refusals state session lock.place.group lock.place.bus lock.place.address) (lock_put session moment lock))
+      (λ lock. one (refusals state session lock.target.group lock.target.bus lock.target.address) (lock_put session moment lock))
 
   -- a session's command shows its row, or ends it
   ended : (id : Option ℕ) → Brings 0 (TermSession id)

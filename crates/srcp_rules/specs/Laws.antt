@@ -239,8 +239,8 @@ PortsAreSet = (state : State) (session moment : ℕ) (switch : Switch)
 abbrev pub LocksAreSet : Type 0
 LocksAreSet = (state : State) (session moment : ℕ) (lock : TimedLock)
     → (effect state session moment (SetLock lock)).reply ≡ Accepted
-    → row_at (first_key (lock_at lock.place)) (updated_all (effect state session moment (SetLock lock)).updates state)
-    ≡ Some (row_put moment (first_key (lock_at lock.place)) (value.Lock lock.seconds session)
+    → row_at (first_key (lock_at lock.target)) (updated_all (effect state session moment (SetLock lock)).updates state)
+    ≡ Some (row_put moment (first_key (lock_at lock.target)) (value.Lock lock.seconds session)
     (lock_end moment lock.seconds))
 
 -- a port that was set to 1 for some milliseconds is 1 at each moment before their end, and 0 at each from it on
@@ -264,9 +264,9 @@ LocksRunOut = (buses : List Bus) (state : State) (session moment later : ℕ) (l
     → 0 < lock.seconds → (effect state session moment (SetLock lock)).reply ≡ Accepted
     → (after : State)
     → after ≡ updated_all (effect state session moment (SetLock lock)).updates state
-    → row_at (first_key (lock_at lock.place)) (updated_all (due after later) after)
+    → row_at (first_key (lock_at lock.target)) (updated_all (due after later) after)
     ≡ (if nat_le (moment_after moment (1000 * lock.seconds)) later then None
-    else Some (row_put moment (first_key (lock_at lock.place)) (value.Lock lock.seconds session)
+    else Some (row_put moment (first_key (lock_at lock.target)) (value.Lock lock.seconds session)
     (Some (moment_after moment (1000 * lock.seconds)))))
 
 -- that many milliseconds later if there is such a moment, and else the greatest one

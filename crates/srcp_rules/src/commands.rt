@@ -20,7 +20,7 @@ use crate::obeyed::{MOST_CHANGES, Obeyed};
 use crate::registry::{set_one, show};
 use crate::rows::Rows;
 use crate::sender::Sender;
-use srcp_grammar::{Command, Place, PowerSwitch, Sensor, Switch};
+use srcp_grammar::{Command, PowerSwitch, Sensor, Switch, Target};
 use srcp_info::{Code, Value};
 
 /// Answers TERM of a session. A session ends itself alone.
@@ -67,12 +67,12 @@ fn set_fb<R: Rows>(rows: &mut R, sender: Sender, sensor: Sensor, obeyed: &mut Ob
 }
 
 /// Answers GET of a locomotive or an accessory with its row at a port.
-fn show_at<R: Rows>(rows: &R, place: Place, port: u8, obeyed: &mut Obeyed)
+fn show_at<R: Rows>(rows: &R, target: Target, port: u8, obeyed: &mut Obeyed)
     requires { IsTold (accepted []) obeyed.old }
-    ensures { Took (shown_at (key_at (device_at place) port) (R.state rows.now))
+    ensures { Took (shown_at (key_at (device_at target) port) (R.state rows.now))
         (R.state rows.now) (R.state rows.now) obeyed.new }
 {
-    show(rows, &key_at(device_at(place), port), obeyed);
+    show(rows, &key_at(device_at(target), port), obeyed);
 }
 
 /// Answers the command.
@@ -105,10 +105,10 @@ fn answer<R: Rows>(rows: &mut R, sender: Sender, command: &Command, obeyed: &mut
         Command::GetFb { bus, port } => show(rows, &fb_device(bus, port).first_key(), obeyed),
         Command::SetFb(sensor) => set_fb(rows, sender, sensor, obeyed),
         Command::CheckFb(_) | Command::InitFb { .. } => {}
-        Command::GetLock(place) => show(rows, &lock_at(place).first_key(), obeyed),
+        Command::GetLock(target) => show(rows, &lock_at(target).first_key(), obeyed),
         Command::SetLock(lock) => set_lock(rows, sender, lock, obeyed),
-        Command::CheckLock(lock) => refuse_if(refusal(rows, sender.session, lock.place), obeyed),
-        Command::TermLock(place) => term_lock(rows, sender, place, obeyed),
+        Command::CheckLock(lock) => refuse_if(refusal(rows, sender.session, lock.target), obeyed),
+        Command::TermLock(target) => term_lock(rows, sender, target, obeyed),
     }
 }
 

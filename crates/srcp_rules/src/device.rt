@@ -4,7 +4,7 @@ ghost use Rattle.std.specs.Prelude.{◌≡◌};
 ghost use Rattle.srcp_grammar.specs.declared.command.Lockable.TheVariants as lockable;
 ghost use Rattle.srcp_grammar.specs.Devices.{device_at, fb_device, key_at, lock_at, power_device, session_device};
 
-use srcp_grammar::{Lockable, Place};
+use srcp_grammar::{Lockable, Target};
 use srcp_info::{Device, Group, Key};
 
 /// Returns the device of a session's row.
@@ -41,10 +41,10 @@ pub(crate) fn fb_device(bus: u8, port: u32) -> Device
 }
 
 /// Names a locomotive.
-pub(crate) fn gl(bus: u8, address: u32) -> Place
+pub(crate) fn gl(bus: u8, address: u32) -> Target
     ensures { result ≡ record { bus = bus; group = lockable.Gl; address = address } }
 {
-    Place {
+    Target {
         bus,
         group: Lockable::Gl,
         address,
@@ -52,10 +52,10 @@ pub(crate) fn gl(bus: u8, address: u32) -> Place
 }
 
 /// Names an accessory.
-pub(crate) fn ga(bus: u8, address: u32) -> Place
+pub(crate) fn ga(bus: u8, address: u32) -> Target
     ensures { result ≡ record { bus = bus; group = lockable.Ga; address = address } }
 {
-    Place {
+    Target {
         bus,
         group: Lockable::Ga,
         address,
@@ -63,32 +63,32 @@ pub(crate) fn ga(bus: u8, address: u32) -> Place
 }
 
 /// Returns the device of a locomotive or an accessory.
-pub(crate) fn device_at(place: Place) -> Device
-    ensures { result ≡ device_at place }
+pub(crate) fn device_at(target: Target) -> Device
+    ensures { result ≡ device_at target }
 {
-    let group = match place.group {
+    let group = match target.group {
         Lockable::Gl => Group::Gl,
         Lockable::Ga => Group::Ga,
     };
     Device {
-        bus: place.bus,
+        bus: target.bus,
         group,
-        address: place.address,
+        address: target.address,
     }
 }
 
 /// Returns the lock of a locomotive or an accessory. It is a device of its own.
-pub(crate) fn lock_at(place: Place) -> Device
-    ensures { result ≡ lock_at place }
+pub(crate) fn lock_at(target: Target) -> Device
+    ensures { result ≡ lock_at target }
 {
-    let group = match place.group {
+    let group = match target.group {
         Lockable::Gl => Group::LockGl,
         Lockable::Ga => Group::LockGa,
     };
     Device {
-        bus: place.bus,
+        bus: target.bus,
         group,
-        address: place.address,
+        address: target.address,
     }
 }
 

@@ -56,14 +56,14 @@ fn functions_to_drive<R: Rows>(rows: &R, session: u32, drive: &Drive) -> Result<
         (λ before. before ≡ functions_of drive.now.bus drive.now.address (R.state rows.now)) }
     ensures refusal { result_err result ≡ first_refusal (gl_refusals (R.state rows.now) session drive.now) }
 {
-    let place = gl(drive.bus, drive.address);
+    let target = gl(drive.bus, drive.address);
     let Some(before) = functions_of(rows, drive.bus, drive.address) else {
         return Err(Code::NO_SUCH_DEVICE);
     };
     if before.len() < drive.functions.len() {
         return Err(Code::TOO_LONG);
     }
-    if is_locked(rows, session, place) {
+    if is_locked(rows, session, target) {
         return Err(Code::DEVICE_LOCKED);
     }
     Ok(before)
@@ -137,11 +137,11 @@ pub(crate) fn set_ga<R: Rows>(rows: &mut R, sender: Sender, switch: &Switch, obe
         on,
         time,
     } = *switch;
-    let place = ga(bus, address);
-    if let Some(code) = refusal(rows, sender.session, place) {
+    let target = ga(bus, address);
+    if let Some(code) = refusal(rows, sender.session, target) {
         return obeyed.refuse(code);
     }
-    let key = key_at(device_at(place), 1 + port);
+    let key = key_at(device_at(target), 1 + port);
     let due = port_end(sender.moment, on, time);
     set_one(rows, sender.moment, key, Value::GaPort { on }, due, obeyed);
 }

@@ -19,7 +19,7 @@ use crate::registry::{is_there, put_of, remove};
 use crate::rows::Rows;
 use crate::sender::Sender;
 use arrayvec::ArrayVec;
-use srcp_grammar::Place;
+use srcp_grammar::Target;
 use srcp_info::{Change, Code, Device, Row, Value};
 
 /// Removes the device, if it is there.
@@ -44,36 +44,41 @@ fn remove_if_there<R: Rows>(
 fn remove_device<R: Rows>(
     rows: &mut R,
     moment: u64,
-    place: Place,
+    target: Target,
     changes: &mut ArrayVec<Change, CHANGES_CAPACITY>,
 )
     requires { changes.old.items ≡ [] }
     ensures changes { changes.new.items
-        ≡ map (λ update. update.change) (removals (R.state rows.old) moment place.group place.bus place.address) }
+        ≡ map (λ update. update.change) (removals (R.state rows.old) moment target.group target.bus target.address) }
     ensures rows { R.state rows.new
-        ≡ updated_all (removals (R.state rows.old) moment place.group place.bus place.address) (R.state rows.old) }
+        ≡ updated_all (removals (R.state rows.old) moment target.group target.bus target.address) (R.state rows.old) }
     ensures layout { R.buses rows.new ≡ R.buses rows.old }
 {
-    let device = device_at(place);
+    let device = device_at(target);
     let has_device = is_there(rows, device);
-    remove_if_there(rows, moment, lock_at(place), changes);
+    remove_if_there(rows, moment, lock_at(target), changes);
     if has_device {
         changes.push(remove(rows, moment, device));
     }
 }
 
 /// Carries out TERM of a locomotive or an accessory.
-pub(crate) fn term_device<R: Rows>(rows: &mut R, sender: Sender, place: Place, obeyed: &mut Obeyed)
+pub(crate) fn term_device<R: Rows>(
+    rows: &mut R,
+    sender: Sender,
+    target: Target,
+    obeyed: &mut Obeyed,
+)
     requires blank { IsTold (accepted []) obeyed.old }
     ensures took { Took (done
-        (term_device (R.state rows.old) sender.session sender.moment place.group place.bus place.address))
+        (term_device (R.state rows.old) sender.session sender.moment target.group target.bus target.address))
         (R.state rows.old) (R.state rows.new) obeyed.new }
     ensures layout { R.buses rows.new ≡ R.buses rows.old }
 {
-    if let Some(code) = refusal(rows, sender.session, place) {
+    if let Some(code) = refusal(rows, sender.session, target) {
         return obeyed.refuse(code);
     }
-    remove_device(rows, sender.moment, place, &mut obeyed.changes);
+    remove_device(rows, sender.moment, target, &mut obeyed.changes);
 }
 
 /// Returns whether two first rows have the same parameters.
@@ -111,10 +116,10 @@ fn is_same_init(one: &Value, other: &Value) -> bool
 }
 
 /// Returns whether the device is there with these parameters.
-fn has_init<R: Rows>(rows: &R, place: Place, init: &Value) -> bool
-    ensures { result ≡ has_init (R.state rows.now) place.group place.bus place.address init.now }
+fn has_init<R: Rows>(rows: &R, target: Target, init: &Value) -> bool
+    ensures { result ≡ has_init (R.state rows.now) target.group target.bus target.address init.now }
 {
-    match rows.row(&device_at(place).first_key()) {
+    match rows.row(&device_at(target).first_key()) {
         Some(row) => is_same_init(&row.shown.value, init),
         None => false,
     }
@@ -148,26 +153,27 @@ fn push_puts(changes: &mut ArrayVec<Change, CHANGES_CAPACITY>, fresh: &[Row])
 fn remake<R: Rows>(
     rows: &mut R,
     moment: u64,
-    place: Place,
+    target: Target,
     fresh: &[Row],
     changes: &mut ArrayVec<Change, CHANGES_CAPACITY>,
 )
     requires none { changes.old.items ≡ [] }
     requires whole { IsWhole (R.buses rows.old) (R.state rows.old) }
-    requires there { is_there (device_at place) (R.state rows.old) ≡ true }
-    requires fresh { AreRowsOf (R.buses rows.old) (device_at place) fresh.now }
+    requires there { is_there (device_at target) (R.state rows.old) ≡ true }
+    requires fresh { AreRowsOf (R.buses rows.old) (device_at target) fresh.now }
     ensures changes { changes.new.items
         ≡ map (λ update. update.change)
-        (removals (R.state rows.old) moment place.group place.bus place.address ++ map put_of fresh.now) }
+        (removals (R.state rows.old) moment target.group target.bus target.address ++ map put_of fresh.now) }
     ensures rows { R.state rows.new
-        ≡ updated_all (removals (R.state rows.old) moment place.group place.bus place.address ++ map put_of fresh.now)
+        ≡ updated_all
+        (removals (R.state rows.old) moment target.group target.bus target.address ++ map put_of fresh.now)
         (R.state rows.old) }
     ensures layout { R.buses rows.new ≡ R.buses rows.old }
 {
-    remove_if_there(rows, moment, lock_at(place), changes);
+    remove_if_there(rows, moment, lock_at(target), changes);
     changes.push(Change::Gone {
         stamp: moment,
-        device: device_at(place),
+        device: device_at(target),
     });
     push_puts(changes, fresh);
     set_all(rows, fresh);
@@ -177,30 +183,30 @@ fn remake<R: Rows>(
 pub(crate) fn init_device<R: Rows>(
     rows: &mut R,
     sender: Sender,
-    place: Place,
+    target: Target,
     init: &Value,
     fresh: &[Row],
     obeyed: &mut Obeyed,
 )
     requires blank { IsTold (accepted []) obeyed.old }
     requires whole { IsWhole (R.buses rows.old) (R.state rows.old) }
-    requires some { 0 < row_count (R.buses rows.old) (device_at place) }
-    requires fresh { AreRowsOf (R.buses rows.old) (device_at place) fresh.now }
-    ensures took { TookUnless (not (is_there (device_at place) (R.state rows.old)))
+    requires some { 0 < row_count (R.buses rows.old) (device_at target) }
+    requires fresh { AreRowsOf (R.buses rows.old) (device_at target) fresh.now }
+    ensures took { TookUnless (not (is_there (device_at target) (R.state rows.old)))
         (done
-        (init_device (R.state rows.old) sender.session sender.moment place.group place.bus place.address init.now
+        (init_device (R.state rows.old) sender.session sender.moment target.group target.bus target.address init.now
         (map put_of fresh.now)))
         (R.state rows.old) (R.state rows.new) obeyed.new }
     ensures layout { R.buses rows.new ≡ R.buses rows.old }
 {
-    if is_locked(rows, sender.session, place) {
+    if is_locked(rows, sender.session, target) {
         return obeyed.refuse(Code::DEVICE_LOCKED);
     }
-    if has_init(rows, place, init) {
+    if has_init(rows, target, init) {
         return;
     }
-    if is_there(rows, device_at(place)) {
-        return remake(rows, sender.moment, place, fresh, &mut obeyed.changes);
+    if is_there(rows, device_at(target)) {
+        return remake(rows, sender.moment, target, fresh, &mut obeyed.changes);
     }
     if rows.add(fresh).is_err() {
         return obeyed.refuse(Code::OUT_OF_RESOURCES);

@@ -10,14 +10,14 @@ use crate::obeyed::Obeyed;
 use crate::registry::{is_there, put_of, remove, row_put, set_one};
 use crate::rows::Rows;
 use crate::sender::Sender;
-use srcp_grammar::{Command, Place, TimedLock};
+use srcp_grammar::{Command, Target, TimedLock};
 use srcp_info::{Code, Value};
 
 /// Returns whether another session has the device's lock.
-pub(crate) fn is_locked<R: Rows>(rows: &R, session: u32, place: Place) -> bool
-    ensures { result ≡ is_locked (R.state rows.now) session place.group place.bus place.address }
+pub(crate) fn is_locked<R: Rows>(rows: &R, session: u32, target: Target) -> bool
+    ensures { result ≡ is_locked (R.state rows.now) session target.group target.bus target.address }
 {
-    match rows.row(&lock_at(place).first_key()) {
+    match rows.row(&lock_at(target).first_key()) {
         Some(row) => match row.shown.value {
             Value::Lock {
                 session: holder,
@@ -31,13 +31,13 @@ pub(crate) fn is_locked<R: Rows>(rows: &R, session: u32, place: Place) -> bool
 
 /// Returns why the session may not change the device, if it may not: the device is not there, or another session has
 /// its lock.
-pub(crate) fn refusal<R: Rows>(rows: &R, session: u32, place: Place) -> Option<Code>
-    ensures { result ≡ first_refusal (refusals (R.state rows.now) session place.group place.bus place.address) }
+pub(crate) fn refusal<R: Rows>(rows: &R, session: u32, target: Target) -> Option<Code>
+    ensures { result ≡ first_refusal (refusals (R.state rows.now) session target.group target.bus target.address) }
 {
-    if !is_there(rows, device_at(place)) {
+    if !is_there(rows, device_at(target)) {
         return Some(Code::NO_SUCH_DEVICE);
     }
-    if is_locked(rows, session, place) {
+    if is_locked(rows, session, target) {
         return Some(Code::DEVICE_LOCKED);
     }
     None
@@ -72,11 +72,11 @@ pub(crate) fn set_lock<R: Rows>(rows: &mut R, sender: Sender, lock: TimedLock, o
         (Command.SetLock lock) obeyed.new }
     ensures layout { R.buses rows.new ≡ R.buses rows.old }
 {
-    let TimedLock { place, seconds } = lock;
-    if let Some(code) = refusal(rows, sender.session, place) {
+    let TimedLock { target, seconds } = lock;
+    if let Some(code) = refusal(rows, sender.session, target) {
         return obeyed.refuse(code);
     }
-    let device = lock_at(place);
+    let device = lock_at(target);
     let value = Value::Lock {
         seconds,
         session: sender.session,
@@ -93,18 +93,18 @@ pub(crate) fn set_lock<R: Rows>(rows: &mut R, sender: Sender, lock: TimedLock, o
 }
 
 /// Carries out TERM of a lock.
-pub(crate) fn term_lock<R: Rows>(rows: &mut R, sender: Sender, place: Place, obeyed: &mut Obeyed)
+pub(crate) fn term_lock<R: Rows>(rows: &mut R, sender: Sender, target: Target, obeyed: &mut Obeyed)
     requires blank { IsTold (accepted []) obeyed.old }
     ensures took { Took (done
-        (term_lock (R.state rows.old) sender.session sender.moment place.group place.bus place.address))
+        (term_lock (R.state rows.old) sender.session sender.moment target.group target.bus target.address))
         (R.state rows.old) (R.state rows.new) obeyed.new }
     ensures layout { R.buses rows.new ≡ R.buses rows.old }
 {
-    let lock = lock_at(place);
+    let lock = lock_at(target);
     if !is_there(rows, lock) {
         return obeyed.refuse(Code::NO_SUCH_DEVICE);
     }
-    if is_locked(rows, sender.session, place) {
+    if is_locked(rows, sender.session, target) {
         return obeyed.refuse(Code::DEVICE_LOCKED);
     }
     obeyed.changes.push(remove(rows, sender.moment, lock));

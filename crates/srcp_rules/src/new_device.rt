@@ -44,15 +44,15 @@ pub(crate) fn init_gl<R: Rows>(rows: &mut R, sender: Sender, decoder: &NewGl, ob
         (Command.InitGl decoder.now) obeyed.new }
     ensures layout { R.buses rows.new ≡ R.buses rows.old }
 {
-    let place = gl(decoder.bus, decoder.address);
+    let target = gl(decoder.bus, decoder.address);
     let init = Value::GlInit {
         letter: decoder.letter,
         version: decoder.version,
         steps: decoder.steps,
         functions: decoder.functions,
     };
-    let fresh = gl_rows(sender.moment, device_at(place), &init, decoder.functions);
-    init_device(rows, sender, place, &init, &fresh, obeyed);
+    let fresh = gl_rows(sender.moment, device_at(target), &init, decoder.functions);
+    init_device(rows, sender, target, &init, &fresh, obeyed);
 }
 
 /// Makes the row of a new accessory's port, 0.
@@ -95,10 +95,10 @@ pub(crate) fn init_ga<R: Rows>(rows: &mut R, sender: Sender, decoder: &NewGa, ob
         (Command.InitGa decoder.now) obeyed.new }
     ensures layout { R.buses rows.new ≡ R.buses rows.old }
 {
-    let place = ga(decoder.bus, decoder.address);
+    let target = ga(decoder.bus, decoder.address);
     let letter = decoder.letter;
     let init = Value::GaInit { letter };
-    let most = ga_rows(sender.moment, device_at(place), letter);
+    let most = ga_rows(sender.moment, device_at(target), letter);
     let fresh = &most[..1 + usize::from(decoder.ports)];
-    init_device(rows, sender, place, &init, fresh, obeyed);
+    init_device(rows, sender, target, &init, fresh, obeyed);
 }

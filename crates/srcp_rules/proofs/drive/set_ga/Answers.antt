@@ -16,14 +16,14 @@ set_one-requires-clause-there g c =
     let there =
     set_there buses state c.args.sender.session c.args.sender.moment c.args.sender.fits device
     ((is_locked state c.args.sender.session lockable.Ga c.args.switch.now.bus c.args.switch.now.address, C414) ∷ [])
-    (rw (c.ga-place.ensures) at free) in
-    rw (c.key_at-key.ensures, c.device_at.ensures, c.ga-place.ensures)
+    (rw (c.ga-target.ensures) at free) in
+    rw (c.key_at-key.ensures, c.device_at.ensures, c.ga-target.ensures)
     (port_there buses state c.args.sender.session c.args.sender.moment c.args.sender.fits device c.requires.may.whole there
     (1 + c.args.switch.now.port) c.requires.may.of.0.0)
 
 pub set_one-requires-clause-fits : goal.set_one-requires-clause-fits
 set_one-requires-clause-fits g c =
-    rw (c.key_at-key.ensures, c.device_at.ensures, c.ga-place.ensures, c.port_end-due.ensures)
+    rw (c.key_at-key.ensures, c.device_at.ensures, c.ga-target.ensures, c.port_end-due.ensures)
     (ga_row (g.R.Rows.buses c.args.rows.now)
     (g.R.Rows.state c.args.rows.now) c.args.sender.session c.args.sender.moment c.args.sender.fits c.args.switch.now c.requires.may)
 
@@ -33,5 +33,5 @@ returns-in-Some-clause-took g c =
     let first = c.in-Some.ensures in
     let refused = refusals state c.args.sender.session lockable.Ga c.args.switch.now.bus c.args.switch.now.address in
     subst (λ (did : Effect). Took did state state c.refuse.new.self)
-    (refused_done refused (ga_put c.args.sender.moment c.args.switch.now ∷ []) c.in-Some.code (rw (c.ga-place.ensures) at first))
+    (refused_done refused (ga_put c.args.sender.moment c.args.switch.now ∷ []) c.in-Some.code (rw (c.ga-target.ensures) at first))
     (record { told = c.refuse.ensures; rows = refl })

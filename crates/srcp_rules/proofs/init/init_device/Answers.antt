@@ -19,12 +19,12 @@ pub add-requires : goal.add-requires
 add-requires g c =
     let buses = g.R.Rows.buses c.args.rows.now in
     let state = g.R.Rows.state c.args.rows.now in
-    let place = c.args.place in
-    let device = device_at place in
+    let target = c.args.target in
+    let device = device_at target in
     let absent : is_there device state ≡ false =
     ap (λ (d : Device). is_there d state) (sym c.device_at.ensures) ∙ sym c.is_there.ensures ∙ c.if-is_there.false in (
       device,
-      added buses state c.requires.whole c.args.sender.moment place.group place.bus place.address c.args.fresh.now
+      added buses state c.requires.whole c.args.sender.moment target.group target.bus target.address c.args.fresh.now
           c.requires.fresh c.requires.some absent,
     )
 
@@ -32,8 +32,8 @@ pub returns-clause-took : goal.returns-clause-took
 returns-clause-took g c =
     let buses = g.R.Rows.buses c.args.rows.now in
     let state = g.R.Rows.state c.args.rows.now in
-    let place = c.args.place in
-    let device = device_at place in
+    let target = c.args.target in
+    let device = device_at target in
     let absent : is_there device state ≡ false =
     ap (λ (d : Device). is_there d state) (sym c.device_at.ensures) ∙ sym c.is_there.ensures ∙ c.if-is_there.false in
     let fresh = c.args.fresh.now in
@@ -42,14 +42,14 @@ returns-clause-took g c =
     let succeeded : is_ok c.add.result ≡ true = c.is_err.ensures.negation ∙ ap not c.if-is_err.false in
     let changes =
     c.push_puts.ensures ∙ ap (λ (before : List Change). before ++ map (λ (row : Row). (put_of row).change) fresh) c.requires.blank.changes
-    ∙ changes_made buses state c.requires.whole c.args.sender.moment place.group place.bus place.address fresh absent in
+    ∙ changes_made buses state c.requires.whole c.args.sender.moment target.group target.bus target.address fresh absent in
     let rows =
     on_ok c.add.result _ succeeded c.add.ensures.ok
-    ∙ rows_made buses state c.requires.whole c.args.sender.moment place.group place.bus place.address fresh absent in
+    ∙ rows_made buses state c.requires.whole c.args.sender.moment target.group target.bus target.address fresh absent in
     inl
     (subst (λ (did : Effect).
     Took did state (g.R.Rows.state c.add.new.self) (record c.args.obeyed.now { changes = c.push_puts.new.changes }))
-    (init_accepted state c.args.sender.session c.args.sender.moment place.group place.bus place.address c.args.init.now
+    (init_accepted state c.args.sender.session c.args.sender.moment target.group target.bus target.address c.args.init.now
     (map put_of fresh) free other)
     (record { told = record { reply = c.requires.blank.reply; changes = changes; ends = c.requires.blank.ends }; rows = rows }))
 

@@ -7,23 +7,23 @@ pub set_all-requires : goal.set_all-requires
 set_all-requires g c =
     let buses = g.R.Rows.buses c.args.rows.now in
     let state = g.R.Rows.state c.args.rows.now in
-    let place = c.args.place in
-    let there = unlocked_there buses state c.requires.whole c.args.moment place.group place.bus place.address c.requires.there in
+    let target = c.args.target in
+    let there = unlocked_there buses state c.requires.whole c.args.moment target.group target.bus target.address c.requires.there in
     rw (c.remove_if_there.ensures.layout, c.remove_if_there.ensures.rows, c.lock_at.ensures)
-    (each_there buses (device_at place) c.args.fresh.now c.requires.fresh
-    (unlocked buses state c.requires.whole c.args.moment place.group place.bus place.address)
-    (unlocked_whole buses state c.requires.whole c.args.moment place.group place.bus place.address) there)
+    (each_there buses (device_at target) c.args.fresh.now c.requires.fresh
+    (unlocked buses state c.requires.whole c.args.moment target.group target.bus target.address)
+    (unlocked_whole buses state c.requires.whole c.args.moment target.group target.bus target.address) there)
 
 pub returns-clause-changes : goal.returns-clause-changes
 returns-clause-changes g c =
-    let place = c.args.place in
+    let target = c.args.target in
     rw (c.push_puts.ensures, c.push.ensures.items, c.remove_if_there.ensures.changes, c.lock_at.ensures, c.device_at.ensures)
     (changes_remade (g.R.Rows.buses c.args.rows.now) (g.R.Rows.state c.args.rows.now) c.requires.whole c.args.moment
-    place.group place.bus place.address c.args.fresh.now c.requires.there)
+    target.group target.bus target.address c.args.fresh.now c.requires.there)
 
 pub returns-clause-rows : goal.returns-clause-rows
 returns-clause-rows g c =
-    let place = c.args.place in
+    let target = c.args.target in
     rw (c.set_all.ensures.rows, c.remove_if_there.ensures.rows, c.lock_at.ensures)
     (rows_remade (g.R.Rows.buses c.args.rows.now) (g.R.Rows.state c.args.rows.now) c.requires.whole c.args.moment
-    place.group place.bus place.address c.args.fresh.now c.requires.there c.requires.fresh)
+    target.group target.bus target.address c.args.fresh.now c.requires.there c.requires.fresh)

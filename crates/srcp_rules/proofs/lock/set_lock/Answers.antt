@@ -20,7 +20,7 @@ pub add-requires : goal.add-requires
 add-requires g c =
     let buses = g.R.Rows.buses c.args.rows.now in
     let state = g.R.Rows.state c.args.rows.now in
-    let device = lock_at c.args.lock.place in
+    let device = lock_at c.args.lock.target in
     let absent : is_there device state ≡ false =
     ap (λ (d : Device). is_there d state) (sym c.lock_at-device.ensures) ∙ sym c.is_there.ensures ∙ c.if-is_there.false in
     let fits = lock_row buses state c.args.sender.session c.args.sender.moment c.args.sender.fits c.args.lock c.requires.may in (
@@ -28,14 +28,14 @@ add-requires g c =
       rw (c.row_put-row.ensures, c.first_key-2.ensures, c.lock_at-device.ensures, c.lock_end-due.ensures)
           (single_added buses state c.requires.may.whole device c.args.sender.moment (value.Lock c.args.lock.seconds c.args.sender.session)
           (lock_end c.args.sender.moment c.args.lock.seconds) c.requires.may.of.0
-          (one_lock buses c.args.lock.place.group c.args.lock.place.bus c.args.lock.place.address) absent fits),
+          (one_lock buses c.args.lock.target.group c.args.lock.target.bus c.args.lock.target.address) absent fits),
     )
 
 pub returns-in-Some-clause-obeyed : goal.returns-in-Some-clause-obeyed
 returns-in-Some-clause-obeyed g c =
     let state = g.R.Rows.state c.args.rows.now in
     let lock = c.args.lock in
-    let refused = refusals state c.args.sender.session lock.place.group lock.place.bus lock.place.address in
+    let refused = refusals state c.args.sender.session lock.target.group lock.target.bus lock.target.address in
     let put = lock_put c.args.sender.session c.args.sender.moment lock in
     inl (subst (λ (did : Effect). Took did state state c.refuse.new.self)
     (refused_done refused (put ∷ []) c.in-Some.code c.in-Some.ensures) (record { told = c.refuse.ensures; rows = refl }))

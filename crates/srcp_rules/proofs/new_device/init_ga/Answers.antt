@@ -29,11 +29,11 @@ init_device-requires-clause-fresh g c =
     let state = g.R.Rows.state c.args.rows.now in
     let ga = c.args.decoder.now in
     let device = device_in lockable.Ga ga.bus ga.address in
-    let made : c.device_at.result ≡ device = c.device_at.ensures ∙ ap device_at c.ga-place.ensures in
+    let made : c.device_at.result ≡ device = c.device_at.ensures ∙ ap device_at c.ga-target.ensures in
     let rows =
     handed buses state c.args.sender.session c.args.sender.moment c.args.sender.fits c.ga_rows-most.result c.device_at.result device
     ga.letter ga.ports c.from.result c.requires.may.of.1 c.ga_rows-most.ensures made c.from.ensures in
-    rw (c.ga-place.ensures)
+    rw (c.ga-target.ensures)
     (subst (λ (rows : List Row). AreRowsOf buses device rows) (sym rows)
     (ga_rows buses state c.args.sender.session c.args.sender.moment c.args.sender.fits ga c.requires.may))
 
@@ -43,7 +43,7 @@ returns-clause-obeyed g c =
     let state = g.R.Rows.state c.args.rows.now in
     let ga = c.args.decoder.now in
     let device = device_in lockable.Ga ga.bus ga.address in
-    let made : c.device_at.result ≡ device = c.device_at.ensures ∙ ap device_at c.ga-place.ensures in
+    let made : c.device_at.result ≡ device = c.device_at.ensures ∙ ap device_at c.ga-target.ensures in
     let rows =
     handed buses state c.args.sender.session c.args.sender.moment c.args.sender.fits c.ga_rows-most.result c.device_at.result device
     ga.letter ga.ports c.from.result c.requires.may.of.1 c.ga_rows-most.ensures made c.from.ensures in
@@ -57,4 +57,4 @@ returns-clause-obeyed g c =
     (g.R.Rows.state c.init_device.new.rows) c.init_device.new.obeyed)
     (ap (map put_of) rows
     ∙ ga_puts buses state c.args.sender.session c.args.sender.moment c.args.sender.fits ga)
-    (rw (c.ga-place.ensures) at took)
+    (rw (c.ga-target.ensures) at took)

@@ -7,4 +7,4 @@ init_device-requires-clause-fresh g c =
     gl_rows (g.R.Rows.buses c.args.rows.now)
     (g.R.Rows.state
     c.args.rows.now) c.args.sender.session c.args.sender.moment c.args.sender.fits c.args.decoder.now c.requires.may in
-    rw (c.gl_rows-fresh.ensures, c.device_at.ensures, c.gl-place.ensures) fresh
+    rw (c.gl_rows-fresh.ensures, c.device_at.ensures, c.gl-target.ensures) fresh
