@@ -96,7 +96,7 @@ kept_write old new p count asked is_open tells kept =
     (λ (a : Account) (h : Agrees a p). agrees_own (p.number == p.number) _ a q (own p.number) (record {
       cut = h.cut;
       reads = h.reads;
-      stays = stays_drop a.watched a.leave p.outgoing p.stay count h.stays;
+      stays = stays_drop a.watched a.lingering p.outgoing p.stay count h.stays;
       rightly = h.rightly;
       unread = h.unread;
       served = h.served;
@@ -178,13 +178,13 @@ kept_missed old new p buffer fault ready tells kept =
       rested = h.rested;
     })) kept
 
-pub kept_shut : (old new : Option (List Step)) (p : Peer) (since : ℕ) → p.stay ≡ stay.Leaving since → p.outgoing ≡ []
+pub kept_shut : (old new : Option (List Step)) (p : Peer) (since : ℕ) → p.stay ≡ stay.Draining since → p.outgoing ≡ []
     → is_lost p.output ≡ false → Tells old (Shuts p.number) new → IsKept old p → IsKept new (record p { stay = stay.Shut since })
-kept_shut old new p since leaving none sound tells kept =
+kept_shut old new p since draining none sound tells kept =
     let q : Peer = record p { stay = stay.Shut since } in
     kept_after old new (Shuts p.number) p q tells refl
     (λ (a : Account) (h : Agrees a p). agrees_own (p.number == p.number) (shut_down a) a q (own p.number)
-    (shut_agrees a p since leaving none sound h)) kept
+    (shut_agrees a p since draining none sound h)) kept
 
 pub spares_shut : (n other : ℕ) (old new : Option (List Step)) → other ≢ n → Tells old (Shuts n) new → Spares other old new
 spares_shut n other old new differ tells =

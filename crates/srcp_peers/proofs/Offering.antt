@@ -73,7 +73,7 @@ due_all p old new offers due = offers (subst (λ (f : Flush). IsFlushed f p) (sa
   where
     same : (s : Stay) → flush_of flush.All s ≡ flush.All
     same stay.Here = refl
-    same (stay.Leaving since) = refl
+    same (stay.Draining since) = refl
     same (stay.Shut since) = refl
 
 -- nothing is queued for a peer that is shut down
@@ -82,8 +82,8 @@ pub shut_offered : (p : Peer) (since : ℕ) (old new : Option (List Step)) → p
 shut_offered p since old new shut kept says due later is =
     let s = says later is in
     let h = kept s.0 s.2 in
-    let stays : StaysAs (account p.number s.0).watched (account p.number s.0).leave p.outgoing (stay.Shut since) =
-    subst (StaysAs (account p.number s.0).watched (account p.number s.0).leave p.outgoing) shut h.stays in
+    let stays : StaysAs (account p.number s.0).watched (account p.number s.0).lingering p.outgoing (stay.Shut since) =
+    subst (StaysAs (account p.number s.0).watched (account p.number s.0).lingering p.outgoing) shut h.stays in
     absurd (due.1 stays.4)
 
 -- one more peer of all was offered what is queued for it

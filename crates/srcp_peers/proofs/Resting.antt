@@ -117,5 +117,5 @@ resting a p h r = by p.stay h.reads (and_left (is_here p.stay) (has_rest p) r)
     by : (here : Stay) → ComesAs a.received p.incoming p.input here → is_here here ≡ true → is_at_rest a.sent a.received ≡ true
     by stay.Here reads e = rests_as a.sent a.received p.outgoing p.incoming p.input p.output p.cut h.writes reads h.cut
         (and_right (is_here p.stay) (has_rest p) r)
-    by (stay.Leaving since) reads e = absurd (true≢false (sym e))
+    by (stay.Draining since) reads e = absurd (true≢false (sym e))
     by (stay.Shut since) reads e = absurd (true≢false (sym e))

@@ -169,7 +169,7 @@ pub read_comes : (received : Received) (incoming buffer : List ℕ) (count : ℕ
     → ComesAs received incoming state here
     → ComesAs (read_in received buffer (Ok count)) (incoming ++ take count buffer) (given state count (length buffer)) here
 read_comes received incoming buffer count state stay.Here e h = read_as received incoming buffer count state e h
-read_comes received incoming buffer count state (stay.Leaving since) e h = starts_on received.gave received.handed (take count buffer) h
+read_comes received incoming buffer count state (stay.Draining since) e h = starts_on received.gave received.handed (take count buffer) h
 read_comes received incoming buffer count state (stay.Shut since) e h = starts_on received.gave received.handed (take count buffer) h
 
 refused_starts : (received : Received) (said : Refusal) → StartsWith received.gave received.handed
@@ -182,14 +182,14 @@ pub unread_comes : (received : Received) (incoming buffer : List ℕ) (fault : E
     → may_have state ≡ true → ComesAs received incoming state here
     → ComesAs (read_in received buffer (Err fault)) incoming (missed state (refusal_told fault)) here
 unread_comes received incoming buffer fault state stay.Here e h = unread_as received incoming buffer fault state e h
-unread_comes received incoming buffer fault state (stay.Leaving since) e h = refused_starts received (refusal_told fault) h
+unread_comes received incoming buffer fault state (stay.Draining since) e h = refused_starts received (refusal_told fault) h
 unread_comes received incoming buffer fault state (stay.Shut since) e h = refused_starts received (refusal_told fault) h
 
 pub woken_comes : (received : Received) (incoming : List ℕ) (state : Reading) (here : Stay) (readable closed : Bool)
     → ComesAs received incoming state here
     → ComesAs (woken_came received readable closed) incoming (woken_input state readable closed) here
 woken_comes received incoming state stay.Here readable closed h = woken_reads received incoming state readable closed h
-woken_comes received incoming state (stay.Leaving since) readable closed h = h
+woken_comes received incoming state (stay.Draining since) readable closed h = h
 woken_comes received incoming state (stay.Shut since) readable closed h = h
 
 -- what came of any peer starts with what was handed out
@@ -203,5 +203,5 @@ comes_starts received incoming state stay.Here h = by state h
     by input.Quiet r = starts received.gave received.handed incoming r.0
     by input.Ended r = starts received.gave received.handed incoming r.0
     by input.Failed r = starts received.gave received.handed incoming r.0
-comes_starts received incoming state (stay.Leaving since) h = h
+comes_starts received incoming state (stay.Draining since) h = h
 comes_starts received incoming state (stay.Shut since) h = h

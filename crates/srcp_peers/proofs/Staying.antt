@@ -11,7 +11,8 @@ use Rattle.srcp_peers.specs.declared.readiness.Writing.{Writing}
 use Rattle.srcp_peers.specs.declared.readiness.Writing.TheVariants as output
 use Rattle.srcp_peers.specs.declared.stay.Stay.{Stay}
 use Rattle.srcp_peers.specs.declared.stay.Stay.TheVariants as stay
-use Rattle.srcp_peers.specs.Accounts.{Account, Leave, Received, Sent, account, clocked, clock_after, is_held, is_overdue, is_owed, let_go}
+use Rattle.srcp_peers.specs.Accounts.{Account, Lingering, Received, Sent, account, clocked, clock_after}
+use Rattle.srcp_peers.specs.Accounts.{is_held, is_overdue, is_owed, let_go}
 use Rattle.srcp_peers.specs.Accounts.{may_close, may_end, may_fail, shut_down}
 use Rattle.srcp_peers.specs.Peers.{Agrees, ComesAs, IsKept, MayFail, ReadsAs, StaysAs, WritesAs, closable_as, is_closable, is_here, is_lost}
 use Rattle.srcp_peers.proofs.Resting.{held_is, owed_is}
@@ -19,32 +20,34 @@ use Rattle.srcp_peers.proofs.States.{comes_starts, reads_here}
 use Rattle.srcp_peers.proofs.Wanting.{wants_less}
 
 -- one that is there stays so, whatever is queued for it
-pub stays_here : (watched : Bool) (leave : Leave) (before after : List ℕ) (here : Stay) → here ≡ stay.Here
-    → StaysAs watched leave before here → StaysAs watched leave after here
-stays_here watched leave before after stay.Here e h = h
-stays_here watched leave before after (stay.Leaving since) e h = h
-stays_here watched leave before after (stay.Shut since) e h = absurd cc
+pub stays_here : (watched : Bool) (lingering : Lingering) (before after : List ℕ) (here : Stay) → here ≡ stay.Here
+    → StaysAs watched lingering before here → StaysAs watched lingering after here
+stays_here watched lingering before after stay.Here e h = h
+stays_here watched lingering before after (stay.Draining since) e h = h
+stays_here watched lingering before after (stay.Shut since) e h = absurd cc
 
 -- its socket took something of what is queued
-pub stays_drop : (watched : Bool) (leave : Leave) (outgoing : List ℕ) (here : Stay) (count : ℕ) → StaysAs watched leave outgoing here
-    → StaysAs watched leave (drop count outgoing) here
-stays_drop watched leave outgoing stay.Here count h = h
-stays_drop watched leave outgoing (stay.Leaving since) count h = h
-stays_drop watched leave outgoing (stay.Shut since) count h =
+pub stays_drop : (watched : Bool) (lingering : Lingering) (outgoing : List ℕ) (here : Stay) (count : ℕ)
+    → StaysAs watched lingering outgoing here
+    → StaysAs watched lingering (drop count outgoing) here
+stays_drop watched lingering outgoing stay.Here count h = h
+stays_drop watched lingering outgoing (stay.Draining since) count h = h
+stays_drop watched lingering outgoing (stay.Shut since) count h =
     (h.0, h.1, h.2, h.3, ap (drop count) h.4 ∙ drop_all count [] (omega arith))
 
 -- a clock was read
-stays_clocked : (watched : Bool) (leave : Leave) (clock : ℕ) (outgoing : List ℕ) (here : Stay) → StaysAs watched leave outgoing here
-    → StaysAs watched (record leave { clock = clock }) outgoing here
-stays_clocked watched leave clock outgoing stay.Here h = h
-stays_clocked watched leave clock outgoing (stay.Leaving since) h = h
-stays_clocked watched leave clock outgoing (stay.Shut since) h = h
+stays_clocked : (watched : Bool) (lingering : Lingering) (clock : ℕ) (outgoing : List ℕ) (here : Stay)
+    → StaysAs watched lingering outgoing here
+    → StaysAs watched (record lingering { clock = clock }) outgoing here
+stays_clocked watched lingering clock outgoing stay.Here h = h
+stays_clocked watched lingering clock outgoing (stay.Draining since) h = h
+stays_clocked watched lingering clock outgoing (stay.Shut since) h = h
 
 pub clocked_agrees : (a : Account) (p : Peer) (answer : Option ℕ) → Agrees a p → Agrees (clocked a answer) p
 clocked_agrees a p answer h = record {
   reads = h.reads;
   writes = h.writes;
-  stays = stays_clocked a.watched a.leave (clock_after a.leave.clock answer) p.outgoing p.stay h.stays;
+  stays = stays_clocked a.watched a.lingering (clock_after a.lingering.clock answer) p.outgoing p.stay h.stays;
   rightly = h.rightly;
   unread = h.unread;
   served = h.served;
@@ -56,14 +59,14 @@ clocked_agrees a p answer h = record {
 
 -- ---- the core closes it
 
-pub let_go_agrees : (a : Account) (p : Peer) (since : ℕ) → p.stay ≡ stay.Here → a.leave.clock ≡ since → Agrees a p
-    → Agrees (let_go a) (record p { stay = stay.Leaving since })
+pub let_go_agrees : (a : Account) (p : Peer) (since : ℕ) → p.stay ≡ stay.Here → a.lingering.clock ≡ since → Agrees a p
+    → Agrees (let_go a) (record p { stay = stay.Draining since })
 let_go_agrees a p since here clock h =
-    let s : StaysAs a.watched a.leave p.outgoing stay.Here = subst (StaysAs a.watched a.leave p.outgoing) here h.stays in
+    let s : StaysAs a.watched a.lingering p.outgoing stay.Here = subst (StaysAs a.watched a.lingering p.outgoing) here h.stays in
     record {
       reads = comes_starts a.received p.incoming p.input p.stay h.reads;
       writes = h.writes;
-      stays = (refl, s.1, ap (λ w. cond w a.leave.clock a.leave.since) s.0 ∙ clock, s.2);
+      stays = (refl, s.1, ap (λ w. cond w a.lingering.clock a.lingering.since) s.0 ∙ clock, s.2);
       rightly = h.rightly;
       unread = λ e. absurd (true≢false (sym e));
       served = h.served;
@@ -74,11 +77,11 @@ let_go_agrees a p since here clock h =
     }
 
 -- one that the core closed before
-stays_gone : (a : Account) (outgoing : List ℕ) (here : Stay) → is_here here ≡ false → StaysAs a.watched a.leave outgoing here
-    → StaysAs false (record a.leave { since = cond a.watched a.leave.clock a.leave.since }) outgoing here
+stays_gone : (a : Account) (outgoing : List ℕ) (here : Stay) → is_here here ≡ false → StaysAs a.watched a.lingering outgoing here
+    → StaysAs false (record a.lingering { since = cond a.watched a.lingering.clock a.lingering.since }) outgoing here
 stays_gone a outgoing stay.Here e h = absurd (true≢false e)
-stays_gone a outgoing (stay.Leaving since) e h = (refl, h.1, ap (λ w. cond w a.leave.clock a.leave.since) h.0 ∙ h.2, h.3)
-stays_gone a outgoing (stay.Shut since) e h = (refl, h.1, ap (λ w. cond w a.leave.clock a.leave.since) h.0 ∙ h.2, h.3, h.4)
+stays_gone a outgoing (stay.Draining since) e h = (refl, h.1, ap (λ w. cond w a.lingering.clock a.lingering.since) h.0 ∙ h.2, h.3)
+stays_gone a outgoing (stay.Shut since) e h = (refl, h.1, ap (λ w. cond w a.lingering.clock a.lingering.since) h.0 ∙ h.2, h.3, h.4)
 
 pub gone_agrees : (a : Account) (p : Peer) → is_here p.stay ≡ false → Agrees a p → Agrees (let_go a) p
 gone_agrees a p gone h = record {
@@ -98,7 +101,7 @@ gone_agrees a p gone h = record {
 dropped_as : (received : Received) (incoming : List ℕ) (state : Reading) (here : Stay) → is_here here ≡ false
     → ComesAs received incoming state here → ComesAs received [] state here
 dropped_as received incoming state stay.Here e h = absurd (true≢false e)
-dropped_as received incoming state (stay.Leaving since) e h = h
+dropped_as received incoming state (stay.Draining since) e h = h
 dropped_as received incoming state (stay.Shut since) e h = h
 
 pub kept_dropped : (told : Option (List Step)) (p : Peer) → is_here p.stay ≡ false → IsKept told p
@@ -142,15 +145,16 @@ shuts : (rightly watched kept shut owed : Bool) → rightly ≡ true → watched
     → (rightly && ((not watched && kept) && (not shut && not owed))) ≡ true
 shuts rightly watched kept shut owed r w o s n = rw (r, w, o, s, n) refl
 
-pub shut_agrees : (a : Account) (p : Peer) (since : ℕ) → p.stay ≡ stay.Leaving since → p.outgoing ≡ [] → is_lost p.output ≡ false
+pub shut_agrees : (a : Account) (p : Peer) (since : ℕ) → p.stay ≡ stay.Draining since → p.outgoing ≡ [] → is_lost p.output ≡ false
     → Agrees a p → Agrees (shut_down a) (record p { stay = stay.Shut since })
-shut_agrees a p since leaving none kept h =
-    let s : StaysAs a.watched a.leave p.outgoing (stay.Leaving since) = subst (StaysAs a.watched a.leave p.outgoing) leaving h.stays in
+shut_agrees a p since draining none kept h =
+    let s : StaysAs a.watched a.lingering p.outgoing (stay.Draining since) =
+    subst (StaysAs a.watched a.lingering p.outgoing) draining h.stays in
     record {
       reads = comes_starts a.received p.incoming p.input p.stay h.reads;
       writes = h.writes;
       stays = (s.0, s.1, s.2, refl, none);
-      rightly = shuts a.leave.rightly a.watched a.leave.kept a.leave.shut (is_owed a.sent) h.rightly s.0 s.1 s.3
+      rightly = shuts a.lingering.rightly a.watched a.lingering.kept a.lingering.shut (is_owed a.sent) h.rightly s.0 s.1 s.3
           (owed_none a.sent p.outgoing p.output kept none h.writes);
       unread = h.unread;
       served = h.served;
@@ -188,29 +192,30 @@ or_lost false over lost e f = ap (λ b. lost || b) e ∙ by lost
     by true = refl
     by false = refl
 
-closable_then : (a : Account) (outgoing : List ℕ) (state : Writing) (here : Stay) (clock : ℕ) → a.leave.clock ≡ clock
-    → closable_as clock state here ≡ true → WritesAs a.sent outgoing state → StaysAs a.watched a.leave outgoing here
+closable_then : (a : Account) (outgoing : List ℕ) (state : Writing) (here : Stay) (clock : ℕ) → a.lingering.clock ≡ clock
+    → closable_as clock state here ≡ true → WritesAs a.sent outgoing state → StaysAs a.watched a.lingering outgoing here
     → (may_close a ≡ true) × (a.watched ≡ false)
 closable_then a outgoing state stay.Here clock is e w h = absurd (true≢false (sym e))
-closable_then a outgoing state (stay.Leaving since) clock is e w h = (
-  closes_late a.watched a.leave.kept a.leave.shut (is_owed a.sent) a.sent.lost (is_overdue a.leave.clock a.leave.since) h.0 h.1
-      (or_lost (is_lost state) (is_overdue a.leave.clock a.leave.since) a.sent.lost
-      (ap (λ c. is_lost state || is_overdue c a.leave.since) is ∙ ap (λ s. is_lost state || is_overdue clock s) h.2 ∙ e)
+closable_then a outgoing state (stay.Draining since) clock is e w h = (
+  closes_late a.watched a.lingering.kept a.lingering.shut (is_owed a.sent) a.sent.lost
+      (is_overdue a.lingering.clock a.lingering.since) h.0 h.1
+      (or_lost (is_lost state) (is_overdue a.lingering.clock a.lingering.since) a.sent.lost
+      (ap (λ c. is_lost state || is_overdue c a.lingering.since) is ∙ ap (λ s. is_lost state || is_overdue clock s) h.2 ∙ e)
       (λ l. lost_is a.sent outgoing state l w)),
   h.0,
 )
 closable_then a outgoing state (stay.Shut since) clock is e w h = (by state w, h.0)
   where
     by : (o : Writing) → WritesAs a.sent outgoing o → may_close a ≡ true
-    by output.Open w = closes_shut a.watched a.leave.kept a.leave.shut (is_owed a.sent) a.sent.lost
-        (is_overdue a.leave.clock a.leave.since) h.0 h.1 h.3 (owed_none a.sent outgoing output.Open refl h.4 w)
-    by output.Full w = closes_shut a.watched a.leave.kept a.leave.shut (is_owed a.sent) a.sent.lost
-        (is_overdue a.leave.clock a.leave.since) h.0 h.1 h.3 (owed_none a.sent outgoing output.Full refl h.4 w)
-    by output.Lost w = closes_late a.watched a.leave.kept a.leave.shut (is_owed a.sent) a.sent.lost
-        (is_overdue a.leave.clock a.leave.since) h.0 h.1 (ap (λ b. b || is_overdue a.leave.clock a.leave.since) w.1)
+    by output.Open w = closes_shut a.watched a.lingering.kept a.lingering.shut (is_owed a.sent) a.sent.lost
+        (is_overdue a.lingering.clock a.lingering.since) h.0 h.1 h.3 (owed_none a.sent outgoing output.Open refl h.4 w)
+    by output.Full w = closes_shut a.watched a.lingering.kept a.lingering.shut (is_owed a.sent) a.sent.lost
+        (is_overdue a.lingering.clock a.lingering.since) h.0 h.1 h.3 (owed_none a.sent outgoing output.Full refl h.4 w)
+    by output.Lost w = closes_late a.watched a.lingering.kept a.lingering.shut (is_owed a.sent) a.sent.lost
+        (is_overdue a.lingering.clock a.lingering.since) h.0 h.1 (ap (λ b. b || is_overdue a.lingering.clock a.lingering.since) w.1)
 
 -- a peer that may be closed may be so by its account
-pub may_close_then : (a : Account) (p : Peer) (clock : ℕ) → a.leave.clock ≡ clock → is_closable clock p ≡ true → Agrees a p
+pub may_close_then : (a : Account) (p : Peer) (clock : ℕ) → a.lingering.clock ≡ clock → is_closable clock p ≡ true → Agrees a p
     → (may_close a ≡ true) × (a.watched ≡ false)
 may_close_then a p clock is e h = closable_then a p.outgoing p.output p.stay clock is e h.writes h.stays
 
@@ -238,7 +243,7 @@ may_fail_then a p here failed h = ⊎_elim
 
 -- one that lingers is not there by its account
 pub gone_unwatched : (a : Account) (outgoing : List ℕ) (here : Stay) → is_here here ≡ false
-    → StaysAs a.watched a.leave outgoing here → a.watched ≡ false
+    → StaysAs a.watched a.lingering outgoing here → a.watched ≡ false
 gone_unwatched a outgoing stay.Here e h = absurd (true≢false e)
-gone_unwatched a outgoing (stay.Leaving since) e h = h.0
+gone_unwatched a outgoing (stay.Draining since) e h = h.0
 gone_unwatched a outgoing (stay.Shut since) e h = h.0

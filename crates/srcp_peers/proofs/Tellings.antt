@@ -43,7 +43,7 @@ by_calls f (Shuts who ∷ log) = by_calls f log
 by_calls f (Closes who ∷ log) = by_calls f log
 by_calls f (Clocks answer ∷ log) = by_calls f log
 
--- ---- steps that leave a list as it is
+-- ---- steps that lingering a list as it is
 
 same_more : (xs ys : List ℕ) → xs ≡ ys → xs ≡ ys ++ []
 same_more xs ys e = e ∙ sym (append-nil ys)

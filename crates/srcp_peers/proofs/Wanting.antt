@@ -8,7 +8,7 @@ use Rattle.srcp_peers.specs.declared.readiness.Reading.{Reading}
 use Rattle.srcp_peers.specs.declared.readiness.Reading.TheVariants as input
 use Rattle.srcp_peers.specs.declared.stay.Stay.{Stay}
 use Rattle.srcp_peers.specs.declared.stay.Stay.TheVariants as stay
-use Rattle.srcp_peers.specs.Accounts.{Account, Leave, Received, is_wanted, noted}
+use Rattle.srcp_peers.specs.Accounts.{Account, Lingering, Received, is_wanted, noted}
 use Rattle.srcp_peers.specs.Peers.{Agrees, ComesAs, ReadsAs, StaysAs, is_wanting, may_have, woken_input}
 use Rattle.srcp_peers.proofs.Resting.{and_left, and_right}
 
@@ -74,14 +74,14 @@ wanted_here received incoming input.Failed h e = absurd (true≢false (sym (not_
     (and_right (not received.ended) (not received.failed)
     (and_right (not received.quiet) (not received.ended && not received.failed) (might received e))))))
 
-wanted_as : (watched : Bool) (leave : Leave) (received : Received) (incoming outgoing : List ℕ) (state : Reading) (here : Stay)
-    → ComesAs received incoming state here → StaysAs watched leave outgoing here → (watched && is_wanted received) ≡ true
+wanted_as : (watched : Bool) (lingering : Lingering) (received : Received) (incoming outgoing : List ℕ) (state : Reading) (here : Stay)
+    → ComesAs received incoming state here → StaysAs watched lingering outgoing here → (watched && is_wanted received) ≡ true
     → is_wanting state incoming ≡ true
-wanted_as watched leave received incoming outgoing state stay.Here h s e =
+wanted_as watched lingering received incoming outgoing state stay.Here h s e =
     wanted_here received incoming state h (and_right watched (is_wanted received) e)
-wanted_as watched leave received incoming outgoing state (stay.Leaving since) h s e =
+wanted_as watched lingering received incoming outgoing state (stay.Draining since) h s e =
     absurd (true≢false (sym (and_left watched (is_wanted received) e) ∙ s.0))
-wanted_as watched leave received incoming outgoing state (stay.Shut since) h s e =
+wanted_as watched lingering received incoming outgoing state (stay.Shut since) h s e =
     absurd (true≢false (sym (and_left watched (is_wanted received) e) ∙ s.0))
 
 pub noted_agrees : (a : Account) (p : Peer) → Agrees a p → Agrees (noted a) p
@@ -90,7 +90,7 @@ noted_agrees a p h = record {
   writes = h.writes;
   stays = h.stays;
   rightly = h.rightly;
-  unread = wanted_as a.watched a.leave a.received p.incoming p.outgoing p.input p.stay h.reads h.stays;
+  unread = wanted_as a.watched a.lingering a.received p.incoming p.outgoing p.input p.stay h.reads h.stays;
   served = h.served;
   cut = h.cut;
   line = h.line;

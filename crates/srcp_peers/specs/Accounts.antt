@@ -27,7 +27,7 @@ pub record Received : Type 0 where
   pub failed : Bool  -- a read failed
 
 -- how it lingers
-pub record Leave : Type 0 where
+pub record Lingering : Type 0 where
   pub clock : ℕ  -- what the monotonic clock showed last, in milliseconds; 0 until it is read
   pub since : ℕ  -- what it showed when the core closed it
   pub kept : Bool  -- it was accepted, and was not closed
@@ -37,7 +37,7 @@ pub record Leave : Type 0 where
 pub record Account : Type 0 where
   pub sent : Sent
   pub received : Received
-  pub leave : Leave
+  pub lingering : Lingering
   pub watched : Bool  -- it was accepted, and the core did not close it
   pub honest : Bool  -- its end, and that it is lost, was told only when it might be
   pub unread : Bool  -- a read might find something when a wait was over, with less than a piece held, and none was made
@@ -49,7 +49,7 @@ abbrev pub untouched : Account
 untouched = record {
   sent = record { written = []; took = []; full = false; lost = false; cut = false };
   received = record { gave = []; handed = []; quiet = false; draining = false; ended = false; failed = false };
-  leave = record { clock = 0; since = 0; kept = false; shut = false; rightly = true };
+  lingering = record { clock = 0; since = 0; kept = false; shut = false; rightly = true };
   watched = false;
   unread = false;
   served = true;
@@ -99,8 +99,8 @@ is_short (Some most) = nat_lt most 9
 -- ---- when it may be shut down and closed
 
 -- the core closed it, and its socket is not closed
-abbrev pub is_leaving : Account → Bool
-is_leaving a = not a.watched && a.leave.kept
+abbrev pub is_lingering : Account → Bool
+is_lingering a = not a.watched && a.lingering.kept
 
 -- a peer that the core closed then lingers no longer now
 abbrev pub is_overdue : (clock since : ℕ) → Bool
@@ -108,12 +108,12 @@ is_overdue clock since = nat_le 10000 (clock - since)
 
 -- once: all that was taken for it was taken by the socket
 abbrev pub may_shut : Account → Bool
-may_shut a = is_leaving a && (not a.leave.shut && not (is_owed a.sent))
+may_shut a = is_lingering a && (not a.lingering.shut && not (is_owed a.sent))
 
 -- once: so it was, and it was shut down; or a write found that it takes no more; or its time is over
 abbrev pub may_close : Account → Bool
-may_close a = is_leaving a
-    && ((a.leave.shut && not (is_owed a.sent)) || (a.sent.lost || is_overdue a.leave.clock a.leave.since))
+may_close a = is_lingering a
+    && ((a.lingering.shut && not (is_owed a.sent)) || (a.sent.lost || is_overdue a.lingering.clock a.lingering.since))
 
 -- ---- what a step says
 
@@ -181,7 +181,7 @@ abbrev pub accepted : Account → Result Unit ErrorKind → Account
 accepted a (Ok done) = record a {
   sent = record a.sent { full = false; lost = false; cut = false };
   received = record a.received { quiet = false; draining = false; ended = false; failed = false };
-  leave = record a.leave { kept = true; shut = false };
+  lingering = record a.lingering { kept = true; shut = false };
   watched = true;
   unread = false;
 }
@@ -201,16 +201,16 @@ heard received (Err fault) = heard_refusal received (refusal_told fault)
 abbrev pub let_go : Account → Account
 let_go a = record a {
   watched = false;
-  leave = record a.leave { since = cond a.watched a.leave.clock a.leave.since };
+  lingering = record a.lingering { since = cond a.watched a.lingering.clock a.lingering.since };
 }
 
 -- it is shut down
 abbrev pub shut_down : Account → Account
-shut_down a = record a { leave = record a.leave { shut = true; rightly = a.leave.rightly && may_shut a } }
+shut_down a = record a { lingering = record a.lingering { shut = true; rightly = a.lingering.rightly && may_shut a } }
 
 -- it is closed
 abbrev pub closed : Account → Account
-closed a = record a { leave = record a.leave { kept = false; rightly = a.leave.rightly && may_close a } }
+closed a = record a { lingering = record a.lingering { kept = false; rightly = a.lingering.rightly && may_close a } }
 
 -- a clock was read
 abbrev pub clock_after : ℕ → Option ℕ → ℕ
@@ -218,7 +218,7 @@ clock_after clock (Some time) = time
 clock_after clock None = clock
 
 abbrev pub clocked : Account → Option ℕ → Account
-clocked a answer = record a { leave = record a.leave { clock = clock_after a.leave.clock answer } }
+clocked a answer = record a { lingering = record a.lingering { clock = clock_after a.lingering.clock answer } }
 
 -- what a call of the door says
 abbrev pub told_step : ℕ → Account → Call → Account

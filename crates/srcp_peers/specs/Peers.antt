@@ -19,7 +19,7 @@ use Rattle.srcp_door.specs.Pacing.{line_after}
 use Rattle.srcp_peers.specs.declared.ending.Ending.TheVariants as ending
 use Rattle.srcp_door.specs.declared.pacing.Line.TheVariants as line
 use Rattle.srcp_peers.specs.Steps.{Step, Reads, Tells, Writes, refusal_told}
-use Rattle.srcp_peers.specs.Accounts.{Account, Leave, Sent, Received, account, is_overdue}
+use Rattle.srcp_peers.specs.Accounts.{Account, Lingering, Sent, Received, account, is_overdue}
 
 -- what a state of the input means, if `incoming` is held of it
 abbrev pub ReadsAs : Received → List ℕ → Reading → Type 0
@@ -42,16 +42,16 @@ WritesAs sent outgoing output.Lost = StartsWith sent.written sent.took × (sent.
 -- what is known of what came of a peer: what comes of one that lingers is dropped
 abbrev pub ComesAs : Received → List ℕ → Reading → Stay → Type 0
 ComesAs received incoming state stay.Here = ReadsAs received incoming state
-ComesAs received incoming state (stay.Leaving since) = StartsWith received.gave received.handed
+ComesAs received incoming state (stay.Draining since) = StartsWith received.gave received.handed
 ComesAs received incoming state (stay.Shut since) = StartsWith received.gave received.handed
 
 -- what it means that a peer stays so, if `outgoing` is queued for it
-abbrev pub StaysAs : (watched : Bool) → Leave → List ℕ → Stay → Type 0
-StaysAs watched leave outgoing stay.Here = (watched ≡ true) × (leave.kept ≡ true) × (leave.shut ≡ false)
-StaysAs watched leave outgoing (stay.Leaving since) = (watched ≡ false) × (leave.kept ≡ true) × (leave.since ≡ since)
-    × (leave.shut ≡ false)
-StaysAs watched leave outgoing (stay.Shut since) = (watched ≡ false) × (leave.kept ≡ true) × (leave.since ≡ since)
-    × (leave.shut ≡ true) × (outgoing ≡ [])
+abbrev pub StaysAs : (watched : Bool) → Lingering → List ℕ → Stay → Type 0
+StaysAs watched lingering outgoing stay.Here = (watched ≡ true) × (lingering.kept ≡ true) × (lingering.shut ≡ false)
+StaysAs watched lingering outgoing (stay.Draining since) = (watched ≡ false) × (lingering.kept ≡ true)
+    × (lingering.since ≡ since) × (lingering.shut ≡ false)
+StaysAs watched lingering outgoing (stay.Shut since) = (watched ≡ false) × (lingering.kept ≡ true)
+    × (lingering.since ≡ since) × (lingering.shut ≡ true) × (outgoing ≡ [])
 
 -- a read may find something
 abbrev pub may_have : Reading → Bool
@@ -69,8 +69,8 @@ is_wanting state incoming = may_have state && nat_lt (length incoming) 256
 pub record Agrees (a : Account) (p : Peer) : Type 0 where
   pub reads : ComesAs a.received p.incoming p.input p.stay
   pub writes : WritesAs a.sent p.outgoing p.output
-  pub stays : StaysAs a.watched a.leave p.outgoing p.stay
-  pub rightly : a.leave.rightly ≡ true
+  pub stays : StaysAs a.watched a.lingering p.outgoing p.stay
+  pub rightly : a.lingering.rightly ≡ true
   pub unread : (a.watched && a.unread) ≡ true → is_wanting p.input p.incoming ≡ true
   pub served : a.served ≡ true
   pub cut : a.sent.cut ≡ p.cut
@@ -204,14 +204,14 @@ is_due what p = flushes_all what
 -- what is flushed of a peer that stays so, in a turn that flushes `what`: all, if it lingers
 abbrev pub flush_of : Flush → Stay → Flush
 flush_of what stay.Here = what
-flush_of what (stay.Leaving since) = flush.All
+flush_of what (stay.Draining since) = flush.All
 flush_of what (stay.Shut since) = flush.All
 
 -- how it stays behind that, if `outgoing` is still queued: it is shut down once its socket took all, if it lingers
 abbrev pub stay_after : Stay → (outgoing : List ℕ) → Writing → Stay
 stay_after stay.Here outgoing state = stay.Here
-stay_after (stay.Leaving since) outgoing state =
-    cond ((length outgoing == 0) && not (is_lost state)) (stay.Shut since) (stay.Leaving since)
+stay_after (stay.Draining since) outgoing state =
+    cond ((length outgoing == 0) && not (is_lost state)) (stay.Shut since) (stay.Draining since)
 stay_after (stay.Shut since) outgoing state = stay.Shut since
 
 -- something is queued for it that is flushed, and its socket may take it
@@ -226,13 +226,13 @@ OffersDue what p old new = IsFlushed (flush_of what p.stay) p → IsOffered p.nu
 -- it is there
 abbrev pub is_here : Stay → Bool
 is_here stay.Here = true
-is_here (stay.Leaving since) = false
+is_here (stay.Draining since) = false
 is_here (stay.Shut since) = false
 
 -- it lingers, and is owed nothing
 abbrev pub is_shut : Stay → Bool
 is_shut stay.Here = false
-is_shut (stay.Leaving since) = false
+is_shut (stay.Draining since) = false
 is_shut (stay.Shut since) = true
 
 -- input of it is held that the core takes
@@ -289,7 +289,7 @@ is_resting p = is_here p.stay && has_rest p
 
 abbrev pub closable_as : (clock : ℕ) → Writing → Stay → Bool
 closable_as clock state stay.Here = false
-closable_as clock state (stay.Leaving since) = is_lost state || is_overdue clock since
+closable_as clock state (stay.Draining since) = is_lost state || is_overdue clock since
 closable_as clock state (stay.Shut since) = true
 
 -- it lingers, and is owed nothing, or lost, or its time is over
@@ -306,7 +306,7 @@ has_ended input.Failed = true
 
 abbrev pub gone_as : (clock : ℕ) → Reading → Writing → Stay → Bool
 gone_as clock came state stay.Here = false
-gone_as clock came state (stay.Leaving since) = is_lost state || is_overdue clock since
+gone_as clock came state (stay.Draining since) = is_lost state || is_overdue clock since
 gone_as clock came state (stay.Shut since) = is_lost state || (has_ended came || is_overdue clock since)
 
 -- nothing is left to do for it: it lingers, and is owed nothing and ended too, or lost, or its time is over

@@ -24,9 +24,9 @@ pub const MOST_LINGERING: usize = 64;
 impl Peer {
     /// Notes that the core closed it, at that time of the monotonic clock.
     pub fn linger(&mut self, since: u64)
-        ensures { self.new ≡ record self.old { stay = Stay.Leaving since } }
+        ensures { self.new ≡ record self.old { stay = Stay.Draining since } }
     {
-        self.stay = Stay::Leaving { since };
+        self.stay = Stay::Draining { since };
     }
 
     /// Flushes a peer that is there, and goes on with one that lingers.
@@ -63,7 +63,7 @@ impl Peer {
     {
         match self.stay {
             Stay::Here => (),
-            Stay::Leaving { since } => self.finish(system, since),
+            Stay::Draining { since } => self.finish(system, since),
             Stay::Shut { .. } => self.drain(system),
         }
     }
@@ -71,7 +71,7 @@ impl Peer {
     /// Writes what is queued, and shuts the socket down once that is taken.
     fn finish<S: System>(&mut self, system: &mut S, since: u64)
         requires kept { IsKept (S.told system.old) self.old }
-        requires leaving { self.old.stay ≡ Stay.Leaving since }
+        requires draining { self.old.stay ≡ Stay.Draining since }
         ensures kept { IsKept (S.told system.new) self.new }
         ensures others { (other : ℕ) → other ≢ self.old.number → Spares other (S.told system.old) (S.told system.new) }
         ensures calls { SaysNothing (S.told system.old) (S.told system.new) }
@@ -89,7 +89,7 @@ impl Peer {
     /// Tells its socket that nothing more is written.
     fn shut_down<S: System>(&mut self, system: &mut S, since: u64)
         requires kept { IsKept (S.told system.old) self.old }
-        requires leaving { self.old.stay ≡ Stay.Leaving since }
+        requires draining { self.old.stay ≡ Stay.Draining since }
         requires taken { self.old.outgoing ≡ [] }
         requires sound { is_lost self.old.output ≡ false }
         ensures kept { IsKept (S.told system.new) self.new }
@@ -152,7 +152,7 @@ impl Peer {
     {
         match self.stay {
             Stay::Here => false,
-            Stay::Leaving { since } => self.output.is_lost() || is_overdue(clock, since),
+            Stay::Draining { since } => self.output.is_lost() || is_overdue(clock, since),
             Stay::Shut { since } => {
                 self.output.is_lost() || self.input.has_ended() || is_overdue(clock, since)
             }
@@ -165,7 +165,7 @@ impl Peer {
         ensures closable { (clock : ℕ) → result ≡ true → is_closable clock self.now ≡ true }
     {
         match self.stay {
-            Stay::Here | Stay::Leaving { .. } => false,
+            Stay::Here | Stay::Draining { .. } => false,
             Stay::Shut { .. } => true,
         }
     }

@@ -72,7 +72,7 @@ pub struct Peer {
 /// What a read of a peer gave.
 #[derive(Clone, Copy)]
 pub struct Handed {
-    /// What is told of it.
+    /// The answer of the read.
     pub got: Result<Got, DoorFault>,
     /// Whether a line was kept back of a peer that got none since the marks were cleared.
     pub refused: bool,

@@ -13,7 +13,7 @@ pub enum Stay {
     /// It is there.
     Here,
     /// The core closed it when the monotonic clock showed this. Its socket is still to take what is queued.
-    Leaving { since: u64 },
+    Draining { since: u64 },
     /// The core closed it then. Its socket took all, and was told that nothing more is written. What still comes is
     /// dropped, until it ends.
     Shut { since: u64 },
@@ -27,7 +27,7 @@ impl Stay {
     {
         match self {
             Stay::Here => true,
-            Stay::Leaving { .. } | Stay::Shut { .. } => false,
+            Stay::Draining { .. } | Stay::Shut { .. } => false,
         }
     }
 }

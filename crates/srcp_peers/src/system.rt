@@ -17,7 +17,7 @@ pub struct Ready {
     pub readable: bool,
     /// Its input was found to be over, or the socket to have failed: a read has still to tell.
     pub closed: bool,
-    /// Urgent data came: a read ends at it, and what stands behind it is told by no other event.
+    /// Urgent data came: a read ends at it, and no other event tells of the bytes that follow.
     pub urgent: bool,
     /// A write may be taken.
     pub writable: bool,

@@ -172,7 +172,7 @@ impl Turn {
         allowed
     }
 
-    /// Returns what is told of a peer whose end is due: that, if the turn told no other.
+    /// Answers a read of a peer whose end is due: by that, if the turn told no other end.
     pub(crate) fn tell_end(&mut self) -> Result<Got, DoorFault>
         ensures exact { result ≡ cond self.old.ends (Ok Got.Ended) (Ok Got.Nothing) }
         ensures told { (result ≡ Ok Got.Nothing) ⊎ (result ≡ Ok Got.Ended) }
@@ -186,7 +186,7 @@ impl Turn {
         }
     }
 
-    /// Returns what is told of a peer that is lost or is not there: that, if the turn told no other end.
+    /// Answers a read of a peer that is lost or is not there: by that, if the turn told no other end.
     ///
     /// # Errors
     /// `Read` if it did not.

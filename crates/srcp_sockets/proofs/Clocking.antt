@@ -20,7 +20,7 @@ clock_step clock (Clocks answer) = clock_after clock answer
 clock_step clock other = clock
 
 abbrev shown : Account → ℕ
-shown a = a.leave.clock
+shown a = a.lingering.clock
 
 woken_clock : (socket : ℕ) (a : Account) (ready : List Ready) → shown (fold (woken socket) a ready) ≡ shown a
 woken_clock socket a [] = refl
@@ -84,6 +84,6 @@ both_clocks socket a t (step ∷ log) same = both_clocks socket (account_step so
 
 -- the account of each socket has the clock of the turn
 pub clock_is : (told : Option (List Step)) (turn : Turn) (socket : ℕ) → IsTimed told turn → (log : List Step) → told ≡ Some log
-    → (account socket log).leave.clock ≡ turn.clock
+    → (account socket log).lingering.clock ≡ turn.clock
 clock_is told turn socket timed log is =
     both_clocks socket untouched (first_times turn.timekeeper.wall turn.timekeeper.start) log refl ∙ (timed log is).clock

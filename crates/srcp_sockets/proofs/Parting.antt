@@ -254,7 +254,7 @@ stands_unwritten old new peers l last number bytes fault missing tells stands =
 -- one that was there was closed by the core
 pub stands_let_go : (old new : Option (List Step)) (peers : List Peer) (i : ℕ) (p q : Peer) (l : Listening) (last number since : ℕ)
     (answer : Result Unit DoorFault) → i < length peers → get_or peers i p ≡ p → p.number ≡ number → p.stay ≡ stay.Here
-    → q ≡ record p { stay = stay.Leaving since } → ((log : List Step) → old ≡ Some log → (account number log).leave.clock ≡ since)
+    → q ≡ record p { stay = stay.Draining since } → ((log : List Step) → old ≡ Some log → (account number log).lingering.clock ≡ since)
     → Tells old (Told (CloseCall number answer)) new → Stands old peers l last → Stands new (set peers i q) l last
 stands_let_go old new peers i p q l last number since answer within at same here is clock tells stands =
     let there : (get_or peers i p).number ≡ number = ap (λ (x : Peer). x.number) at ∙ same in
@@ -269,14 +269,14 @@ stands_let_go old new peers i p q l last number since answer within at same here
     kept later e =
         let t = tells later e in
         let a : Account = account p.number t.0 in
-        let after : Agrees (let_go a) (record p { stay = stay.Leaving since }) =
-        let_go_agrees a p since here (ap (λ n. (account n t.0).leave.clock) same ∙ clock t.0 t.1) (before t.0 t.1) in
+        let after : Agrees (let_go a) (record p { stay = stay.Draining since }) =
+        let_go_agrees a p since here (ap (λ n. (account n t.0).lingering.clock) same ∙ clock t.0 t.1) (before t.0 t.1) in
         let more : account number later ≡ account_step number (account number t.0) (Told (CloseCall number answer)) =
         ap (account number) t.2 ∙ account_more number t.0 (Told (CloseCall number answer)) in
         let own_is : account number later ≡ let_go (account number t.0) =
         more ∙ picks (number == number) (let_go (account number t.0)) (account number t.0) (own number) in
         subst (λ (x : Peer). Agrees (account x.number later) x) (sym is)
-        (subst (λ (x : Account). Agrees x (record p { stay = stay.Leaving since }))
+        (subst (λ (x : Account). Agrees x (record p { stay = stay.Draining since }))
         (sym (ap (λ n. account n later) same ∙ own_is ∙ ap (λ n. let_go (account n t.0)) (sym same))) after)
 
 -- ---- one that is closed
@@ -428,7 +428,7 @@ leaves_one number peers i within same apart = record {
 -- the peer at a place was closed, where it may be at that time of the monotonic clock
 pub stands_closed_at : (old new : Option (List Step)) (peers : List Peer) (i : ℕ) (p : Peer) (l : Listening) (last clock : ℕ)
     → i < length peers → get_or peers i p ≡ p → is_closable clock (get_or peers i p) ≡ true
-    → ((log : List Step) → old ≡ Some log → (account p.number log).leave.clock ≡ clock) → Tells old (Closes p.number) new
+    → ((log : List Step) → old ≡ Some log → (account p.number log).lingering.clock ≡ clock) → Tells old (Closes p.number) new
     → Stands old peers l last → Stands new (remove peers i) l last
 stands_closed_at old new peers i p l last clock within at closable shown tells stands =
     stands_closed old new peers (remove peers i) l last p.number tells (leaves_one p.number peers i within same stands.apart)

@@ -17,7 +17,7 @@ use Rattle.srcp_peers.proofs.Tellings.{if_same}
 
 -- what is judged
 abbrev marks : Account → Bool × Bool × Bool × Bool
-marks a = (a.honest, a.rested, a.leave.rightly, a.served)
+marks a = (a.honest, a.rested, a.lingering.rightly, a.served)
 
 woken_marks : (socket : ℕ) (a : Account) (ready : List Ready) → marks (fold (woken socket) a ready) ≡ marks a
 woken_marks socket a [] = refl
@@ -97,41 +97,42 @@ rested_before socket a (Told (WriteCall who bytes (Err fault))) h = sym
     (if_same (λ (x : Account). x.rested) (who == socket) _ a refl) ∙ h
 rested_before socket a (Told (CloseCall who answer)) h = sym (if_same (λ (x : Account). x.rested) (who == socket) _ a refl) ∙ h
 
-rightly_before : (socket : ℕ) (a : Account) (step : Step) → (account_step socket a step).leave.rightly ≡ true → a.leave.rightly ≡ true
+rightly_before : (socket : ℕ) (a : Account) (step : Step) → (account_step socket a step).lingering.rightly ≡ true
+    → a.lingering.rightly ≡ true
 rightly_before socket a (Accepts number answer) h = sym (ap (λ m. m.2) (accept_marks socket number a answer)) ∙ h
-rightly_before socket a (Reads who buffer answer) h = sym (if_same (λ (x : Account). x.leave.rightly) (who == socket)
+rightly_before socket a (Reads who buffer answer) h = sym (if_same (λ (x : Account). x.lingering.rightly) (who == socket)
     (read_of a buffer answer) a refl) ∙ h
-rightly_before socket a (Writes who bytes answer) h = sym (if_same (λ (x : Account). x.leave.rightly) (who == socket)
+rightly_before socket a (Writes who bytes answer) h = sym (if_same (λ (x : Account). x.lingering.rightly) (who == socket)
     (record a { sent = wrote a.sent bytes answer }) a refl) ∙ h
 rightly_before socket a (Waits most count ready) h = sym
     (ap (λ m. m.2) (woken_marks socket (waited socket a most) (take count ready))) ∙ h
 rightly_before socket a (Shuts who) h = by (who == socket) h
   where
-    by : (b : Bool) → (if b then shut_down a else a).leave.rightly ≡ true → a.leave.rightly ≡ true
-    by true e = and_left a.leave.rightly (may_shut a) e
+    by : (b : Bool) → (if b then shut_down a else a).lingering.rightly ≡ true → a.lingering.rightly ≡ true
+    by true e = and_left a.lingering.rightly (may_shut a) e
     by false e = e
 rightly_before socket a (Closes who) h = by (who == socket) h
   where
-    by : (b : Bool) → (if b then closed a else a).leave.rightly ≡ true → a.leave.rightly ≡ true
-    by true e = and_left a.leave.rightly (may_close a) e
+    by : (b : Bool) → (if b then closed a else a).lingering.rightly ≡ true → a.lingering.rightly ≡ true
+    by true e = and_left a.lingering.rightly (may_close a) e
     by false e = e
 rightly_before socket a (Clocks answer) h = h
 rightly_before socket a (Told (ExpectCall due slack)) h = h
 rightly_before socket a (Told (NowCall answer)) h = h
 rightly_before socket a (Told (AcceptCall answer)) h = h
 rightly_before socket a (Told (ReadCall who (Ok (got.Bytes count)) buffer)) h = sym
-    (if_same (λ (x : Account). x.leave.rightly) (who == socket) _ a refl) ∙ h
+    (if_same (λ (x : Account). x.lingering.rightly) (who == socket) _ a refl) ∙ h
 rightly_before socket a (Told (ReadCall who (Ok got.Ended) buffer)) h = sym
-    (if_same (λ (x : Account). x.leave.rightly) (who == socket) _ a refl)
+    (if_same (λ (x : Account). x.lingering.rightly) (who == socket) _ a refl)
     ∙ h
 rightly_before socket a (Told (ReadCall who (Ok got.Nothing) buffer)) h = h
 rightly_before socket a (Told (ReadCall who (Err fault) buffer)) h = sym
-    (if_same (λ (x : Account). x.leave.rightly) (who == socket) _ a refl) ∙ h
+    (if_same (λ (x : Account). x.lingering.rightly) (who == socket) _ a refl) ∙ h
 rightly_before socket a (Told (WriteCall who bytes (Ok count))) h = sym
-    (if_same (λ (x : Account). x.leave.rightly) (who == socket) _ a refl) ∙ h
+    (if_same (λ (x : Account). x.lingering.rightly) (who == socket) _ a refl) ∙ h
 rightly_before socket a (Told (WriteCall who bytes (Err fault))) h = sym
-    (if_same (λ (x : Account). x.leave.rightly) (who == socket) _ a refl) ∙ h
-rightly_before socket a (Told (CloseCall who answer)) h = sym (if_same (λ (x : Account). x.leave.rightly) (who == socket) _ a refl) ∙ h
+    (if_same (λ (x : Account). x.lingering.rightly) (who == socket) _ a refl) ∙ h
+rightly_before socket a (Told (CloseCall who answer)) h = sym (if_same (λ (x : Account). x.lingering.rightly) (who == socket) _ a refl) ∙ h
 
 served_before : (socket : ℕ) (a : Account) (step : Step) → (account_step socket a step).served ≡ true → a.served ≡ true
 served_before socket a (Accepts number answer) h = sym (ap (λ m. m.3) (accept_marks socket number a answer)) ∙ h
@@ -234,25 +235,25 @@ judged : (b rightly may other : Bool) → b ≡ true → (if b then rightly && m
 judged true rightly may other e h = and_right rightly may h
 judged false rightly may other e h = absurd (true≢false (sym e))
 
-rightly_if : (b : Bool) (x a : Account) → (if b then x else a).leave.rightly ≡ (if b then x.leave.rightly else a.leave.rightly)
+rightly_if : (b : Bool) (x a : Account) → (if b then x else a).lingering.rightly ≡ (if b then x.lingering.rightly else a.lingering.rightly)
 rightly_if true x a = refl
 rightly_if false x a = refl
 
-pub might_shut : (socket : ℕ) (before after : List Step) → (account socket (before ++ Shuts socket ∷ after)).leave.rightly ≡ true
+pub might_shut : (socket : ℕ) (before after : List Step) → (account socket (before ++ Shuts socket ∷ after)).lingering.rightly ≡ true
     → may_shut (account socket before) ≡ true
 might_shut socket before after h =
     let a = account socket before in
-    judged (socket == socket) a.leave.rightly (may_shut a) a.leave.rightly (own socket)
+    judged (socket == socket) a.lingering.rightly (may_shut a) a.lingering.rightly (own socket)
     (sym (rightly_if (socket == socket) (shut_down a) a)
-    ∙ at_step (λ (x : Account). x.leave.rightly) socket (rightly_before socket) before after (Shuts socket) h)
+    ∙ at_step (λ (x : Account). x.lingering.rightly) socket (rightly_before socket) before after (Shuts socket) h)
 
-pub might_close : (socket : ℕ) (before after : List Step) → (account socket (before ++ Closes socket ∷ after)).leave.rightly ≡ true
+pub might_close : (socket : ℕ) (before after : List Step) → (account socket (before ++ Closes socket ∷ after)).lingering.rightly ≡ true
     → may_close (account socket before) ≡ true
 might_close socket before after h =
     let a = account socket before in
-    judged (socket == socket) a.leave.rightly (may_close a) a.leave.rightly (own socket)
+    judged (socket == socket) a.lingering.rightly (may_close a) a.lingering.rightly (own socket)
     (sym (rightly_if (socket == socket) (closed a) a)
-    ∙ at_step (λ (x : Account). x.leave.rightly) socket (rightly_before socket) before after (Closes socket) h)
+    ∙ at_step (λ (x : Account). x.lingering.rightly) socket (rightly_before socket) before after (Closes socket) h)
 
 -- ---- no moment was told while one was unread
 

@@ -13,7 +13,7 @@ AreDelivered told peers = (log : List Step) → told ≡ Some log → (k : ℕ) 
 
 -- so did each socket that was accepted and is not closed
 abbrev pub IsAllDelivered : Option (List Step) → Type 0
-IsAllDelivered told = (log : List Step) → told ≡ Some log → (socket : ℕ) → (account socket log).leave.kept ≡ true
+IsAllDelivered told = (log : List Step) → told ≡ Some log → (socket : ℕ) → (account socket log).lingering.kept ≡ true
     → (is_owed (account socket log).sent ≡ false) ⊎ ((account socket log).sent.lost ≡ true)
 
 -- the time of the clock until which is delivered at most, if it showed this: 10 seconds later

@@ -42,7 +42,7 @@ pub record Sound (a : Account) : Type 0 where
   pub handed : StartsWith a.received.gave a.received.handed
   pub honest : a.honest ≡ true
   pub rested : a.rested ≡ true
-  pub rightly : a.leave.rightly ≡ true
+  pub rightly : a.lingering.rightly ≡ true
   pub served : a.served ≡ true
 
 abbrev pub AreSound : Option (List Step) → Type 0
@@ -62,7 +62,7 @@ AreFresh told last = (log : List Step) → told ≡ Some log → (socket : ℕ) 
 -- it is neither there nor kept
 pub record Closed (a : Account) : Type 0 where
   pub watched : a.watched ≡ false
-  pub kept : a.leave.kept ≡ false
+  pub kept : a.lingering.kept ≡ false
 
 -- so it is for all of which no peer is kept
 abbrev pub AreClosed : Option (List Step) → List Peer → Type 0

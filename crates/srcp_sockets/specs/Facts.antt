@@ -11,7 +11,7 @@ use Rattle.srcp_peers.specs.declared.stay.Stay.TheVariants as stay
 use Rattle.srcp_peers.specs.declared.waiting.Listening.{Listening}
 use Rattle.srcp_peers.specs.declared.waiting.Listening.TheVariants as listening
 use Rattle.srcp_peers.specs.Steps.{Step}
-use Rattle.srcp_peers.specs.Accounts.{Leave, Received, Sent}
+use Rattle.srcp_peers.specs.Accounts.{Lingering, Received, Sent}
 use Rattle.srcp_peers.specs.Peers.{ComesAs, ReadsAs, StaysAs, WritesAs}
 use Rattle.srcp_sockets.specs.Doors.{HeardAs, Stands}
 
@@ -30,14 +30,14 @@ WritesAs-prop sent outgoing output.Lost = hlevel props
 ComesAs-prop : (received : Received) (incoming : List ℕ) (state : Reading) (here : Stay) → IsProp
     (ComesAs received incoming state here)
 ComesAs-prop received incoming state stay.Here = ReadsAs-prop received incoming state
-ComesAs-prop received incoming state (stay.Leaving since) = hlevel props
+ComesAs-prop received incoming state (stay.Draining since) = hlevel props
 ComesAs-prop received incoming state (stay.Shut since) = hlevel props
 
-StaysAs-prop : (watched : Bool) (leave : Leave) (outgoing : List ℕ) (here : Stay) → IsProp
-    (StaysAs watched leave outgoing here)
-StaysAs-prop watched leave outgoing stay.Here = hlevel props
-StaysAs-prop watched leave outgoing (stay.Leaving since) = hlevel props
-StaysAs-prop watched leave outgoing (stay.Shut since) = hlevel props
+StaysAs-prop : (watched : Bool) (lingering : Lingering) (outgoing : List ℕ) (here : Stay) → IsProp
+    (StaysAs watched lingering outgoing here)
+StaysAs-prop watched lingering outgoing stay.Here = hlevel props
+StaysAs-prop watched lingering outgoing (stay.Draining since) = hlevel props
+StaysAs-prop watched lingering outgoing (stay.Shut since) = hlevel props
 
 HeardAs-prop : (quiet : Bool) (state : Listening) → IsProp (HeardAs quiet state)
 HeardAs-prop quiet listening.Ready = hlevel props

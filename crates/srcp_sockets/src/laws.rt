@@ -99,7 +99,7 @@ pub fn closed_rightly<S: System + Drop>(door: &SocketDoor<S>)
         → S.told door.now.sockets.system ≡ Some (before ++ Closes socket ∷ after)
         → may_close (account socket before) ≡ true }
     ensures kept { (log : List Step) (socket : ℕ) → S.told door.now.sockets.system ≡ Some log
-        → (account socket log).leave.kept ≡ true → IsThere socket door.now.sockets.peers.items }
+        → (account socket log).lingering.kept ≡ true → IsThere socket door.now.sockets.peers.items }
 {
     let _sockets = &door.sockets;
 }

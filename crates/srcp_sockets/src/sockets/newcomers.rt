@@ -123,7 +123,7 @@ fn spare_or_new(spare: &mut Option<Queues>, alloc: Global) -> Result<Queues, All
     }
 }
 
-/// Returns what is told of a newcomer after an accept that failed.
+/// Answers for an accept that failed.
 fn nobody(said: Refusal) -> Result<Option<u32>, DoorFault>
     ensures told { result ≡ refused_newcomer said }
     ensures fault { IfErr result (λ fault. fault ≡ DoorFault.Accept) }

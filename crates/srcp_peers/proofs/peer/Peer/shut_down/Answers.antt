@@ -10,7 +10,7 @@ returns g c =
     let new = g.S.System.told c.shutdown.new.self in
     let tells = c.shutdown.ensures in
     record {
-      kept = kept_shut old new c.args.self.now c.args.since c.requires.leaving c.requires.taken c.requires.sound tells c.requires.kept;
+      kept = kept_shut old new c.args.self.now c.args.since c.requires.draining c.requires.taken c.requires.sound tells c.requires.kept;
       others = λ other differ. spares_shut c.args.self.now.number other old new differ tells;
       calls = says_step old new (Shuts c.args.self.now.number) tells refl;
       times = keeps_step old new (Shuts c.args.self.now.number) tells (λ t. refl);
