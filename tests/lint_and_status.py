@@ -7,6 +7,7 @@ import subprocess
 import sys
 import tempfile
 from contextlib import contextmanager
+from functools import partial
 from pathlib import Path
 
 from serving import SECONDS, Client, free_port, served
@@ -126,8 +127,8 @@ def status_of_no_server(program):
 def signals_that_end_the_server(program):
     """Ctrl-C, SIGTERM, and the end of its terminal (SIGHUP), which a server that nohup starts ignores."""
     for number in (signal.SIGINT, signal.SIGTERM, signal.SIGHUP):
-        # the gate itself may run under nohup
-        with served(program, prepare=lambda: signal.signal(signal.SIGHUP, signal.SIG_DFL)) as (_, server):
+        # the gate itself may run under nohup, or in the background of a shell, where SIGINT is ignored
+        with served(program, prepare=partial(signal.signal, number, signal.SIG_DFL)) as (_, server):
             server.send_signal(number)
             if server.wait(SECONDS) != -number:
                 return f"{number!r} ends it with {server.returncode}"
