@@ -14,10 +14,11 @@ PANEL = parse_record(OUTPUT)[0]["2"]["sent"].splitlines()[:3]
 ROWS = OUTPUT.decode().partition("rows 13\n")[2].splitlines()
 STEPS = ["Moment(1000)", "Began { session: 1, moment: 1000, mode: Command }"] + [
     f"Obeyed {{ session: 1, moment: 1000, command: {command} }}" for command in (
-        "InitGl { bus: 1, address: 3, letter: N, version: 1, steps: 28, functions: 2 }",
-        "InitGl { bus: 1, address: 7, letter: P, version: 1, steps: 28, functions: 5 }",
-        "InitGa { bus: 1, address: 5, letter: M, ports: 2 }",
-        "SetLock(TimedLock { bus: 1, group: Gl, address: 3, seconds: 60 })")] + ["Began { session: 2, moment: 1000, mode: Info }"]
+        "InitGl(NewGl { bus: 1, address: 3, letter: N, version: 1, steps: 28, functions: 2 })",
+        "InitGl(NewGl { bus: 1, address: 7, letter: P, version: 1, steps: 28, functions: 5 })",
+        "InitGa(NewGa { bus: 1, address: 5, letter: M, ports: 2 })",
+        "SetLock(TimedLock { target: Target { bus: 1, group: Gl, address: 3 }, seconds: 60 })")
+] + ["Began { session: 2, moment: 1000, mode: Info }"]
 # a connection's session, `true` if that is an information session, and the number of steps once it had begun
 NO_SESSION, THROTTLE_SESSION, PANEL_SESSION = "0 false 0", "1 false 2", "2 true 7"
 NO_MEMORY = "1.000 500 ERROR out of resources"
