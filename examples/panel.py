@@ -11,7 +11,7 @@ import time
 
 if sys.version_info < (3, 11):
     sys.exit("this takes Python 3.11 or later")
-MOMENT = 0.5  # a listing has no end mark: after so many seconds without a line the panel holds all rows
+MOMENT = 0.5  # a listing has no end mark: after this many seconds without a line the panel holds all rows
 LONGEST = 3.0  # on a busy layout no such moment comes: it waits for one this long at most
 
 

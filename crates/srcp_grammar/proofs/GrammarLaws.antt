@@ -19,10 +19,10 @@ use Rattle.std.specs.Str.Parse.{digits_value}
 use Rattle.srcp_grammar.specs.declared.layout.Bus.{Bus}
 use Rattle.srcp_grammar.specs.declared.command.Operation.{Operation}
 use Rattle.srcp_grammar.specs.declared.command.Operation.TheVariants.{Get, Set, Check, Init, Term}
-use Rattle.srcp_grammar.specs.declared.command.Named.{Named}
-use Rattle.srcp_grammar.specs.declared.command.Named.TheVariants.{Session, Power, Gl, Ga, Fb, Lock}
-use Rattle.srcp_grammar.specs.declared.command.Lockable.{Lockable}
-use Rattle.srcp_grammar.specs.declared.command.Lockable.TheVariants as lockable
+use Rattle.srcp_grammar.specs.declared.command.CommandGroup.{CommandGroup}
+use Rattle.srcp_grammar.specs.declared.command.CommandGroup.TheVariants.{Session, Power, Gl, Ga, Fb, Lock}
+use Rattle.srcp_grammar.specs.declared.command.DeviceGroup.{DeviceGroup}
+use Rattle.srcp_grammar.specs.declared.command.DeviceGroup.TheVariants as devices
 use Rattle.srcp_grammar.specs.declared.command.Target.{Target}
 use Rattle.srcp_grammar.specs.declared.command.NewGl.{NewGl}
 use Rattle.srcp_grammar.specs.declared.command.NewGa.{NewGa}
@@ -39,7 +39,7 @@ use Rattle.srcp_grammar.specs.Layout.{IsBus, IsLayout, IsKeyOf, server, bus_at, 
 use Rattle.srcp_grammar.specs.Layout.{row_count}
 use Rattle.srcp_grammar.specs.Devices.{key_at, device_in, lock_on}
 use Rattle.srcp_grammar.specs.Command.{IsCommandOf, IsDrive, IsLock, IsNewGa, IsNewGl, IsPowerSwitch, IsSensor, IsSwitch, IsTimedLock}
-use Rattle.srcp_grammar.specs.Grammar.{◌>>=◌, number_in, bit_of, bits_of, letter_of, switch_of, text_of, time_of, lockable_on, groups}
+use Rattle.srcp_grammar.specs.Grammar.{◌>>=◌, number_in, bit_of, bits_of, letter_of, switch_of, text_of, time_of, device_group_on, groups}
 use Rattle.srcp_grammar.specs.Grammar.{operations, named_in, alone, addressed, get_session, term_session, powered, driven, init_gl, ga_port}
 use Rattle.srcp_grammar.specs.Grammar.{get_ga, switched, init_ga, sensed, named_lock, timed_lock, asked, directed, commanded, reads}
 use Rattle.srcp_grammar.proofs.FindLaws.{found_holds}
@@ -114,20 +114,21 @@ module _ (buses : List Bus) (layout : IsLayout buses) (bus : Bus) (found : bus_a
   many : (most n count : ℕ) → 1 ≤ n → n ≤ most → rows_if (is_within 1 most n) count ≡ count
   many most n count low high = ap (λ b. rows_if b count) (within 1 most n low high)
 
-  gl_rows : (address : ℕ) → 1 ≤ address → address ≤ bus.gl_max → row_count buses (device_in lockable.Gl bus.number address) ≡ 2
+  gl_rows : (address : ℕ) → 1 ≤ address → address ≤ bus.gl_max → row_count buses (device_in devices.Gl bus.number address) ≡ 2
   gl_rows address low high = counted group.Gl address ∙ many bus.gl_max address 2 low high
 
   ga_rows : (address : ℕ) → 1 ≤ address → address ≤ bus.ga_max
-      → row_count buses (device_in lockable.Ga bus.number address) ≡ 1 + bus.ga_ports
+      → row_count buses (device_in devices.Ga bus.number address) ≡ 1 + bus.ga_ports
   ga_rows address low high = counted group.Ga address ∙ many bus.ga_max address (1 + bus.ga_ports) low high
 
   fb_rows : (port : ℕ) → 1 ≤ port → port ≤ bus.fb_ports
       → row_count buses (record { bus = bus.number; group = group.Fb; address = port }) ≡ 1
   fb_rows port low high = counted group.Fb port ∙ many bus.fb_ports port 1 low high
 
-  lock_rows : (g : Lockable) (address : ℕ) → 1 ≤ address → address ≤ address_max bus g → row_count buses (lock_on g bus.number address) ≡ 1
-  lock_rows lockable.Gl address low high = counted group.LockGl address ∙ many bus.gl_max address 1 low high
-  lock_rows lockable.Ga address low high = counted group.LockGa address ∙ many bus.ga_max address 1 low high
+  lock_rows : (g : DeviceGroup) (address : ℕ) → 1 ≤ address → address ≤ address_max bus g
+      → row_count buses (lock_on g bus.number address) ≡ 1
+  lock_rows devices.Gl address low high = counted group.LockGl address ∙ many bus.gl_max address 1 low high
+  lock_rows devices.Ga address low high = counted group.LockGa address ∙ many bus.ga_max address 1 low high
 
   power_rows : bus.power ≡ true → row_count buses (record { bus = bus.number; group = group.Power; address = 0 }) ≡ 1
   power_rows on = counted group.Power 0 ∙ ap (λ b. rows_if (b && 0 == 0) 1) on
@@ -184,10 +185,10 @@ module _ (buses : List Bus) (layout : IsLayout buses) (bus : Bus) (found : bus_a
       power on text = record { bus = bus.number; on = on; text = text }
 
   -- V in mode 2 is kept as 0
-  kept_speed : (mode v vmax : ℕ) → mode ≤ 2 → v ≤ 65535 → vmax ≤ 65535 → (nat_le v vmax || vmax == 0) ≡ true → (b : Bool) → (mode == 2) ≡ b
+  kept_within : (mode v vmax : ℕ) → mode ≤ 2 → v ≤ 65535 → vmax ≤ 65535 → (nat_le v vmax || vmax == 0) ≡ true → (b : Bool) → (mode == 2) ≡ b
       → IsSpeed mode (cond b 0 v) vmax
-  kept_speed mode v vmax m x y e true t = (m, omega arith, y, ap (λ b. b || vmax == 0) (le-leb 0 vmax (omega arith)), λ _. refl)
-  kept_speed mode v vmax m x y e false t = (m, x, y, e, λ two. absurd (true≢false (sym (eq-eqb mode 2 two) ∙ t)))
+  kept_within mode v vmax m x y e true t = (m, omega arith, y, ap (λ b. b || vmax == 0) (le-leb 0 vmax (omega arith)), λ _. refl)
+  kept_within mode v vmax m x y e false t = (m, x, y, e, λ two. absurd (true≢false (sym (eq-eqb mode 2 two) ∙ t)))
 
   driven_fits : (words : List (List ℕ)) → IfOk (driven bus words) (IsDrive buses)
   driven_fits [] = tt
@@ -213,7 +214,7 @@ module _ (buses : List Bus) (layout : IsLayout buses) (bus : Bus) (found : bus_a
       read (IsDrive buses) (λ bits. length bits ≡ length fs) (bits_of fs) (λ functions. Ok (drive address mode speed fitting functions))
       (bits_length fs) (λ functions n.
       let short : length fs ≤ 29 = ltb-false 29 (length fs) few in
-      let speed_fits = kept_speed mode speed top r2.1 r3.1 r4.1 r5.1 (mode == 2) refl in
+      let speed_fits = kept_within mode speed top r2.1 r3.1 r4.1 r5.1 (mode == 2) refl in
       let two = gl_rows address r.0 r.1 in
       subst (λ k. IsDrive buses (drive address mode speed k functions)) (sym r5.0)
       (omega (arith, two), (refl, refl, speed_fits, omega (arith, n, short))))))))))
@@ -274,7 +275,7 @@ module _ (buses : List Bus) (layout : IsLayout buses) (bus : Bus) (found : bus_a
 
   -- a port that the bus has, of an address that it has
   port_place : (address port : ℕ) → 1 ≤ address → address ≤ bus.ga_max → port ≤ bus.ga_ports - 1
-      → IsKeyOf buses (key_at (device_in lockable.Ga bus.number address) (1 + port)) × (1 + port ≤ 8)
+      → IsKeyOf buses (key_at (device_in devices.Ga bus.number address) (1 + port)) × (1 + port ≤ 8)
   port_place address port low high h =
       let rows = ga_rows address low high in
       let few = ports (omega (arith, low, high)) in
@@ -343,14 +344,14 @@ module _ (buses : List Bus) (layout : IsLayout buses) (bus : Bus) (found : bus_a
       sensor port on = record { bus = bus.number; port = port; on = on }
   sensed_fits (p ∷ v ∷ w ∷ ws) = tt
 
-  abbrev target : Lockable → (address : ℕ) → Target
+  abbrev target : DeviceGroup → (address : ℕ) → Target
   target group address = record { bus = bus.number; group = group; address = address }
 
   named_lock_fits : (words : List (List ℕ)) → IfOk (named_lock bus words) (IsLock buses)
   named_lock_fits [] = tt
   named_lock_fits (g ∷ []) = tt
   named_lock_fits (g ∷ a ∷ []) =
-      read_any (IsLock buses) (lockable_on bus g)
+      read_any (IsLock buses) (device_group_on bus g)
       (λ group. number_in 1 (address_max bus group) a >>= (λ address. Ok (target group address))) (λ group.
       read (IsLock buses) (λ n. (1 ≤ n) × (n ≤ address_max bus group)) (number_in 1 (address_max bus group) a)
       (λ address. Ok (target group address)) (number_in_range 1 (address_max bus group) a) (λ address r.
@@ -362,7 +363,7 @@ module _ (buses : List Bus) (layout : IsLayout buses) (bus : Bus) (found : bus_a
   timed_lock_fits (g ∷ []) = tt
   timed_lock_fits (g ∷ a ∷ []) = tt
   timed_lock_fits (g ∷ a ∷ s ∷ []) =
-      read_any (IsTimedLock buses) (lockable_on bus g)
+      read_any (IsTimedLock buses) (device_group_on bus g)
       (λ group. number_in 1 (address_max bus group) a
       >>= (λ address. number_in 0 86400 s >>= (λ seconds. Ok (lock group address seconds))))
       (λ group.
@@ -373,13 +374,14 @@ module _ (buses : List Bus) (layout : IsLayout buses) (bus : Bus) (found : bus_a
       (number_in_range 0 86400 s) (λ seconds r2.
       let one = lock_rows group address r.0 r.1 in (omega (arith, one), r2.1))))
     where
-      lock : (group : Lockable) (address seconds : ℕ) → TimedLock
+      lock : (group : DeviceGroup) (address seconds : ℕ) → TimedLock
       lock group address seconds = record { target = target group address; seconds = seconds }
   timed_lock_fits (g ∷ a ∷ s ∷ w ∷ ws) = tt
 
   -- ---- the pairs
 
-  asked_fits : (operation : Operation) (g : Named) (words : List (List ℕ)) → has_group bus g ≡ true → Fits (asked operation g bus words)
+  asked_fits : (operation : Operation) (g : CommandGroup) (words : List (List ℕ)) → has_group bus g ≡ true
+      → Fits (asked operation g bus words)
   asked_fits Get Session words on = get_session_fits words
   asked_fits Term Session words on = term_session_fits words
   asked_fits Get Power words on = alone_fits (GetPower bus.number) words (let one = power_rows on in omega (arith, one))

@@ -5,7 +5,7 @@ use Rattle.srcp_info.specs.declared.value.Value.{Value}
 use Rattle.srcp_info.specs.declared.value.Value.TheVariants as value
 use Rattle.srcp_info.specs.WellFormed.{IsValueAt}
 use Rattle.srcp_grammar.specs.declared.layout.Bus.{Bus}
-use Rattle.srcp_grammar.specs.declared.command.Lockable.TheVariants as lockable
+use Rattle.srcp_grammar.specs.declared.command.DeviceGroup.TheVariants as devices
 use Rattle.srcp_grammar.specs.declared.command.Drive.{Drive}
 use Rattle.srcp_grammar.specs.declared.command.Switch.{Switch}
 use Rattle.srcp_grammar.specs.declared.command.PowerSwitch.{PowerSwitch}
@@ -28,19 +28,19 @@ abbrev pub IsSetting : List Bus → Device → (port : ℕ) → Value → Type 0
 IsSetting buses device port shows = IsKeyOf buses (key_at device port) × IsValueAt device.group port shows
 
 -- V as it is kept: in mode 2, the emergency stop, it is 0
-abbrev pub kept_v : (mode v : ℕ) → ℕ
-kept_v mode v = if mode == 2 then 0 else v
+abbrev pub kept_speed : (mode v : ℕ) → ℕ
+kept_speed mode v = if mode == 2 then 0 else v
 
 -- the settings of a locomotive
 abbrev pub IsDrive : List Bus → Drive → Type 0
 IsDrive buses drive =
-    IsSetting buses (device_in lockable.Gl drive.bus drive.address) 1
-    (value.GlState drive.mode (kept_v drive.mode drive.v) drive.vmax drive.functions)
+    IsSetting buses (device_in devices.Gl drive.bus drive.address) 1
+    (value.GlState drive.mode (kept_speed drive.mode drive.v) drive.vmax drive.functions)
 
 -- the settings of an accessory's port
 abbrev pub IsSwitch : List Bus → Switch → Type 0
 IsSwitch buses switch =
-    IsSetting buses (device_in lockable.Ga switch.bus switch.address) (1 + switch.port) (value.GaPort switch.on)
+    IsSetting buses (device_in devices.Ga switch.bus switch.address) (1 + switch.port) (value.GaPort switch.on)
     × IfSome switch.time (λ t. t ≤ 60000)
 
 -- the settings of a power
@@ -62,12 +62,12 @@ IsTimedLock buses lock = IsLock buses lock.target × (lock.seconds ≤ 86400)
 -- the parameters of a new locomotive
 abbrev pub IsNewGl : List Bus → NewGl → Type 0
 IsNewGl buses gl =
-    IsSetting buses (device_in lockable.Gl gl.bus gl.address) 0
+    IsSetting buses (device_in devices.Gl gl.bus gl.address) 0
     (value.GlInit gl.letter gl.version gl.steps gl.functions)
 
 -- a new accessory with the ports that its bus gives it
 abbrev pub IsNewGa : List Bus → NewGa → Type 0
-IsNewGa buses ga = (row_count buses (device_in lockable.Ga ga.bus ga.address) ≡ 1 + ga.ports) × (ga.ports ≤ 8)
+IsNewGa buses ga = (row_count buses (device_in devices.Ga ga.bus ga.address) ≡ 1 + ga.ports) × (ga.ports ≤ 8)
 
 -- a command of the layout, and all that the grammar reads is one: the device is one of the layout, the words are in
 -- range; INIT of sensors asks for nothing
@@ -78,16 +78,16 @@ IsCommandOf buses (GetPower bus) = IsKeyOf buses (key_at (power_device bus) 0)
 IsCommandOf buses (SetPower power) = IsPowerSwitch buses power
 IsCommandOf buses (CheckPower power) = IsPowerSwitch buses power
 IsCommandOf buses (InitPower bus) = IsKeyOf buses (key_at (power_device bus) 0)
-IsCommandOf buses (GetGl bus address) = IsKeyOf buses (key_at (device_in lockable.Gl bus address) 1)
+IsCommandOf buses (GetGl bus address) = IsKeyOf buses (key_at (device_in devices.Gl bus address) 1)
 IsCommandOf buses (SetGl drive) = IsDrive buses drive
 IsCommandOf buses (CheckGl drive) = IsDrive buses drive
 IsCommandOf buses (InitGl gl) = IsNewGl buses gl
-IsCommandOf buses (TermGl bus address) = IsKeyOf buses (key_at (device_in lockable.Gl bus address) 0)
-IsCommandOf buses (GetGa bus address port) = IsKeyOf buses (key_at (device_in lockable.Ga bus address) (1 + port))
+IsCommandOf buses (TermGl bus address) = IsKeyOf buses (key_at (device_in devices.Gl bus address) 0)
+IsCommandOf buses (GetGa bus address port) = IsKeyOf buses (key_at (device_in devices.Ga bus address) (1 + port))
 IsCommandOf buses (SetGa switch) = IsSwitch buses switch
 IsCommandOf buses (CheckGa switch) = IsSwitch buses switch
 IsCommandOf buses (InitGa ga) = IsNewGa buses ga
-IsCommandOf buses (TermGa bus address) = IsKeyOf buses (key_at (device_in lockable.Ga bus address) 0)
+IsCommandOf buses (TermGa bus address) = IsKeyOf buses (key_at (device_in devices.Ga bus address) 0)
 IsCommandOf buses (GetFb bus port) = IsKeyOf buses (key_at (fb_device bus port) 0)
 IsCommandOf buses (SetFb sensor) = IsSensor buses sensor
 IsCommandOf buses (CheckFb sensor) = IsSensor buses sensor

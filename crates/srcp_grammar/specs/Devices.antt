@@ -4,8 +4,8 @@ use Rattle.srcp_info.specs.declared.key.Group.{Group}
 use Rattle.srcp_info.specs.declared.key.Group.TheVariants.{Session, Power, Gl, Ga, Fb, LockGl, LockGa}
 use Rattle.srcp_info.specs.declared.key.Key.{Key}
 use Rattle.srcp_info.specs.declared.key.Device.{Device}
-use Rattle.srcp_grammar.specs.declared.command.Lockable.{Lockable}
-use Rattle.srcp_grammar.specs.declared.command.Lockable.TheVariants as lockable
+use Rattle.srcp_grammar.specs.declared.command.DeviceGroup.{DeviceGroup}
+use Rattle.srcp_grammar.specs.declared.command.DeviceGroup.TheVariants as devices
 use Rattle.srcp_grammar.specs.declared.command.Target.{Target}
 
 -- the key of a device's row
@@ -25,21 +25,21 @@ abbrev pub fb_device : (bus port : ℕ) → Device
 fb_device bus port = record { bus = bus; group = Fb; address = port }
 
 -- the group of the devices that can be locked
-abbrev pub device_group : Lockable → Group
-device_group lockable.Gl = Gl
-device_group lockable.Ga = Ga
+abbrev pub device_group : DeviceGroup → Group
+device_group devices.Gl = Gl
+device_group devices.Ga = Ga
 
 -- the group of their locks
-abbrev pub lock_group : Lockable → Group
-lock_group lockable.Gl = LockGl
-lock_group lockable.Ga = LockGa
+abbrev pub lock_group : DeviceGroup → Group
+lock_group devices.Gl = LockGl
+lock_group devices.Ga = LockGa
 
 -- a locomotive or an accessory
-abbrev pub device_in : Lockable → (bus address : ℕ) → Device
+abbrev pub device_in : DeviceGroup → (bus address : ℕ) → Device
 device_in group bus address = record { bus = bus; group = device_group group; address = address }
 
 -- the lock of that device, which is a device of its own
-abbrev pub lock_on : Lockable → (bus address : ℕ) → Device
+abbrev pub lock_on : DeviceGroup → (bus address : ℕ) → Device
 lock_on group bus address = record { bus = bus; group = lock_group group; address = address }
 
 -- the locomotive or the accessory that is named

@@ -13,10 +13,10 @@ use Rattle.srcp_text.specs.Words.{words_of, number_of, is_keyword}
 use Rattle.srcp_grammar.specs.declared.layout.Bus.{Bus}
 use Rattle.srcp_grammar.specs.declared.command.Operation.{Operation}
 use Rattle.srcp_grammar.specs.declared.command.Operation.TheVariants.{Get, Set, Check, Init, Term, Wait, Verify, Reset}
-use Rattle.srcp_grammar.specs.declared.command.Named.{Named}
-use Rattle.srcp_grammar.specs.declared.command.Named.TheVariants.{Session, Power, Gl, Ga, Fb, Lock}
-use Rattle.srcp_grammar.specs.declared.command.Lockable.{Lockable}
-use Rattle.srcp_grammar.specs.declared.command.Lockable.TheVariants as lockable
+use Rattle.srcp_grammar.specs.declared.command.CommandGroup.{CommandGroup}
+use Rattle.srcp_grammar.specs.declared.command.CommandGroup.TheVariants.{Session, Power, Gl, Ga, Fb, Lock}
+use Rattle.srcp_grammar.specs.declared.command.DeviceGroup.{DeviceGroup}
+use Rattle.srcp_grammar.specs.declared.command.DeviceGroup.TheVariants as devices
 use Rattle.srcp_grammar.specs.declared.command.Target.{Target}
 use Rattle.srcp_grammar.specs.declared.command.Drive.{Drive}
 use Rattle.srcp_grammar.specs.declared.command.Switch.{Switch}
@@ -53,14 +53,14 @@ operations =
     ∷ (codes "RESET", Reset) ∷ []
 
 -- the words of the third place
-abbrev pub groups : List (List ℕ × Named)
+abbrev pub groups : List (List ℕ × CommandGroup)
 groups =
     (codes "SESSION", Session) ∷ (codes "POWER", Power) ∷ (codes "GL", Gl) ∷ (codes "GA", Ga) ∷ (codes "FB", Fb)
     ∷ (codes "LOCK", Lock) ∷ []
 
 -- the groups that a LOCK command may name
-abbrev pub lockables : List (List ℕ × Lockable)
-lockables = (codes "GL", lockable.Gl) ∷ (codes "GA", lockable.Ga) ∷ []
+abbrev pub device_groups : List (List ℕ × DeviceGroup)
+device_groups = (codes "GL", devices.Gl) ∷ (codes "GA", devices.Ga) ∷ []
 
 -- the letters of the decoder protocols
 abbrev pub letters : List (List ℕ × Letter)
@@ -112,9 +112,9 @@ time_of word =
       Ok (Some milliseconds)
 
 -- the group of a LOCK command, which has to be on the bus
-abbrev pub lockable_on : Bus → List ℕ → Result Lockable Code
-lockable_on bus word = do
-  group ← ok_or (named_in lockables word) C412
+abbrev pub device_group_on : Bus → List ℕ → Result DeviceGroup Code
+device_group_on bus word = do
+  group ← ok_or (named_in device_groups word) C412
   if nat_lt 0 (address_max bus group) then Ok group else Err C412
 
 -- ---- the words after the group word
@@ -242,7 +242,7 @@ sensed bus words = miscounted 2 words
 -- group and address
 abbrev pub named_lock : Bus → List (List ℕ) → Result Target Code
 named_lock bus (g ∷ a ∷ []) = do
-  group ← lockable_on bus g
+  group ← device_group_on bus g
   address ← number_in 1 (address_max bus group) a
   Ok (record { bus = bus.number; group = group; address = address })
 named_lock bus words = miscounted 2 words
@@ -250,7 +250,7 @@ named_lock bus words = miscounted 2 words
 -- group, address and seconds
 abbrev pub timed_lock : Bus → List (List ℕ) → Result TimedLock Code
 timed_lock bus (g ∷ a ∷ s ∷ []) = do
-  group ← lockable_on bus g
+  group ← device_group_on bus g
   address ← number_in 1 (address_max bus group) a
   seconds ← number_in 0 86400 s
   Ok (record { target = record { bus = bus.number; group = group; address = address }; seconds = seconds })
@@ -259,7 +259,7 @@ timed_lock bus words = miscounted 3 words
 -- ---- the whole line
 
 -- the operations of each group, with their words; any other pair is refused
-abbrev pub asked : Operation → Named → Bus → List (List ℕ) → Result Command Code
+abbrev pub asked : Operation → CommandGroup → Bus → List (List ℕ) → Result Command Code
 asked Get Session bus words = get_session words
 asked Term Session bus words = term_session words
 asked Get Power bus words = alone (GetPower bus.number) words
@@ -280,10 +280,10 @@ asked Get Fb bus words = addressed bus.fb_ports (GetFb bus.number) words
 asked Set Fb bus words = sensed bus words >>= (λ sensor. Ok (SetFb sensor))
 asked Check Fb bus words = sensed bus words >>= (λ sensor. Ok (CheckFb sensor))
 asked Init Fb bus words = Ok (InitFb bus.number)
-asked Get Lock bus words = named_lock bus words >>= (λ place. Ok (GetLock place))
+asked Get Lock bus words = named_lock bus words >>= (λ target. Ok (GetLock target))
 asked Set Lock bus words = timed_lock bus words >>= (λ lock. Ok (SetLock lock))
 asked Check Lock bus words = timed_lock bus words >>= (λ lock. Ok (CheckLock lock))
-asked Term Lock bus words = named_lock bus words >>= (λ place. Ok (TermLock place))
+asked Term Lock bus words = named_lock bus words >>= (λ target. Ok (TermLock target))
 asked operation group bus words = Err C423
 
 -- the bus, then the group, which has to be on it

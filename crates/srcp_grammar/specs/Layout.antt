@@ -12,10 +12,10 @@ use Rattle.srcp_info.specs.Key.{device_of}
 use Rattle.srcp_grammar.specs.declared.layout.Bus.{Bus}
 use Rattle.srcp_grammar.specs.declared.layout.LayoutFault.{LayoutFault}
 use Rattle.srcp_grammar.specs.declared.layout.LayoutFault.TheVariants.{OutOfRange, Twice, Memory}
-use Rattle.srcp_grammar.specs.declared.command.Named.{Named}
-use Rattle.srcp_grammar.specs.declared.command.Named.TheVariants as named
-use Rattle.srcp_grammar.specs.declared.command.Lockable.{Lockable}
-use Rattle.srcp_grammar.specs.declared.command.Lockable.TheVariants as lockable
+use Rattle.srcp_grammar.specs.declared.command.CommandGroup.{CommandGroup}
+use Rattle.srcp_grammar.specs.declared.command.CommandGroup.TheVariants as named
+use Rattle.srcp_grammar.specs.declared.command.DeviceGroup.{DeviceGroup}
+use Rattle.srcp_grammar.specs.declared.command.DeviceGroup.TheVariants as devices
 
 -- a bus within the limits; how many ports an accessory has is free where the bus has none
 pub record IsBus (bus : Bus) : Type 0 where
@@ -59,7 +59,7 @@ abbrev pub bus_at : List Bus → ℕ → Option Bus
 bus_at buses number = bus_numbered (server ∷ buses) number
 
 -- the group that the third word of a command names is on the bus
-abbrev pub has_group : Bus → Named → Bool
+abbrev pub has_group : Bus → CommandGroup → Bool
 has_group bus named.Session = bus.number == 0
 has_group bus named.Power = bus.power
 has_group bus named.Gl = nat_lt 0 bus.gl_max
@@ -68,9 +68,9 @@ has_group bus named.Fb = nat_lt 0 bus.fb_ports
 has_group bus named.Lock = nat_lt 0 bus.gl_max || nat_lt 0 bus.ga_max
 
 -- the greatest address of the bus's locomotives or accessories, 0 where it has none
-abbrev pub address_max : Bus → Lockable → ℕ
-address_max bus lockable.Gl = bus.gl_max
-address_max bus lockable.Ga = bus.ga_max
+abbrev pub address_max : Bus → DeviceGroup → ℕ
+address_max bus devices.Gl = bus.gl_max
+address_max bus devices.Ga = bus.ga_max
 
 -- the number is from least to most
 abbrev pub is_within : (least most : ℕ) → ℕ → Bool

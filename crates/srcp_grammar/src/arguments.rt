@@ -7,13 +7,13 @@ ghost use Rattle.srcp_grammar.specs.Grammar.{addressed, driven, ga_port, get_ga,
 ghost use Rattle.srcp_grammar.specs.Grammar.{named_lock, powered, sensed, switched, term_session, timed_lock};
 
 use crate::command::{
-    Command, Drive, Lockable, NewGa, NewGl, PowerSwitch, Sensor, Switch, Target, TimedLock,
+    Command, DeviceGroup, Drive, NewGa, NewGl, PowerSwitch, Sensor, Switch, Target, TimedLock,
 };
 use crate::functions::parse_functions;
 use crate::layout::Bus;
 use crate::power_text::parse_text;
 use crate::single_words::{
-    parse_bit, parse_letter, parse_lockable, parse_number, parse_on_off, parse_time,
+    parse_bit, parse_device_group, parse_letter, parse_number, parse_on_off, parse_time,
 };
 use crate::word_count::{next_word, no_more};
 use srcp_info::{
@@ -125,12 +125,12 @@ pub(crate) fn parse_sensor(bus: &Bus, mut words: Words<'_>) -> Result<Sensor, Co
 }
 
 /// Returns the greatest address of the bus's locomotives or accessories.
-fn address_max(bus: &Bus, group: Lockable) -> u32
+fn address_max(bus: &Bus, group: DeviceGroup) -> u32
     ensures { result ≡ address_max bus.now group }
 {
     match group {
-        Lockable::Gl => bus.gl_max,
-        Lockable::Ga => bus.ga_max,
+        DeviceGroup::Gl => bus.gl_max,
+        DeviceGroup::Ga => bus.ga_max,
     }
 }
 
@@ -141,7 +141,7 @@ pub(crate) fn parse_lock(bus: &Bus, mut words: Words<'_>) -> Result<Target, Code
     let first = next_word(&mut words)?;
     let second = next_word(&mut words)?;
     no_more(words)?;
-    let group = parse_lockable(bus, first)?;
+    let group = parse_device_group(bus, first)?;
     Ok(Target {
         bus: bus.number,
         group,
@@ -157,7 +157,7 @@ pub(crate) fn parse_timed_lock(bus: &Bus, mut words: Words<'_>) -> Result<TimedL
     let second = next_word(&mut words)?;
     let third = next_word(&mut words)?;
     no_more(words)?;
-    let group = parse_lockable(bus, first)?;
+    let group = parse_device_group(bus, first)?;
     let target = Target {
         bus: bus.number,
         group,

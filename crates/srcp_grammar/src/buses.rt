@@ -3,7 +3,7 @@
 ghost use Rattle.std.specs.Prelude.{◌≡◌};
 ghost use Rattle.srcp_grammar.specs.Layout.{bus_at, has_group};
 
-use crate::command::Named;
+use crate::command::CommandGroup;
 use crate::layout::{Bus, bus_numbered};
 
 /// Bus 0, which is the server itself.
@@ -27,15 +27,15 @@ pub(crate) fn bus_at(buses: &[Bus], number: u8) -> Option<Bus>
 }
 
 /// Returns whether the group that the third word of a command names is on the bus.
-pub(crate) fn has_group(bus: &Bus, group: Named) -> bool
+pub(crate) fn has_group(bus: &Bus, group: CommandGroup) -> bool
     ensures { result ≡ has_group bus.now group }
 {
     match group {
-        Named::Session => bus.number == SERVER.number,
-        Named::Power => bus.power,
-        Named::Gl => bus.gl_max > 0,
-        Named::Ga => bus.ga_max > 0,
-        Named::Fb => bus.fb_ports > 0,
-        Named::Lock => bus.gl_max > 0 || bus.ga_max > 0,
+        CommandGroup::Session => bus.number == SERVER.number,
+        CommandGroup::Power => bus.power,
+        CommandGroup::Gl => bus.gl_max > 0,
+        CommandGroup::Ga => bus.ga_max > 0,
+        CommandGroup::Fb => bus.fb_ports > 0,
+        CommandGroup::Lock => bus.gl_max > 0 || bus.ga_max > 0,
     }
 }

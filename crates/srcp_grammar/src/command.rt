@@ -17,7 +17,7 @@ pub enum Operation {
 
 /// Lists what the third word of a command names.
 #[derive(Clone, Copy, Debug, PartialEq, Eq)]
-pub enum Named {
+pub enum CommandGroup {
     Session,
     Power,
     Gl,
@@ -28,7 +28,7 @@ pub enum Named {
 
 /// Lists the groups whose devices can be locked, as the word behind LOCK names them.
 #[derive(Clone, Copy, Debug, PartialEq, Eq)]
-pub enum Lockable {
+pub enum DeviceGroup {
     /// Locomotives.
     Gl,
     /// Accessories.
@@ -41,7 +41,7 @@ pub struct Target {
     /// The bus.
     pub bus: u8,
     /// The group of the device.
-    pub group: Lockable,
+    pub group: DeviceGroup,
     /// The device's address.
     pub address: u32,
 }

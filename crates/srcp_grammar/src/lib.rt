@@ -20,7 +20,7 @@ mod word_count;
 
 pub use buses::SERVER;
 pub use command::{
-    Command, Drive, Lockable, NewGa, NewGl, PowerSwitch, Sensor, Switch, Target, TimedLock,
+    Command, DeviceGroup, Drive, NewGa, NewGl, PowerSwitch, Sensor, Switch, Target, TimedLock,
 };
 pub use layout::{Bus, Layout, LayoutFault};
 pub use parse::parse_command;

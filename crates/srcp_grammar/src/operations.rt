@@ -2,14 +2,14 @@
 
 ghost use Rattle.std.specs.Prelude.{◌≡◌};
 ghost use Rattle.srcp_grammar.specs.declared.layout.Bus.{Bus};
-ghost use Rattle.srcp_grammar.specs.declared.command.Named.TheVariants as named;
+ghost use Rattle.srcp_grammar.specs.declared.command.CommandGroup.TheVariants as named;
 ghost use Rattle.srcp_grammar.specs.Grammar.{asked};
 
 use crate::arguments::{
     parse_address, parse_drive, parse_get_ga, parse_get_session, parse_init_ga, parse_init_gl,
     parse_lock, parse_power, parse_sensor, parse_switch, parse_term_session, parse_timed_lock,
 };
-use crate::command::{Command, Named, Operation};
+use crate::command::{Command, CommandGroup, Operation};
 use crate::layout::Bus;
 use crate::word_count::no_more;
 use srcp_info::Code;

@@ -9,7 +9,7 @@ ghost use Rattle.srcp_grammar.specs.Grammar.{commanded, directed, reads};
 ghost use Rattle.srcp_grammar.specs.Layout.{bus_at};
 
 use crate::buses::{bus_at, has_group};
-use crate::command::{Command, Named};
+use crate::command::{Command, CommandGroup};
 use crate::layout::{Bus, Layout};
 use crate::operations::{
     parse_fb_command, parse_ga_command, parse_gl_command, parse_lock_command, parse_power_command,
@@ -49,12 +49,12 @@ fn parse_words(buses: &[Bus], mut words: Words<'_>) -> Result<Command, Code>
         return Err(Code::UNSUPPORTED_DEVICE_GROUP);
     }
     match group {
-        Named::Session => parse_session_command(operation, words),
-        Named::Power => parse_power_command(operation, &bus, words),
-        Named::Gl => parse_gl_command(operation, &bus, words),
-        Named::Ga => parse_ga_command(operation, &bus, words),
-        Named::Fb => parse_fb_command(operation, &bus, words),
-        Named::Lock => parse_lock_command(operation, &bus, words),
+        CommandGroup::Session => parse_session_command(operation, words),
+        CommandGroup::Power => parse_power_command(operation, &bus, words),
+        CommandGroup::Gl => parse_gl_command(operation, &bus, words),
+        CommandGroup::Ga => parse_ga_command(operation, &bus, words),
+        CommandGroup::Fb => parse_fb_command(operation, &bus, words),
+        CommandGroup::Lock => parse_lock_command(operation, &bus, words),
     }
 }
 

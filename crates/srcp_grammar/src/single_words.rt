@@ -3,10 +3,11 @@
 ghost use Rattle.std.specs.Prelude.{◌≡◌};
 ghost use Rattle.std.specs.Option.{ok_or};
 ghost use Rattle.srcp_info.specs.declared.change.Code.TheVariants.{C410 as UnknownCommand, C421 as UnsupportedDevice};
-ghost use Rattle.srcp_grammar.specs.Grammar.{bit_of, groups, letter_of, lockable_on, named_in, number_in, operations};
+ghost use Rattle.srcp_grammar.specs.Grammar.{bit_of, device_group_on, groups, letter_of, named_in, number_in};
+ghost use Rattle.srcp_grammar.specs.Grammar.{operations};
 ghost use Rattle.srcp_grammar.specs.Grammar.{switch_of, time_of};
 
-use crate::command::{Lockable, Named, Operation};
+use crate::command::{CommandGroup, DeviceGroup, Operation};
 use crate::layout::Bus;
 use srcp_info::{Code, Letter, MOST_MILLISECONDS};
 use srcp_text::{is_keyword, read_number};
@@ -107,39 +108,39 @@ pub(crate) fn parse_operation(word: &[u8]) -> Result<Operation, Code>
 }
 
 /// Reads the group, the third word of a command. Any other word is 421.
-pub(crate) fn parse_group(word: &[u8]) -> Result<Named, Code>
+pub(crate) fn parse_group(word: &[u8]) -> Result<CommandGroup, Code>
     ensures { result ≡ ok_or (named_in groups word.now) UnsupportedDevice }
 {
     if is_keyword(b"SESSION", word) {
-        return Ok(Named::Session);
+        return Ok(CommandGroup::Session);
     }
     if is_keyword(b"POWER", word) {
-        return Ok(Named::Power);
+        return Ok(CommandGroup::Power);
     }
     if is_keyword(b"GL", word) {
-        return Ok(Named::Gl);
+        return Ok(CommandGroup::Gl);
     }
     if is_keyword(b"GA", word) {
-        return Ok(Named::Ga);
+        return Ok(CommandGroup::Ga);
     }
     if is_keyword(b"FB", word) {
-        return Ok(Named::Fb);
+        return Ok(CommandGroup::Fb);
     }
     if is_keyword(b"LOCK", word) {
-        return Ok(Named::Lock);
+        return Ok(CommandGroup::Lock);
     }
     Err(Code::UNSUPPORTED_DEVICE)
 }
 
 /// Reads the group of a LOCK command, which has to be on the bus. Any other word is 412.
-pub(crate) fn parse_lockable(bus: &Bus, word: &[u8]) -> Result<Lockable, Code>
-    ensures { result ≡ lockable_on bus.now word.now }
+pub(crate) fn parse_device_group(bus: &Bus, word: &[u8]) -> Result<DeviceGroup, Code>
+    ensures { result ≡ device_group_on bus.now word.now }
 {
     if is_keyword(b"GL", word) && bus.gl_max > 0 {
-        return Ok(Lockable::Gl);
+        return Ok(DeviceGroup::Gl);
     }
     if is_keyword(b"GA", word) && bus.ga_max > 0 {
-        return Ok(Lockable::Ga);
+        return Ok(DeviceGroup::Ga);
     }
     Err(Code::WRONG_VALUE)
 }

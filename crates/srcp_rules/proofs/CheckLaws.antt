@@ -7,7 +7,7 @@ use Rattle.srcp_info.specs.declared.change.Reply.TheVariants.{Accepted, Refused}
 use Rattle.srcp_info.specs.declared.change.Row.{Row}
 use Rattle.srcp_info.specs.declared.value.Value.TheVariants as value
 use Rattle.srcp_info.specs.Key.{first_key}
-use Rattle.srcp_grammar.specs.declared.command.Lockable.TheVariants as lockable
+use Rattle.srcp_grammar.specs.declared.command.DeviceGroup.TheVariants as devices
 use Rattle.srcp_grammar.specs.declared.command.Command.{Command}
 use Rattle.srcp_grammar.specs.declared.command.Command.TheVariants.{GetSession, TermSession, GetPower, SetPower, CheckPower, InitPower}
 use Rattle.srcp_grammar.specs.declared.command.Command.TheVariants.{GetGl, SetGl, CheckGl, InitGl, TermGl, GetGa, SetGa, CheckGa, InitGa}
@@ -56,19 +56,19 @@ refused_calm state session moment (GetPower bus) = calm_showing (row_at (first_k
 refused_calm state session moment (SetPower power) = calm_accepted (effect state session moment (SetPower power)).updates
 refused_calm state session moment (CheckPower power) = calm_accepted []
 refused_calm state session moment (InitPower bus) = calm_accepted []
-refused_calm state session moment (GetGl bus address) = calm_showing (row_at (key_at (device_in lockable.Gl bus address) 1) state)
+refused_calm state session moment (GetGl bus address) = calm_showing (row_at (key_at (device_in devices.Gl bus address) 1) state)
 refused_calm state session moment (SetGl drive) = calm_done (set_gl state session moment drive)
 refused_calm state session moment (CheckGl drive) = calm_checked (set_gl state session moment drive)
 refused_calm state session moment (InitGl gl) =
-    calm_done (init_device state session moment lockable.Gl gl.bus gl.address (gl_init gl) (fresh_gl moment gl))
-refused_calm state session moment (TermGl bus address) = calm_done (term_device state session moment lockable.Gl bus address)
+    calm_done (init_device state session moment devices.Gl gl.bus gl.address (gl_init gl) (fresh_gl moment gl))
+refused_calm state session moment (TermGl bus address) = calm_done (term_device state session moment devices.Gl bus address)
 refused_calm state session moment (GetGa bus address port) =
-    calm_showing (row_at (key_at (device_in lockable.Ga bus address) (1 + port)) state)
+    calm_showing (row_at (key_at (device_in devices.Ga bus address) (1 + port)) state)
 refused_calm state session moment (SetGa switch) = calm_done (set_ga state session moment switch)
 refused_calm state session moment (CheckGa switch) = calm_checked (set_ga state session moment switch)
 refused_calm state session moment (InitGa ga) =
-    calm_done (init_device state session moment lockable.Ga ga.bus ga.address (value.GaInit ga.letter) (fresh_ga moment ga))
-refused_calm state session moment (TermGa bus address) = calm_done (term_device state session moment lockable.Ga bus address)
+    calm_done (init_device state session moment devices.Ga ga.bus ga.address (value.GaInit ga.letter) (fresh_ga moment ga))
+refused_calm state session moment (TermGa bus address) = calm_done (term_device state session moment devices.Ga bus address)
 refused_calm state session moment (GetFb bus port) = calm_showing (row_at (first_key (fb_device bus port)) state)
 refused_calm state session moment (SetFb sensor) = calm_accepted (effect state session moment (SetFb sensor)).updates
 refused_calm state session moment (CheckFb sensor) = calm_accepted []

@@ -15,7 +15,7 @@ use Rattle.srcp_info.specs.declared.change.Reply.TheVariants.{Accepted}
 use Rattle.srcp_info.specs.Key.{device_of, first_key, owns}
 use Rattle.srcp_info.specs.WellFormed.{IsMoment, IsValueAt, is_lock}
 use Rattle.srcp_grammar.specs.declared.layout.Bus.{Bus}
-use Rattle.srcp_grammar.specs.declared.command.Lockable.TheVariants as lockable
+use Rattle.srcp_grammar.specs.declared.command.DeviceGroup.TheVariants as devices
 use Rattle.srcp_grammar.specs.declared.command.Command.TheVariants.{SetLock}
 use Rattle.srcp_grammar.specs.Devices.{key_at, device_in, lock_at}
 use Rattle.srcp_rules.specs.State.{State, Update, IsWhole, IsRowOf, MayFall, row_at, updated, updated_all, row_put}
@@ -190,8 +190,8 @@ put_there refused moment key shows ends state e =
 
 pub port_set : PortsAreSet
 port_set state session moment switch e =
-    put_there (refusals state session lockable.Ga switch.bus switch.address) moment
-    (key_at (device_in lockable.Ga switch.bus switch.address) (1 + switch.port))
+    put_there (refusals state session devices.Ga switch.bus switch.address) moment
+    (key_at (device_in devices.Ga switch.bus switch.address) (1 + switch.port))
     (value.GaPort switch.on) (port_end moment switch.on switch.time) state e
 
 pub lock_set : LocksAreSet
@@ -209,7 +209,7 @@ some_seconds moment n some = ap (λ b. cond b (Some (moment_after moment (1000 *
 
 pub port_falls : PortsFallBack
 port_falls buses state session moment later bus address port milliseconds may begins now some e after is =
-    let key = key_at (device_in lockable.Ga bus address) (1 + port) in
+    let key = key_at (device_in devices.Ga bus address) (1 + port) in
     let whole : IsWhole buses after =
     subst (IsWhole buses) (sym is)
     (effect_kept buses state may.whole session moment may.begun begins (port_on bus address port milliseconds) may.of) in

@@ -8,8 +8,8 @@ use Rattle.srcp_info.specs.declared.change.Code.TheVariants.{C414}
 use Rattle.srcp_info.specs.declared.value.Value.{Value}
 use Rattle.srcp_info.specs.Key.{first_key, owns}
 use Rattle.srcp_grammar.specs.declared.layout.Bus.{Bus}
-use Rattle.srcp_grammar.specs.declared.command.Lockable.{Lockable}
-use Rattle.srcp_grammar.specs.declared.command.Lockable.TheVariants as lockable
+use Rattle.srcp_grammar.specs.declared.command.DeviceGroup.{DeviceGroup}
+use Rattle.srcp_grammar.specs.declared.command.DeviceGroup.TheVariants as devices
 use Rattle.srcp_grammar.specs.Layout.{row_count}
 use Rattle.srcp_grammar.specs.Devices.{device_in, lock_on}
 use Rattle.srcp_rules.specs.State.{State, Update, IsWhole, row_at, is_there, put_of, without, updated_all}
@@ -25,11 +25,11 @@ abbrev change_of : Update → Change
 change_of update = update.change
 
 -- a lock is none of its device's rows
-lock_apart : (g : Lockable) (bus address : ℕ) → owns (lock_on g bus address) (first_key (device_in g bus address)) ≡ false
-lock_apart lockable.Gl bus address = and-false _
-lock_apart lockable.Ga bus address = and-false _
+lock_apart : (g : DeviceGroup) (bus address : ℕ) → owns (lock_on g bus address) (first_key (device_in g bus address)) ≡ false
+lock_apart devices.Gl bus address = and-false _
+lock_apart devices.Ga bus address = and-false _
 
-module _ (buses : List Bus) (state : State) (whole : IsWhole buses state) (moment : ℕ) (g : Lockable) (bus address : ℕ) where
+module _ (buses : List Bus) (state : State) (whole : IsWhole buses state) (moment : ℕ) (g : DeviceGroup) (bus address : ℕ) where
   abbrev lock_gone : Bool → List Update
   lock_gone there = cond there (gone_at moment (lock_on g bus address) ∷ []) []
 
@@ -106,7 +106,7 @@ module _ (buses : List Bus) (state : State) (whole : IsWhole buses state) (momen
   added rows all some absent = record { all = all; free = none_there buses state whole (device_in g bus address) absent some }
 
 -- a device that nobody else has locked, and that has other parameters or is not there, is made
-pub init_accepted : (state : State) (session moment : ℕ) (g : Lockable) (bus address : ℕ) (init : Value) (fresh : List Update)
+pub init_accepted : (state : State) (session moment : ℕ) (g : DeviceGroup) (bus address : ℕ) (init : Value) (fresh : List Update)
     → is_locked state session g bus address ≡ false → has_init state g bus address init ≡ false
     → accepted (removals state moment g bus address ++ fresh) ≡ done (init_device state session moment g bus address init fresh)
 init_accepted state session moment g bus address init fresh free other =

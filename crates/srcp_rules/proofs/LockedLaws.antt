@@ -14,8 +14,8 @@ use Rattle.srcp_info.specs.declared.change.Reply.TheVariants.{Accepted}
 use Rattle.srcp_info.specs.Key.{group_place, first_key, key_of, owns}
 use Rattle.srcp_info.proofs.KeyLaws.{owns-device_of, device_from_owns}
 use Rattle.srcp_info.proofs.ClientLaws.{all_append}
-use Rattle.srcp_grammar.specs.declared.command.Lockable.{Lockable}
-use Rattle.srcp_grammar.specs.declared.command.Lockable.TheVariants as lockable
+use Rattle.srcp_grammar.specs.declared.command.DeviceGroup.{DeviceGroup}
+use Rattle.srcp_grammar.specs.declared.command.DeviceGroup.TheVariants as devices
 use Rattle.srcp_grammar.specs.declared.command.Command.{Command}
 use Rattle.srcp_grammar.specs.declared.command.Command.TheVariants.{GetSession, TermSession, GetPower, SetPower, CheckPower, InitPower}
 use Rattle.srcp_grammar.specs.declared.command.Command.TheVariants.{GetGl, SetGl, CheckGl, InitGl, TermGl, GetGa, SetGa, CheckGa, InitGa}
@@ -80,46 +80,47 @@ other_group device key h =
     no_middle (key.bus == device.bus) (group_place key.group == group_place device.group) (key.address == device.address) h
 
 -- no lock is of a group of devices, and no device of a group of locks
-lock_no_device : (g h : Lockable) → (group_place (lock_group h) == group_place (device_group g)) ≡ false
-lock_no_device lockable.Gl lockable.Gl = refl
-lock_no_device lockable.Gl lockable.Ga = refl
-lock_no_device lockable.Ga lockable.Gl = refl
-lock_no_device lockable.Ga lockable.Ga = refl
+lock_no_device : (g h : DeviceGroup) → (group_place (lock_group h) == group_place (device_group g)) ≡ false
+lock_no_device devices.Gl devices.Gl = refl
+lock_no_device devices.Gl devices.Ga = refl
+lock_no_device devices.Ga devices.Gl = refl
+lock_no_device devices.Ga devices.Ga = refl
 
-device_no_lock : (g h : Lockable) → (group_place (device_group h) == group_place (lock_group g)) ≡ false
-device_no_lock lockable.Gl lockable.Gl = refl
-device_no_lock lockable.Gl lockable.Ga = refl
-device_no_lock lockable.Ga lockable.Gl = refl
-device_no_lock lockable.Ga lockable.Ga = refl
+device_no_lock : (g h : DeviceGroup) → (group_place (device_group h) == group_place (lock_group g)) ≡ false
+device_no_lock devices.Gl devices.Gl = refl
+device_no_lock devices.Gl devices.Ga = refl
+device_no_lock devices.Ga devices.Gl = refl
+device_no_lock devices.Ga devices.Ga = refl
 
 -- a lock is another's as its device is
-lock_as_device : (g h : Lockable) (bus address b a : ℕ)
+lock_as_device : (g h : DeviceGroup) (bus address b a : ℕ)
     → owns (lock_on g bus address) (first_key (lock_on h b a)) ≡ owns (device_in g bus address) (first_key (device_in h b a))
-lock_as_device lockable.Gl lockable.Gl bus address b a = refl
-lock_as_device lockable.Gl lockable.Ga bus address b a = refl
-lock_as_device lockable.Ga lockable.Gl bus address b a = refl
-lock_as_device lockable.Ga lockable.Ga bus address b a = refl
+lock_as_device devices.Gl devices.Gl bus address b a = refl
+lock_as_device devices.Gl devices.Ga bus address b a = refl
+lock_as_device devices.Ga devices.Gl bus address b a = refl
+lock_as_device devices.Ga devices.Ga bus address b a = refl
 
 -- power and feedback ports are of neither
-power_no_device : (g : Lockable) → (1 == group_place (device_group g)) ≡ false
-power_no_device lockable.Gl = refl
-power_no_device lockable.Ga = refl
+power_no_device : (g : DeviceGroup) → (1 == group_place (device_group g)) ≡ false
+power_no_device devices.Gl = refl
+power_no_device devices.Ga = refl
 
-power_no_lock : (g : Lockable) → (1 == group_place (lock_group g)) ≡ false
-power_no_lock lockable.Gl = refl
-power_no_lock lockable.Ga = refl
+power_no_lock : (g : DeviceGroup) → (1 == group_place (lock_group g)) ≡ false
+power_no_lock devices.Gl = refl
+power_no_lock devices.Ga = refl
 
-fb_no_device : (g : Lockable) → (4 == group_place (device_group g)) ≡ false
-fb_no_device lockable.Gl = refl
-fb_no_device lockable.Ga = refl
+fb_no_device : (g : DeviceGroup) → (4 == group_place (device_group g)) ≡ false
+fb_no_device devices.Gl = refl
+fb_no_device devices.Ga = refl
 
-fb_no_lock : (g : Lockable) → (4 == group_place (lock_group g)) ≡ false
-fb_no_lock lockable.Gl = refl
-fb_no_lock lockable.Ga = refl
+fb_no_lock : (g : DeviceGroup) → (4 == group_place (lock_group g)) ≡ false
+fb_no_lock devices.Gl = refl
+fb_no_lock devices.Ga = refl
 
 -- ---- a device that another session has locked
 
-module _ (state : State) (session moment : ℕ) (g : Lockable) (bus address : ℕ) (locked : is_locked state session g bus address ≡ true) where
+module _ (state : State) (session moment : ℕ) (g : DeviceGroup) (bus address : ℕ)
+    (locked : is_locked state session g bus address ≡ true) where
   -- the change is about another device
   abbrev IsApart : Update → Type 0
   IsApart update =
@@ -129,10 +130,10 @@ module _ (state : State) (session moment : ℕ) (g : Lockable) (bus address : �
   AllApart updates = AllByRecursion IsApart updates
 
   -- a device that the session finds unlocked is another
-  abbrev IsOther : Lockable → (b a : ℕ) → Type 0
+  abbrev IsOther : DeviceGroup → (b a : ℕ) → Type 0
   IsOther h b a = owns (device_in g bus address) (first_key (device_in h b a)) ≡ false
 
-  other_device : (h : Lockable) (b a : ℕ) → is_locked state session h b a ≡ false → IsOther h b a
+  other_device : (h : DeviceGroup) (b a : ℕ) → is_locked state session h b a ≡ false → IsOther h b a
   other_device h b a unlocked = by (owns (device_in g bus address) (first_key (device_in h b a))) refl
     where
       by : (c : Bool) → owns (device_in g bus address) (first_key (device_in h b a)) ≡ c → c ≡ false
@@ -145,13 +146,13 @@ module _ (state : State) (session moment : ℕ) (g : Lockable) (bus address : �
           absurd (true≢false (sym locked ∙ sym too ∙ unlocked))
       by false e = refl
 
-  lock_apart : (h : Lockable) (b a : ℕ) → IsOther h b a
+  lock_apart : (h : DeviceGroup) (b a : ℕ) → IsOther h b a
       → (owns (device_in g bus address) (first_key (lock_on h b a)) ≡ false)
       × (owns (lock_on g bus address) (first_key (lock_on h b a)) ≡ false)
   lock_apart h b a other =
       (other_group (device_in g bus address) (first_key (lock_on h b a)) (lock_no_device g h), lock_as_device g h bus address b a ∙ other)
 
-  row_apart : (h : Lockable) (b a port : ℕ) → IsOther h b a
+  row_apart : (h : DeviceGroup) (b a port : ℕ) → IsOther h b a
       → (owns (device_in g bus address) (key_at (device_in h b a) port) ≡ false)
       × (owns (lock_on g bus address) (key_at (device_in h b a) port) ≡ false)
   row_apart h b a port other = (other, other_group (lock_on g bus address) (key_at (device_in h b a) port) (device_no_lock g h))
@@ -162,18 +163,18 @@ module _ (state : State) (session moment : ℕ) (g : Lockable) (bus address : �
   removal_apart device h true = (h, tt)
   removal_apart device h false = tt
 
-  removals_apart : (h : Lockable) (b a : ℕ) → IsOther h b a → AllApart (removals state moment h b a)
+  removals_apart : (h : DeviceGroup) (b a : ℕ) → IsOther h b a → AllApart (removals state moment h b a)
   removals_apart h b a other =
       all_append IsApart (removal state moment (lock_on h b a)) (removal state moment (device_in h b a))
       (removal_apart (lock_on h b a) (lock_apart h b a other) (is_there (lock_on h b a) state))
       (removal_apart (device_in h b a) (row_apart h b a 0 other) (is_there (device_in h b a) state))
 
-  ports_apart : (b a first n : ℕ) → IsOther lockable.Ga b a
-      → AllApart (map (λ port. put_at moment (key_at (device_in lockable.Ga b a) port) (value.GaPort false) None) (range_with_len first n))
+  ports_apart : (b a first n : ℕ) → IsOther devices.Ga b a
+      → AllApart (map (λ port. put_at moment (key_at (device_in devices.Ga b a) port) (value.GaPort false) None) (range_with_len first n))
   ports_apart b a first zero other = tt
-  ports_apart b a first (suc n) other = (row_apart lockable.Ga b a first other, ports_apart b a (first + 1) n other)
+  ports_apart b a first (suc n) other = (row_apart devices.Ga b a first other, ports_apart b a (first + 1) n other)
 
-  init_apart : (h : Lockable) (b a : ℕ) (init : Value) (fresh : List Update) → (IsOther h b a → AllApart fresh)
+  init_apart : (h : DeviceGroup) (b a : ℕ) (init : Value) (fresh : List Update) → (IsOther h b a → AllApart fresh)
       → AllApart (done (init_device state session moment h b a init fresh)).updates
   init_apart h b a init fresh made =
       accepted_updates AllApart tt ((is_locked state session h b a, C414) ∷ [])
@@ -182,7 +183,7 @@ module _ (state : State) (session moment : ℕ) (g : Lockable) (bus address : �
       (all_append IsApart (removals state moment h b a) fresh (removals_apart h b a (other_device h b a none.0))
       (made (other_device h b a none.0))))
 
-  term_apart : (h : Lockable) (b a : ℕ) → AllApart (done (term_device state session moment h b a)).updates
+  term_apart : (h : DeviceGroup) (b a : ℕ) → AllApart (done (term_device state session moment h b a)).updates
   term_apart h b a =
       accepted_updates AllApart tt (refusals state session h b a) (removals state moment h b a)
       (λ none. removals_apart h b a (other_device h b a none.1.0))
@@ -209,25 +210,25 @@ module _ (state : State) (session moment : ℕ) (g : Lockable) (bus address : �
   )
   effect_apart (CheckPower power) = tt
   effect_apart (InitPower b) = tt
-  effect_apart (GetGl b a) = showing_updates AllApart tt (row_at (key_at (device_in lockable.Gl b a) 1) state)
+  effect_apart (GetGl b a) = showing_updates AllApart tt (row_at (key_at (device_in devices.Gl b a) 1) state)
   effect_apart (SetGl drive) =
       accepted_updates AllApart tt (gl_refusals state session drive) (gl_put state moment drive ∷ [])
-      (λ none. (row_apart lockable.Gl drive.bus drive.address 1 (other_device lockable.Gl drive.bus drive.address none.1.1.0), tt))
+      (λ none. (row_apart devices.Gl drive.bus drive.address 1 (other_device devices.Gl drive.bus drive.address none.1.1.0), tt))
   effect_apart (CheckGl drive) = checked_updates AllApart tt (set_gl state session moment drive)
   effect_apart (InitGl gl) =
-      init_apart lockable.Gl gl.bus gl.address (gl_init gl) (fresh_gl moment gl)
-      (λ other. (row_apart lockable.Gl gl.bus gl.address 0 other, (row_apart lockable.Gl gl.bus gl.address 1 other, tt)))
-  effect_apart (TermGl b a) = term_apart lockable.Gl b a
-  effect_apart (GetGa b a port) = showing_updates AllApart tt (row_at (key_at (device_in lockable.Ga b a) (1 + port)) state)
+      init_apart devices.Gl gl.bus gl.address (gl_init gl) (fresh_gl moment gl)
+      (λ other. (row_apart devices.Gl gl.bus gl.address 0 other, (row_apart devices.Gl gl.bus gl.address 1 other, tt)))
+  effect_apart (TermGl b a) = term_apart devices.Gl b a
+  effect_apart (GetGa b a port) = showing_updates AllApart tt (row_at (key_at (device_in devices.Ga b a) (1 + port)) state)
   effect_apart (SetGa switch) =
-      accepted_updates AllApart tt (refusals state session lockable.Ga switch.bus switch.address) (ga_put moment switch ∷ [])
+      accepted_updates AllApart tt (refusals state session devices.Ga switch.bus switch.address) (ga_put moment switch ∷ [])
       (λ none.
-      (row_apart lockable.Ga switch.bus switch.address (1 + switch.port) (other_device lockable.Ga switch.bus switch.address none.1.0), tt))
+      (row_apart devices.Ga switch.bus switch.address (1 + switch.port) (other_device devices.Ga switch.bus switch.address none.1.0), tt))
   effect_apart (CheckGa switch) = checked_updates AllApart tt (set_ga state session moment switch)
   effect_apart (InitGa ga) =
-      init_apart lockable.Ga ga.bus ga.address (value.GaInit ga.letter) (fresh_ga moment ga)
-      (λ other. (row_apart lockable.Ga ga.bus ga.address 0 other, ports_apart ga.bus ga.address 1 ga.ports other))
-  effect_apart (TermGa b a) = term_apart lockable.Ga b a
+      init_apart devices.Ga ga.bus ga.address (value.GaInit ga.letter) (fresh_ga moment ga)
+      (λ other. (row_apart devices.Ga ga.bus ga.address 0 other, ports_apart ga.bus ga.address 1 ga.ports other))
+  effect_apart (TermGa b a) = term_apart devices.Ga b a
   effect_apart (GetFb b port) = showing_updates AllApart tt (row_at (first_key (fb_device b port)) state)
   effect_apart (SetFb sensor) = (
     (

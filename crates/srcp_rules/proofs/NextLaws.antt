@@ -19,7 +19,7 @@ use Rattle.srcp_rules.specs.Due.{due_after, due_change, first_due, first_held, i
 use Rattle.srcp_grammar.proofs.FindLaws.{found_holds, find_same, each-weaken}
 use Rattle.srcp_info.proofs.ListingLaws.{find_passes}
 use Rattle.srcp_rules.proofs.StateLaws.{row_at_key, each_found}
-use Rattle.srcp_rules.proofs.SoughtLaws.{find-both}
+use Rattle.srcp_rules.proofs.CursorLaws.{find-both}
 use Rattle.srcp_rules.proofs.DueLaws.{due_may, due_step}
 use Rattle.srcp_rules.proofs.ToldLaws.{change_told, freed_told}
 use Rattle.srcp_rules.proofs.FreedStepLaws.{freed_later}

@@ -12,8 +12,8 @@ use Rattle.srcp_info.specs.Key.{first_key}
 use Rattle.srcp_info.specs.WellFormed.{IsMoment}
 use Rattle.srcp_grammar.specs.declared.layout.Bus.{Bus}
 use Rattle.srcp_grammar.specs.Layout.{IsKeyOf, row_count}
-use Rattle.srcp_grammar.specs.Command.{kept_v}
-use Rattle.srcp_grammar.specs.declared.command.Lockable.TheVariants as lockable
+use Rattle.srcp_grammar.specs.Command.{kept_speed}
+use Rattle.srcp_grammar.specs.declared.command.DeviceGroup.TheVariants as devices
 use Rattle.srcp_grammar.specs.declared.command.Drive.{Drive}
 use Rattle.srcp_grammar.specs.declared.command.Switch.{Switch}
 use Rattle.srcp_grammar.specs.declared.command.PowerSwitch.{PowerSwitch}
@@ -80,9 +80,9 @@ alike false false down up = refl
 
 -- it has both its rows or none
 pub gl_there : (buses : List Bus) (state : State) → IsWhole buses state → (bus address : ℕ)
-    → has_row (key_at (device_in lockable.Gl bus address) 1) state ≡ is_there (device_in lockable.Gl bus address) state
+    → has_row (key_at (device_in devices.Gl bus address) 1) state ≡ is_there (device_in devices.Gl bus address) state
 gl_there buses state whole bus address =
-    let device = device_in lockable.Gl bus address in
+    let device = device_in devices.Gl bus address in
     alike (has_row (key_at device 1) state) (is_there device state)
     (λ here.
     let place : 1 < row_count buses device = placed buses state whole (key_at device 1) (row_at (key_at device 1) state) refl here in
@@ -113,10 +113,10 @@ module _ (buses : List Bus) (state : State) (session moment : ℕ) (now : IsMome
   -- the row of an accessory's port
   pub ga_row : (switch : Switch) → MayObey buses state session (SetGa switch)
       → IsRowOf buses
-      (row_put moment (key_at (device_in lockable.Ga switch.bus switch.address) (1 + switch.port)) (value.GaPort switch.on)
+      (row_put moment (key_at (device_in devices.Ga switch.bus switch.address) (1 + switch.port)) (value.GaPort switch.on)
       (port_end moment switch.on switch.time))
   ga_row switch may =
-      IsRowOf-put buses may.whole.laid_out (key_at (device_in lockable.Ga switch.bus switch.address) (1 + switch.port)) moment
+      IsRowOf-put buses may.whole.laid_out (key_at (device_in devices.Ga switch.bus switch.address) (1 + switch.port)) moment
       (value.GaPort switch.on) (port_end moment switch.on switch.time) may.of.0.0 now may.of.0.1
       (port_end_fits moment switch.on switch.time)
 
@@ -129,11 +129,11 @@ module _ (buses : List Bus) (state : State) (session moment : ℕ) (now : IsMome
   pub gl_row : (drive : Drive) → MayObey buses state session (SetGl drive)
       → length drive.functions ≤ length (functions_of drive.bus drive.address state)
       → IsRowOf buses
-      (row_put moment (key_at (device_in lockable.Gl drive.bus drive.address) 1)
-      (value.GlState drive.mode (kept_v drive.mode drive.v) drive.vmax
+      (row_put moment (key_at (device_in devices.Gl drive.bus drive.address) 1)
+      (value.GlState drive.mode (kept_speed drive.mode drive.v) drive.vmax
       (functions_after drive.functions (functions_of drive.bus drive.address state))) None)
   gl_row drive may short =
-      let device = device_in lockable.Gl drive.bus drive.address in
+      let device = device_in devices.Gl drive.bus drive.address in
       let before = functions_of drive.bus drive.address state in
       let after = functions_after drive.functions before in
       let same : length after ≡ length before = as_many buses state may.whole session moment may.begun now drive.functions before short in
@@ -142,7 +142,7 @@ module _ (buses : List Bus) (state : State) (session moment : ℕ) (now : IsMome
       let few : length after ≤ 29 = omega (arith, most, same) in
       let fits = may.of.1 in
       IsRowOf-put buses may.whole.laid_out (key_at device 1) moment
-      (value.GlState drive.mode (kept_v drive.mode drive.v) drive.vmax after) None may.of.0 now
+      (value.GlState drive.mode (kept_speed drive.mode drive.v) drive.vmax after) None may.of.0 now
       (fits.0, fits.1, fits.2, few) tt
 
   pub power_row : (power : PowerSwitch) → MayObey buses state session (SetPower power)

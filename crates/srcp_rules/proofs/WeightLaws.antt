@@ -18,9 +18,9 @@ use Rattle.srcp_text.specs.Words.{number_of, is_keyword, words_of}
 use Rattle.srcp_grammar.specs.declared.layout.Bus.{Bus}
 use Rattle.srcp_grammar.specs.declared.command.Operation.{Operation}
 use Rattle.srcp_grammar.specs.declared.command.Operation.TheVariants.{Get, Set, Check, Init, Term, Wait, Verify, Reset}
-use Rattle.srcp_grammar.specs.declared.command.Named.{Named}
-use Rattle.srcp_grammar.specs.declared.command.Named.TheVariants.{Session, Power, Gl, Ga, Fb, Lock}
-use Rattle.srcp_grammar.specs.declared.command.Lockable.TheVariants as lockable
+use Rattle.srcp_grammar.specs.declared.command.CommandGroup.{CommandGroup}
+use Rattle.srcp_grammar.specs.declared.command.CommandGroup.TheVariants.{Session, Power, Gl, Ga, Fb, Lock}
+use Rattle.srcp_grammar.specs.declared.command.DeviceGroup.TheVariants as devices
 use Rattle.srcp_grammar.specs.declared.command.Command.{Command}
 use Rattle.srcp_grammar.specs.declared.command.Command.TheVariants.{GetSession, TermSession, GetPower, SetPower, CheckPower, GetGl, SetGl}
 use Rattle.srcp_grammar.specs.declared.command.Command.TheVariants.{CheckGl, GetGa, SetGa, CheckGa, GetFb, SetFb, CheckFb, GetLock, SetLock}
@@ -44,7 +44,7 @@ use Rattle.srcp_rules.proofs.EffectLaws.{accepted_updates, checked_updates, show
 abbrev bus_named : List Bus → List ℕ → Result Bus Code
 bus_named buses word = ok_or (option_and_then (bus_at buses) (number_of 250 word)) C412
 
-abbrev on_group : Operation → List (List ℕ) → Bus → Named → Result Command Code
+abbrev on_group : Operation → List (List ℕ) → Bus → CommandGroup → Result Command Code
 on_group operation words bus g = cond (has_group bus g) (asked operation g bus words) (Err C422)
 
 module _ (P : Command → Type 0) where
@@ -80,7 +80,7 @@ module _ (P : Command → Type 0) where
 
   -- the words after the operation
   directed_all : (buses : List Bus) (operation : Operation) (words : List (List ℕ))
-      → ((g : Named) (bus : Bus) (ws : List (List ℕ)) → All (asked operation g bus ws)) → All (directed buses operation words)
+      → ((g : CommandGroup) (bus : Bus) (ws : List (List ℕ)) → All (asked operation g bus ws)) → All (directed buses operation words)
   directed_all buses operation [] h = tt
   directed_all buses operation (n ∷ []) h = tt
   directed_all buses operation (n ∷ w ∷ ws) h =
@@ -104,12 +104,12 @@ module _ (state : State) (session moment : ℕ) where
   shown : (key : Key) → AtMost 0 (shown_at key state).updates
   shown key = showing_updates (AtMost 0) (none 0) (row_at key state)
 
-  gets_none : (g : Named) (bus : Bus) (words : List (List ℕ)) → IfOk (asked Get g bus words) (Brings 0)
+  gets_none : (g : CommandGroup) (bus : Bus) (words : List (List ℕ)) → IfOk (asked Get g bus words) (Brings 0)
   gets_none Session bus words = get_session_all (Brings 0) words (λ n. shown (first_key (session_device n)))
   gets_none Power bus words = alone_all (Brings 0) (GetPower bus.number) words (shown (first_key (power_device bus.number)))
   gets_none Gl bus words = addressed_all (Brings 0) bus.gl_max (GetGl bus.number) words
-      (λ a. shown (key_at (device_in lockable.Gl bus.number a) 1))
-  gets_none Ga bus words = get_ga_all (Brings 0) bus words (λ a p. shown (key_at (device_in lockable.Ga bus.number a) (1 + p)))
+      (λ a. shown (key_at (device_in devices.Gl bus.number a) 1))
+  gets_none Ga bus words = get_ga_all (Brings 0) bus words (λ a p. shown (key_at (device_in devices.Ga bus.number a) (1 + p)))
   gets_none Fb bus words = addressed_all (Brings 0) bus.fb_ports (GetFb bus.number) words (λ p. shown (first_key (fb_device bus.number p)))
   gets_none Lock bus words =
       read_any (Brings 0) (named_lock bus words) (λ place. Ok (GetLock place))
@@ -118,7 +118,7 @@ module _ (state : State) (session moment : ℕ) where
   tried : (r : Result (List Update) Code) → AtMost 0 (checked r).updates
   tried r = checked_updates (AtMost 0) (none 0) r
 
-  checks_none : (g : Named) (bus : Bus) (words : List (List ℕ)) → IfOk (asked Check g bus words) (Brings 0)
+  checks_none : (g : CommandGroup) (bus : Bus) (words : List (List ℕ)) → IfOk (asked Check g bus words) (Brings 0)
   checks_none Session bus words = tt
   checks_none Power bus words = read_any (Brings 0) (powered bus words) (λ power. Ok (CheckPower power)) (λ power. none 0)
   checks_none Gl bus words =
@@ -132,7 +132,7 @@ module _ (state : State) (session moment : ℕ) where
   one : (refused : List (Bool × Code)) (update : Update) → AtMost 1 (done (unless_refused refused (update ∷ []))).updates
   one refused update = accepted_updates (AtMost 1) (none 1) refused (update ∷ []) (λ applies. omega arith)
 
-  sets_one : (g : Named) (bus : Bus) (words : List (List ℕ)) → IfOk (asked Set g bus words) (Brings 1)
+  sets_one : (g : CommandGroup) (bus : Bus) (words : List (List ℕ)) → IfOk (asked Set g bus words) (Brings 1)
   sets_one Session bus words = tt
   sets_one Power bus words = read_any (Brings 1) (powered bus words) (λ power. Ok (SetPower power)) (λ power. omega arith)
   sets_one Gl bus words =
@@ -140,7 +140,7 @@ module _ (state : State) (session moment : ℕ) where
       (λ drive. one (gl_refusals state session drive) (gl_put state moment drive))
   sets_one Ga bus words =
       read_any (Brings 1) (switched bus words) (λ switch. Ok (SetGa switch))
-      (λ switch. one (refusals state session lockable.Ga switch.bus switch.address) (ga_put moment switch))
+      (λ switch. one (refusals state session devices.Ga switch.bus switch.address) (ga_put moment switch))
   sets_one Fb bus words = read_any (Brings 1) (sensed bus words) (λ sensor. Ok (SetFb sensor)) (λ sensor. omega arith)
   sets_one Lock bus words =
       read_any (Brings 1) (timed_lock bus words) (λ lock. Ok (SetLock lock))
@@ -172,12 +172,13 @@ module _ (state : State) (session moment : ℕ) where
         (sym (second_so (bytes_eq n (codes "0")) (is_keyword (codes "SESSION") w) h))
         (then_ok (Brings 0) (has_group bus Session) C422 (asked operation Session bus ws) (λ on. of_session operation bus ws)))
       where
-        others : List (List ℕ × Named)
+        others : List (List ℕ × CommandGroup)
         others = (codes "POWER", Power) ∷ (codes "GL", Gl) ∷ (codes "GA", Ga) ∷ (codes "FB", Fb) ∷ (codes "LOCK", Lock) ∷ []
 
-        group_by : Bool → Option Named
+        group_by : Bool → Option CommandGroup
         group_by b =
-            option_map {T = List ℕ × Named} (λ e. e.1) (cond b (Some (codes "SESSION", Session)) (find (λ e. is_keyword e.0 w) others))
+            option_map {T = List ℕ × CommandGroup} (λ e. e.1)
+            (cond b (Some (codes "SESSION", Session)) (find (λ e. is_keyword e.0 w) others))
 
 -- ---- keywords
 

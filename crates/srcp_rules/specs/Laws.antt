@@ -13,8 +13,8 @@ use Rattle.srcp_info.specs.declared.change.Reply.TheVariants.{Accepted, Refused}
 use Rattle.srcp_info.specs.declared.value.Mode.{Mode}
 use Rattle.srcp_info.specs.WellFormed.{IsMoment, IsWellFormed, IsWellFormedReply}
 use Rattle.srcp_grammar.specs.declared.layout.Bus.{Bus}
-use Rattle.srcp_grammar.specs.declared.command.Lockable.{Lockable}
-use Rattle.srcp_grammar.specs.declared.command.Lockable.TheVariants as lockable
+use Rattle.srcp_grammar.specs.declared.command.DeviceGroup.{DeviceGroup}
+use Rattle.srcp_grammar.specs.declared.command.DeviceGroup.TheVariants as devices
 use Rattle.srcp_grammar.specs.declared.command.Switch.{Switch}
 use Rattle.srcp_grammar.specs.declared.command.TimedLock.{TimedLock}
 use Rattle.srcp_grammar.specs.declared.command.Command.{Command}
@@ -162,7 +162,7 @@ ChecksAnswerAsSets = (state : State) (session moment : ℕ) (command : Command)
 -- ---- locks
 
 -- the rows of the device, and of its lock, are as before
-pub record IsKept (group : Lockable) (bus address : ℕ) (before after : State) : Type 0 where
+pub record IsKept (group : DeviceGroup) (bus address : ℕ) (before after : State) : Type 0 where
   pub device : (port : ℕ)
       → row_at (key_at (device_in group bus address) port) after
       ≡ row_at (key_at (device_in group bus address) port) before
@@ -171,7 +171,7 @@ pub record IsKept (group : Lockable) (bus address : ℕ) (before after : State) 
 
 -- no command of a session changes a device, or its lock, that another session has locked
 abbrev pub LocksHold : Type 0
-LocksHold = (state : State) (session moment : ℕ) (command : Command) (group : Lockable) (bus address : ℕ)
+LocksHold = (state : State) (session moment : ℕ) (command : Command) (group : DeviceGroup) (bus address : ℕ)
     → IsTrue (is_locked state session group bus address)
     → IsKept group bus address state (updated_all (effect state session moment command).updates state)
 
@@ -219,7 +219,7 @@ MomentsCarryOut = (buses : List Bus) (state : State) (moment : ℕ) (key : Key) 
 
 -- the key of an accessory's port, the first of which is 0
 abbrev pub port_key : (bus address port : ℕ) → Key
-port_key bus address port = key_at (device_in lockable.Ga bus address) (1 + port)
+port_key bus address port = key_at (device_in devices.Ga bus address) (1 + port)
 
 -- SET of an accessory's port to 1 for some milliseconds
 abbrev pub port_on : (bus address port milliseconds : ℕ) → Command

@@ -1,10 +1,10 @@
 //! The devices that a command names, and the keys of their rows.
 
 ghost use Rattle.std.specs.Prelude.{◌≡◌};
-ghost use Rattle.srcp_grammar.specs.declared.command.Lockable.TheVariants as lockable;
+ghost use Rattle.srcp_grammar.specs.declared.command.DeviceGroup.TheVariants as devices;
 ghost use Rattle.srcp_grammar.specs.Devices.{device_at, fb_device, key_at, lock_at, power_device, session_device};
 
-use srcp_grammar::{Lockable, Target};
+use srcp_grammar::{DeviceGroup, Target};
 use srcp_info::{Device, Group, Key};
 
 /// Returns the device of a session's row.
@@ -42,22 +42,22 @@ pub(crate) fn fb_device(bus: u8, port: u32) -> Device
 
 /// Names a locomotive.
 pub(crate) fn gl(bus: u8, address: u32) -> Target
-    ensures { result ≡ record { bus = bus; group = lockable.Gl; address = address } }
+    ensures { result ≡ record { bus = bus; group = devices.Gl; address = address } }
 {
     Target {
         bus,
-        group: Lockable::Gl,
+        group: DeviceGroup::Gl,
         address,
     }
 }
 
 /// Names an accessory.
 pub(crate) fn ga(bus: u8, address: u32) -> Target
-    ensures { result ≡ record { bus = bus; group = lockable.Ga; address = address } }
+    ensures { result ≡ record { bus = bus; group = devices.Ga; address = address } }
 {
     Target {
         bus,
-        group: Lockable::Ga,
+        group: DeviceGroup::Ga,
         address,
     }
 }
@@ -67,8 +67,8 @@ pub(crate) fn device_at(target: Target) -> Device
     ensures { result ≡ device_at target }
 {
     let group = match target.group {
-        Lockable::Gl => Group::Gl,
-        Lockable::Ga => Group::Ga,
+        DeviceGroup::Gl => Group::Gl,
+        DeviceGroup::Ga => Group::Ga,
     };
     Device {
         bus: target.bus,
@@ -82,8 +82,8 @@ pub(crate) fn lock_at(target: Target) -> Device
     ensures { result ≡ lock_at target }
 {
     let group = match target.group {
-        Lockable::Gl => Group::LockGl,
-        Lockable::Ga => Group::LockGa,
+        DeviceGroup::Gl => Group::LockGl,
+        DeviceGroup::Ga => Group::LockGa,
     };
     Device {
         bus: target.bus,

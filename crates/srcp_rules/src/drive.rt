@@ -2,8 +2,8 @@
 
 ghost use Rattle.std.specs.Prelude.{◌≡◌, ◌≤◌, [], length, is_some, IfOk, IfSome};
 ghost use Rattle.std.specs.Result.{result_err};
-ghost use Rattle.srcp_grammar.specs.declared.command.Lockable.TheVariants as lockable;
-ghost use Rattle.srcp_grammar.specs.Command.{kept_v};
+ghost use Rattle.srcp_grammar.specs.declared.command.DeviceGroup.TheVariants as devices;
+ghost use Rattle.srcp_grammar.specs.Command.{kept_speed};
 ghost use Rattle.srcp_rules.specs.Effect.{accepted, done, first_refusal, functions_after, gl_refusals, port_end};
 ghost use Rattle.srcp_rules.specs.Effect.{set_ga, set_gl};
 ghost use Rattle.srcp_rules.specs.Obeyed.{IsTold, MayObey, Took};
@@ -24,7 +24,7 @@ use srcp_info::{Bits, Code, DriveMode, Value};
 #[tactic(auto, using(crate::proofs::ObeyLaws::gl_there))]
 fn functions_of<R: Rows>(rows: &R, bus: u8, address: u32) -> Option<Bits>
     requires whole { IsWhole (R.buses rows.now) (R.state rows.now) }
-    ensures there { is_some result ≡ is_there (device_in lockable.Gl bus address) (R.state rows.now) }
+    ensures there { is_some result ≡ is_there (device_in devices.Gl bus address) (R.state rows.now) }
     ensures functions { IfSome result
         (λ functions. functions ≡ functions_of bus address (R.state rows.now)) }
 {
@@ -78,8 +78,8 @@ pub(crate) fn gl_refusal<R: Rows>(rows: &R, session: u32, drive: &Drive) -> Opti
 }
 
 /// Returns V as the registry keeps it: 0 in an emergency stop.
-fn kept_v(mode: u32, v: u32) -> u32
-    ensures { result ≡ kept_v mode v }
+fn kept_speed(mode: u32, v: u32) -> u32
+    ensures { result ≡ kept_speed mode v }
 {
     if mode == DriveMode::EmergencyStop as u32 {
         0
@@ -102,7 +102,7 @@ pub(crate) fn set_gl<R: Rows>(rows: &mut R, sender: Sender, drive: &Drive, obeye
     };
     let driven = Value::GlState {
         mode: drive.mode,
-        v: kept_v(drive.mode, drive.v),
+        v: kept_speed(drive.mode, drive.v),
         vmax: drive.vmax,
         functions: functions_after(&drive.functions, &before),
     };

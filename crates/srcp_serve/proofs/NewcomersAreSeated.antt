@@ -20,7 +20,7 @@ use Rattle.srcp_serve.specs.Calls.{Call as DoorCall}
 use Rattle.srcp_serve.specs.Given.{Guest, CloseCall}
 use Rattle.srcp_serve.specs.Serving.{Seat, Stand, Closes as ClosesQuestion, is_let_in, let_in, welcomed}
 use Rattle.srcp_serve.specs.Places.{Sit, IsNotOf}
-use Rattle.srcp_serve.specs.Places.{IsLeftOut, IsHosting, HasSeated, SeatsPeer}
+use Rattle.srcp_serve.specs.Places.{IsLeftOut, IsHosting, HasConnected, Connects}
 use Rattle.srcp_serve.specs.Visits.{Closes, CountsAsked}
 use Rattle.srcp_serve.specs.declared.door.DoorFault.{DoorFault}
 use Rattle.srcp_serve.specs.declared.serving.visit.Seat.{Seat as Own}
@@ -69,7 +69,7 @@ module _ (buses : List Bus) where
 
 pub seats_full : (peer : ℕ) (old mid : Held) (cause : CoreFault) (told_old told_new : Option (List DoorCall)) (owns : List (Option Own))
     → Closes peer told_old told_new
-    → IsNotAdmitted cause old mid → SeatsPeer peer old told_old owns mid told_new owns false
+    → IsNotAdmitted cause old mid → Connects peer old told_old owns mid told_new owns false
 seats_full peer old mid cause told_old told_new owns closes turned_away buses stand keys told hosting is new =
     by cause turned_away (calls_agree.refuses cause old mid turned_away buses stand.events keys hosting.layout hosting.stands)
   where
@@ -82,7 +82,7 @@ seats_full peer old mid cause told_old told_new owns closes turned_away buses st
     away : (cause : CoreFault) (granted : Bool) → fault buses (course buses stand.events) (Open granted) ≡ Some cause
         → StandsFor buses keys mid (course buses (stand.events ++ Open granted ∷ [])) → mid.denied ≡ denied_by old.denied (granted ∷ [])
         → mid.denied ≡ denied_in buses old.denied (counted (course buses stand.events)) (Open granted)
-        → HasSeated buses stand told_old told mid owns old peer false
+        → HasConnected buses stand told_old told mid owns old peer false
     away cause granted denies after_open counts asks =
         let guest : Guest = record { peer = peer; granted = granted } in
         let shut : is_let_in buses stand.events granted ≡ false = ap is_none denies in
@@ -109,7 +109,7 @@ seats_full peer old mid cause told_old told_new owns closes turned_away buses st
         }
 
     by : (cause : CoreFault) → IsNotAdmitted cause old mid → fault buses (course buses stand.events) (Open false) ≡ Some cause
-        → HasSeated buses stand told_old told mid owns old peer false
+        → HasConnected buses stand told_old told mid owns old peer false
     by Full a out =
         away Full true (full_open buses (course buses stand.events) out)
         (subst (λ (w : World). StandsFor buses keys mid w) (full_course buses stand.events out) stands) (ap (λ (h : Held). h.denied) a.1)
@@ -122,7 +122,7 @@ seats_full peer old mid cause told_old told_new owns closes turned_away buses st
 
 pub seats_in : (peer key free : ℕ) (old mid : Held) (told_old : Option (List DoorCall)) (owns : List (Option Own)) → IsAdmitted key old mid
     → position is_none owns ≡ Some free
-    → SeatsPeer peer old told_old owns mid told_old (slice_set owns free (Some (record { peer = peer; key = key }))) true
+    → Connects peer old told_old owns mid told_old (slice_set owns free (Some (record { peer = peer; key = key }))) true
 seats_in peer key free old mid told_old owns admitted place buses stand keys told hosting is new =
     let own : Own = record { peer = peer; key = key } in
     let guest : Guest = record { peer = peer; granted = true } in
@@ -170,7 +170,7 @@ seats_in peer key free old mid told_old owns admitted place buses stand keys tol
 -- a slot is free if a peer is let in
 pub seats_none : (peer : ℕ) (opens : Bool) (old new : Held) (told_old told_new : Option (List DoorCall)) (owns : List (Option Own))
     → open_count old < 64 → length owns ≡ 64
-    → position is_none owns ≡ None → SeatsPeer peer old told_old owns new told_new owns opens
+    → position is_none owns ≡ None → Connects peer old told_old owns new told_new owns opens
 seats_none peer opens old new told_old told_new owns below long none buses stand keys told hosting is fresh =
     let taken = none_free keys owns stand.places hosting.sit none in
     let few = hosting.few in

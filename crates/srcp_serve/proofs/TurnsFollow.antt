@@ -20,7 +20,7 @@ use Rattle.srcp_serve.specs.Given.{Guest, Call, ExpectCall, NowCall, AcceptCall,
 use Rattle.srcp_serve.specs.Serving.{Seat, Stand, Expects, Moments, expects, Newcomers, IsFair, question, is_expect, moment_of}
 use Rattle.srcp_serve.specs.Serving.{newcomer_of, seats, visits_ask, visit_events, kept, is_let_in, let_in, welcomed, with_moment, timed}
 use Rattle.srcp_serve.specs.Serving.{begun, visited, turned, turn_asks, turns_away}
-use Rattle.srcp_serve.specs.Places.{IsHosting, IsLeftOut, IsNotOf, IsOneOf, one_if, LetsIn, MakesTurn, SeatsPeer}
+use Rattle.srcp_serve.specs.Places.{IsHosting, IsLeftOut, IsNotOf, IsOneOf, one_if, AcceptsOne, MakesTurn, Connects}
 use Rattle.srcp_serve.specs.Places.{SeatsDiffer, TakesMoment, Visit, VisitsPlaces, AreOwn, asked_by}
 use Rattle.srcp_serve.specs.Places.{calls_of, left_by, made_by, seat_of, visits_of}
 use Rattle.srcp_serve.specs.Turns.{AsksNewcomer, AsksPeers, AsksTurn, IsTurn, is_of_peer}
@@ -160,7 +160,7 @@ no_more : (n : ℕ) → n ≡ n + 0
 no_more n = omega arith
 
 module _ (old : Held) (told_old told_new : Option (List DoorCall)) (owns : List (Option Own)) where
-  pub lets_nobody : Tells told_old (door.AcceptCall (Ok None)) told_new → LetsIn old told_old owns old told_new owns false
+  pub lets_nobody : Tells told_old (door.AcceptCall (Ok None)) told_new → AcceptsOne old told_old owns old told_new owns false
   lets_nobody h buses stand keys told hosting is peers calls adds differ known = record {
     answer = Ok None;
     granted = true;
@@ -178,7 +178,7 @@ module _ (old : Held) (told_old told_new : Option (List DoorCall)) (owns : List 
   }
 
   pub lets_none : (failed : DoorFault) → Tells told_old (door.AcceptCall (Err failed)) told_new
-      → LetsIn old told_old owns old told_new owns false
+      → AcceptsOne old told_old owns old told_new owns false
   lets_none failed h buses stand keys told hosting is peers calls adds differ known = record {
     answer = Err failed;
     granted = true;
@@ -198,7 +198,7 @@ module _ (old : Held) (told_old told_new : Option (List DoorCall)) (owns : List 
 pub lets_peer : (peer : ℕ) (opens : Bool) (old new : Held) (told_old told_mid told_new : Option (List DoorCall))
     (owns owns_new : List (Option Own))
     → Tells told_old (door.AcceptCall (Ok (Some peer))) told_mid → AsksPeers told_mid told_new
-    → SeatsPeer peer old told_mid owns new told_new owns_new opens → LetsIn old told_old owns new told_new owns_new opens
+    → Connects peer old told_mid owns new told_new owns_new opens → AcceptsOne old told_old owns new told_new owns_new opens
 lets_peer peer opens old new told_old told_mid told_new owns owns_new h asks sits buses stand keys told hosting is peers calls adds differ
     known =
     let call : DoorCall = door.AcceptCall (Ok (Some peer)) in
@@ -330,7 +330,7 @@ tail_of told due slack now answer rest t e = ap (list_all is_of_peer) (sym (ap (
 pub makes_turn : (opens : Bool) (old mid between new : Held) (told_old told_mid told_between told_new : Option (List DoorCall))
     (owns_old owns owns_new : List (Option Own))
     → TakesMoment old told_old mid told_mid → mid.denied ≡ old.denied → AsksNewcomer told_mid told_between
-    → LetsIn mid told_mid owns_old between told_between owns opens
+    → AcceptsOne mid told_mid owns_old between told_between owns opens
     → AsksPeers told_between told_new → VisitsPlaces between told_between owns new told_new owns_new → AsksTurn told_old told_new
     → MakesTurn old told_old owns_old new told_new owns_new opens
 makes_turn opens old mid between new told_old told_mid told_between told_new owns_old owns owns_new moment same_count asks_in lets

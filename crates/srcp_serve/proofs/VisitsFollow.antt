@@ -26,7 +26,7 @@ use Rattle.srcp_serve.specs.Serving.{handed, is_closing, reads_of, writes_of, cl
 use Rattle.srcp_serve.specs.Serving.{loses_reading, loses_writing, falls_short, piece_of, count_of}
 use Rattle.srcp_serve.specs.Turns.{AsksPeers}
 use Rattle.srcp_serve.specs.Visits.{AddsGiven, AreAbout, AreWritesTo, Closes, CountsAsked, FromEveryCourse, IsLetGo, IsReadFrom, IsVisited}
-use Rattle.srcp_serve.specs.Visits.{IsWrittenTo, LetsGo, Reading, ReadsIn, Visits, WritesOut, read_calls}
+use Rattle.srcp_serve.specs.Visits.{IsWrittenTo, Disconnects, Reading, ReadsIn, Visits, WritesOut, read_calls}
 use Rattle.srcp_serve.proofs.RefusalsWereAskedFor.{asked_one, asked_rooms, asked_then}
 use Rattle.srcp_serve.proofs.CallsAreAdded.{given_then, refusals_then}
 use Rattle.srcp_serve.proofs.VisitsAreSeenAgain.{own_calls}
@@ -359,7 +359,7 @@ module _ (peer key : ℕ) (old mid : Held) (told_old told_mid : Option (List Doo
         (writes buses (events ++ map (Bytes n) (filter_map piece_of (read_calls peer r.read))) keys n told
         (record { layout = s.layout; named = s.named; stands = r.stands }) is)
 
-    module _ (goes : LetsGo peer key mid told_mid new told_new) where
+    module _ (goes : Disconnects peer key mid told_mid new told_new) where
       pub visit_lost : Exchanges peer key old told_old mid told_mid false → Visits peer key old told_old new told_new false
       visit_lost exchanges buses events keys n told s is =
           let w = (asks told is).adds in
@@ -384,7 +384,7 @@ module _ (peer key : ℕ) (old mid : Held) (told_old told_mid : Option (List Doo
 
 -- the connection is shut and the peer let go
 pub lets_go : (peer key : ℕ) (old new : Held) (told_old told_new : Option (List DoorCall)) → new ≡ hung_up key old
-    → Closes peer told_old told_new → LetsGo peer key old told_old new told_new
+    → Closes peer told_old told_new → Disconnects peer key old told_old new told_new
 lets_go peer key old new told_old told_new hung closes buses events keys n told s is = record {
   closed = closes told is;
   stands = calls_lead.shut key old new hung buses events keys n s.layout s.named s.stands;

@@ -162,7 +162,7 @@ module _ (buses : List Bus) (stand : Stand) (old : Option (List DoorCall)) (told
 
   module _ (owns : List (Option Own)) (core_old : Held) where
     -- the door was asked for a newcomer; if there was one, it has a slot or was closed
-    pub record HasLetIn (opens : Bool) : Type 0 where
+    pub record HasAccepted (opens : Bool) : Type 0 where
       pub answer : Result (Option ℕ) DoorFault
       pub granted : Bool
       pub early : List Call
@@ -170,7 +170,7 @@ module _ (buses : List Bus) (stand : Stand) (old : Option (List DoorCall)) (told
       pub settled : IsSettled buses stand (AcceptCall answer granted) early core_old held owns opens
 
     -- this peer, which the door had accepted, has a slot or was closed
-    pub record HasSeated (peer : ℕ) (opens : Bool) : Type 0 where
+    pub record HasConnected (peer : ℕ) (opens : Bool) : Type 0 where
       pub granted : Bool
       pub early : List Call
       pub adds : AddsGiven old told early
@@ -222,11 +222,11 @@ TakesMoment old told_old new told_new = (owns : List (Option Own))
     → FromEveryState (λ buses stand keys told. HasTakenMoment buses stand told_old told new keys) old owns told_new
 
 -- a newcomer that has no slot gets one, or is closed
-abbrev pub SeatsPeer : (peer : ℕ) (old : Held) (told_old : Option (List DoorCall)) (owns_old : List (Option Own))
+abbrev pub Connects : (peer : ℕ) (old : Held) (told_old : Option (List DoorCall)) (owns_old : List (Option Own))
     (new : Held) (told_new : Option (List DoorCall)) (owns_new : List (Option Own)) (opens : Bool) → Type 0
-SeatsPeer peer old told_old owns_old new told_new owns_new opens = FromEveryState
+Connects peer old told_old owns_old new told_new owns_new opens = FromEveryState
     (λ buses stand keys told. AllByRecursion (IsNotOf peer) stand.places
-    → HasSeated buses stand told_old told new owns_new old peer opens)
+    → HasConnected buses stand told_old told new owns_new old peer opens)
     old owns_old told_new
 
 -- `After` holds of the peers so far, if the calls that were added accept none of them, and no peer twice
@@ -236,11 +236,11 @@ IfPeersDiffer told_old told places After = (peers : List ℕ) (calls : List Door
     → PeersDiffer peers calls → AllByRecursion (IsOneOf peers) places → After peers
 
 -- the door is asked for a newcomer
-abbrev pub LetsIn : (old : Held) (told_old : Option (List DoorCall)) (owns_old : List (Option Own))
+abbrev pub AcceptsOne : (old : Held) (told_old : Option (List DoorCall)) (owns_old : List (Option Own))
     (new : Held) (told_new : Option (List DoorCall)) (owns_new : List (Option Own)) (opens : Bool) → Type 0
-LetsIn old told_old owns_old new told_new owns_new opens = FromEveryState
+AcceptsOne old told_old owns_old new told_new owns_new opens = FromEveryState
     (λ buses stand keys told. IfPeersDiffer told_old told stand.places
-    (λ peers. HasLetIn buses stand told_old told new owns_new old opens))
+    (λ peers. HasAccepted buses stand told_old told new owns_new old opens))
     old owns_old told_new
 
 -- whoever has that slot is visited

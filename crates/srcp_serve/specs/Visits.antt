@@ -177,9 +177,9 @@ WritesOut peer key old told_old new told_new stays = FromEveryCourse
     (λ buses events keys n told. IsWrittenTo buses events keys n peer told_old told new stays) key old told_new
 
 -- its connection is shut, and the peer is closed
-abbrev pub LetsGo : (peer key : ℕ) (old : Held) (told_old : Option (List DoorCall))
+abbrev pub Disconnects : (peer key : ℕ) (old : Held) (told_old : Option (List DoorCall))
     (new : Held) (told_new : Option (List DoorCall)) → Type 0
-LetsGo peer key old told_old new told_new = FromEveryCourse
+Disconnects peer key old told_old new told_new = FromEveryCourse
     (λ buses events keys n told. IsLetGo buses events keys n peer told_old told new) key old told_new
 
 -- the peer is visited

@@ -2,7 +2,7 @@
 
 ghost use Rattle.std.specs.Prelude.{◌≡◌, ◌<◌, ◌≤◌, ◌+◌, replicate, None};
 ghost use Rattle.srcp_core.specs.declared.limits.TheConstants.{MOST_CONNECTIONS};
-ghost use Rattle.srcp_serve.specs.Places.{LetsIn, MakesTurn, MayFree, SeatsPeer, ServesCourse, TakesMoment, one_if};
+ghost use Rattle.srcp_serve.specs.Places.{AcceptsOne, MakesTurn, MayFree, Connects, ServesCourse, TakesMoment, one_if};
 ghost use Rattle.srcp_serve.specs.Places.{VisitsPlace, VisitsPlaces};
 ghost use Rattle.srcp_serve.specs.Tally.{CallsDoor};
 ghost use Rattle.srcp_serve.specs.Turns.{AsksMoment, AsksNewcomer, AsksPeers, AsksTurn, AsksTurns};
@@ -86,7 +86,7 @@ impl<'d, D: Door> Server<'d, D> {
             core.new (D.told self.new.door.now) self.new.places result }
     {
         self.take_moment(core);
-        let opens = self.let_in(core);
+        let opens = self.accept_one(core);
         self.visit_places(core);
         opens
     }
@@ -139,15 +139,15 @@ impl<'d, D: Door> Server<'d, D> {
     }
 
     /// Accepts one peer, if one is pending. Returns whether it got a slot.
-    fn let_in<R: Rows>(&mut self, core: &mut Core<'_, R>) -> bool
+    fn accept_one<R: Rows>(&mut self, core: &mut Core<'_, R>) -> bool
         requires { self.old.tally.faults ≤ D.faults self.old.door.now }
         ensures calls { CallsDoor D.faults D.told AsksNewcomer self.old self.new }
-        ensures course { LetsIn core.old (D.told self.old.door.now) self.old.places
+        ensures course { AcceptsOne core.old (D.told self.old.door.now) self.old.places
             core.new (D.told self.new.door.now) self.new.places result }
     {
         match self.door.accept() {
             Ok(None) => false,
-            Ok(Some(peer)) => self.seat(core, peer),
+            Ok(Some(peer)) => self.connect(core, peer),
             Err(_) => {
                 self.tally.fault();
                 false
@@ -157,10 +157,10 @@ impl<'d, D: Door> Server<'d, D> {
 
     /// Gives a peer a connection and the first free slot. Closes the peer if the core refuses the connection. Returns
     /// whether the peer got a slot.
-    fn seat<R: Rows>(&mut self, core: &mut Core<'_, R>, peer: u32) -> bool
+    fn connect<R: Rows>(&mut self, core: &mut Core<'_, R>, peer: u32) -> bool
         requires { self.old.tally.faults ≤ D.faults self.old.door.now }
         ensures calls { CallsDoor D.faults D.told AsksPeers self.old self.new }
-        ensures course { SeatsPeer peer core.old (D.told self.old.door.now) self.old.places
+        ensures course { Connects peer core.old (D.told self.old.door.now) self.old.places
             core.new (D.told self.new.door.now) self.new.places result }
     {
         let Ok(key) = core.connect() else {
@@ -170,7 +170,7 @@ impl<'d, D: Door> Server<'d, D> {
         let seat = Seat { peer, key };
         // The core had fewer connections than there are slots, so one is free.
         let Some(free) = self.places.first_free() else {
-            self.let_go(core, seat);
+            self.disconnect(core, seat);
             return false;
         };
         self.places.give(free, seat);

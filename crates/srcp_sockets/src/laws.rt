@@ -114,9 +114,9 @@ pub fn times_are_kept<S: System + Drop>(door: &SocketDoor<S>)
     let _sockets = &door.sockets;
 }
 
-/// What was told of a newcomer was what the system had said: its number if the system accepted a peer under that, a
-/// fault if it failed, and nobody if it found nobody or was interrupted. If the system was not asked, it was nobody; or
-/// a fault, since memory or the numbers ran out.
+/// The door answered `accept` as the system did: with the number of the newcomer that the system accepted, with a fault
+/// if it failed, and with nobody if it found nobody or was interrupted. If the system was not asked, the answer was
+/// nobody; or a fault, since memory or the numbers ran out.
 pub fn newcomers_are_true<S: System + Drop>(door: &SocketDoor<S>)
     ensures { (log : List Step) → S.told door.now.sockets.system ≡ Some log
         → (times door.now.sockets.turn.timekeeper.wall door.now.sockets.turn.timekeeper.start log).honest ≡ true }

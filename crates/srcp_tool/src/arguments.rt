@@ -158,5 +158,5 @@ fn turns<'a>(alloc: Global) -> Arg<'a>
         .long("turns")
         .value_name("N")
         .value_parser(value_parser!(u64))
-        .help("Ends after so many turns of the server, each a look at every connection")
+        .help("Ends after this number of turns, each a look at every connection")
 }

@@ -20,7 +20,7 @@ use Rattle.srcp_grammar.specs.Devices.{power_device, fb_device}
 use Rattle.srcp_rules.specs.State.{State, IsRising, IsRowOf, first_row, has_row, opening, opening_on, put_row, row_after, row_at}
 use Rattle.srcp_grammar.proofs.FindLaws.{each_filtered, found_holds}
 use Rattle.srcp_rules.proofs.PutLaws.{put_row-past}
-use Rattle.srcp_rules.proofs.SoughtLaws.{beyond, fewer_beyond}
+use Rattle.srcp_rules.proofs.CursorLaws.{beyond, fewer_beyond}
 use Rattle.srcp_rules.proofs.StateLaws.{row_key, row_at-first, row_at-later, rising-updated}
 
 -- the row with that stamp

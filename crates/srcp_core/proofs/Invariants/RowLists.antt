@@ -9,7 +9,7 @@ use Rattle.std.specs.List.{AllByRecursion}
 use Rattle.srcp_info.specs.WellFormed.{IsWellFormedShown}
 use Rattle.srcp_grammar.specs.declared.layout.Bus.{Bus}
 use Rattle.srcp_rules.specs.State.{State, IsRising, IsWhole, row_after, shown_rows}
-use Rattle.srcp_rules.proofs.SoughtLaws.{beyond, beyond-next, beyond-none}
+use Rattle.srcp_rules.proofs.CursorLaws.{beyond, beyond-next, beyond-none}
 use Rattle.srcp_rules.proofs.StateLaws.{each_found}
 use Rattle.srcp_core.proofs.CourseLaws.ShownRegistry.{all_shown}
 

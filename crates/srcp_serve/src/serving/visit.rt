@@ -3,7 +3,7 @@
 ghost use Rattle.std.specs.Prelude.{◌≡◌, ◌<◌, ◌≤◌, ◌+◌};
 ghost use Rattle.srcp_serve.specs.Tally.{CallsDoor};
 ghost use Rattle.srcp_serve.specs.Turns.{AsksPeers};
-ghost use Rattle.srcp_serve.specs.Visits.{Closes, LetsGo, ReadsIn, Visits, WritesOnce, WritesOut};
+ghost use Rattle.srcp_serve.specs.Visits.{Closes, Disconnects, ReadsIn, Visits, WritesOnce, WritesOut};
 
 use super::Server;
 use crate::door::{Door, Got};
@@ -44,17 +44,17 @@ impl<'d, D: Door> Server<'d, D> {
         if self.read_in(core, seat) && self.write_out(core, seat) && !core.closing(seat.key) {
             return true;
         }
-        self.let_go(core, seat);
+        self.disconnect(core, seat);
         false
     }
 
     /// Hangs up the connection of a peer and closes the peer.
-    pub(super) fn let_go<R: Rows>(&mut self, core: &mut Core<'_, R>, seat: Seat)
+    pub(super) fn disconnect<R: Rows>(&mut self, core: &mut Core<'_, R>, seat: Seat)
         requires { self.old.tally.faults ≤ D.faults self.old.door.now }
         ensures places { self.new.places ≡ self.old.places }
         ensures calls { CallsDoor D.faults D.told AsksPeers self.old self.new }
         ensures denied { core.new.denied ≡ core.old.denied }
-        ensures course { LetsGo seat.peer seat.key core.old (D.told self.old.door.now)
+        ensures course { Disconnects seat.peer seat.key core.old (D.told self.old.door.now)
             core.new (D.told self.new.door.now) }
     {
         let _ = core.hangup(seat.key);

@@ -1,7 +1,7 @@
 use Rattle.std.proofs.Common.{length, nat_lt, refl, [], ◌∷◌, subst}
 use Rattle.std.proofs.lemmas.Bool.{ltb-false}
 use Rattle.srcp_info.specs.declared.change.Code.TheVariants.{C414, C418}
-use Rattle.srcp_grammar.specs.declared.command.Lockable.TheVariants as lockable
+use Rattle.srcp_grammar.specs.declared.command.DeviceGroup.TheVariants as devices
 use Rattle.srcp_rules.specs.Effect.{Effect, gl_put, gl_refusals, is_locked}
 use Rattle.srcp_rules.specs.Obeyed.{Took}
 use Rattle.srcp_grammar.specs.Devices.{device_in}
@@ -35,9 +35,9 @@ set_one-requires-clause-there g c =
     let session = c.args.sender.session in
     let moment = c.args.sender.moment in
     let fits = c.args.sender.fits in
-    let device = device_in lockable.Gl bus address in
+    let device = device_in devices.Gl bus address in
     let short = nat_lt (length (functions_of bus address state)) (length c.args.drive.now.functions) in
-    let others = (short, C418) ∷ (is_locked state session lockable.Gl bus address, C414) ∷ [] in
+    let others = (short, C418) ∷ (is_locked state session devices.Gl bus address, C414) ∷ [] in
     let there = set_there buses state session moment fits device others c.in-Ok.ensures.refusal in
     rw (c.key_at-key.ensures, c.device_at.ensures, c.gl.ensures)
     (port_there buses state session moment fits device c.requires.may.whole there 1 c.requires.may.of.0)
@@ -50,7 +50,7 @@ set_one-requires-clause-fits g c =
     let drive = c.args.drive.now in
     let before = functions_of drive.bus drive.address state in
     let enough = (none_applies (gl_refusals state session drive) c.in-Ok.ensures.refusal).1.0 in
-    rw (c.key_at-key.ensures, c.device_at.ensures, c.gl.ensures, c.kept_v.ensures, c.functions_after.ensures, c.in-Ok.ensures.before)
+    rw (c.key_at-key.ensures, c.device_at.ensures, c.gl.ensures, c.kept_speed.ensures, c.functions_after.ensures, c.in-Ok.ensures.before)
     (gl_row buses state session c.args.sender.moment c.args.sender.fits drive c.requires.may
     (ltb-false (length before) (length drive.functions) enough))
 
@@ -62,5 +62,5 @@ returns-clause-took g c =
     let took = c.set_one.ensures.took in
     subst (λ (did : Effect). Took did state (g.R.Rows.state c.set_one.new.rows) c.set_one.new.obeyed)
     (accepted_done refusals updates c.in-Ok.ensures.refusal)
-    (rw (c.key_at-key.ensures, c.device_at.ensures, c.gl.ensures, c.kept_v.ensures, c.functions_after.ensures, c.in-Ok.ensures.before)
+    (rw (c.key_at-key.ensures, c.device_at.ensures, c.gl.ensures, c.kept_speed.ensures, c.functions_after.ensures, c.in-Ok.ensures.before)
     at took)

@@ -5,13 +5,13 @@ use Rattle.srcp_info.specs.declared.value.Letter.{Letter}
 use Rattle.srcp_info.specs.declared.value.Value.TheVariants as value
 use Rattle.srcp_info.specs.WellFormed.{IsMoment}
 use Rattle.srcp_grammar.specs.declared.layout.Bus.{Bus}
-use Rattle.srcp_grammar.specs.declared.command.Lockable.TheVariants as lockable
+use Rattle.srcp_grammar.specs.declared.command.DeviceGroup.TheVariants as devices
 use Rattle.srcp_grammar.specs.Devices.{device_in, device_at}
 use Rattle.srcp_rules.specs.State.{State, Update, is_there, put_of}
 use Rattle.srcp_rules.specs.Effect.{done, init_device}
 use Rattle.srcp_rules.specs.Obeyed.{TookUnless}
 use Rattle.srcp_rules.specs.Rows.{AreRowsOf}
-use Rattle.srcp_rules.proofs.FreshLaws.{ga_fresh, ga_taken, ga_rows, ga_puts}
+use Rattle.srcp_rules.proofs.NewRowLaws.{ga_fresh, ga_taken, ga_rows, ga_puts}
 use Rattle.srcp_rules.proofs.new_device.init_ga.Goals as goal
 
 module _ (buses : List Bus) (state : State) (session moment : ℕ) (now : IsMoment moment) where
@@ -28,7 +28,7 @@ init_device-requires-clause-fresh g c =
     let buses = g.R.Rows.buses c.args.rows.now in
     let state = g.R.Rows.state c.args.rows.now in
     let ga = c.args.decoder.now in
-    let device = device_in lockable.Ga ga.bus ga.address in
+    let device = device_in devices.Ga ga.bus ga.address in
     let made : c.device_at.result ≡ device = c.device_at.ensures ∙ ap device_at c.ga-target.ensures in
     let rows =
     handed buses state c.args.sender.session c.args.sender.moment c.args.sender.fits c.ga_rows-most.result c.device_at.result device
@@ -42,7 +42,7 @@ returns-clause-obeyed g c =
     let buses = g.R.Rows.buses c.args.rows.now in
     let state = g.R.Rows.state c.args.rows.now in
     let ga = c.args.decoder.now in
-    let device = device_in lockable.Ga ga.bus ga.address in
+    let device = device_in devices.Ga ga.bus ga.address in
     let made : c.device_at.result ≡ device = c.device_at.ensures ∙ ap device_at c.ga-target.ensures in
     let rows =
     handed buses state c.args.sender.session c.args.sender.moment c.args.sender.fits c.ga_rows-most.result c.device_at.result device
@@ -52,7 +52,7 @@ returns-clause-obeyed g c =
     (λ (updates : List Update).
     TookUnless (not (is_there device state))
     (done
-    (init_device state c.args.sender.session c.args.sender.moment lockable.Ga ga.bus ga.address
+    (init_device state c.args.sender.session c.args.sender.moment devices.Ga ga.bus ga.address
     (value.GaInit ga.letter) updates)) state
     (g.R.Rows.state c.init_device.new.rows) c.init_device.new.obeyed)
     (ap (map put_of) rows

@@ -1,4 +1,4 @@
-use Rattle.srcp_rules.proofs.FreshLaws.{gl_rows}
+use Rattle.srcp_rules.proofs.NewRowLaws.{gl_rows}
 use Rattle.srcp_rules.proofs.new_device.init_gl.Goals as goal
 
 pub init_device-requires-clause-fresh : goal.init_device-requires-clause-fresh

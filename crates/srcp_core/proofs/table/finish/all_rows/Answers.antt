@@ -1,6 +1,6 @@
 use Rattle.std.proofs.Common.{ap, sym, ◌∙◌, ◌++◌}
 use Rattle.srcp_rules.specs.State.{State}
-use Rattle.srcp_rules.proofs.SoughtLaws.{beyond, fewer_beyond}
+use Rattle.srcp_rules.proofs.CursorLaws.{beyond, fewer_beyond}
 use Rattle.srcp_info.specs.declared.change.Cursor.TheVariants.{Start, After}
 use Rattle.srcp_core.proofs.Invariants.RowLists.{beyond_start, one_listed, all_listed}
 use Rattle.srcp_core.proofs.table.finish.all_rows.Goals as goal

@@ -1,5 +1,5 @@
 use Rattle.std.proofs.Common.{◌≡◌, length, ◌++◌}
-use Rattle.srcp_rules.proofs.SoughtLaws.{beyond}
+use Rattle.srcp_rules.proofs.CursorLaws.{beyond}
 use Rattle.srcp_core.proofs.table.finish.all_rows.Given as goal
 
 abbrev pub invariant-loop-row : goal.invariant-loop-row

@@ -1,7 +1,7 @@
 use Rattle.std.proofs.Common.{◌≡◌, length}
 use Rattle.std.specs.List.{AllByRecursion}
 use Rattle.srcp_rules.specs.State.{IsRising, IsRowOf, opening}
-use Rattle.srcp_rules.proofs.SoughtLaws.{beyond}
+use Rattle.srcp_rules.proofs.CursorLaws.{beyond}
 use Rattle.srcp_core.proofs.Invariants.OpeningRowsAreStamped.{stamped_beyond}
 use Rattle.srcp_core.proofs.table.stamp.stamp_all.Given as goal
 

@@ -38,7 +38,7 @@ returns-clause-calls g c =
       | else-read_in-via-else-read_in w ↦
           subst (CallsDoor g.D.Door.faults g.D.Door.told AsksPeers old) (sym w.self-is) c.read_in.ensures.calls
     ] in
-    calls_on _ _ _ _ _ first c.let_go.ensures.calls
+    calls_on _ _ _ _ _ first c.disconnect.ensures.calls
 
 pub returns-clause-course : goal.returns-clause-course
 returns-clause-course g c =
@@ -71,5 +71,5 @@ returns-clause-course g c =
           (subst (λ (h : Held). Ends peer key old h told told_r) (sym w.core-is)
           (inl (exchanges_lost peer key old c.read_in.new.core told told_r w.if-read_in.ensures.course)))
     ] in
-    visit_ends peer key old mid told told_mid c.let_go.new.core (g.D.Door.told c.let_go.new.self.door.now) c.let_go.ensures.denied
-    c.let_go.ensures.calls.asks c.let_go.ensures.course first
+    visit_ends peer key old mid told told_mid c.disconnect.new.core (g.D.Door.told c.disconnect.new.self.door.now) c.disconnect.ensures.denied
+    c.disconnect.ensures.calls.asks c.disconnect.ensures.course first

@@ -4,7 +4,7 @@ use Rattle.srcp_serve.specs.declared.tally.Tally.{Tally}
 use Rattle.srcp_serve.proofs.TurnsFollow.{lets_nobody, lets_none, lets_peer}
 use Rattle.srcp_serve.proofs.FaultsAreCounted.{counts_then, none_failed, one_failed}
 use Rattle.srcp_serve.proofs.TurnsAskInOrder.{asks_newcomer, asks_none}
-use Rattle.srcp_serve.proofs.serving.Server.let_in.Goals as goal
+use Rattle.srcp_serve.proofs.serving.Server.accept_one.Goals as goal
 
 pub returns-in-Ok-None-clause-calls : goal.returns-in-Ok-None-clause-calls
 returns-in-Ok-None-clause-calls g c = record {
@@ -15,7 +15,7 @@ returns-in-Ok-None-clause-calls g c = record {
 
 pub returns-in-Ok-Some-clause-calls : goal.returns-in-Ok-Some-clause-calls
 returns-in-Ok-Some-clause-calls g c =
-    let later = c.seat.ensures.calls in
+    let later = c.connect.ensures.calls in
     record {
       same_door = later.same_door;
       counted = counts_then _ _ _ _ _ _ (none_failed _ _ _ c.requires c.in-Ok-Some.ensures.ok) later.counted;
@@ -37,10 +37,10 @@ returns-in-Ok-None-clause-course g c =
 
 pub returns-in-Ok-Some-clause-course : goal.returns-in-Ok-Some-clause-course
 returns-in-Ok-Some-clause-course g c =
-    lets_peer c.in-Ok-Some.peer c.seat.result c.args.core.now c.seat.new.core (g.D.Door.told c.args.self.now.door.now)
-    (g.D.Door.told c.accept.new.self) (g.D.Door.told c.seat.new.self.door.now) c.args.self.now.places c.seat.new.self.places
+    lets_peer c.in-Ok-Some.peer c.connect.result c.args.core.now c.connect.new.core (g.D.Door.told c.args.self.now.door.now)
+    (g.D.Door.told c.accept.new.self) (g.D.Door.told c.connect.new.self.door.now) c.args.self.now.places c.connect.new.self.places
     (subst (λ (o : Option ℕ). Tells (g.D.Door.told c.args.self.now.door.now) (AcceptCall (Ok o)) (g.D.Door.told c.accept.new.self))
-    c.in-Ok-Some.field-0-is c.in-Ok-Some.ensures.told) c.seat.ensures.calls.asks c.seat.ensures.course
+    c.in-Ok-Some.field-0-is c.in-Ok-Some.ensures.told) c.connect.ensures.calls.asks c.connect.ensures.course
 
 pub returns-in-Err-clause-course : goal.returns-in-Err-clause-course
 returns-in-Err-clause-course g c =

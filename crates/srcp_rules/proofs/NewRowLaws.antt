@@ -10,7 +10,7 @@ use Rattle.srcp_info.specs.declared.value.Value.TheVariants as value
 use Rattle.srcp_info.specs.declared.change.Row.{Row}
 use Rattle.srcp_info.specs.WellFormed.{IsMoment}
 use Rattle.srcp_grammar.specs.declared.layout.Bus.{Bus}
-use Rattle.srcp_grammar.specs.declared.command.Lockable.TheVariants as lockable
+use Rattle.srcp_grammar.specs.declared.command.DeviceGroup.TheVariants as devices
 use Rattle.srcp_grammar.specs.declared.command.Command.TheVariants.{InitGl, InitGa}
 use Rattle.srcp_grammar.specs.Layout.{row_count}
 use Rattle.srcp_grammar.specs.Devices.{device_in, key_at}
@@ -27,12 +27,12 @@ module _ (buses : List Bus) (state : State) (session moment : ℕ) (now : IsMome
   -- ---- a locomotive
 
   pub gl_rows : (gl : NewGl) → MayObey buses state session (InitGl gl)
-      → AreRowsOf buses (device_in lockable.Gl gl.bus gl.address)
-      (row_put moment (key_at (device_in lockable.Gl gl.bus gl.address) 0) (gl_init gl) None
-      ∷ row_put moment (key_at (device_in lockable.Gl gl.bus gl.address) 1) (value.GlState 1 0 0 (replicate gl.functions false)) None ∷ [])
+      → AreRowsOf buses (device_in devices.Gl gl.bus gl.address)
+      (row_put moment (key_at (device_in devices.Gl gl.bus gl.address) 0) (gl_init gl) None
+      ∷ row_put moment (key_at (device_in devices.Gl gl.bus gl.address) 1) (value.GlState 1 0 0 (replicate gl.functions false)) None ∷ [])
   gl_rows gl may =
       let functions = gl.functions in
-      let device = device_in lockable.Gl gl.bus gl.address in
+      let device = device_in devices.Gl gl.bus gl.address in
       let some : 0 < row_count buses device = may.of.0 in
       let fits = may.of.1 in
       let count : row_count buses device ≡ 2 = gl_count buses gl.bus gl.address some in
@@ -70,16 +70,16 @@ module _ (buses : List Bus) (state : State) (session moment : ℕ) (now : IsMome
       ∙ ap (λ rows. row_put moment (key_at device 0) (value.GaInit letter) None ∷ rows)
       (take-map-range_with_len (port_row device) 1 8 ports few)
 
-  puts-ports : (bus address first n : ℕ) → map put_of (map (port_row (device_in lockable.Ga bus address)) (range_with_len first n))
-      ≡ map (λ port. put_at moment (key_at (device_in lockable.Ga bus address) port) (value.GaPort false) None) (range_with_len first n)
+  puts-ports : (bus address first n : ℕ) → map put_of (map (port_row (device_in devices.Ga bus address)) (range_with_len first n))
+      ≡ map (λ port. put_at moment (key_at (device_in devices.Ga bus address) port) (value.GaPort false) None) (range_with_len first n)
   puts-ports bus address first zero = refl
   puts-ports bus address first (suc n) =
-      ap (λ updates. put_at moment (key_at (device_in lockable.Ga bus address) first) (value.GaPort false) None ∷ updates)
+      ap (λ updates. put_at moment (key_at (device_in devices.Ga bus address) first) (value.GaPort false) None ∷ updates)
       (puts-ports bus address (first + 1) n)
 
-  pub ga_puts : (ga : NewGa) → map put_of (ga_fresh (device_in lockable.Ga ga.bus ga.address) ga.letter ga.ports) ≡ fresh_ga moment ga
+  pub ga_puts : (ga : NewGa) → map put_of (ga_fresh (device_in devices.Ga ga.bus ga.address) ga.letter ga.ports) ≡ fresh_ga moment ga
   ga_puts ga =
-      ap (λ updates. put_at moment (key_at (device_in lockable.Ga ga.bus ga.address) 0) (value.GaInit ga.letter) None ∷ updates)
+      ap (λ updates. put_at moment (key_at (device_in devices.Ga ga.bus ga.address) 0) (value.GaInit ga.letter) None ∷ updates)
       (puts-ports ga.bus ga.address 1 ga.ports)
 
   keys-ports : (device : Device) (first n : ℕ)
@@ -92,10 +92,10 @@ module _ (buses : List Bus) (state : State) (session moment : ℕ) (now : IsMome
   length-ports device first (suc n) = ap suc (length-ports device (first + 1) n)
 
   each_port : (ga : NewGa) → MayObey buses state session (InitGa ga) → (first n : ℕ) → 1 ≤ first → first + n ≤ 1 + ga.ports
-      → AllByRecursion (IsRowOf buses) (map (port_row (device_in lockable.Ga ga.bus ga.address)) (range_with_len first n))
+      → AllByRecursion (IsRowOf buses) (map (port_row (device_in devices.Ga ga.bus ga.address)) (range_with_len first n))
   each_port ga may first zero low high = tt
   each_port ga may first (suc n) low high =
-      let device = device_in lockable.Ga ga.bus ga.address in
+      let device = device_in devices.Ga ga.bus ga.address in
       let count : row_count buses device ≡ 1 + ga.ports = may.of.0 in
       let few : ga.ports ≤ 8 = may.of.1 in (
         IsRowOf-put buses may.whole.laid_out (key_at device first) moment (value.GaPort false) None (omega (arith, count)) now
@@ -104,11 +104,11 @@ module _ (buses : List Bus) (state : State) (session moment : ℕ) (now : IsMome
       )
 
   pub ga_rows : (ga : NewGa) → MayObey buses state session (InitGa ga)
-      → AreRowsOf buses (device_in lockable.Ga ga.bus ga.address)
-      (ga_fresh (device_in lockable.Ga ga.bus ga.address) ga.letter ga.ports)
+      → AreRowsOf buses (device_in devices.Ga ga.bus ga.address)
+      (ga_fresh (device_in devices.Ga ga.bus ga.address) ga.letter ga.ports)
   ga_rows ga may =
       let ports = ga.ports in
-      let device = device_in lockable.Ga ga.bus ga.address in
+      let device = device_in devices.Ga ga.bus ga.address in
       let count : row_count buses device ≡ 1 + ports = may.of.0 in
       let more : row_count buses device ≡ suc ports = omega (arith, count) in
       let few : ports ≤ 8 = may.of.1 in

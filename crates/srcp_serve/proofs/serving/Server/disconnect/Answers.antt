@@ -1,5 +1,5 @@
 use Rattle.srcp_serve.proofs.VisitsFollow.{lets_go}
-use Rattle.srcp_serve.proofs.serving.Server.let_go.Goals as goal
+use Rattle.srcp_serve.proofs.serving.Server.disconnect.Goals as goal
 
 pub returns-clause-course : goal.returns-clause-course
 returns-clause-course g c =
