@@ -1,6 +1,6 @@
 //! Bytes, numbers and moments, put at the end of a line that is being written.
 
-ghost use Rattle.std.specs.Prelude.{◌≡◌, ◌+◌, ◌≤◌, ◌++◌, length, decimal};
+ghost use Rattle.std.specs.Prelude.{◌≡◌, ◌<◌, ◌+◌, ◌≤◌, ◌++◌, length, decimal};
 ghost use Rattle.arrayvec.specs.ArrayVec.{array_vec_len};
 ghost use Rattle.srcp_text.specs.Stamp.{stamp};
 
@@ -32,12 +32,27 @@ pub fn put_number<const N: usize>(number: u64, line: &mut ArrayVec<u8, N>)
         line.push(b'0' + (number / 100) as u8);
         line.push(b'0' + (number / 10 % 10) as u8);
         line.push(b'0' + (number % 10) as u8);
+    } else if number < 10_000 {
+        put_four_digits(number, line);
     } else {
         put_long_number(number, line);
     }
 }
 
-/// Appends a number of four digits or more. It is a function of its own, so that a short number needs no buffer.
+/// Appends a number of four digits. It is a function of its own, so that the code of shorter ones stays small.
+#[inline(never)]
+fn put_four_digits<const N: usize>(number: u64, line: &mut ArrayVec<u8, N>)
+    requires digits { (1000 ≤ number) × (number < 10000) }
+    requires room { array_vec_len line.old + length (decimal number) ≤ N }
+    ensures { line.new.items ≡ line.old.items ++ decimal number }
+{
+    line.push(b'0' + (number / 1000) as u8);
+    line.push(b'0' + (number / 100 % 10) as u8);
+    line.push(b'0' + (number / 10 % 10) as u8);
+    line.push(b'0' + (number % 10) as u8);
+}
+
+/// Appends a number of five digits or more. It is a function of its own, so that a short number needs no buffer.
 #[inline(never)]
 fn put_long_number<const N: usize>(number: u64, line: &mut ArrayVec<u8, N>)
     requires { array_vec_len line.old + length (decimal number) ≤ N }
