@@ -17,7 +17,7 @@ from listing_out_of_memory import RECORDS, SCRIPT, event_refused, is_expected
 
 CRATE = Path(__file__).resolve().parent.parent / "crates" / "out_of_memory_tests"
 # how many allocations each trial is tried with, which is more than it has
-TRIALS = {"ring": 3, "feed": 5, "mirror": 4, "layout": 5, "connect": 8, "configuration": 18, "script": 4, "words": 66,
+TRIALS = {"queue": 3, "feed": 5, "mirror": 4, "layout": 5, "connect": 8, "configuration": 18, "script": 4, "words": 66,
           "serve": 9, "play-flat": 62, "play-nested": 66, "listing-flat": 39, "listing-nested": 48}
 LISTINGS = ("listing-flat", "listing-nested")
 # how many allocations of a listing's trial are left out: they read its script, which is not its run
@@ -79,8 +79,8 @@ def faults_of(came):
             yield f"{trial}: granted before its last refusal"
         if "refused" not in outcomes:
             yield f"{trial}: no allocation of it was refused"
-    if came["feed"].count("refused") != came["ring"].count("refused"):
-        yield "feed: it grows otherwise than its ring alone"
+    if came["feed"].count("refused") != came["queue"].count("refused"):
+        yield "feed: it grows otherwise than its queue alone"
 
 
 def main():

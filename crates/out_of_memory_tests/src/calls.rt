@@ -1,6 +1,5 @@
 //! Calls that allocate memory, one by one.
 use crate::outcome::{Outcome, Refused};
-use circular_buffer::HeapCircularBuffer;
 use clap::error::ErrorKind;
 use srcp_core::{Core, CoreFault};
 use srcp_feed::InfoFeed;
@@ -52,9 +51,9 @@ pub(crate) fn one_bus(alloc: Global) -> Result<Layout, Refused> {
     Ok(layout)
 }
 
-/// Makes a ring of as many changes as may wait. With memory the same call succeeds, here and below.
-pub(crate) fn ring(alloc: Global) -> Outcome {
-    let makes = || HeapCircularBuffer::<Change>::with_capacity(alloc, MOST_WAITING).is_ok();
+/// Makes a vector with room for as many changes as may wait. With memory the same call succeeds, here and below.
+pub(crate) fn queue(alloc: Global) -> Outcome {
+    let makes = || Vec::<Change>::with_capacity(alloc, MOST_WAITING).is_ok();
     if makes() {
         Outcome::Granted
     } else {

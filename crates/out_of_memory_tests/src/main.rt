@@ -24,7 +24,7 @@ const MOST_BEFORE: u32 = 10_000;
 
 /// The names of the trials without a script.
 const TRIALS: [&[u8]; 11] = [
-    b"ring",
+    b"queue",
     b"feed",
     b"mirror",
     b"layout",
@@ -109,7 +109,7 @@ fn trial<W: Write>(
     out: &mut W,
 ) -> Result<Outcome, Refused> {
     match name {
-        b"ring" => Ok(calls::ring(alloc)),
+        b"queue" => Ok(calls::queue(alloc)),
         b"feed" => calls::feed(alloc),
         b"mirror" => Ok(calls::mirror(alloc)),
         b"layout" => Ok(calls::layout(alloc)),

@@ -3,6 +3,7 @@ use Rattle.std.specs.Prelude.{◌≡◌, ◌⊎◌, ℕ, Bool, not, ◌&&◌, Li
 use Rattle.std.specs.Prelude.{if◌then◌else◌}
 use Rattle.srcp_info.specs.Client.{client}
 use Rattle.srcp_info.specs.Line.{line}
+use Rattle.srcp_info.specs.WellFormed.{IsWellFormed}
 use Rattle.srcp_info.specs.declared.change.Change.{Change}
 use Rattle.srcp_info.specs.declared.change.Cursor.{Cursor}
 use Rattle.srcp_info.specs.declared.change.Cursor.TheVariants.{Start}
@@ -65,6 +66,6 @@ HoldsPassed given feed rows = client (given ++ feed.queue) ≡ passed feed.curso
 
 -- ---- lines
 
--- the bytes are the line of the change, or there are none
+-- the bytes are the line of the change, which is well-formed, or there are none
 abbrev pub IsLineOrNone : List ℕ → Change → Type 0
-IsLineOrNone bytes change = (bytes ≡ []) ⊎ (bytes ≡ line change)
+IsLineOrNone bytes change = (bytes ≡ []) ⊎ ((bytes ≡ line change) × IsWellFormed change)

@@ -35,10 +35,9 @@ impl ChangeLine {
     {
         let mut line = InfoLine::new();
         write_change(change, &mut line);
-        ChangeLine {
-            change: *change,
-            line: WrittenLine::of(&line),
-        }
+        let mut told = ChangeLine::without_line(change);
+        told.line.put(&line);
+        told
     }
 
     /// Holds a change whose line is not written.
@@ -48,16 +47,6 @@ impl ChangeLine {
         ChangeLine {
             change: *change,
             line: WrittenLine::new(),
-        }
-    }
-
-    /// Returns a copy.
-    pub(crate) fn copied(&self) -> ChangeLine
-        ensures { result ≡ self.now }
-    {
-        ChangeLine {
-            change: self.change,
-            line: self.line.copied(),
         }
     }
 

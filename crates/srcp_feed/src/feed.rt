@@ -10,7 +10,7 @@ ghost use Rattle.srcp_feed.specs.Cursor.{concerns, said};
 ghost use Rattle.srcp_feed.specs.Feed.{beginning, told, told_answer, next_of, after_next, HoldsPassed};
 
 use crate::queue::{MOST_WAITING, Queue};
-use crate::{ChangeLine, Next, Told};
+use crate::{ChangeLine, Next, Told, Waiting};
 use srcp_info::{Change, Cursor, Row};
 use srcp_rules::{Memory, Rows};
 use std::alloc::Global;
@@ -69,7 +69,7 @@ impl InfoFeed {
         if self.waiting.is_full() {
             return Told::Overrun;
         }
-        self.waiting.push(change.copied());
+        self.waiting.push(change);
         Told::Queued
     }
 
@@ -81,7 +81,7 @@ impl InfoFeed {
     }
 
     /// Lends the first change that waits, with its line.
-    pub fn first(&self) -> Option<&ChangeLine>
+    pub fn first(&self) -> Option<&Waiting>
         ensures { option_copied result ≡ slice_get self.now.queue 0 }
     {
         self.waiting.first()
@@ -106,7 +106,7 @@ impl InfoFeed {
             → HoldsPassed (given ++ said result) self.new (shown_rows (R.state rows.now)) }
     {
         if let Some(told) = self.first() {
-            let change = *told.change();
+            let change = told.change();
             self.drop_first();
             return Next::Told(change);
         }
@@ -142,7 +142,7 @@ impl InfoFeed {
         ensures { result ≡ next_of (shown_rows (R.state rows.now)) self.now }
     {
         if let Some(told) = self.first() {
-            return Next::Told(*told.change());
+            return Next::Told(told.change());
         }
         match row_beyond(rows, self.cursor) {
             Some(row) => Next::Listed(row.shown),

@@ -1,50 +1,57 @@
 //! The changes that wait for one information session.
 
-ghost use Rattle.std.specs.Prelude.{◌≡◌, ◌<◌, ◌≤◌, [], ◌∷◌, ◌++◌, IfOk, drop, length, nat_lt, not, option_copied};
-ghost use Rattle.std.specs.Prelude.{slice_get};
+ghost use Rattle.std.specs.Prelude.{◌≡◌, ◌<◌, ◌≤◌, ◌+◌, [], ◌∷◌, ◌++◌, IfOk, take, drop, length, nat_lt, not};
+ghost use Rattle.std.specs.Prelude.{option_copied, slice_get, vec_capacity};
 
-use crate::ChangeLine;
-use circular_buffer::HeapCircularBuffer;
+use crate::{ChangeLine, Waiting};
 use srcp_rules::Memory;
 use std::alloc::Global;
 use std::marker::Model;
+use std::vec::Vec;
 
 /// The most changes that wait for one session. SRCP 0.8 has no such limit.
 pub const MOST_WAITING: usize = 256;
+
+/// The slots of a queue: so many that it is moved to their beginning once for `MOST_WAITING` changes at most.
+const SLOTS: usize = 2 * MOST_WAITING;
 
 /// Holds the changes that wait, in the order in which they came, each with its line. Contracts see the list of the
 /// changes.
 #[derive(Drop)]
 pub(crate) struct Queue {
-    ring: HeapCircularBuffer<ChangeLine>,
-    // The number of consumed changes at the beginning of the ring. They are removed together, once no other waits. The
-    // ring then begins again at the same address, which is still in the processor's cache.
-    taken: usize,
+    // The changes from `first` to `end` wait. Once none does, the next one is put into the first slot, which is still
+    // in the processor's cache.
+    slots: Vec<Waiting>,
+    first: usize,
+    end: usize,
 }
 
 impl Model for Queue {
-    ghost use Rattle.std.specs.Prelude.{◌≡◌, ◌≤◌, List, drop, length};
+    ghost use Rattle.std.specs.Prelude.{◌≡◌, ◌≤◌, ◌+◌, List, take, drop, length, vec_capacity};
     ghost use Rattle.srcp_info.specs.declared.change.Change.{Change};
-    ghost use Rattle.srcp_feed.specs.declared.queue.TheConstants.{MOST_WAITING};
+    ghost use Rattle.srcp_feed.specs.declared.queue.TheConstants.{MOST_WAITING, SLOTS};
 
     ghost Value = { List Change };
 
-    ghost view = { λ q. drop q.taken q.ring.items };
+    ghost view = { λ q. drop q.first (take q.end q.slots.items) };
 
-    ghost invariant = { λ q. (q.ring.capacity ≡ MOST_WAITING) × (length q.ring.items ≤ MOST_WAITING)
-        × (q.taken ≤ length q.ring.items) };
+    ghost invariant = { λ q. (q.first ≤ q.end) × (q.end ≤ q.first + MOST_WAITING) × (q.end ≤ length q.slots.items)
+        × (length q.slots.items ≤ SLOTS) × (SLOTS ≤ vec_capacity q.slots) };
 }
 
 impl Queue {
-    /// Makes an empty queue, with the memory of `MOST_WAITING` changes. No other call allocates.
+    /// Makes an empty queue, with the memory of its slots. No other call allocates.
     ///
     /// # Errors
     /// If memory is refused.
     pub(crate) fn new(alloc: Global) -> Result<Queue, Memory>
         ensures { IfOk result (λ queue. queue ≡ []) }
     {
-        let ring = HeapCircularBuffer::with_capacity(alloc, MOST_WAITING)?;
-        Ok(Queue { ring, taken: 0 })
+        Ok(Queue {
+            slots: Vec::with_capacity(alloc, SLOTS)?,
+            first: 0,
+            end: 0,
+        })
     }
 
     /// Returns how many changes wait.
@@ -52,7 +59,7 @@ impl Queue {
         ensures value { result ≡ length self.now }
         ensures most { result ≤ MOST_WAITING }
     {
-        self.ring.len() - self.taken
+        self.end - self.first
     }
 
     /// Returns whether the queue is full.
@@ -63,23 +70,24 @@ impl Queue {
     }
 
     /// Lends the first change.
-    pub(crate) fn first(&self) -> Option<&ChangeLine>
+    pub(crate) fn first(&self) -> Option<&Waiting>
         ensures { option_copied result ≡ slice_get self.now 0 }
     {
-        self.ring.get(self.taken)
+        self.slots[self.first..self.end].first()
     }
 
-    /// Appends a change.
-    pub(crate) fn push(&mut self, change: ChangeLine)
+    /// Appends a copy of a change.
+    pub(crate) fn push(&mut self, change: &ChangeLine)
         requires { length self.old < MOST_WAITING }
-        ensures { self.new ≡ self.old ++ change ∷ [] }
+        ensures { self.new ≡ self.old ++ change.now ∷ [] }
     {
-        if let Err(change) = self.ring.try_push_back(change) {
-            let waiting = self.len();
-            self.ring.truncate_front(waiting);
-            self.taken = 0;
-            self.ring.push_back(change);
+        if self.end == SLOTS {
+            move_to_front(&mut self.slots, self.first);
+            self.end -= self.first;
+            self.first = 0;
         }
+        put(&mut self.slots, self.end, change);
+        self.end += 1;
     }
 
     /// Drops the first change.
@@ -87,10 +95,36 @@ impl Queue {
         requires { 0 < length self.old }
         ensures { self.new ≡ drop 1 self.old }
     {
-        self.taken += 1;
-        if self.taken == self.ring.len() {
-            self.ring.clear();
-            self.taken = 0;
+        self.first += 1;
+        if self.first == self.end {
+            self.first = 0;
+            self.end = 0;
         }
     }
+}
+
+/// Puts a copy of a change into the slot `at`, which is in use or the next to come.
+#[inline(always)]
+fn put(slots: &mut Vec<Waiting>, at: usize, change: &ChangeLine)
+    requires slot { (at ≤ length slots.old.items) × (at < SLOTS) × (length slots.old.items ≤ SLOTS) }
+    requires capacity { SLOTS ≤ vec_capacity slots.old }
+    ensures items { take (at + 1) slots.new.items ≡ take at slots.old.items ++ change.now ∷ [] }
+    ensures slot { (at + 1 ≤ length slots.new.items) × (length slots.new.items ≤ SLOTS) }
+    ensures capacity { SLOTS ≤ vec_capacity slots.new }
+{
+    if at < slots.len() {
+        slots[at].copy_from(change);
+    } else {
+        slots.push(Waiting::of(change)).unwrap();
+    }
+}
+
+/// Moves the changes from the slot `first` on to the first slots.
+#[inline(never)]
+fn move_to_front(slots: &mut Vec<Waiting>, first: usize)
+    requires { first ≤ length slots.old.items }
+    ensures items { slots.new.items ≡ drop first slots.old.items ++ take first slots.old.items }
+    ensures capacity { vec_capacity slots.new ≡ vec_capacity slots.old }
+{
+    slots.rotate_left(first);
 }

@@ -39,17 +39,13 @@ impl WrittenLine {
         }
     }
 
-    /// Makes a line of the same bytes.
-    pub fn of(line: &InfoLine) -> WrittenLine
-        ensures { result ≡ line.now.items }
+    /// Becomes a line of the same bytes.
+    pub(crate) fn put(&mut self, line: &InfoLine)
+        ensures { self.new ≡ line.now.items }
     {
         let len = line.len();
-        let mut bytes = [0; ROOM];
-        bytes[..len].copy_from_slice(line.as_slice());
-        WrittenLine {
-            bytes,
-            len: len as u8,
-        }
+        self.bytes[..len].copy_from_slice(line.as_slice());
+        self.len = len as u8;
     }
 
     /// Returns a copy.
@@ -62,11 +58,28 @@ impl WrittenLine {
         }
     }
 
+    /// Becomes a copy of another line.
+    pub fn copy_from(&mut self, line: &WrittenLine)
+        ensures value { self.new ≡ line.now }
+        ensures most { length self.new ≤ LONGEST_LINE }
+    {
+        self.bytes = line.bytes;
+        self.len = line.len;
+    }
+
     /// Drops its bytes.
     pub fn clear(&mut self)
         ensures { self.new ≡ [] }
     {
         self.len = 0;
+    }
+
+    /// Returns how many bytes it has.
+    pub fn len(&self) -> usize
+        ensures value { result ≡ length self.now }
+        ensures most { result ≤ LONGEST_LINE }
+    {
+        usize::from(self.len)
     }
 
     /// Returns whether it has no bytes.
@@ -81,6 +94,6 @@ impl WrittenLine {
         ensures value { result.now ≡ self.now }
         ensures most { length result.now ≤ LONGEST_LINE }
     {
-        &self.bytes[..usize::from(self.len)]
+        &self.bytes[..self.len()]
     }
 }
