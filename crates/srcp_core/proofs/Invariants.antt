@@ -7,6 +7,7 @@ pub mod PlacesCover
 pub mod PanelsAreListed
 pub mod PanelsStay
 pub mod SessionRows
+pub mod UnsentBytes
 pub mod CoreStaysSound
 pub mod LinesAsk
 pub mod RepliesStayUnsent

@@ -57,16 +57,16 @@ pub struct Connection {
     mode: Mode,
     session: u32,
     ended: bool,
-    // The line of an information session, or else the replies: one of the two is empty. The bytes from `start` on are
+    // The line of an information session, or else the replies: one of the two is empty. The last `left` bytes are
     // unsent.
     line: PanelLine,
     reply: Vec<u8>,
-    start: usize,
+    left: usize,
     panel: Panel,
 }
 
 impl Model for Connection {
-    ghost use Rattle.std.specs.Prelude.{◌≡◌, ◌≤◌, ◌⊎◌, ◌++◌, [], length, drop, vec_capacity};
+    ghost use Rattle.std.specs.Prelude.{◌≡◌, ◌≤◌, ◌-◌, ◌⊎◌, ◌++◌, [], length, drop, vec_capacity};
     ghost use Rattle.std.specs.List.{AllByRecursion};
     ghost use Rattle.srcp_info.specs.WellFormed.{IsWellFormed};
     ghost use Rattle.srcp_core.specs.Held.{Place};
@@ -81,12 +81,12 @@ impl Model for Connection {
           mode = c.mode;
           session = c.session;
           ended = c.ended;
-          unsent = drop c.start (c.line ++ c.reply.items);
+          unsent = drop (length (c.line ++ c.reply.items) - c.left) (c.line ++ c.reply.items);
           panel = c.panel;
         } };
 
     ghost invariant = { λ c. ((c.line ≡ []) ⊎ (c.reply.items ≡ []))
-        × (c.start ≤ length (c.line ++ c.reply.items)) × (length (c.line ++ c.reply.items) ≤ MOST_UNSENT)
+        × (c.left ≤ length (c.line ++ c.reply.items)) × (length (c.line ++ c.reply.items) ≤ MOST_UNSENT)
         × (MOST_UNSENT ≤ vec_capacity c.reply) × AllByRecursion IsWellFormed (queue_of c.panel) };
 }
 
@@ -104,7 +104,7 @@ impl Connection {
             ended: false,
             line: PanelLine::new(),
             reply,
-            start: 0,
+            left: WELCOME.len(),
             panel: Panel::Absent,
         })
     }
@@ -127,7 +127,14 @@ impl Connection {
     pub(crate) fn is_done(&self) -> bool
         ensures { result ≡ (self.now.ended && is_nil self.now.unsent) }
     {
-        self.ended && self.unsent().is_empty()
+        self.ended && self.is_sent()
+    }
+
+    /// Returns whether no bytes are unsent.
+    pub(crate) fn is_sent(&self) -> bool
+        ensures { result ≡ is_nil self.now.unsent }
+    {
+        self.left == 0
     }
 
     /// Returns the session, if it began and did not end by its own command.
@@ -145,10 +152,11 @@ impl Connection {
         ensures bytes { result.now ≡ self.now.unsent }
         ensures most { length result.now ≤ MOST_UNSENT }
     {
-        if self.line.is_empty() {
-            &self.reply[self.start..]
+        let line = self.line.as_slice();
+        if line.is_empty() {
+            &self.reply[self.reply.len() - self.left..]
         } else {
-            &self.line.as_slice()[self.start..]
+            &line[line.len() - self.left..]
         }
     }
 
@@ -157,9 +165,10 @@ impl Connection {
         requires { length self.old.unsent + length line.now ≤ MOST_UNSENT }
         ensures { self.new ≡ with_unsent line.now self.old }
     {
-        compact(&mut self.line, &mut self.reply, self.start);
-        self.start = 0;
+        let start = self.line.len() + self.reply.len() - self.left;
+        compact(&mut self.line, &mut self.reply, start);
         self.reply.extend_from_slice(line).unwrap();
+        self.left += line.len();
     }
 
     /// Appends a reply to the unsent bytes, stamped with the moment. `accepted` keeps the line of `200 OK`.
@@ -185,7 +194,7 @@ impl Connection {
         requires { count ≤ length self.old.unsent }
         ensures { self.new ≡ without_sent count self.old }
     {
-        self.start += count;
+        self.left -= count;
     }
 
     /// Tells an information session a change. If its queue is full the session overruns: the waiting changes, the
@@ -201,7 +210,7 @@ impl Connection {
             self.panel = Panel::Overran;
             self.line.clear();
             self.reply.clear();
-            self.start = 0;
+            self.left = 0;
         }
     }
 
@@ -323,22 +332,22 @@ impl Connection {
         ensures place { self.new ≡ filled (shown_rows (R.state rows.now)) self.old }
         ensures most { self.old.unsent ≡ [] → length self.new.unsent ≤ LONGEST_LINE }
     {
-        if !self.unsent().is_empty() {
+        if !self.is_sent() {
             return;
         }
         let Panel::Listening(feed) = &mut self.panel else {
             return;
         };
         self.reply.clear();
-        self.start = 0;
         give(feed, rows, &mut self.line);
+        self.left = self.line.len();
     }
 
     /// Returns what `fill` would append, if anything.
     pub(crate) fn item<R: Rows>(&self, rows: &R) -> Option<Next>
         ensures { result ≡ item_from (shown_rows (R.state rows.now)) self.now.unsent (feed_in self.now.panel) }
     {
-        if !self.unsent().is_empty() {
+        if !self.is_sent() {
             return None;
         }
         match &self.panel {

@@ -5,7 +5,7 @@ ghost use Rattle.srcp_info.specs.Line.{line};
 ghost use Rattle.srcp_info.specs.WellFormed.{IsWellFormed, IsWellFormedShown};
 ghost use Rattle.srcp_info.specs.declared.change.Change.{Change};
 
-use srcp_feed::{ChangeLine, WrittenLine};
+use srcp_feed::{Waiting, WrittenLine};
 use srcp_info::{InfoLine, LONGEST_LINE, Shown, write_change, write_shown};
 use std::marker::Model;
 
@@ -51,11 +51,18 @@ impl PanelLine {
         }
     }
 
+    /// Returns how many bytes it has.
+    pub(crate) fn len(&self) -> usize
+        ensures { result ≡ length self.now }
+    {
+        self.copied.len() + self.written.len()
+    }
+
     /// Returns whether it has no bytes.
     pub(crate) fn is_empty(&self) -> bool
         ensures { result ≡ (length self.now == 0) }
     {
-        self.copied.is_empty() && self.written.is_empty()
+        self.len() == 0
     }
 
     /// Drops its bytes.
@@ -69,15 +76,15 @@ impl PanelLine {
     }
 
     /// Puts in the line of a change. It is written here only if the change has no line.
-    pub(crate) fn put_change(&mut self, change: &ChangeLine)
+    pub(crate) fn put_change(&mut self, change: &Waiting)
         requires { IsWellFormed change.now }
         ensures line { self.new ≡ line change.now }
         ensures most { length self.new ≤ LONGEST_LINE }
     {
         self.clear();
-        self.copied = change.line().copied();
+        self.copied.copy_from(change.line());
         if self.copied.is_empty() {
-            write_change(change.change(), &mut self.written);
+            write_change(&change.change(), &mut self.written);
         }
     }
 

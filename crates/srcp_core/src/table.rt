@@ -155,7 +155,7 @@ impl<'a, R: Rows> Core<'a, R> {
         ensures { result ≡ is_none (bytes_fault conn [] self.now) }
     {
         match self.connections.get(conn) {
-            Some(connection) => !connection.is_over() && connection.unsent().is_empty(),
+            Some(connection) => !connection.is_over() && connection.is_sent(),
             None => false,
         }
     }

@@ -25,14 +25,6 @@ use crate::record::Step;
 use srcp_info::{Code, LONGEST_LINE, LONGEST_SHORT_REPLY, Mode, Reply};
 use srcp_rules::{Command, Memory, Rows, begin_session, obey_into};
 
-/// Holds what is left to do of a command once its changes are told.
-#[derive(Drop)]
-struct Outcome {
-    reply: Reply,
-    /// True if the command ends its session.
-    ends: bool,
-}
-
 impl<'a, R: Rows> Core<'a, R> {
     /// Answers a line. Returns the record of it.
     #[inline(always)]
@@ -167,15 +159,14 @@ impl<'a, R: Rows> Core<'a, R> {
             moment,
             command: *command,
         };
-        let Some(obeyed) = self.carry_out(session, command) else {
+        let Some(ends) = self.carry_out(conn, session, command) else {
             self.deny(conn);
             return LineRecord {
                 granted: false,
                 ..LineRecord::of(step)
             };
         };
-        self.reply(conn, &obeyed.reply);
-        if !obeyed.ends {
+        if !ends {
             return LineRecord::of(step);
         }
         self.end(conn, session);
@@ -185,20 +176,19 @@ impl<'a, R: Rows> Core<'a, R> {
         }
     }
 
-    /// Carries out a command, and tells every connection its changes. Returns `None` if an allocation was refused, and
-    /// then nothing changes.
-    fn carry_out(&mut self, session: u32, command: &Command) -> Option<Outcome>
+    /// Carries out a command, tells every connection its changes, and appends its reply. Returns whether it ends its
+    /// session, or `None` if an allocation was refused, and then nothing changes.
+    fn carry_out(&mut self, conn: usize, session: u32, command: &Command) -> Option<bool>
         requires row { is_there (session_device session) self.old.rows ≡ true }
         requires command { IsCommandOf self.old.buses command.now }
+        requires room { length (unsent_at conn self.old) + LONGEST_LINE ≤ MOST_UNSENT }
         ensures refused { IfNone result (self.new ≡ self.old) }
         ensures wants { IfNone result (wants_memory self.old.rows session self.old.moment command.now ≡ true) }
         ensures carried { OnSome result
-            (self.new ≡ carried (effect self.old.rows session self.old.moment command.now).updates self.old) }
-        ensures reply { IfSome result
-            (λ obeyed. obeyed.reply ≡ (effect self.old.rows session self.old.moment command.now).reply) }
+            (self.new ≡ replied conn (effect self.old.rows session self.old.moment command.now).reply
+            (carried (effect self.old.rows session self.old.moment command.now).updates self.old)) }
         ensures ends { IfSome result
-            (λ obeyed. obeyed.ends ≡ (effect self.old.rows session self.old.moment command.now).ends) }
-        ensures well_formed { IfSome result (λ obeyed. IsWellFormedReply obeyed.reply) }
+            (λ ends. ends ≡ (effect self.old.rows session self.old.moment command.now).ends) }
     {
         obey_into(
             &mut self.rows,
@@ -215,10 +205,10 @@ impl<'a, R: Rows> Core<'a, R> {
             self.panels.as_slice(),
             self.obeyed.changes.as_slice(),
         );
-        Some(Outcome {
-            reply: self.obeyed.reply,
-            ends: self.obeyed.ends,
-        })
+        let reply = self.obeyed.reply;
+        let ends = self.obeyed.ends;
+        self.reply(conn, &reply);
+        Some(ends)
     }
 
     /// Ends a session by its own command: removes its locks, and then its own row.

@@ -41,7 +41,7 @@ impl<'a, R: Rows> Core<'a, R> {
         if connection.is_over() {
             return Some(CoreFault::Closing);
         }
-        if !connection.unsent().is_empty() {
+        if !connection.is_sent() {
             return Some(CoreFault::Busy);
         }
         if piece.len() > MOST_IN_PIECE {

@@ -1,14 +1,24 @@
-use Rattle.std.proofs.Common.{◌≡◌, ◌≤◌, true, sym, ap, ◌∙◌, subst}
+use Rattle.std.proofs.Common.{◌≡◌, ◌≤◌, true, length, List, Option, sym, ap, ◌∙◌, subst, arith}
 use Rattle.srcp_grammar.specs.Command.{IsCommandOf}
 use Rattle.srcp_rules.specs.Effect.{effect}
 use Rattle.srcp_grammar.specs.Devices.{session_device}
 use Rattle.srcp_rules.specs.State.{State, is_there}
-use Rattle.srcp_core.specs.Held.{Held, IsSound}
-use Rattle.srcp_core.specs.Machine.{told_each}
+use Rattle.srcp_core.specs.Held.{Held, IsSound, Place, place_at}
+use Rattle.srcp_core.specs.Machine.{told_each, unsent_at, unsent_of}
 use Rattle.srcp_core.proofs.Invariants.RefusalsChangeNothing.{denied_same, given_took}
 use Rattle.srcp_core.proofs.Invariants.CoreStaysSound.{sound_obeyed, sound_carried_as}
 use Rattle.srcp_core.proofs.Invariants.PanelsStay.{panels_told_each}
+use Rattle.srcp_core.proofs.Invariants.RepliesStayUnsent.{longest_most, told_each_shorter}
 use Rattle.srcp_core.proofs.table.Core.carry_out.Goals as goal
+
+pub reply-requires-clause-room : goal.reply-requires-clause-room
+reply-requires-clause-room g c =
+    let places = c.self.inside.connections.slots in
+    let is = ap (λ (ps : List (Option Place)). length (unsent_of (place_at ps c.args.conn))) c.tell_each.ensures.slots in
+    let shorter = told_each_shorter c.as_slice-2.result.now places c.args.conn in
+    let most = longest_most c.obey_into.new.obeyed.reply in
+    let room = ap (λ (h : Held). length (unsent_at c.args.conn h)) c.self.view_is in
+    omega (arith, is, shorter, most, room, c.requires.room)
 
 pub invariant_of-self-2 : goal.invariant_of-self-2
 invariant_of-self-2 g c =
