@@ -71,5 +71,6 @@ returns-clause-course g c =
           (subst (λ (h : Held). Ends peer key old h told told_r) (sym w.core-is)
           (inl (exchanges_lost peer key old c.read_in.new.core told told_r w.if-read_in.ensures.course)))
     ] in
-    visit_ends peer key old mid told told_mid c.disconnect.new.core (g.D.Door.told c.disconnect.new.self.door.now) c.disconnect.ensures.denied
+    visit_ends peer key old mid told told_mid
+    c.disconnect.new.core (g.D.Door.told c.disconnect.new.self.door.now) c.disconnect.ensures.denied
     c.disconnect.ensures.calls.asks c.disconnect.ensures.course first
