@@ -63,7 +63,7 @@ fn take_changes(rt: &impl Abort, feed: &mut InfoFeed, rows: &Flat, power: &Chang
 }
 
 /// Lists the first row, and then queues as many changes as may wait.
-fn fill_ring(rt: &impl Abort, feed: &mut InfoFeed, rows: &Flat) {
+fn fill_queue(rt: &impl Abort, feed: &mut InfoFeed, rows: &Flat) {
     assert!(rt; matches!(feed.next(rows), Next::Listed(_)));
     let power = Change::Put(power_row());
     tell_changes(rt, feed, &power, &Change::Put(sensor_row(1, true)));
@@ -75,6 +75,6 @@ fn a_feed_holds_256_changes(rt: HostRuntime) -> Result<(), Fail> {
     let layout = one_bus(rt.alloc())?;
     let rows = Flat::empty(rt.alloc(), &layout)?;
     let mut feed = InfoFeed::begin(rt.alloc(), &rows)?;
-    fill_ring(&rt, &mut feed, &rows);
+    fill_queue(&rt, &mut feed, &rows);
     Ok(())
 }

@@ -1,6 +1,6 @@
 //! The changes that wait for one information session.
 
-ghost use Rattle.std.specs.Prelude.{◌≡◌, ◌<◌, ◌≤◌, ◌+◌, [], ◌∷◌, ◌++◌, IfOk, take, drop, length, nat_lt, not};
+ghost use Rattle.std.specs.Prelude.{◌≡◌, ◌<◌, ◌≤◌, ◌+◌, ◌-◌, [], ◌∷◌, ◌++◌, IfOk, take, drop, length, nat_lt, not};
 ghost use Rattle.std.specs.Prelude.{option_copied, slice_get, vec_capacity};
 
 use crate::{ChangeLine, Waiting};
@@ -119,12 +119,14 @@ fn put(slots: &mut Vec<Waiting>, at: usize, change: &ChangeLine)
     }
 }
 
-/// Moves the changes from the slot `first` on to the first slots.
+/// Swaps the changes from the slot `first` on with as many of the first slots.
 #[inline(never)]
 fn move_to_front(slots: &mut Vec<Waiting>, first: usize)
-    requires { first ≤ length slots.old.items }
-    ensures items { slots.new.items ≡ drop first slots.old.items ++ take first slots.old.items }
+    requires { (first ≤ length slots.old.items) × (length slots.old.items ≤ first + first) }
+    ensures items { take (length slots.old.items - first) slots.new.items ≡ drop first slots.old.items }
+    ensures len { length slots.new.items ≡ length slots.old.items }
     ensures capacity { vec_capacity slots.new ≡ vec_capacity slots.old }
 {
-    slots.rotate_left(first);
+    let (free, waiting) = slots.split_at_mut(first);
+    free[..waiting.len()].swap_with_slice(waiting);
 }
