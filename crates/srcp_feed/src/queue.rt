@@ -12,7 +12,7 @@ use std::vec::Vec;
 /// The most changes that wait for one session. SRCP 0.8 has no such limit.
 pub const MOST_WAITING: usize = 256;
 
-/// The slots of a queue: so many that it is moved to their beginning once for `MOST_WAITING` changes at most.
+/// The slots of a queue. They are used up once for `MOST_WAITING` changes at most.
 const SLOTS: usize = 2 * MOST_WAITING;
 
 /// Holds the changes that wait, in the order in which they came, each with its line. Contracts see the list of the
