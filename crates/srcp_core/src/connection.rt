@@ -199,7 +199,7 @@ impl Connection {
 
     /// Tells an information session a change. If its queue is full the session overruns: the waiting changes, the
     /// listing and the unsent bytes are dropped.
-    pub(crate) fn tell(&mut self, change: &ChangeLine)
+    pub(crate) fn tell(&mut self, change: &ChangeLine<'_>)
         requires { IsWellFormed change.now }
         ensures { self.new ≡ told_place change.now self.old }
     {

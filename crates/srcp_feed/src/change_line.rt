@@ -8,28 +8,28 @@ use crate::WrittenLine;
 use srcp_info::{Change, InfoLine, write_change};
 use std::marker::Model;
 
-/// Holds a change, and its line if that was written, so that one line serves all panels. Contracts see the change
+/// Lends a change, and holds its line if that was written, so that one line serves all panels. Contracts see the change
 /// alone.
 #[derive(Drop)]
-pub struct ChangeLine {
-    change: Change,
+pub struct ChangeLine<'a> {
+    change: &'a Change,
     line: WrittenLine,
 }
 
-impl Model for ChangeLine {
+impl<'a> Model for ChangeLine<'a> {
     ghost use Rattle.srcp_info.specs.declared.change.Change.{Change};
     ghost use Rattle.srcp_feed.specs.Feed.{IsLineOrNone};
 
     ghost Value = { Change };
 
-    ghost view = { λ c. c.change };
+    ghost view = { λ c. c.change.now };
 
-    ghost invariant = { λ c. IsLineOrNone c.line c.change };
+    ghost invariant = { λ c. IsLineOrNone c.line c.change.now };
 }
 
-impl ChangeLine {
-    /// Writes the line of a change, and holds both.
-    pub fn new(change: &Change) -> ChangeLine
+impl<'a> ChangeLine<'a> {
+    /// Writes the line of a change. Holds the line, and lends the change.
+    pub fn new(change: &'a Change) -> ChangeLine<'a>
         requires { IsWellFormed change.now }
         ensures { result ≡ change.now }
     {
@@ -40,12 +40,12 @@ impl ChangeLine {
         told
     }
 
-    /// Holds a change whose line is not written.
-    pub(crate) fn without_line(change: &Change) -> ChangeLine
+    /// Lends a change whose line is not written.
+    pub(crate) fn without_line(change: &'a Change) -> ChangeLine<'a>
         ensures { result ≡ change.now }
     {
         ChangeLine {
-            change: *change,
+            change,
             line: WrittenLine::new(),
         }
     }
@@ -54,7 +54,7 @@ impl ChangeLine {
     pub fn change(&self) -> &Change
         ensures { result.now ≡ self.now }
     {
-        &self.change
+        self.change
     }
 
     /// Lends the line, which has no bytes if it was not written.

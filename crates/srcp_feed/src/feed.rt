@@ -59,7 +59,7 @@ impl InfoFeed {
     }
 
     /// Takes in a change as `tell` does, and keeps its line.
-    pub fn tell_line(&mut self, change: &ChangeLine) -> Told
+    pub fn tell_line(&mut self, change: &ChangeLine<'_>) -> Told
         ensures answer { result ≡ told_answer change.now self.old }
         ensures feed { self.new ≡ told change.now self.old }
     {
@@ -125,7 +125,11 @@ impl InfoFeed {
         ensures settled { IfNone result (next_of (shown_rows (R.state rows.now)) self.old ≡ Next.Settled) }
         ensures feed { self.new ≡ after_next (shown_rows (R.state rows.now)) self.old }
     {
-        match row_beyond(rows, self.cursor) {
+        // A panel whose listing is done is visited often.
+        if let Cursor::Done = self.cursor {
+            return None;
+        }
+        match rows.row_after(self.cursor) {
             Some(row) => {
                 self.cursor = Cursor::After(row.shown.key);
                 Some(row)
@@ -144,7 +148,7 @@ impl InfoFeed {
         if let Some(told) = self.first() {
             return Next::Told(told.change());
         }
-        match row_beyond(rows, self.cursor) {
+        match rows.row_after(self.cursor) {
             Some(row) => Next::Listed(row.shown),
             None => Next::Settled,
         }
@@ -164,15 +168,4 @@ impl InfoFeed {
     {
         self.waiting.len()
     }
-}
-
-/// Returns the next row of a listing. It asks for no row once the listing is done, since a panel is visited often.
-#[tactic(auto, using(crate::proofs::FeedLaws::no_row_after_done))]
-fn row_beyond<R: Rows>(rows: &R, cursor: Cursor) -> Option<&Row>
-    ensures { option_copied result ≡ row_after cursor (R.state rows.now) }
-{
-    if let Cursor::Done = cursor {
-        return None;
-    }
-    rows.row_after(cursor)
 }

@@ -77,7 +77,7 @@ impl Queue {
     }
 
     /// Appends a copy of a change.
-    pub(crate) fn push(&mut self, change: &ChangeLine)
+    pub(crate) fn push(&mut self, change: &ChangeLine<'_>)
         requires { length self.old < MOST_WAITING }
         ensures { self.new ≡ self.old ++ change.now ∷ [] }
     {
@@ -105,7 +105,7 @@ impl Queue {
 
 /// Puts a copy of a change into the slot `at`, which is in use or the next to come.
 #[inline(always)]
-fn put(slots: &mut Vec<Waiting>, at: usize, change: &ChangeLine)
+fn put(slots: &mut Vec<Waiting>, at: usize, change: &ChangeLine<'_>)
     requires slot { (at ≤ length slots.old.items) × (at < SLOTS) × (length slots.old.items ≤ SLOTS) }
     requires capacity { SLOTS ≤ vec_capacity slots.old }
     ensures items { take (at + 1) slots.new.items ≡ take at slots.old.items ++ change.now ∷ [] }

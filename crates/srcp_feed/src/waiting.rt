@@ -29,7 +29,7 @@ impl Model for Waiting {
 
 impl Waiting {
     /// Holds a copy of a change and of its line.
-    pub(crate) fn of(change: &ChangeLine) -> Waiting
+    pub(crate) fn of(change: &ChangeLine<'_>) -> Waiting
         ensures { result ≡ change.now }
     {
         Waiting {
@@ -39,7 +39,7 @@ impl Waiting {
     }
 
     /// Becomes a copy of a change. It copies the change itself only if its line was not written.
-    pub(crate) fn copy_from(&mut self, change: &ChangeLine)
+    pub(crate) fn copy_from(&mut self, change: &ChangeLine<'_>)
         ensures { self.new ≡ change.now }
     {
         self.line.copy_from(change.line());

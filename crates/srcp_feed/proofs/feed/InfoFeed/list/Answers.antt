@@ -4,14 +4,32 @@ use Rattle.srcp_info.specs.declared.change.Change.{Change}
 use Rattle.srcp_info.specs.declared.change.Cursor.TheVariants.{After, Done}
 use Rattle.srcp_rules.specs.State.{shown_rows, row_after}
 use Rattle.srcp_feed.specs.Feed.{Feed}
-use Rattle.srcp_feed.proofs.FeedLaws.{next_of_listed, next_of_settled, after_next_is}
+use Rattle.srcp_feed.proofs.FeedLaws.{next_of_listed, next_of_settled, no_row_after_done, after_next_is}
 use Rattle.srcp_feed.proofs.feed.InfoFeed.list.Goals as goal
+
+pub returns-in-Done-clause-settled : goal.returns-in-Done-clause-settled
+returns-in-Done-clause-settled g c =
+    let state = g.R.Rows.state c.args.rows.now in
+    let found : row_after c.args.self.now.cursor state ≡ None =
+    ap (λ (f : Feed). row_after f.cursor state) (sym c.self.view_is)
+    ∙ ap (λ cursor. row_after cursor state) c.in-Done.is ∙ no_row_after_done state in
+    next_of_settled c.args.self.now state c.requires found
+
+pub returns-in-Done-clause-feed : goal.returns-in-Done-clause-feed
+returns-in-Done-clause-feed g c =
+    let state = g.R.Rows.state c.args.rows.now in
+    let empty : c.self.inside.waiting ≡ [] = ap (λ (f : Feed). f.queue) c.self.view_is ∙ c.requires in
+    let left : c.self.inside.waiting ≡ drop 1 c.args.self.now.queue =
+    empty ∙ ap (λ (queue : List Change). drop 1 queue) (sym c.requires) in
+    sym c.self.view_is ∙ ap (λ cursor. let f : Feed = record { cursor = cursor; queue = c.self.inside.waiting } in f) c.in-Done.is
+    ∙ ap (λ (queue : List Change). let f : Feed = record { cursor = Done; queue = queue } in f) left
+    ∙ sym (after_next_is c.args.self.now (shown_rows state) _ (returns-in-Done-clause-settled g c))
 
 pub returns-in-Some-clause-listed : goal.returns-in-Some-clause-listed
 returns-in-Some-clause-listed g c =
     let state = g.R.Rows.state c.args.rows.now in
     let found : row_after c.args.self.now.cursor state ≡ Some c.in-Some.row.now =
-    ap (λ (f : Feed). row_after f.cursor state) (sym c.self.view_is) ∙ sym c.row_beyond.ensures ∙ ap option_copied c.in-Some.is in
+    ap (λ (f : Feed). row_after f.cursor state) (sym c.self.view_is) ∙ sym c.row_after.ensures ∙ ap option_copied c.in-Some.is in
     next_of_listed c.args.self.now state c.in-Some.row.now c.requires found
 
 pub returns-in-Some-clause-feed : goal.returns-in-Some-clause-feed
@@ -27,7 +45,7 @@ pub returns-in-None-clause-settled : goal.returns-in-None-clause-settled
 returns-in-None-clause-settled g c =
     let state = g.R.Rows.state c.args.rows.now in
     let found : row_after c.args.self.now.cursor state ≡ None =
-    ap (λ (f : Feed). row_after f.cursor state) (sym c.self.view_is) ∙ sym c.row_beyond.ensures ∙ ap option_copied c.in-None.is in
+    ap (λ (f : Feed). row_after f.cursor state) (sym c.self.view_is) ∙ sym c.row_after.ensures ∙ ap option_copied c.in-None.is in
     next_of_settled c.args.self.now state c.requires found
 
 pub returns-in-None-clause-feed : goal.returns-in-None-clause-feed
