@@ -7,7 +7,7 @@ use Rattle.srcp_info.specs.declared.change.Change.{Change}
 use Rattle.srcp_core.specs.Held.{Place, place_at}
 use Rattle.srcp_core.specs.Machine.{fresh_place, has_panel, is_panel, panel_keys, slack_in, slack_at, told_all}
 use Rattle.srcp_core.specs.Machine.{told_each}
-use Rattle.srcp_core.specs.Waits.{least, lesser}
+use Rattle.srcp_core.specs.Waits.{least, lesser, option_or_256}
 use Rattle.srcp_core.specs.declared.connection.Panel.{Panel}
 use Rattle.srcp_core.specs.declared.connection.Panel.TheVariants.{Absent, Listening, Overran}
 use Rattle.srcp_core.proofs.Invariants.EveryPlaceIsTold.{count_by_cons}
@@ -25,6 +25,23 @@ unlisted : (keys : List ℕ) → map suc keys ≡ [] → keys ≡ []
 unlisted [] none = refl
 unlisted (key ∷ keys) none = cc
 
+lesser_some : (n : ℕ) (other : Option ℕ) → lesser (Some n) other ≡ Some (option_or_256 (lesser (Some n) other))
+lesser_some n None = refl
+lesser_some n (Some m) = refl
+
+-- no panel can queue more than 256
+pub slack_most : (places : List (Option Place)) → option_or_256 (least (map slack_at places)) ≤ 256
+slack_most [] = omega arith
+slack_most (None ∷ places) = slack_most places
+slack_most (Some place ∷ places) = by place.panel (least (map slack_at places)) (slack_most places)
+  where
+    by : (panel : Panel) (rest : Option ℕ) → option_or_256 rest ≤ 256 → option_or_256 (lesser (slack_in panel) rest) ≤ 256
+    by Absent rest most = most
+    by (Listening feed) None most = omega arith
+    by (Listening feed) (Some n) most = omega (arith, most)
+    by Overran None most = omega arith
+    by Overran (Some n) most = omega (arith, most)
+
 -- without a panel there is no slack
 pub no_slack : (places : List (Option Place)) → panel_keys places ≡ [] → least (map slack_at places) ≡ None
 no_slack [] none = refl
@@ -36,6 +53,21 @@ no_slack (Some place ∷ places) none = by (is_panel place.panel) refl none (no_
     by true e none rest = cc
     by false e none rest =
         ap (λ one. lesser one (least (map slack_at places))) (slack_none place.panel e) ∙ rest (unlisted _ none)
+
+-- with one there is
+pub some_slack : (places : List (Option Place)) → (panel_keys places ≡ [] → ⊥)
+    → least (map slack_at places) ≡ Some (option_or_256 (least (map slack_at places)))
+some_slack [] some = absurd (some refl)
+some_slack (None ∷ places) some = some_slack places (λ none. some (ap (map suc) none))
+some_slack (Some place ∷ places) some = by place.panel refl (some_slack places)
+  where
+    by : (panel : Panel) → place.panel ≡ panel
+        → ((panel_keys places ≡ [] → ⊥) → least (map slack_at places) ≡ Some (option_or_256 (least (map slack_at places))))
+        → lesser (slack_in panel) (least (map slack_at places)) ≡ Some (option_or_256 (lesser (slack_in panel) (least (map slack_at places))))
+    by Absent e rest =
+        rest (λ none. some (ap (λ panel. with_key (is_panel panel) (panel_keys places)) e ∙ ap (map suc) none))
+    by (Listening feed) e rest = lesser_some _ (least (map slack_at places))
+    by Overran e rest = lesser_some _ (least (map slack_at places))
 
 -- a change that is told keeps the panels
 pub panels_told : (change : Change) (places : List (Option Place)) → panel_keys (told_all change places) ≡ panel_keys places

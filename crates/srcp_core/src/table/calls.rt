@@ -44,7 +44,7 @@ impl<'a, R: Rows> Core<'a, R> {
         if self.panels.is_empty() {
             return None;
         }
-        least_slack(&self.connections)
+        Some(least_slack(&self.connections))
     }
 
     /// Removes a connection. Its session then ends, if it has one that did not end: its locks are removed in key

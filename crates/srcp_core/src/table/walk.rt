@@ -6,13 +6,13 @@ ghost use Rattle.srcp_info.specs.WellFormed.{IsWellFormed};
 ghost use Rattle.srcp_rules.specs.Due.{due, freed};
 ghost use Rattle.srcp_rules.specs.State.{IsWhole, updated_all};
 ghost use Rattle.srcp_core.specs.Machine.{panel_keys, slack_at, told_all, told_each};
-ghost use Rattle.srcp_core.specs.Waits.{least, lesser};
+ghost use Rattle.srcp_core.specs.Waits.{least, option_or_256};
 
 use crate::connection::Connection;
 use crate::limits::MOST_CONNECTIONS;
 use arrayvec::ArrayVec;
 use slab::Slab;
-use srcp_feed::ChangeLine;
+use srcp_feed::{ChangeLine, MOST_WAITING};
 use srcp_info::{Change, Cursor};
 use srcp_rules::{Rows, due_next, free_next};
 
@@ -33,26 +33,17 @@ pub(crate) fn panel_keys(connections: &Slab<Connection>) -> PanelKeys
     keys
 }
 
-/// Returns how many more changes each information session can queue, if there is one.
-pub(crate) fn least_slack(connections: &Slab<Connection>) -> Option<usize>
-    ensures { result ≡ least (map slack_at connections.now.slots) }
+/// Returns how many more changes each information session can queue, or `MOST_WAITING` if there is none.
+pub(crate) fn least_slack(connections: &Slab<Connection>) -> usize
+    ensures { result ≡ option_or_256 (least (map slack_at connections.now.slots)) }
 {
-    let mut least = None;
+    let mut least = MOST_WAITING;
     for (_, connection) in connections.iter() {
-        least = lesser(least, connection.slack());
+        if let Some(slack) = connection.slack() {
+            least = least.min(slack);
+        }
     }
     least
-}
-
-/// Returns the lesser number, or the only one.
-fn lesser(one: Option<usize>, other: Option<usize>) -> Option<usize>
-    ensures { result ≡ lesser one other }
-{
-    match (one, other) {
-        (Some(a), Some(b)) => Some(a.min(b)),
-        (Some(a), None) => Some(a),
-        (None, b) => b,
-    }
 }
 
 /// Tells every connection the change. `panels` are the keys of those that have an information session.

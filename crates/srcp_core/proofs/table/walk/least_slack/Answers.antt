@@ -1,9 +1,10 @@
-use Rattle.std.proofs.Common.{◌≡◌, ℕ, ◌+◌, min, List, [], ◌∷◌, map, refl, ap, ◌∙◌, arith}
+use Rattle.std.proofs.Common.{◌≡◌, ℕ, ◌+◌, List, [], ◌∷◌, map, refl, ap, ◌∙◌, arith}
 use Rattle.std.specs.Prelude.{Option, Some, None}
 use Rattle.slab.specs.Slab.{entries_from}
 use Rattle.srcp_core.specs.Held.{Place}
 use Rattle.srcp_core.specs.Machine.{slack_at, slack_in}
 use Rattle.srcp_core.specs.Waits.{least, lesser}
+use Rattle.srcp_core.proofs.Invariants.PanelsStay.{slack_most}
 use Rattle.srcp_core.proofs.table.walk.least_slack.Goals as goal
 
 -- the least of the places is that of the entries
@@ -13,13 +14,8 @@ slack_among first [] = refl
 slack_among first (None ∷ places) = slack_among (first + 1) places
 slack_among first (Some place ∷ places) = ap (lesser (slack_in place.panel)) (slack_among (first + 1) places)
 
-lesser_assoc : (a b c : Option ℕ) → lesser (lesser a b) c ≡ lesser a (lesser b c)
-lesser_assoc None b c = refl
-lesser_assoc (Some a) None c = refl
-lesser_assoc (Some a) (Some b) None = refl
-lesser_assoc (Some a) (Some b) (Some c) = let e : min (min a b) c ≡ min a (min b c) = omega arith in ap (λ n. Some n) e
-
 pub loop-connection-init : goal.loop-connection-init
 loop-connection-init c =
     let left = c.into_iter-connection-iterator.ensures.into_iter_gives ∙ c.iter-connection-items.ensures.rest in
-    (tt, tt, rw left (slack_among 0 c.args.connections.now.slots))
+    let most = slack_most c.args.connections.now.slots in
+    (tt, tt, omega arith, rw left (rw (slack_among 0 c.args.connections.now.slots) (omega (arith, most))))

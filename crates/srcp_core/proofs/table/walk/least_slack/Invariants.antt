@@ -1,7 +1,7 @@
-use Rattle.std.proofs.Common.{◌≡◌}
+use Rattle.std.proofs.Common.{◌≡◌, ◌≤◌, min}
 use Rattle.std.specs.Prelude.{map}
 use Rattle.srcp_core.specs.Machine.{slack_at, slack_in}
-use Rattle.srcp_core.specs.Waits.{least, lesser}
+use Rattle.srcp_core.specs.Waits.{least, option_or_256}
 use Rattle.srcp_core.proofs.table.walk.least_slack.Given as goal
 
 -- the least so far and those that are left are together the least of all
@@ -9,4 +9,6 @@ abbrev pub invariant-loop-connection : goal.invariant-loop-connection
 invariant-loop-connection l =
     goal.iterator-loop-connection.can_next l.connection-iterator ×
     goal.iterator-loop-connection.is_finite l.connection-iterator ×
-    (lesser l.least (least (map (λ entry. slack_in entry.1.panel) l.connection-iterator)) ≡ least (map slack_at l.connections.slots))
+    (l.least ≤ 256) ×
+    (min l.least (option_or_256 (least (map (λ entry. slack_in entry.1.panel) l.connection-iterator)))
+    ≡ option_or_256 (least (map slack_at l.connections.slots)))
