@@ -3,7 +3,8 @@
 
 It prints one figure a line, each with its unit. `valgrind --tool=callgrind` counts the instructions of whole runs. A
 figure is the difference between a load of LONG units and one of SHORT, 4,000 and 2,000 if not given, for each unit.
-So what a run costs by itself is not in it. The loads go over loopback, but for the replay.
+So what a run costs by itself is not in it. The loads go over loopback, but for the replay. A busy machine adds turns,
+which cost a few instructions for each command and each line.
 """
 import re
 import subprocess
@@ -38,15 +39,20 @@ def collected(errors: bytes) -> int:
 
 @contextmanager
 def counted_server(program: str):
-    """A server under callgrind: its port, and a list that holds the count of its instructions in the end."""
+    """A server under callgrind: its port, its process, and a list that holds the count of its instructions in the end."""
     with tempfile.TemporaryDirectory() as room:
         counting, count = Path(room, "counting"), []
         counting.write_text(f'#!/bin/sh\nexec {" ".join(CALLGRIND)} "{program}" "$@"\n')
         counting.chmod(0o755)
         with served(str(counting)) as (port, server):
-            yield port, count
+            yield port, server, count
             server.terminate()
             count.append(collected(server.communicate()[1]))
+
+
+def count_from_now(server: subprocess.Popen):
+    """Drops the count of what a server did so far."""
+    subprocess.run(["callgrind_control", "--zero", str(server.pid)], check=True, capture_output=True)
 
 
 def wait_for_lines(counted: list, wanted: int):
@@ -75,7 +81,7 @@ def listening(port: int, panels: int) -> list[Client]:
 @cache
 def commanding(program: str, panels: int, commands: int) -> int:
     """Returns the instructions of SETs of a locomotive with 18 functions, each sent to the panels, which read all."""
-    with counted_server(program) as (port, count):
+    with counted_server(program) as (port, _, count):
         throttle = Client(port, "COMMAND")
         throttle.asks("INIT 1 GL 3 N 1 28 18")
         listeners = listening(port, panels)
@@ -91,13 +97,13 @@ def commanding(program: str, panels: int, commands: int) -> int:
     return count[0]
 
 
-@cache
-def listing(program: str, panels: int, rows: int) -> int:
-    """Returns the instructions of listing a registry of `rows` rows of locomotives to `panels` panels."""
-    with counted_server(program) as (port, count):
+def listing(program: str, rows: int) -> int:
+    """Returns the instructions of listing a registry of `rows` rows of locomotives to a panel."""
+    with counted_server(program) as (port, server, count):
         throttle = Client(port, "COMMAND")
         pipelined(throttle, [b"INIT 1 GL %d N 1 28 18\n" % address for address in range(1, rows // 2 + 1)])
-        listening(port, panels)
+        count_from_now(server)
+        listening(port, 1)
     return count[0]
 
 
@@ -127,8 +133,7 @@ def main():
     print(f"a pipelined command: {alone / units:,.0f} instructions", flush=True)
     told = (grown(commanding, PANELS) - alone) / units / PANELS
     print(f"an information line to a panel, of {PANELS} panels: {told:,.0f} instructions", flush=True)
-    listed = (grown(listing, 1) - grown(listing, 0)) / units
-    print(f"a line of a listing: {listed:,.0f} instructions", flush=True)
+    print(f"a line of a listing: {grown(listing) / units:,.0f} instructions", flush=True)
     print(f"a replayed event: {grown(replaying) / units:,.0f} instructions", flush=True)
 
 

@@ -33,8 +33,8 @@ impl Model for InfoFeed {
 }
 
 impl InfoFeed {
-    /// Begins a listing, for which no change waits. It allocates a ring of `MOST_WAITING` changes, and no other call
-    /// allocates. Answers `Memory` if memory is refused.
+    /// Begins a listing, for which no change waits. It allocates the slots of the changes that may wait, and no other
+    /// call allocates. Answers `Memory` if memory is refused.
     pub fn begin<R: Rows>(alloc: Global, _rows: &R) -> Result<InfoFeed, Memory>
         ensures { IfOk result (λ feed. feed ≡ beginning) }
     {
