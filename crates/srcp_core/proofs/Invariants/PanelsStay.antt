@@ -63,7 +63,8 @@ some_slack (Some place ∷ places) some = by place.panel refl (some_slack places
   where
     by : (panel : Panel) → place.panel ≡ panel
         → ((panel_keys places ≡ [] → ⊥) → least (map slack_at places) ≡ Some (option_or_256 (least (map slack_at places))))
-        → lesser (slack_in panel) (least (map slack_at places)) ≡ Some (option_or_256 (lesser (slack_in panel) (least (map slack_at places))))
+        → lesser (slack_in panel) (least (map slack_at places))
+        ≡ Some (option_or_256 (lesser (slack_in panel) (least (map slack_at places))))
     by Absent e rest =
         rest (λ none. some (ap (λ panel. with_key (is_panel panel) (panel_keys places)) e ∙ ap (map suc) none))
     by (Listening feed) e rest = lesser_some _ (least (map slack_at places))

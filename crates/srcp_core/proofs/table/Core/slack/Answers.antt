@@ -17,6 +17,7 @@ returns-then-is_empty g c =
 pub returns : goal.returns
 returns g c =
     let some : panel_keys c.self.inside.connections.slots ≡ [] → ⊥ = λ none.
-    true≢false (sym (ap (λ (keys : List ℕ). length keys == 0) (c.self.invariant.3 ∙ none)) ∙ sym c.is_empty.ensures ∙ c.if-is_empty.false) in
+    true≢false (sym (ap (λ (keys : List ℕ). length keys == 0) (c.self.invariant.3 ∙ none))
+    ∙ sym c.is_empty.ensures ∙ c.if-is_empty.false) in
     subst (λ (h : Held). Some c.least_slack.result ≡ least (map slack_at h.places)) c.self.view_is
     (ap (λ n. Some n) c.least_slack.ensures ∙ sym (some_slack c.self.inside.connections.slots some))
