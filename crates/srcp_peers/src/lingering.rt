@@ -181,9 +181,9 @@ pub fn count_lingering(peers: &[Peer]) -> usize
 /// Returns the index of the first peer for which nothing is left to do, at that time of the monotonic clock.
 pub fn first_gone(peers: &[Peer], clock: u64) -> Option<usize>
     ensures first { result ≡ position (is_gone clock) peers.now }
-    ensures gone { IfSome result (λ place. (d : Peer) → is_gone clock (slice_index_or peers.now place d) ≡ true) }
-    ensures closable { IfSome result (λ place. (place < length peers.now)
-        × ((d : Peer) → is_closable clock (slice_index_or peers.now place d) ≡ true)) }
+    ensures gone { IfSome result (λ index. (d : Peer) → is_gone clock (slice_index_or peers.now index d) ≡ true) }
+    ensures closable { IfSome result (λ index. (index < length peers.now)
+        × ((d : Peer) → is_closable clock (slice_index_or peers.now index d) ≡ true)) }
 {
     peers.iter().position(|peer| peer.is_gone(clock))
 }
@@ -191,8 +191,8 @@ pub fn first_gone(peers: &[Peer], clock: u64) -> Option<usize>
 /// Returns the index of the first peer that lingers and is owed nothing.
 pub fn first_shut(peers: &[Peer]) -> Option<usize>
     ensures first { result ≡ position (λ peer. is_shut peer.stay) peers.now }
-    ensures closable { IfSome result (λ place. (place < length peers.now)
-        × ((clock : ℕ) (d : Peer) → is_closable clock (slice_index_or peers.now place d) ≡ true)) }
+    ensures closable { IfSome result (λ index. (index < length peers.now)
+        × ((clock : ℕ) (d : Peer) → is_closable clock (slice_index_or peers.now index d) ≡ true)) }
 {
     peers.iter().position(|peer| peer.is_shut())
 }

@@ -67,21 +67,21 @@ fn wake_one(peers: &mut [Peer], ready: Ready)
     ensures { (k : ℕ) (d : Peer) → k < length peers.old
         → slice_index_or peers.new k d ≡ after_wake (slice_index_or peers.old k d) ready }
 {
-    let Some(place) = place_of(peers, ready.socket) else {
+    let Some(index) = index_of(peers, ready.socket) else {
         return;
     };
-    peers[place].wake(ready);
+    peers[index].wake(ready);
 }
 
 /// Returns the index of the peer with that socket, if one has it.
-fn place_of(peers: &[Peer], socket: u32) -> Option<usize>
-    ensures found { IfSome result (λ place. (place < length peers.now)
-        × ((d : Peer) → (slice_index_or peers.now place d).number ≡ socket)) }
+fn index_of(peers: &[Peer], socket: u32) -> Option<usize>
+    ensures found { IfSome result (λ index. (index < length peers.now)
+        × ((d : Peer) → (slice_index_or peers.now index d).number ≡ socket)) }
     ensures absent { IfNone result (IsAbsent socket peers.now) }
 {
-    for place in 0..peers.len() {
-        if peers[place].number == socket {
-            return Some(place);
+    for index in 0..peers.len() {
+        if peers[index].number == socket {
+            return Some(index);
         }
     }
     None

@@ -77,7 +77,7 @@ fresh_agrees number a done f s = record {
   served = s.served;
 }
 
--- a place of a list with one more
+-- an index of a list with one more
 at_push : (P : Peer → Type 0) (peers : List Peer) (p : Peer) → ((k : ℕ) (d : Peer) → k < length peers → P (slice_index_or peers k d)) → P p
     → (k : ℕ) (d : Peer) → k < length (peers ++ p ∷ []) → P (slice_index_or (peers ++ p ∷ []) k d)
 at_push P peers p all one k d lt = All-push P peers p all one k d lt

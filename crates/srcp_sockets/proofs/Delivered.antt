@@ -44,7 +44,7 @@ is_all_delivered : (told : Option (List Step)) (peers : List Peer) → AreStandi
 is_all_delivered told peers standing delivered log is socket kept = ⊎_elim
     (λ (there : IsThere socket peers).
     subst (λ (n : ℕ). (is_owed (account n log).sent ≡ false) ⊎ ((account n log).sent.lost ≡ true)) (there.same nobody)
-    (delivered log is there.place nobody there.within))
+    (delivered log is there.index nobody there.within))
     (λ (absent : IsAbsent socket peers). absurd (true≢false (sym kept ∙ (standing.2.closed log is socket absent).kept)))
     (find socket peers)
 

@@ -32,9 +32,9 @@ taken_told peer (WriteCall who bytes (Err fault) ∷ told) = taken_told peer tol
 taken_told peer (CloseCall who answer ∷ told) = taken_told peer told
 
 -- the elements of two lists that are mapped to one
-at_place : {X Y : Type 0} (f : X → List ℕ) (g : Y → List ℕ) (xs : List X) (ys : List Y) → map f xs ≡ map g ys
+at_index : {X Y : Type 0} (f : X → List ℕ) (g : Y → List ℕ) (xs : List X) (ys : List Y) → map f xs ≡ map g ys
     → (k : ℕ) (x : X) (y : Y) → k < length xs → f (slice_index_or xs k x) ≡ g (slice_index_or ys k y)
-at_place f g xs ys same k x y within =
+at_index f g xs ys same k x y within =
     let long : length xs ≡ length ys = sym (length-map xs f) ∙ ap length same ∙ length-map ys g in
     sym (get_or-map f xs k x) ∙ ap (λ zs. get_or zs k (f x)) same
     ∙ get_or_default (map g ys) k (f x) (g y) (omega (arith, within, long, length-map ys g)) ∙ get_or-map g ys k y
@@ -52,7 +52,7 @@ follows count opens last old told_old new told_new serves sound named buses log 
       sockets = λ k conn guest within.
           let peer = slice_index_or (stand_after buses given.calls).guests k guest in
           let here : sent (slice_index_or (course buses (events_of buses given.calls)).connections k conn) ≡ given_taken peer given.calls =
-          at_place sent (λ p. given_taken p given.calls) (course buses (events_of buses given.calls)).connections
+          at_index sent (λ p. given_taken p given.calls) (course buses (events_of buses given.calls)).connections
           (stand_after buses given.calls).guests given.course.taken k conn guest within in
           let all : sent (slice_index_or (course buses (events_of buses given.calls)).connections k conn) ≡ taken peer log =
           here ∙ taken_told peer given.calls ∙ ap (flat_map (taken_in peer)) given.are in

@@ -197,10 +197,10 @@ unwatched_is : (told : Option (List Step)) (peers : List Peer) (l : Listening) (
     → IsMissing number peers → Stands told peers l last → (account number log).watched ≡ false
 unwatched_is told peers l last number log is missing stands = ⊎_elim
     (λ (there : IsThere number peers).
-    let p : Peer = slice_index_or peers there.place nobody in
-    let h : Agrees (account p.number log) p = stands.kept there.place nobody there.within log is in
+    let p : Peer = slice_index_or peers there.index nobody in
+    let h : Agrees (account p.number log) p = stands.kept there.index nobody there.within log is in
     subst (λ (n : ℕ). (account n log).watched ≡ false) (there.same nobody)
-    (gone_unwatched (account p.number log) p.outgoing p.stay (missing there.place nobody there.within (there.same nobody)) h.stays))
+    (gone_unwatched (account p.number log) p.outgoing p.stay (missing there.index nobody there.within (there.same nobody)) h.stays))
     (λ (absent : IsAbsent number peers). (stands.closed log is number absent).watched)
     (find number peers)
 
@@ -363,7 +363,7 @@ stands_closed old new before after l last number tells leaves closable stands = 
         (λ (n : ℕ). (may_close (account n (tells log is).0) ≡ true) × ((account n (tells log is).0).watched ≡ false))
         (grind (arith, nat_tests)) (closable (tells log is).0 (tells log is).1)
 
--- one place was taken out
+-- one peer was taken out
 pub leaves_one : (number : ℕ) (peers : List Peer) (i : ℕ) → i < length peers → ((d : Peer) → (slice_index_or peers i d).number ≡ number)
     → AreApart peers → Leaves number peers (remove peers i)
 leaves_one number peers i within same apart = record {
@@ -425,7 +425,7 @@ leaves_one number peers i within same apart = record {
         (cases_lt k i))
         (cases_lt j i)
 
--- the peer at a place was closed, where it may be at that time of the monotonic clock
+-- the peer at an index was closed, where it may be at that time of the monotonic clock
 pub stands_closed_at : (old new : Option (List Step)) (peers : List Peer) (i : ℕ) (p : Peer) (l : Listening) (last clock : ℕ)
     → i < length peers → get_or peers i p ≡ p → is_closable clock (get_or peers i p) ≡ true
     → ((log : List Step) → old ≡ Some log → (account p.number log).lingering.clock ≡ clock) → Tells old (Closes p.number) new

@@ -23,7 +23,7 @@ pub all_read : (told : Option (List Step)) (peers : List Peer) (l : Listening) (
     → ((k : ℕ) (d : Peer) → k < length peers → IsRead told (slice_index_or peers k d).number) → AreRead told
 all_read told peers l last stands read socket log is = ⊎_elim
     (λ (there : IsThere socket peers). subst (λ (n : ℕ). ((account n log).watched && (account n log).unread) ≡ false)
-    (there.same nobody) (read there.place nobody there.within log is))
+    (there.same nobody) (read there.index nobody there.within log is))
     (λ (absent : IsAbsent socket peers). ap (λ w. w && (account socket log).unread) (stands.closed log is socket absent).watched)
     (find socket peers)
 

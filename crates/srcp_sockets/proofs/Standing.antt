@@ -45,10 +45,10 @@ nobody = record {
 pub find : (socket : ℕ) (peers : List Peer) → IsThere socket peers ⊎ IsAbsent socket peers
 find socket [] = inr (λ k d lt. absurd (omega (arith, lt)))
 find socket (p ∷ more) = ⊎_elim
-    (λ (e : p.number ≡ socket). inl (record { place = 0; within = omega arith; same = λ d. e }))
+    (λ (e : p.number ≡ socket). inl (record { index = 0; within = omega arith; same = λ d. e }))
     (λ (ne : p.number ≡ socket → ⊥). ⊎_elim
     (λ (there : IsThere socket more). inl (record {
-      place = suc there.place;
+      index = suc there.index;
       within = omega
           (arith, there.within);
       same = λ d. there.same d;
@@ -83,10 +83,10 @@ pub all_sound : (told : Option (List Step)) (peers : List Peer) (log : List Step
     → ((socket : ℕ) → IsAbsent socket peers → Sound (account socket log)) → (socket : ℕ) → Sound (account socket log)
 all_sound told peers log is kept others socket = ⊎_elim
     (λ (there : IsThere socket peers).
-    let h : Agrees (account (slice_index_or peers there.place nobody).number log) (slice_index_or peers there.place nobody) =
-    kept there.place nobody there.within log is in
+    let h : Agrees (account (slice_index_or peers there.index nobody).number log) (slice_index_or peers there.index nobody) =
+    kept there.index nobody there.within log is in
     subst (λ (n : ℕ). Sound (account n log)) (there.same nobody)
-    (sound_of (account (slice_index_or peers there.place nobody).number log) (slice_index_or peers there.place nobody) h))
+    (sound_of (account (slice_index_or peers there.index nobody).number log) (slice_index_or peers there.index nobody) h))
     (λ (absent : IsAbsent socket peers). others socket absent)
     (find socket peers)
 

@@ -19,9 +19,9 @@ use Rattle.srcp_peers.specs.AllPeers.{AreKept, AreApart, AreWithin, IsAbsent}
 
 -- one of them has this socket
 pub record IsThere (socket : ℕ) (peers : List Peer) : Type 0 where
-  pub place : ℕ
-  pub within : place < length peers
-  pub same : (d : Peer) → (slice_index_or peers place d).number ≡ socket
+  pub index : ℕ
+  pub within : index < length peers
+  pub same : (d : Peer) → (slice_index_or peers index d).number ≡ socket
 
 -- it has this socket, and is there
 abbrev pub IsPresent : ℕ → Peer → Type 0

@@ -103,17 +103,17 @@ impl<C: Clock + Drop> MioSystem<C> {
     }
 
     fn socket(&mut self, number: u32) -> Result<&mut Socket, ErrorKind> {
-        let Some(place) = self.place(number) else {
+        let Some(index) = self.index_of(number) else {
             return Err(ErrorKind::NotFound);
         };
-        self.recent = place;
-        Ok(&mut self.sockets[place])
+        self.recent = index;
+        Ok(&mut self.sockets[index])
     }
 
     /// Returns the index of a socket. It looks first behind the one that was asked last, since they are asked by rising
     /// numbers.
-    fn place(&self, number: u32) -> Option<usize>
-        ensures { IfSome result (λ place. place < length self.now.sockets.items) }
+    fn index_of(&self, number: u32) -> Option<usize>
+        ensures { IfSome result (λ index. index < length self.now.sockets.items) }
     {
         let next = self.recent.saturating_add(1);
         if self

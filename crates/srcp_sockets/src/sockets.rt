@@ -240,12 +240,12 @@ impl<S: System + Drop> Sockets<S> {
         ensures told { SaysOne (S.told self.old.system) (CloseCall number result) (S.told self.new.system) }
         ensures fault { IfErr result (λ fault. fault ≡ DoorFault.Close) }
     {
-        let Some(place) = self.place(number) else {
+        let Some(index) = self.index_of(number) else {
             self.system.told_close(number, Err(DoorFault::Close));
             self.turn.note_close();
             return Err(DoorFault::Close);
         };
-        self.peers[place].linger(self.turn.clock);
+        self.peers[index].linger(self.turn.clock);
         self.system.told_close(number, Ok(()));
         self.turn.note_close();
         Ok(())
@@ -257,23 +257,23 @@ impl<S: System + Drop> Sockets<S> {
         ensures last { self.new.last ≡ self.old.last }
     {
         for _ in 0..MOST_LINGERING {
-            let Some(place) = first_gone(self.peers.as_slice(), self.turn.clock) else {
+            let Some(index) = first_gone(self.peers.as_slice(), self.turn.clock) else {
                 return;
             };
-            self.close_at(place);
+            self.close_at(index);
         }
     }
 
     /// Closes the socket of a peer.
-    fn close_at(&mut self, place: usize)
-        requires within { place < length self.old.peers.items }
+    fn close_at(&mut self, index: usize)
+        requires within { index < length self.old.peers.items }
         requires closable { (d : Peer) → is_closable self.old.turn.clock
-            (slice_index_or self.old.peers.items place d) ≡ true }
+            (slice_index_or self.old.peers.items index d) ≡ true }
         ensures calls { SaysNothing (S.told self.old.system) (S.told self.new.system) }
         ensures last { self.new.last ≡ self.old.last }
     {
-        let number = self.peers[place].number;
-        self.peers.remove(place);
+        let number = self.peers[index].number;
+        self.peers.remove(index);
         self.system.close(number);
     }
 
@@ -294,9 +294,9 @@ impl<S: System + Drop> Sockets<S> {
 
     /// Returns the index of the peer with that number, if one is there. It looks first where the last one was, since a
     /// peer is written line by line, and then behind that, since peers are visited nearly as they came.
-    fn place(&self, number: u32) -> Option<usize>
-        ensures found { IfSome result (λ place. (place < length self.now.peers.items)
-            × ((d : Peer) → IsPresent number (slice_index_or self.now.peers.items place d))) }
+    fn index_of(&self, number: u32) -> Option<usize>
+        ensures found { IfSome result (λ index. (index < length self.now.peers.items)
+            × ((d : Peer) → IsPresent number (slice_index_or self.now.peers.items index d))) }
         ensures none { IfNone result (IsMissing number self.now.peers.items) }
     {
         if self.is_at(self.recent, number) {
@@ -310,14 +310,14 @@ impl<S: System + Drop> Sockets<S> {
     }
 
     /// Returns whether the peer with that number is there, and has the index.
-    fn is_at(&self, place: usize, number: u32) -> bool
-        ensures yes { result ≡ true → (place < length self.now.peers.items)
-            × ((d : Peer) → IsPresent number (slice_index_or self.now.peers.items place d)) }
-        ensures no { result ≡ false → place < length self.now.peers.items → (d : Peer)
-            → (slice_index_or self.now.peers.items place d).number ≡ number
-            → is_here (slice_index_or self.now.peers.items place d).stay ≡ false }
+    fn is_at(&self, index: usize, number: u32) -> bool
+        ensures yes { result ≡ true → (index < length self.now.peers.items)
+            × ((d : Peer) → IsPresent number (slice_index_or self.now.peers.items index d)) }
+        ensures no { result ≡ false → index < length self.now.peers.items → (d : Peer)
+            → (slice_index_or self.now.peers.items index d).number ≡ number
+            → is_here (slice_index_or self.now.peers.items index d).stay ≡ false }
     {
-        match self.peers.get(place) {
+        match self.peers.get(index) {
             Some(peer) => peer.number == number && peer.stay.is_here(),
             None => false,
         }
@@ -325,13 +325,13 @@ impl<S: System + Drop> Sockets<S> {
 
     /// Returns the index of the peer with that number, if one is there.
     fn find(&self, number: u32) -> Option<usize>
-        ensures found { IfSome result (λ place. (place < length self.now.peers.items)
-            × ((d : Peer) → IsPresent number (slice_index_or self.now.peers.items place d))) }
+        ensures found { IfSome result (λ index. (index < length self.now.peers.items)
+            × ((d : Peer) → IsPresent number (slice_index_or self.now.peers.items index d))) }
         ensures none { IfNone result (IsMissing number self.now.peers.items) }
     {
-        for place in 0..self.peers.len() {
-            if self.is_at(place, number) {
-                return Some(place);
+        for index in 0..self.peers.len() {
+            if self.is_at(index, number) {
+                return Some(index);
             }
         }
         None
@@ -364,11 +364,11 @@ impl<S: System + Drop> Sockets<S> {
         ensures count { (n : ℕ) → result ≡ Ok (Got.Bytes n) → (0 < n) × (n ≤ length buffer.old) }
         ensures fault { IfErr result (λ fault. fault ≡ DoorFault.Read) }
     {
-        let Some(place) = self.place(number) else {
+        let Some(index) = self.index_of(number) else {
             return self.read_nobody(number, buffer);
         };
-        self.recent = place;
-        let handed = self.peers[place].read(&mut self.system, &mut self.turn, buffer);
+        self.recent = index;
+        let handed = self.peers[index].read(&mut self.system, &mut self.turn, buffer);
         self.refused = self.refused || handed.refused;
         handed.got
     }
@@ -393,13 +393,13 @@ impl<S: System + Drop> Sockets<S> {
         ensures count { IfOk result (λ n. n ≤ length bytes.now) }
         ensures fault { IfErr result (λ fault. fault ≡ DoorFault.Write) }
     {
-        let Some(place) = self.place(number) else {
+        let Some(index) = self.index_of(number) else {
             self.system.told_write(number, bytes, Err(DoorFault::Write));
             self.turn.note_write(Err(DoorFault::Write));
             return Err(DoorFault::Write);
         };
-        self.recent = place;
-        let count = self.peers[place].write(&mut self.system, bytes);
+        self.recent = index;
+        let count = self.peers[index].write(&mut self.system, bytes);
         self.turn.note_write(Ok(count));
         Ok(count)
     }

@@ -109,7 +109,7 @@ impl<S: System + Drop> Sockets<S> {
         ensures last { self.new.last ≡ self.old.last }
     {
         match first_shut(self.peers.as_slice()) {
-            Some(place) => self.close_at(place),
+            Some(index) => self.close_at(index),
             None => self.listening = Listening::Refused,
         }
     }

@@ -36,7 +36,7 @@ invariant_of-self-2 g c =
     let at = c.index_mut.ensures.value in
     let there = c.in-Some.ensures.found in
     record {
-      stands = stands_let_go old new c.args.self.now.peers.items c.in-Some.place x c.linger.new.self c.args.self.now.listening
+      stands = stands_let_go old new c.args.self.now.peers.items c.in-Some.index x c.linger.new.self c.args.self.now.listening
           c.args.self.now.last c.args.number c.args.self.now.turn.clock (Ok tt) there.0 (sym at)
           (ap (λ (p : Peer). p.number) at ∙ (there.1 x).0) (ap (λ (p : Peer). p.stay) at ∙ (there.1 x).1) c.linger.ensures
           (clock_is old c.args.self.now.turn c.args.number c.args.self.now.timed) c.told_close-2.ensures c.args.self.now.stands;

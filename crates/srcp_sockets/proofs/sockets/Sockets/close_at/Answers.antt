@@ -17,7 +17,7 @@ invariant_of-self g c =
     let peer = c.index.result.now in
     record {
       stands = subst (λ (ps : List Peer). Stands new ps self.listening self.last) (sym c.remove.ensures.items)
-          (stands_closed_at old new self.peers.items c.args.place peer self.listening self.last self.turn.clock c.requires.within
+          (stands_closed_at old new self.peers.items c.args.index peer self.listening self.last self.turn.clock c.requires.within
           (sym c.index.ensures) (c.requires.closable peer)
           (clock_is old self.turn peer.number self.timed) c.close.ensures self.stands);
       named = named_silent old new self.last (says_step old new (Closes peer.number) c.close.ensures refl) self.named;

@@ -6,10 +6,10 @@ use Rattle.srcp_sockets.proofs.sockets.Sockets.make_room.Goals as goal
 
 pub close_at-requires : goal.close_at-requires
 close_at-requires g c =
-    let place = c.in-Some.place in
+    let index = c.in-Some.index in
     let clock = c.args.self.now.turn.clock in
     record {
-      within = subst (λ (ps : List Peer). place < length ps) c.as_slice.ensures.value c.in-Some.ensures.closable.0;
-      closable = λ d. subst (λ (ps : List Peer). is_closable clock (slice_index_or ps place d) ≡ true) c.as_slice.ensures.value
+      within = subst (λ (ps : List Peer). index < length ps) c.as_slice.ensures.value c.in-Some.ensures.closable.0;
+      closable = λ d. subst (λ (ps : List Peer). is_closable clock (slice_index_or ps index d) ≡ true) c.as_slice.ensures.value
           (c.in-Some.ensures.closable.1 clock d);
     }

@@ -20,7 +20,7 @@ invariant_of-self g c =
     let answer = c.read-handed.result.got in
     let buffer = c.read-handed.new.buffer in
     record {
-      stands = stands_one old new c.args.self.now.peers.items c.in-Some.place
+      stands = stands_one old new c.args.self.now.peers.items c.in-Some.index
           x c.read-handed.new.self c.args.self.now.listening c.args.self.now.last within c.read-handed.ensures.kept
           (c.read-handed.ensures.number ∙ e) (λ other differ. c.read-handed.ensures.others other (λ same. differ (same ∙ e)))
           c.args.self.now.stands;
@@ -29,7 +29,7 @@ invariant_of-self g c =
       timed = timed_read old new c.args.self.now.turn c.read-handed.new.turn x.share.line x.number answer buffer
           c.read-handed.ensures.turn
           (λ wall start log told. line_kept old wall start x log
-          (subst (IsKept old) (sym is) (c.args.self.now.stands.kept c.in-Some.place x within)) told)
+          (subst (IsKept old) (sym is) (c.args.self.now.stands.kept c.in-Some.index x within)) told)
           (record {
             prompt = λ late. absurd (true≢false (sym late ∙ c.requires));
             light = c.read-handed.ensures.fits;

@@ -20,7 +20,7 @@ invariant_of-self-2 g c =
     let e = ap (λ (p : Peer). p.number) c.index_mut.ensures.value in
     record {
       stands = stands_one (g.S.System.told c.args.self.now.system) (g.S.System.told c.write-count.new.system) c.args.self.now.peers.items
-          c.in-Some.place
+          c.in-Some.index
           x c.write-count.new.self c.args.self.now.listening c.args.self.now.last c.in-Some.ensures.found.0 c.write-count.ensures.kept
           (c.write-count.ensures.number ∙ e) (λ other differ. c.write-count.ensures.others other (λ same. differ (same ∙ e)))
           c.args.self.now.stands;
