@@ -250,19 +250,19 @@ module _ (buses : List Bus) where
   rest_asks stand calls =
       Moments ∷ Newcomers
       ∷ (flat_map (turns_away buses (timed buses stand calls).events) (filter_map newcomer_of calls)
-      ++ visits_ask buses (begun buses stand calls).events calls (seats (begun buses stand calls).places))
+      ++ visits_ask buses (begun buses stand calls).events calls (seats (begun buses stand calls).slots))
 
   rest_moments : (stand : Stand) (calls : List Call) → NoMoments (rest_asks stand calls)
   rest_moments stand calls =
       let away : List Question = flat_map (turns_away buses (timed buses stand calls).events) (filter_map newcomer_of calls) in
-      let visits : List Question = visits_ask buses (begun buses stand calls).events calls (seats (begun buses stand calls).places) in (
+      let visits : List Question = visits_ask buses (begun buses stand calls).events calls (seats (begun buses stand calls).slots) in (
         refl,
         (
           refl,
           no_moments (away ++ visits)
               (all_append (λ q. asks_peer q ≡ true) away visits
               (away_peers (timed buses stand calls).events (filter_map newcomer_of calls))
-              (visits_peers (begun buses stand calls).events calls (seats (begun buses stand calls).places))),
+              (visits_peers (begun buses stand calls).events calls (seats (begun buses stand calls).slots))),
         ),
       )
 

@@ -42,9 +42,9 @@ module _ (buses : List Bus) where
 
   -- all events of the turn
   abbrev pub turn_events : Stand → List Call → List Event
-  turn_events stand calls = opening_events calls ++ flat_map (visit_events calls) (seats (begun buses stand calls).places)
+  turn_events stand calls = opening_events calls ++ flat_map (visit_events calls) (seats (begun buses stand calls).slots)
 
   pub turned_events : (stand : Stand) (calls : List Call) → (turned buses stand calls).events ≡ stand.events ++ turn_events stand calls
   turned_events stand calls =
-      ap (λ (es : List Event). es ++ flat_map (visit_events calls) (seats (begun buses stand calls).places)) (begun_events stand calls)
-      ∙ append_assoc stand.events (opening_events calls) (flat_map (visit_events calls) (seats (begun buses stand calls).places))
+      ap (λ (es : List Event). es ++ flat_map (visit_events calls) (seats (begun buses stand calls).slots)) (begun_events stand calls)
+      ∙ append_assoc stand.events (opening_events calls) (flat_map (visit_events calls) (seats (begun buses stand calls).slots))

@@ -7,13 +7,13 @@ mod RoomSendsWhatIsLent
 mod VisitsSendWhatIsTaken
 mod CallsByTurnAndPeer
 mod GuestsAreSentTheirVisits
-mod PlacesAreOfGuests
+mod SlotsAreOfGuests
 mod SentIsTakenAfterVisits
 mod OneNewcomerATurn
 mod SentIsTakenAfterATurn
 pub mod SentIsTakenAfterAllTurns
 pub mod VisitsAreSeenAgain
-pub mod PlacesAreTakenAndFreed
+pub mod SlotsAreTakenAndFreed
 mod HandedWriteAfterWrite
 pub mod FaultsAreCounted
 pub mod CallsAreAdded
@@ -27,8 +27,8 @@ pub mod TurnsAskInOrder
 pub mod DoorIsCalled
 pub mod MomentsFollow
 pub mod NewcomersAreSeated
-pub mod PlacesFollow
-mod PlacesBehindStayFree
+pub mod SlotsFollow
+mod SlotsBehindStayFree
 pub mod TurnsFollow
 pub mod ServingFollows
 mod EventsOfATurn

@@ -14,7 +14,7 @@ use Rattle.srcp_core.proofs.Agreement.CallLaws.{calls_agree, calls_lead}
 use Rattle.srcp_serve.specs.Calls.{Call as DoorCall, Tells, Adds}
 use Rattle.srcp_serve.specs.Calls as door
 use Rattle.srcp_serve.specs.Serving.{Expects, expects}
-use Rattle.srcp_serve.specs.Places.{TakesMoment}
+use Rattle.srcp_serve.specs.Slots.{TakesMoment}
 use Rattle.srcp_serve.specs.declared.door.DoorFault.{DoorFault}
 use Rattle.srcp_serve.proofs.CallsAreAdded.{adds_one, adds_then}
 

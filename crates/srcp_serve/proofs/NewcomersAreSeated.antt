@@ -19,27 +19,27 @@ use Rattle.srcp_core.proofs.Agreement.NumbersAndKeys.{key_push_last}
 use Rattle.srcp_serve.specs.Calls.{Call as DoorCall}
 use Rattle.srcp_serve.specs.Given.{Guest, CloseCall}
 use Rattle.srcp_serve.specs.Serving.{Seat, Stand, Closes as ClosesQuestion, is_let_in, let_in, welcomed}
-use Rattle.srcp_serve.specs.Places.{Sit, IsNotOf}
-use Rattle.srcp_serve.specs.Places.{IsLeftOut, IsHosting, HasConnected, Connects}
+use Rattle.srcp_serve.specs.Slots.{Sit, IsNotOf}
+use Rattle.srcp_serve.specs.Slots.{IsLeftOut, IsHosting, HasConnected, Connects}
 use Rattle.srcp_serve.specs.Visits.{Closes, CountsAsked}
 use Rattle.srcp_serve.specs.declared.door.DoorFault.{DoorFault}
 use Rattle.srcp_serve.specs.declared.serving.visit.Seat.{Seat as Own}
-use Rattle.srcp_serve.proofs.PlacesAreTakenAndFreed.{count_append, count_cons, count_seated}
-use Rattle.srcp_serve.proofs.PlacesAreTakenAndFreed.{differ_seated, hosts_on}
-use Rattle.srcp_serve.proofs.PlacesAreTakenAndFreed.{free_in, free_is, new_apart, none_free, sit_pushed, sit_seated}
+use Rattle.srcp_serve.proofs.SlotsAreTakenAndFreed.{count_append, count_cons, count_seated}
+use Rattle.srcp_serve.proofs.SlotsAreTakenAndFreed.{differ_seated, hosts_on}
+use Rattle.srcp_serve.proofs.SlotsAreTakenAndFreed.{free_in, free_is, new_apart, none_free, sit_pushed, sit_seated}
 use Rattle.srcp_serve.proofs.RefusalsWereAskedFor.{asked_one}
 use Rattle.srcp_serve.proofs.CallsAreAdded.{adds_none}
 
-pub none_left_out : (places : List (Option Seat)) → AllByRecursion (IsLeftOut []) places
+pub none_left_out : (slots : List (Option Seat)) → AllByRecursion (IsLeftOut []) slots
 none_left_out [] = tt
-none_left_out (None ∷ places) = (tt, none_left_out places)
-none_left_out (Some seat ∷ places) = (tt, none_left_out places)
+none_left_out (None ∷ slots) = (tt, none_left_out slots)
+none_left_out (Some seat ∷ slots) = (tt, none_left_out slots)
 
-close_left_out : (peer : ℕ) (answer : Result Unit DoorFault) (places : List (Option Seat)) → AllByRecursion (IsNotOf peer) places
-    → AllByRecursion (IsLeftOut (CloseCall peer answer ∷ [])) places
+close_left_out : (peer : ℕ) (answer : Result Unit DoorFault) (slots : List (Option Seat)) → AllByRecursion (IsNotOf peer) slots
+    → AllByRecursion (IsLeftOut (CloseCall peer answer ∷ [])) slots
 close_left_out peer answer [] h = tt
-close_left_out peer answer (None ∷ places) h = (tt, close_left_out peer answer places h.1)
-close_left_out peer answer (Some seat ∷ places) h = ((h.0, tt), close_left_out peer answer places h.1)
+close_left_out peer answer (None ∷ slots) h = (tt, close_left_out peer answer slots h.1)
+close_left_out peer answer (Some seat ∷ slots) h = ((h.0, tt), close_left_out peer answer slots h.1)
 
 module _ (buses : List Bus) where
   -- a connection that is refused since there are too many is refused whatever memory answers
@@ -86,7 +86,7 @@ seats_full peer old mid cause told_old told_new owns closes turned_away buses st
     away cause granted denies after_open counts asks =
         let guest : Guest = record { peer = peer; granted = granted } in
         let shut : is_let_in buses stand.events granted ≡ false = ap is_none denies in
-        let after : Stand = record { events = stand.events ++ Open granted ∷ []; guests = stand.guests; places = stand.places } in
+        let after : Stand = record { events = stand.events ++ Open granted ∷ []; guests = stand.guests; slots = stand.slots } in
         let w : welcomed buses stand guest ≡ after = ap (λ b. if b then let_in buses stand guest else after) shut in
         let c = closes told is in
         record {
@@ -100,8 +100,8 @@ seats_full peer old mid cause told_old told_new owns closes turned_away buses st
                 (asked_one buses stand.events (Open granted) old mid asks);
             asked = sym (ap (λ b. (if b then [] else ClosesQuestion peer ∷ []) ++ []) shut);
             others =
-                subst (λ (s : Stand). AllByRecursion (IsLeftOut (CloseCall peer c.answer ∷ [])) s.places) (sym w)
-                (close_left_out peer c.answer stand.places new);
+                subst (λ (s : Stand). AllByRecursion (IsLeftOut (CloseCall peer c.answer ∷ [])) s.slots) (sym w)
+                (close_left_out peer c.answer stand.slots new);
             hosting = subst (λ (s : Stand). IsHosting buses s keys mid owns) (sym w)
                 (hosts_on buses stand (stand.events ++ Open granted ∷ []) keys old mid owns hosting after_open);
             opened = ap (λ (s : Stand). length s.guests) w ∙ no_more (length stand.guests);
@@ -123,24 +123,24 @@ seats_full peer old mid cause told_old told_new owns closes turned_away buses st
 pub seats_in : (peer key free : ℕ) (old mid : Held) (told_old : Option (List DoorCall)) (owns : List (Option Own)) → IsAdmitted key old mid
     → position is_none owns ≡ Some free
     → Connects peer old told_old owns mid told_old (slice_set owns free (Some (record { peer = peer; key = key }))) true
-seats_in peer key free old mid told_old owns admitted place buses stand keys told hosting is new =
+seats_in peer key free old mid told_old owns admitted slot buses stand keys told hosting is new =
     let own : Own = record { peer = peer; key = key } in
     let guest : Guest = record { peer = peer; granted = true } in
     let seat : Seat = record { peer = peer; conn = length stand.guests + 1 } in
     let pushed : List (Option ℕ) = keys ++ Some key ∷ [] in
     let let_in_is : is_let_in buses stand.events true ≡ true =
     ap is_none (calls_agree.accepts key old mid admitted buses stand.events keys hosting.layout hosting.stands) in
-    let after : Stand = record { events = stand.events ++ Open true ∷ []; guests = stand.guests; places = stand.places } in
+    let after : Stand = record { events = stand.events ++ Open true ∷ []; guests = stand.guests; slots = stand.slots } in
     let w : welcomed buses stand guest ≡ let_in buses stand guest = ap (λ b. if b then let_in buses stand guest else after) let_in_is in
     let conn : seat.conn ≡ length keys + 1 = ap (λ n. n + 1) (sym hosting.long) in
     let number : seat.conn ≡ suc (length keys) = omega (arith, conn) in
     let named : key_of seat.conn pushed ≡ Some key = ap (λ n. key_of n pushed) number ∙ key_push_last keys (Some key) in
-    let sitting : Sit pushed (slice_set owns (free_in owns) (Some own)) (let_in buses stand guest).places =
-    sit_seated pushed own seat owns stand.places (refl, named) (sit_pushed keys key owns stand.places hosting.sit) in
+    let sitting : Sit pushed (slice_set owns (free_in owns) (Some own)) (let_in buses stand guest).slots =
+    sit_seated pushed own seat owns stand.slots (refl, named) (sit_pushed keys key owns stand.slots hosting.sit) in
     let c = count_append keys (Some key ∷ []) in
     let none : List (Option ℕ) = [] in
     let one = count_cons (Some key) none in
-    let more = count_seated seat stand.places in
+    let more = count_seated seat stand.slots in
     let before = hosting.few in
     record {
       granted = true;
@@ -152,14 +152,14 @@ seats_in peer key free old mid told_old owns admitted place buses stand keys tol
         asked_for = subst (λ (s : Stand). CountsAsked buses stand.events s.events old mid) (sym w)
             (asked_one buses stand.events (Open true) old mid (ap (λ (h : Held). h.denied) admitted.rest));
         asked = sym (ap (λ b. (if b then [] else ClosesQuestion peer ∷ []) ++ []) let_in_is);
-        others = none_left_out (welcomed buses stand guest).places;
+        others = none_left_out (welcomed buses stand guest).slots;
         hosting = subst (λ (s : Stand). IsHosting buses s pushed mid (slice_set owns free (Some own))) (sym w) (record {
           layout = hosting.layout;
           sit =
-              subst (λ (i : ℕ). Sit pushed (slice_set owns i (Some own)) (let_in buses stand guest).places)
-              (sym (free_is owns free place)) sitting;
+              subst (λ (i : ℕ). Sit pushed (slice_set owns i (Some own)) (let_in buses stand guest).slots)
+              (sym (free_is owns free slot)) sitting;
           few = omega (arith, c, one, more, before);
-          differ = differ_seated seat stand.places (new_apart keys seat owns stand.places hosting.sit conn new) hosting.differ;
+          differ = differ_seated seat stand.slots (new_apart keys seat owns stand.slots hosting.sit conn new) hosting.differ;
           long = length-append keys (Some key ∷ []) ∙ ap (λ n. n + 1) hosting.long ∙ sym (length-append stand.guests (peer ∷ []));
           stands = calls_lead.opened key old mid admitted buses stand.events keys hosting.layout hosting.stands;
         });
@@ -172,7 +172,7 @@ pub seats_none : (peer : ℕ) (opens : Bool) (old new : Held) (told_old told_new
     → open_count old < 64 → length owns ≡ 64
     → position is_none owns ≡ None → Connects peer old told_old owns new told_new owns opens
 seats_none peer opens old new told_old told_new owns below long none buses stand keys told hosting is fresh =
-    let taken = none_free keys owns stand.places hosting.sit none in
+    let taken = none_free keys owns stand.slots hosting.sit none in
     let few = hosting.few in
     let opened = calls_agree.counted old buses stand.events keys hosting.stands in
     absurd (omega (arith, taken, few, opened, below, long))

@@ -10,7 +10,7 @@ use Rattle.srcp_serve.specs.Given.{Guest, Call, ExpectCall, NowCall, AcceptCall,
 use Rattle.srcp_serve.specs.Serving.{Question, Expects, Moments, Newcomers, Closes, Seat, Stand, question, newcomer_of, with_moment}
 use Rattle.srcp_serve.specs.Serving.{is_let_in, turns_away}
 use Rattle.srcp_serve.proofs.CallsByTurnAndPeer.{IsNoneOf, IsOfNone, AreOfPeers, asks_of}
-use Rattle.srcp_serve.proofs.PlacesAreOfGuests.{IsSentAsTaken, sent_after_moment}
+use Rattle.srcp_serve.proofs.SlotsAreOfGuests.{IsSentAsTaken, sent_after_moment}
 
 -- after the moments of a turn
 pub sent_after_moments : (buses : List Bus) (before : ℕ → List ℕ) (stand : Stand) (moments : List ℕ) → IsSentAsTaken buses before stand

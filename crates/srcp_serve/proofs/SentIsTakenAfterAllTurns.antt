@@ -20,7 +20,7 @@ use Rattle.srcp_serve.specs.Serving.{SentIsTaken}
 use Rattle.srcp_serve.proofs.VisitsSendWhatIsTaken.{all_parts, no_writes}
 use Rattle.srcp_serve.proofs.CallsByTurnAndPeer.{AreAsked, AreTurnsAsked, IsNoneOf, PeersApart, in_turn, turns_parted, visits_parted}
 use Rattle.srcp_serve.proofs.GuestsAreSentTheirVisits.{AreGuests}
-use Rattle.srcp_serve.proofs.PlacesAreOfGuests.{IsSentAsTaken, IsNew, sent_after_newcomer, new_push, new_unseated}
+use Rattle.srcp_serve.proofs.SlotsAreOfGuests.{IsSentAsTaken, IsNew, sent_after_newcomer, new_push, new_unseated}
 use Rattle.srcp_serve.proofs.SentIsTakenAfterVisits.{nothing_taken, same_each}
 use Rattle.srcp_serve.proofs.OneNewcomerATurn.{sent_after_moments}
 use Rattle.srcp_serve.proofs.SentIsTakenAfterATurn.{sent_after_turn, turn_begins}
@@ -131,7 +131,7 @@ module _ (buses : List Bus) (before : ℕ → List ℕ) (stand : Stand) (calls :
       let even_after : IsSentAsTaken buses before after =
       even_begun buses before peers more now new_now fresh_now
       (sent_after_moments buses before stand (filter_map moment_of calls) as_taken).0 in
-      let unseated : IsNoneOf peer (seats after.places) = new_unseated peer after.guests (seats after.places) none even_after.known in
+      let unseated : IsNoneOf peer (seats after.slots) = new_unseated peer after.guests (seats after.slots) none even_after.known in
       ap (λ t. t ++ taken peer calls) (fresh peer none_before)
       ∙ nothing_taken buses before after calls first (away_no_writes buses now.events peers) asked peer unseated
 
@@ -169,9 +169,9 @@ joined all = flat_map (λ calls. calls) all
 module _ (buses : List Bus) where
   -- in the turn, each peer that has a slot is a guest, no two are one peer, and each visit asked what it was to ask
   pub record IsTurnOfGuests (stand : Stand) (calls : List Call) : Type 0 where
-    pub known : AreGuests (begun buses stand calls).guests (seats (begun buses stand calls).places)
-    pub apart : PeersApart (seats (begun buses stand calls).places)
-    pub asked : AreAsked buses (begun buses stand calls).events calls (seats (begun buses stand calls).places)
+    pub known : AreGuests (begun buses stand calls).guests (seats (begun buses stand calls).slots)
+    pub apart : PeersApart (seats (begun buses stand calls).slots)
+    pub asked : AreAsked buses (begun buses stand calls).events calls (seats (begun buses stand calls).slots)
     pub fair : AllByRecursion IsFair calls
 
   abbrev SentAfter : (all : List (List Call)) (before : ℕ → List ℕ) (stand : Stand) → Type 0
@@ -199,7 +199,7 @@ module _ (buses : List Bus) where
         known = b.sent_before_visits.known;
         apart = b.sent_before_visits.apart;
         asked =
-            visits_parted buses b.first now.events calls (seats now.places) b.sent_before_visits.apart b.none b.asked;
+            visits_parted buses b.first now.events calls (seats now.slots) b.sent_before_visits.apart b.none b.asked;
         fair = parts.0;
       } in
       let rest = turns_taken all (λ peer. before peer ++ taken peer calls) (turned buses stand calls) asked.1 parts.1

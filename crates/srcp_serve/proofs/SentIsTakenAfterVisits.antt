@@ -12,7 +12,7 @@ use Rattle.srcp_serve.proofs.OnlyRoomSends.{IsSending}
 use Rattle.srcp_serve.proofs.VisitsSendWhatIsTaken.{asks_write, no_writes, none_taken}
 use Rattle.srcp_serve.proofs.CallsByTurnAndPeer.{IsNoneOf, IsOfNone, about_question, asks_of, none_asked, visits_parted}
 use Rattle.srcp_serve.proofs.GuestsAreSentTheirVisits.{IsGuest, sending_visits, so_far, taken_visit}
-use Rattle.srcp_serve.proofs.PlacesAreOfGuests.{IsSentAsTaken, kept_all, kept_apart}
+use Rattle.srcp_serve.proofs.SlotsAreOfGuests.{IsSentAsTaken, kept_all, kept_apart}
 
 both : (a b : Bool) → a && b ≡ true → (a ≡ true) × (b ≡ true)
 both true b e = (refl, e)
@@ -43,40 +43,40 @@ same_each f g [] h = refl
 same_each f g (guest ∷ guests) h = ap (λ t. t ∷ map f guests) (h guest) ∙ ap (λ ts. g guest ∷ ts) (same_each f g guests h)
 
 module _ (buses : List Bus) (before : ℕ → List ℕ) (stand : Stand) (calls : List Call) (first : List Question)
-    (still : no_writes first ≡ true) (asked : map question calls ≡ first ++ visits_ask buses stand.events calls (seats stand.places)) where
+    (still : no_writes first ≡ true) (asked : map question calls ≡ first ++ visits_ask buses stand.events calls (seats stand.slots)) where
   -- nothing is taken of a peer that has no slot
-  pub nothing_taken : (peer : ℕ) → IsNoneOf peer (seats stand.places) → taken peer calls ≡ []
+  pub nothing_taken : (peer : ℕ) → IsNoneOf peer (seats stand.slots) → taken peer calls ≡ []
   nothing_taken peer none =
-      let theirs : List Question = visits_ask buses stand.events calls (seats stand.places) in
+      let theirs : List Question = visits_ask buses stand.events calls (seats stand.slots) in
       let are : map question (filter (is_about peer) calls) ≡ filter (asks_of peer) first =
       about_question peer calls
       ∙ ap (filter (asks_of peer)) asked
       ∙ filter-append (asks_of peer) first theirs
-      ∙ ap (λ qs. filter (asks_of peer) first ++ qs) (none_asked buses peer stand.events calls (seats stand.places) none)
+      ∙ ap (λ qs. filter (asks_of peer) first ++ qs) (none_asked buses peer stand.events calls (seats stand.slots) none)
       ∙ append-nil (filter (asks_of peer) first) in
       sym (taken_visit peer calls)
       ∙ (none_taken peer (filter (is_about peer) calls) (ap no_writes are ∙ no_writes_kept (asks_of peer) first still)).1
 
-  at_first : (peer : ℕ) → before peer ≡ so_far before calls (seats stand.places) peer
-  at_first peer = by (list_any (λ seat. seat.peer == peer) (seats stand.places)) refl
+  at_first : (peer : ℕ) → before peer ≡ so_far before calls (seats stand.slots) peer
+  at_first peer = by (list_any (λ seat. seat.peer == peer) (seats stand.slots)) refl
     where
-      by : (b : Bool) → list_any (λ seat. seat.peer == peer) (seats stand.places) ≡ b
-          → before peer ≡ so_far before calls (seats stand.places) peer
+      by : (b : Bool) → list_any (λ seat. seat.peer == peer) (seats stand.slots) ≡ b
+          → before peer ≡ so_far before calls (seats stand.slots) peer
       by true e = sym (append-nil (before peer)) ∙ ap (λ b. before peer ++ (if b then [] else taken peer calls)) (sym e)
       by false e =
           sym (append-nil (before peer))
-          ∙ ap (λ t. before peer ++ t) (sym (nothing_taken peer (any_none peer (seats stand.places) e)))
+          ∙ ap (λ t. before peer ++ t) (sym (nothing_taken peer (any_none peer (seats stand.slots) e)))
           ∙ ap (λ b. before peer ++ (if b then [] else taken peer calls)) (sym e)
 
-  pub sent_after_visits : AllByRecursion IsFair calls → IsOfNone buses first (seats stand.places) → IsSentAsTaken buses before stand
+  pub sent_after_visits : AllByRecursion IsFair calls → IsOfNone buses first (seats stand.slots) → IsSentAsTaken buses before stand
       → IsSentAsTaken buses (λ peer. before peer ++ taken peer calls) (visited buses stand calls)
   sent_after_visits fair none h =
-      let parted = visits_parted buses first stand.events calls (seats stand.places) h.apart none asked in
-      let begun : IsSending (map (so_far before calls (seats stand.places)) stand.guests) (course buses stand.events).connections =
+      let parted = visits_parted buses first stand.events calls (seats stand.slots) h.apart none asked in
+      let begun : IsSending (map (so_far before calls (seats stand.slots)) stand.guests) (course buses stand.events).connections =
       subst (λ (ts : List (List ℕ)). IsSending ts (course buses stand.events).connections)
-      (same_each before (so_far before calls (seats stand.places)) stand.guests at_first) h.sending in
+      (same_each before (so_far before calls (seats stand.slots)) stand.guests at_first) h.sending in
       record {
-        sending = sending_visits buses stand.guests before calls fair stand.events (seats stand.places) h.known h.apart parted begun;
-        known = kept_all (λ seat. IsGuest seat.conn seat.peer stand.guests) calls stand.places h.known;
-        apart = kept_apart calls stand.places h.apart;
+        sending = sending_visits buses stand.guests before calls fair stand.events (seats stand.slots) h.known h.apart parted begun;
+        known = kept_all (λ seat. IsGuest seat.conn seat.peer stand.guests) calls stand.slots h.known;
+        apart = kept_apart calls stand.slots h.apart;
       }

@@ -13,8 +13,8 @@ use Rattle.srcp_serve.specs.Calls as door
 use Rattle.srcp_serve.specs.Given.{Call, ExpectCall, NowCall, AcceptCall, told_call}
 use Rattle.srcp_serve.specs.Serving.{Stand, IsFair, IsServed, question}
 use Rattle.srcp_serve.specs.Serving.{turned, turn_asks, stand_after}
-use Rattle.srcp_serve.specs.Places.{IsHosting, IsServing, IsOneOf, IsTurnGiven, one_if, MakesTurn}
-use Rattle.srcp_serve.specs.Places.{SeatsDiffer, ServesCourse, ServesSoFar, Sit}
+use Rattle.srcp_serve.specs.Slots.{IsHosting, IsServing, IsOneOf, IsTurnGiven, one_if, MakesTurn}
+use Rattle.srcp_serve.specs.Slots.{SeatsDiffer, ServesCourse, ServesSoFar, Sit}
 use Rattle.srcp_serve.specs.Turns.{AsksTurn, AsksTurns}
 use Rattle.srcp_serve.specs.Visits.{CountsAsked}
 use Rattle.srcp_serve.specs.declared.serving.visit.Seat.{Seat as Own}
@@ -91,8 +91,8 @@ serves_on count opened opens old mid new told_old told_mid told_new owns owns_ne
     (subst (λ (ps : List ℕ). IsDistinct (λ a b. a == b) ps) (filter_map-append peer_of first later.calls) differ_all) s.known in
     let same : later.calls ≡ map told_call x.calls = same_calls told_mid told later.calls (map told_call x.calls) w x.adds in
     let more = served_then buses count s.calls x.calls s.served x.turn x.asked in
-    let known : AllByRecursion (IsOneOf (filter_map peer_of calls)) (turned buses stood x.calls).places =
-    subst (λ (ps : List ℕ). AllByRecursion (IsOneOf ps) (turned buses stood x.calls).places)
+    let known : AllByRecursion (IsOneOf (filter_map peer_of calls)) (turned buses stood x.calls).slots =
+    subst (λ (ps : List ℕ). AllByRecursion (IsOneOf ps) (turned buses stood x.calls).slots)
     (ap (λ c. peers ++ filter_map peer_of c) (sym same) ∙ sym (filter_map-append peer_of first later.calls)
     ∙ ap (filter_map peer_of) (sym whole)) x.known in
     record {
@@ -103,7 +103,7 @@ serves_on count opened opens old mid new told_old told_mid told_new owns owns_ne
       asked_for = subst (λ (v : Stand). CountsAsked buses [] v.events old new) (sym more.1)
           (asked_then buses [] stood.events (turned buses stood x.calls).events old mid new s.asked_for x.asked_for);
       served = more.0;
-      known = subst (λ (v : Stand). AllByRecursion (IsOneOf (filter_map peer_of calls)) v.places) (sym more.1) known;
+      known = subst (λ (v : Stand). AllByRecursion (IsOneOf (filter_map peer_of calls)) v.slots) (sym more.1) known;
       hosting = subst (λ (v : Stand). IsHosting buses v x.keys new owns_new) (sym more.1) x.hosting;
       opened = ap (λ (v : Stand). length v.guests) more.1 ∙ x.opened ∙ ap (λ n. n + one_if opens) s.opened;
     }

@@ -20,15 +20,15 @@ use Rattle.srcp_serve.specs.Given.{Guest, Call, ExpectCall, NowCall, AcceptCall,
 use Rattle.srcp_serve.specs.Serving.{Seat, Stand, Expects, Moments, expects, Newcomers, IsFair, question, is_expect, moment_of}
 use Rattle.srcp_serve.specs.Serving.{newcomer_of, seats, visits_ask, visit_events, kept, is_let_in, let_in, welcomed, with_moment, timed}
 use Rattle.srcp_serve.specs.Serving.{begun, visited, turned, turn_asks, turns_away}
-use Rattle.srcp_serve.specs.Places.{IsHosting, IsLeftOut, IsNotOf, IsOneOf, one_if, AcceptsOne, MakesTurn, Connects}
-use Rattle.srcp_serve.specs.Places.{SeatsDiffer, TakesMoment, Visit, VisitsPlaces, AreOwn, asked_by}
-use Rattle.srcp_serve.specs.Places.{calls_of, left_by, made_by, seat_of, visits_of}
+use Rattle.srcp_serve.specs.Slots.{IsHosting, IsLeftOut, IsNotOf, IsOneOf, one_if, AcceptsOne, MakesTurn, Connects}
+use Rattle.srcp_serve.specs.Slots.{SeatsDiffer, TakesMoment, Visit, VisitsSlots, AreOwn, asked_by}
+use Rattle.srcp_serve.specs.Slots.{calls_of, left_by, made_by, seat_of, visits_of}
 use Rattle.srcp_serve.specs.Turns.{AsksNewcomer, AsksPeers, AsksTurn, IsTurn, is_of_peer}
 use Rattle.srcp_serve.specs.Visits.{AddsGiven, CountsAsked}
 use Rattle.srcp_serve.specs.declared.door.DoorFault.{DoorFault}
 use Rattle.srcp_serve.specs.declared.serving.visit.Seat.{Seat as Own}
 use Rattle.srcp_serve.proofs.NewcomersAreSeated.{none_left_out}
-use Rattle.srcp_serve.proofs.PlacesAreTakenAndFreed.{all_here, all_seated, hosts_on, kept_by, known_left, round_seats, visits_apart}
+use Rattle.srcp_serve.proofs.SlotsAreTakenAndFreed.{all_here, all_seated, hosts_on, kept_by, known_left, round_seats, visits_apart}
 use Rattle.srcp_serve.proofs.RefusalsWereAskedFor.{asked_moment, asked_then}
 use Rattle.srcp_serve.proofs.CallsAreAdded.{adds_one, adds_then, given_then, refusals_then, same_calls}
 use Rattle.srcp_serve.proofs.SentIsTakenAfterAllTurns.{peers_told}
@@ -91,19 +91,19 @@ not_known (x ∷ peers) p r h k = by (x == r) refl k (λ e. not_known peers p r 
     by true e k more = no_either x p r h.0 e
     by false e k more = more k
 
-fresh : (peers : List ℕ) (p : ℕ) (places : List (Option Seat)) → AllByRecursion (λ x. (x == p) ≡ false) peers
-    → AllByRecursion (IsOneOf peers) places → AllByRecursion (IsNotOf p) places
+fresh : (peers : List ℕ) (p : ℕ) (slots : List (Option Seat)) → AllByRecursion (λ x. (x == p) ≡ false) peers
+    → AllByRecursion (IsOneOf peers) slots → AllByRecursion (IsNotOf p) slots
 fresh peers p [] h k = tt
-fresh peers p (None ∷ places) h k = (tt, fresh peers p places h k.1)
-fresh peers p (Some seat ∷ places) h k = (not_known peers p seat.peer h k.0, fresh peers p places h k.1)
+fresh peers p (None ∷ slots) h k = (tt, fresh peers p slots h k.1)
+fresh peers p (Some seat ∷ slots) h k = (not_known peers p seat.peer h k.0, fresh peers p slots h k.1)
 
-known_more : (peers more : List ℕ) (places : List (Option Seat)) → AllByRecursion (IsOneOf peers) places
-    → AllByRecursion (IsOneOf (peers ++ more)) places
+known_more : (peers more : List ℕ) (slots : List (Option Seat)) → AllByRecursion (IsOneOf peers) slots
+    → AllByRecursion (IsOneOf (peers ++ more)) slots
 known_more peers more [] h = tt
-known_more peers more (None ∷ places) h = (tt, known_more peers more places h.1)
-known_more peers more (Some seat ∷ places) h = (
+known_more peers more (None ∷ slots) h = (tt, known_more peers more slots h.1)
+known_more peers more (Some seat ∷ slots) h = (
   list_any-append (λ q. q == seat.peer) peers more ∙ ap (λ t. t || list_any (λ q. q == seat.peer) more) h.0,
-  known_more peers more places h.1,
+  known_more peers more slots h.1,
 )
 
 known_last : (peers : List ℕ) (p : ℕ) → list_any (λ q. q == p) (peers ++ p ∷ []) ≡ true
@@ -115,36 +115,36 @@ known_last (x ∷ peers) p = by (x == p) (known_last peers p)
     by false e = e
 
 module _ (buses : List Bus) where
-  known_welcomed : (peers : List ℕ) (stand : Stand) (guest : Guest) → AllByRecursion (IsOneOf peers) stand.places
-      → AllByRecursion (IsOneOf (peers ++ guest.peer ∷ [])) (welcomed buses stand guest).places
+  known_welcomed : (peers : List ℕ) (stand : Stand) (guest : Guest) → AllByRecursion (IsOneOf peers) stand.slots
+      → AllByRecursion (IsOneOf (peers ++ guest.peer ∷ [])) (welcomed buses stand guest).slots
   known_welcomed peers stand guest h = by (is_let_in buses stand.events guest.granted)
     where
-      more : AllByRecursion (IsOneOf (peers ++ guest.peer ∷ [])) stand.places
-      more = known_more peers (guest.peer ∷ []) stand.places h
+      more : AllByRecursion (IsOneOf (peers ++ guest.peer ∷ [])) stand.slots
+      more = known_more peers (guest.peer ∷ []) stand.slots h
 
       by : (b : Bool)
           → AllByRecursion (IsOneOf (peers ++ guest.peer ∷ []))
-          (if b then let_in buses stand guest else record stand { events = stand.events ++ Open guest.granted ∷ [] }).places
+          (if b then let_in buses stand guest else record stand { events = stand.events ++ Open guest.granted ∷ [] }).slots
       by true =
-          all_seated (IsOneOf (peers ++ guest.peer ∷ [])) (record { peer = guest.peer; conn = length stand.guests + 1 }) stand.places
+          all_seated (IsOneOf (peers ++ guest.peer ∷ [])) (record { peer = guest.peer; conn = length stand.guests + 1 }) stand.slots
           (known_last peers guest.peer) more
       by false = more
 
   known_news : (answer : Result (Option ℕ) DoorFault) (granted : Bool) (peers : List ℕ) (stand : Stand)
-      → AllByRecursion (IsOneOf peers) stand.places
+      → AllByRecursion (IsOneOf peers) stand.slots
       → AllByRecursion (IsOneOf (peers ++ filter_map peer_of (door.AcceptCall answer ∷ [])))
-      (fold (welcomed buses) stand (filter_map newcomer_of (AcceptCall answer granted ∷ []))).places
-  known_news (Ok None) granted peers stand h = known_more peers [] stand.places h
+      (fold (welcomed buses) stand (filter_map newcomer_of (AcceptCall answer granted ∷ []))).slots
+  known_news (Ok None) granted peers stand h = known_more peers [] stand.slots h
   known_news (Ok (Some p)) granted peers stand h = known_welcomed peers stand (record { peer = p; granted = granted }) h
-  known_news (Err failed) granted peers stand h = known_more peers [] stand.places h
+  known_news (Err failed) granted peers stand h = known_more peers [] stand.slots h
 
   guests_timed : (answer : Result ℕ DoorFault) (stand : Stand)
       → length (timed buses stand (NowCall answer ∷ [])).guests ≡ length stand.guests
   guests_timed (Ok moment) stand = refl
   guests_timed (Err failed) stand = refl
 
-  known_timed : (answer : Result ℕ DoorFault) (peers : List ℕ) (stand : Stand) → AllByRecursion (IsOneOf peers) stand.places
-      → AllByRecursion (IsOneOf peers) (timed buses stand (NowCall answer ∷ [])).places
+  known_timed : (answer : Result ℕ DoorFault) (peers : List ℕ) (stand : Stand) → AllByRecursion (IsOneOf peers) stand.slots
+      → AllByRecursion (IsOneOf peers) (timed buses stand (NowCall answer ∷ [])).slots
   known_timed (Ok moment) peers stand h = h
   known_timed (Err failed) peers stand h = h
 
@@ -171,7 +171,7 @@ module _ (old : Held) (told_old told_new : Option (List DoorCall)) (owns : List 
       counted = refl;
       asked_for = λ first e. e;
       asked = refl;
-      others = none_left_out stand.places;
+      others = none_left_out stand.slots;
       hosting = hosting;
       opened = no_more (length stand.guests);
     };
@@ -189,7 +189,7 @@ module _ (old : Held) (told_old told_new : Option (List DoorCall)) (owns : List 
       counted = refl;
       asked_for = λ first e. e;
       asked = refl;
-      others = none_left_out stand.places;
+      others = none_left_out stand.slots;
       hosting = hosting;
       opened = no_more (length stand.guests);
     };
@@ -211,7 +211,7 @@ lets_peer peer opens old new told_old told_mid told_new owns owns_new h asks sit
     subst (λ (cs : List DoorCall). PeersDiffer peers cs) same differ in
     let x =
     sits buses stand keys told hosting is
-    (fresh peers peer stand.places (differ_last peers peer (filter_map peer_of later.calls) apart) known) in
+    (fresh peers peer stand.slots (differ_last peers peer (filter_map peer_of later.calls) apart) known) in
     record {
       answer = Ok (Some peer);
       granted = x.granted;
@@ -245,7 +245,7 @@ module _ (buses : List Bus) (stand : Stand) (due slack : Option ℕ) (now : Resu
   second = fold (welcomed buses) first news
 
   abbrev third : Stand
-  third = record { events = second.events ++ made_by visits; guests = second.guests; places = map left_by round ++ [] }
+  third = record { events = second.events ++ made_by visits; guests = second.guests; slots = map left_by round ++ [] }
 
   module _ (peers : list_all is_of_peer (map told_call tail) ≡ true) where
     news_are : filter_map newcomer_of calls ≡ news
@@ -263,13 +263,13 @@ module _ (buses : List Bus) (stand : Stand) (due slack : Option ℕ) (now : Resu
     begun_is : begun buses stand calls ≡ second
     begun_is = ap (λ s. fold (welcomed buses) s (filter_map newcomer_of calls)) timed_is ∙ ap (fold (welcomed buses) first) news_are
 
-    module _ (own : AreOwn visits) (places : map seat_of round ≡ second.places) (differ : SeatsDiffer second.places)
-        (others : AllByRecursion (IsLeftOut early) second.places) where
+    module _ (own : AreOwn visits) (slots : map seat_of round ≡ second.slots) (differ : SeatsDiffer second.slots)
+        (others : AllByRecursion (IsLeftOut early) second.slots) where
       apart : AreApart (ExpectCall due slack ∷ NowCall now ∷ AcceptCall answer granted ∷ early) visits
       apart =
           visits_apart (ExpectCall due slack ∷ NowCall now ∷ AcceptCall answer granted ∷ early) round own
-          (subst (λ (ps : List (Option Seat)). SeatsDiffer ps) (sym places) differ)
-          (left_out (map seat_of round) (subst (λ (ps : List (Option Seat)). AllByRecursion (IsLeftOut early) ps) (sym places) others))
+          (subst (λ (ps : List (Option Seat)). SeatsDiffer ps) (sym slots) differ)
+          (left_out (map seat_of round) (subst (λ (ps : List (Option Seat)). AllByRecursion (IsLeftOut early) ps) (sym slots) others))
         where
           left_out : (ps : List (Option Seat)) → AllByRecursion (IsLeftOut early) ps
               → AllByRecursion (IsLeftOut (ExpectCall due slack ∷ NowCall now ∷ AcceptCall answer granted ∷ early)) ps
@@ -277,25 +277,25 @@ module _ (buses : List Bus) (stand : Stand) (due slack : Option ℕ) (now : Resu
           left_out (None ∷ ps) h = (tt, left_out ps h.1)
           left_out (Some seat ∷ ps) h = ((refl, (refl, (refl, h.0))), left_out ps h.1)
 
-      seats_are : seats second.places ≡ map (λ v. v.0) visits
-      seats_are = ap seats (sym places) ∙ round_seats round
+      seats_are : seats second.slots ≡ map (λ v. v.0) visits
+      seats_are = ap seats (sym slots) ∙ round_seats round
 
       pub turned_is : turned buses stand calls ≡ third
       turned_is =
           ap (λ s. visited buses s calls) begun_is
-          ∙ ap (λ ss. record second { events = second.events ++ flat_map (visit_events calls) ss; places = map (kept calls) second.places })
+          ∙ ap (λ ss. record second { events = second.events ++ flat_map (visit_events calls) ss; slots = map (kept calls) second.slots })
           seats_are
-          ∙ ap (λ more. record second { events = second.events ++ more; places = map (kept calls) second.places })
+          ∙ ap (λ more. record second { events = second.events ++ more; slots = map (kept calls) second.slots })
           (visits_make (ExpectCall due slack ∷ NowCall now ∷ AcceptCall answer granted ∷ early) visits apart calls refl)
-          ∙ ap (λ ps. record second { events = second.events ++ made_by visits; places = map (kept calls) ps }) (sym places)
-          ∙ ap (λ ps. record second { events = second.events ++ made_by visits; places = ps })
+          ∙ ap (λ ps. record second { events = second.events ++ made_by visits; slots = map (kept calls) ps }) (sym slots)
+          ∙ ap (λ ps. record second { events = second.events ++ made_by visits; slots = ps })
           (kept_by (ExpectCall due slack ∷ NowCall now ∷ AcceptCall answer granted ∷ early) round apart calls refl
           ∙ sym (append-nil (map left_by round)))
 
       pub turn_asked : Expects due slack ≡ expects buses stand.events → map question early ≡ flat_map (turns_away buses first.events) news
           → map question (calls_of visits) ≡ asked_by buses second.events visits → map question calls ≡ turn_asks buses stand calls
       turn_asked first_asked away asked =
-          let asks_second : visits_ask buses second.events calls (seats second.places) ≡ asked_by buses second.events visits =
+          let asks_second : visits_ask buses second.events calls (seats second.slots) ≡ asked_by buses second.events visits =
           ap (visits_ask buses second.events calls) seats_are
           ∙ visits_asked buses (ExpectCall due slack ∷ NowCall now ∷ AcceptCall answer granted ∷ early) visits apart calls refl
           second.events in
@@ -304,14 +304,14 @@ module _ (buses : List Bus) (stand : Stand) (due slack : Option ℕ) (now : Resu
           ∷ (flat_map (turns_away buses first.events) news ++ asked_by buses second.events visits) =
           ap (λ s. expects buses stand.events ∷ Moments ∷ Newcomers
           ∷ (flat_map (turns_away buses s.events) (filter_map newcomer_of calls)
-          ++ visits_ask buses (begun buses stand calls).events calls (seats (begun buses stand calls).places)))
+          ++ visits_ask buses (begun buses stand calls).events calls (seats (begun buses stand calls).slots)))
           timed_is
           ∙ ap (λ ps. expects buses stand.events ∷ Moments ∷ Newcomers
           ∷ (flat_map (turns_away buses first.events) ps
-          ++ visits_ask buses (begun buses stand calls).events calls (seats (begun buses stand calls).places)))
+          ++ visits_ask buses (begun buses stand calls).events calls (seats (begun buses stand calls).slots)))
           news_are
           ∙ ap (λ s. expects buses stand.events ∷ Moments ∷ Newcomers
-          ∷ (flat_map (turns_away buses first.events) news ++ visits_ask buses s.events calls (seats s.places)))
+          ∷ (flat_map (turns_away buses first.events) news ++ visits_ask buses s.events calls (seats s.slots)))
           begun_is
           ∙ ap (λ qs. expects buses stand.events ∷ Moments ∷ Newcomers ∷ (flat_map (turns_away buses first.events) news ++ qs))
           asks_second in
@@ -331,7 +331,7 @@ pub makes_turn : (opens : Bool) (old mid between new : Held) (told_old told_mid 
     (owns_old owns owns_new : List (Option Own))
     → TakesMoment old told_old mid told_mid → mid.denied ≡ old.denied → AsksNewcomer told_mid told_between
     → AcceptsOne mid told_mid owns_old between told_between owns opens
-    → AsksPeers told_between told_new → VisitsPlaces between told_between owns new told_new owns_new → AsksTurn told_old told_new
+    → AsksPeers told_between told_new → VisitsSlots between told_between owns new told_new owns_new → AsksTurn told_old told_new
     → MakesTurn old told_old owns_old new told_new owns_new opens
 makes_turn opens old mid between new told_old told_mid told_between told_new owns_old owns owns_new moment same_count asks_in lets
     asks_visits visits asks_turn buses stand keys told hosting is peers calls adds differ known =
@@ -352,7 +352,7 @@ makes_turn opens old mid between new told_old told_mid told_between told_new own
     (adds_then told_old told_between w.before told front later.calls w.was adds_in w) in
     let differ_in : PeersDiffer peers in_calls =
     peers_front peers front later.calls (subst (λ (c : List DoorCall). PeersDiffer peers c) whole differ) in
-    let known_first : AllByRecursion (IsOneOf peers) first_stand.places = known_timed buses t.answer peers stand known in
+    let known_first : AllByRecursion (IsOneOf peers) first_stand.slots = known_timed buses t.answer peers stand known in
     let b = lets buses first_stand keys w.before hosted w.was peers in_calls v differ_in known_first in
     let news_then : List Guest = filter_map newcomer_of (AcceptCall b.answer b.granted ∷ []) in
     let second_stand : Stand = fold (welcomed buses) first_stand news_then in
@@ -378,8 +378,8 @@ makes_turn opens old mid between new told_old told_mid told_between told_new own
     (news_are buses stand t.due t.slack t.answer b.answer b.granted b.early x.round of_peers)
     ∙ sym (peers_told (AcceptCall b.answer b.granted ∷ [])) in
     let peers_then : List ℕ = peers ++ filter_map peer_of (map told_call all) in
-    let known_second : AllByRecursion (IsOneOf peers_then) second_stand.places =
-    subst (λ (ps : List ℕ). AllByRecursion (IsOneOf (peers ++ ps)) second_stand.places) (sym came)
+    let known_second : AllByRecursion (IsOneOf peers_then) second_stand.slots =
+    subst (λ (ps : List ℕ). AllByRecursion (IsOneOf (peers ++ ps)) second_stand.slots) (sym came)
     (known_news buses b.answer b.granted peers first_stand known_first) in
     let known_round : AllByRecursion (IsOneOf peers_then) (map seat_of x.round) =
     subst (λ (ps : List (Option Seat)). AllByRecursion (IsOneOf peers_then) ps) (sym x.seats_are) known_second in
@@ -411,7 +411,7 @@ makes_turn opens old mid between new told_old told_mid told_between told_new own
       asked =
           turn_asked buses stand t.due t.slack t.answer b.answer b.granted b.early x.round of_peers x.own x.seats_are
           b.settled.hosting.differ b.settled.others t.asked b.settled.asked x.asked;
-      known = subst (λ (s : Stand). AllByRecursion (IsOneOf peers_then) s.places) (sym ends) known_last;
+      known = subst (λ (s : Stand). AllByRecursion (IsOneOf peers_then) s.slots) (sym ends) known_last;
       hosting = subst (λ (s : Stand). IsHosting buses s x.keys new owns_new) (sym ends) x.hosting;
       opened = ap (λ (s : Stand). length s.guests) ends ∙ b.settled.opened ∙ ap (λ n. n + one_if opens) (guests_timed buses t.answer stand);
     }

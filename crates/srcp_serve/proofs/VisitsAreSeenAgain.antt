@@ -6,7 +6,7 @@ use Rattle.std.specs.List.{list_any}
 use Rattle.srcp_core.specs.Under.{Event, Shut}
 use Rattle.srcp_grammar.specs.declared.layout.Bus.{Bus}
 use Rattle.srcp_serve.specs.Given.{Call}
-use Rattle.srcp_serve.specs.Places.{Visit, calls_of, made_by, asked_by, IsOther}
+use Rattle.srcp_serve.specs.Slots.{Visit, calls_of, made_by, asked_by, IsOther}
 use Rattle.srcp_serve.specs.Serving.{is_about, visit, visit_asks, visits_ask, visit_events, exchange, is_close}
 use Rattle.srcp_serve.specs.Visits.{AreAbout}
 

@@ -1,7 +1,7 @@
 pub mod Calls
 pub mod Given
 pub mod Pacing
-pub mod Places
+pub mod Slots
 pub mod Serving
 pub mod Settling
 pub mod Tally

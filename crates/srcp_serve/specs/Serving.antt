@@ -126,21 +126,21 @@ pub record Seat : Type 0 where
 pub record Stand : Type 0 where
   pub events : List Event  -- the events so far
   pub guests : List ℕ  -- the peers that were let in: the first has connection 1, the next 2, and so on
-  pub places : List (Option Seat)  -- who has which slot
+  pub slots : List (Option Seat)  -- who has which slot
 
 -- the state before the first turn: no event, no guest, all 64 slots free
 abbrev pub empty_stand : Stand
-empty_stand = record { events = []; guests = []; places = replicate 64 None }
+empty_stand = record { events = []; guests = []; slots = replicate 64 None }
 
 -- those that have a slot, in the order of the slots
 abbrev pub seats : List (Option Seat) → List Seat
-seats places = filter_map (λ place. place) places
+seats slots = filter_map (λ slot. slot) slots
 
 -- a newcomer takes the first free slot
 abbrev pub seated : Seat → List (Option Seat) → List (Option Seat)
 seated seat [] = []
-seated seat (None ∷ places) = Some seat ∷ places
-seated seat (Some other ∷ places) = Some other ∷ seated seat places
+seated seat (None ∷ slots) = Some seat ∷ slots
+seated seat (Some other ∷ slots) = Some other ∷ seated seat slots
 
 -- the calls of a turn about a peer that has a slot: its visit
 abbrev pub visit : List Call → Seat → List Call
@@ -194,7 +194,7 @@ module _ (buses : List Bus) where
   let_in stand guest = record {
     events = stand.events ++ Open guest.granted ∷ [];
     guests = stand.guests ++ guest.peer ∷ [];
-    places = seated (record { peer = guest.peer; conn = length stand.guests + 1 }) stand.places;
+    slots = seated (record { peer = guest.peer; conn = length stand.guests + 1 }) stand.slots;
   }
 
   -- the state after a newcomer, let in or not
@@ -222,8 +222,8 @@ module _ (buses : List Bus) where
   -- the state after the visits of a turn
   abbrev pub visited : Stand → List Call → Stand
   visited stand calls = record stand {
-    events = stand.events ++ flat_map (visit_events calls) (seats stand.places);
-    places = map (kept calls) stand.places;
+    events = stand.events ++ flat_map (visit_events calls) (seats stand.slots);
+    slots = map (kept calls) stand.slots;
   }
 
   -- the state after a turn
@@ -296,7 +296,7 @@ module _ (buses : List Bus) where
   abbrev pub turn_asks : Stand → List Call → List Question
   turn_asks stand calls = expects stand.events ∷ Moments ∷ Newcomers
       ∷ (flat_map (turns_away (timed stand calls).events) (filter_map newcomer_of calls)
-      ++ visits_ask (begun stand calls).events calls (seats (begun stand calls).places))
+      ++ visits_ask (begun stand calls).events calls (seats (begun stand calls).slots))
 
   -- what the turns ask, one after another
   abbrev pub turns_ask : Stand → List (List Call) → List Question

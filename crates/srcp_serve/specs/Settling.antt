@@ -35,7 +35,7 @@ module _ (buses : List Bus) where
       → PeersDiffer buses told
       → AllByRecursion IsFair told
       → OfEachTurn buses (λ stand calls. OfEachVisit buses TakesWaits (begun buses stand calls).events calls
-      (seats (begun buses stand calls).places)) empty_stand (turns told)
+      (seats (begun buses stand calls).slots)) empty_stand (turns told)
 
   -- ---- all that is owed
 
@@ -57,7 +57,7 @@ module _ (buses : List Bus) where
   abbrev pub SettlesSoon : Type 0
   SettlesSoon = IsLayout buses → (count : ℕ) (told : List Call) → IsServed buses count told → PeersDiffer buses told
       → AllByRecursion IsFair told → (before after : List (List Call)) → turns told ≡ before ++ after
-      → (place : ℕ) (seat : Seat) → slice_get (after_turns before).places place ≡ Some (Some seat)
+      → (slot : ℕ) (seat : Seat) → slice_get (after_turns before).slots slot ≡ Some (Some seat)
       → (conn : Connection) → IsPanel buses (course buses (after_turns before).events) seat.conn conn
       → OfEachTurn buses (IsStill seat) (after_turns before) after
       → writes_left (course buses (after_turns before).events) conn ≤ 300 * length after

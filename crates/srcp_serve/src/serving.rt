@@ -2,17 +2,17 @@
 
 ghost use Rattle.std.specs.Prelude.{◌≡◌, ◌<◌, ◌≤◌, ◌+◌, replicate, None};
 ghost use Rattle.srcp_core.specs.declared.limits.TheConstants.{MOST_CONNECTIONS};
-ghost use Rattle.srcp_serve.specs.Places.{AcceptsOne, MakesTurn, MayFree, Connects, ServesCourse, TakesMoment, one_if};
-ghost use Rattle.srcp_serve.specs.Places.{VisitsPlace, VisitsPlaces};
+ghost use Rattle.srcp_serve.specs.Slots.{AcceptsOne, MakesTurn, MayFree, Connects, ServesCourse, TakesMoment, one_if};
+ghost use Rattle.srcp_serve.specs.Slots.{VisitsSlot, VisitsSlots};
 ghost use Rattle.srcp_serve.specs.Tally.{CallsDoor};
 ghost use Rattle.srcp_serve.specs.Turns.{AsksMoment, AsksNewcomer, AsksPeers, AsksTurn, AsksTurns};
 
-mod places;
+mod slots;
 mod visit;
 
 use crate::door::{Door, Served};
 use crate::tally::Tally;
-use places::Places;
+use slots::Slots;
 use srcp_core::{Core, MOST_IN_PIECE};
 use srcp_rules::Rows;
 pub use visit::MOST_WRITES;
@@ -22,7 +22,7 @@ use visit::Seat;
 #[derive(Drop)]
 struct Server<'d, D: Door> {
     door: &'d mut D,
-    places: Places,
+    slots: Slots,
     tally: Tally,
     // One read buffer serves all peers, since a new one would be cleared for each visit.
     buffer: [u8; MOST_IN_PIECE],
@@ -67,12 +67,12 @@ impl<'d, D: Door> Server<'d, D> {
     fn new(door: &'d mut D) -> Server<'d, D>
         ensures same_door { result.door.ghost_name ≡ door.entry.ghost_name }
         ensures door { result.door.now ≡ door.old }
-        ensures places { result.places ≡ replicate MOST_CONNECTIONS None }
+        ensures slots { result.slots ≡ replicate MOST_CONNECTIONS None }
         ensures faults { result.tally.faults ≡ 0 }
     {
         Server {
             door,
-            places: Places::new(),
+            slots: Slots::new(),
             tally: Tally::new(),
             buffer: [0; MOST_IN_PIECE],
         }
@@ -82,42 +82,42 @@ impl<'d, D: Door> Server<'d, D> {
     fn turn<R: Rows>(&mut self, core: &mut Core<'_, R>) -> bool
         requires { self.old.tally.faults ≤ D.faults self.old.door.now }
         ensures calls { CallsDoor D.faults D.told AsksTurn self.old self.new }
-        ensures course { MakesTurn core.old (D.told self.old.door.now) self.old.places
-            core.new (D.told self.new.door.now) self.new.places result }
+        ensures course { MakesTurn core.old (D.told self.old.door.now) self.old.slots
+            core.new (D.told self.new.door.now) self.new.slots result }
     {
         self.take_moment(core);
         let opens = self.accept_one(core);
-        self.visit_places(core);
+        self.visit_slots(core);
         opens
     }
 
     /// Visits the peers that have slots, in the order of the slots.
-    fn visit_places<R: Rows>(&mut self, core: &mut Core<'_, R>)
+    fn visit_slots<R: Rows>(&mut self, core: &mut Core<'_, R>)
         requires { self.old.tally.faults ≤ D.faults self.old.door.now }
         ensures calls { CallsDoor D.faults D.told AsksPeers self.old self.new }
-        ensures course { VisitsPlaces core.old (D.told self.old.door.now) self.old.places
-            core.new (D.told self.new.door.now) self.new.places }
+        ensures course { VisitsSlots core.old (D.told self.old.door.now) self.old.slots
+            core.new (D.told self.new.door.now) self.new.slots }
     {
-        let end = self.places.end();
-        for place in 0..end {
-            self.visit_place(core, place);
+        let end = self.slots.end();
+        for slot in 0..end {
+            self.visit_slot(core, slot);
         }
     }
 
     /// Visits the peer of the slot, if it has one. Frees the slot if the visit closed the peer.
-    fn visit_place<R: Rows>(&mut self, core: &mut Core<'_, R>, place: usize)
+    fn visit_slot<R: Rows>(&mut self, core: &mut Core<'_, R>, slot: usize)
         requires counted { self.old.tally.faults ≤ D.faults self.old.door.now }
-        requires within { place < MOST_CONNECTIONS }
+        requires within { slot < MOST_CONNECTIONS }
         ensures calls { CallsDoor D.faults D.told AsksPeers self.old self.new }
-        ensures course { VisitsPlace place core.old (D.told self.old.door.now) self.old.places
-            core.new (D.told self.new.door.now) self.new.places }
-        ensures places { MayFree place self.old.places self.new.places }
+        ensures course { VisitsSlot slot core.old (D.told self.old.door.now) self.old.slots
+            core.new (D.told self.new.door.now) self.new.slots }
+        ensures slots { MayFree slot self.old.slots self.new.slots }
     {
-        let Some(seat) = self.places.seat(place) else {
+        let Some(seat) = self.slots.seat(slot) else {
             return;
         };
         if !self.visit(core, seat) {
-            self.places.free(place);
+            self.slots.free(slot);
         }
     }
 
@@ -125,7 +125,7 @@ impl<'d, D: Door> Server<'d, D> {
     /// keeps its moment.
     fn take_moment<R: Rows>(&mut self, core: &mut Core<'_, R>)
         requires { self.old.tally.faults ≤ D.faults self.old.door.now }
-        ensures places { self.new.places ≡ self.old.places }
+        ensures slots { self.new.slots ≡ self.old.slots }
         ensures calls { CallsDoor D.faults D.told AsksMoment self.old self.new }
         ensures denied { core.new.denied ≡ core.old.denied }
         ensures course { TakesMoment core.old (D.told self.old.door.now)
@@ -142,8 +142,8 @@ impl<'d, D: Door> Server<'d, D> {
     fn accept_one<R: Rows>(&mut self, core: &mut Core<'_, R>) -> bool
         requires { self.old.tally.faults ≤ D.faults self.old.door.now }
         ensures calls { CallsDoor D.faults D.told AsksNewcomer self.old self.new }
-        ensures course { AcceptsOne core.old (D.told self.old.door.now) self.old.places
-            core.new (D.told self.new.door.now) self.new.places result }
+        ensures course { AcceptsOne core.old (D.told self.old.door.now) self.old.slots
+            core.new (D.told self.new.door.now) self.new.slots result }
     {
         match self.door.accept() {
             Ok(None) => false,
@@ -160,8 +160,8 @@ impl<'d, D: Door> Server<'d, D> {
     fn connect<R: Rows>(&mut self, core: &mut Core<'_, R>, peer: u32) -> bool
         requires { self.old.tally.faults ≤ D.faults self.old.door.now }
         ensures calls { CallsDoor D.faults D.told AsksPeers self.old self.new }
-        ensures course { Connects peer core.old (D.told self.old.door.now) self.old.places
-            core.new (D.told self.new.door.now) self.new.places result }
+        ensures course { Connects peer core.old (D.told self.old.door.now) self.old.slots
+            core.new (D.told self.new.door.now) self.new.slots result }
     {
         let Ok(key) = core.connect() else {
             self.close(peer);
@@ -169,11 +169,11 @@ impl<'d, D: Door> Server<'d, D> {
         };
         let seat = Seat { peer, key };
         // The core had fewer connections than there are slots, so one is free.
-        let Some(free) = self.places.first_free() else {
+        let Some(free) = self.slots.first_free() else {
             self.disconnect(core, seat);
             return false;
         };
-        self.places.give(free, seat);
+        self.slots.give(free, seat);
         true
     }
 }

@@ -11,7 +11,7 @@ use Rattle.srcp_core.specs.Held.{Held}
 use Rattle.srcp_sockets.specs.Names.{IsNamed}
 use Rattle.srcp_serve.specs.Given.{Call, told_call, ExpectCall, NowCall, AcceptCall, ReadCall, WriteCall, CloseCall}
 use Rattle.srcp_serve.specs.Serving.{events_of, stand_after, taken as given_taken}
-use Rattle.srcp_serve.specs.Places.{IsOfGiven, ServesCourse}
+use Rattle.srcp_serve.specs.Slots.{IsOfGiven, ServesCourse}
 use Rattle.srcp_peers.specs.Accounts.{account}
 use Rattle.srcp_sockets.specs.Doors.{AreSound}
 use Rattle.srcp_sockets.specs.Follows.{Follows}

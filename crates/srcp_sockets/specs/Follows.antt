@@ -9,7 +9,7 @@ use Rattle.srcp_core.specs.Held.{Held}
 use Rattle.srcp_core.specs.Stands.{StandsFor}
 use Rattle.srcp_serve.specs.Given.{Call, told_call}
 use Rattle.srcp_serve.specs.Serving.{events_of, stand_after}
-use Rattle.srcp_serve.specs.Places.{IsOfCourse}
+use Rattle.srcp_serve.specs.Slots.{IsOfCourse}
 use Rattle.srcp_peers.specs.Streams.{took}
 use Rattle.srcp_peers.specs.Steps.{Step, calls}
 

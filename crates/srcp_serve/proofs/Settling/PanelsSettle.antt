@@ -53,7 +53,7 @@ module _ (buses : List Bus) where
       ∙ ap is_nil p.owes)
 
   pub settles_soon : SettlesSoon buses
-  settles_soon layout count told served differ fair before after parts place seat has conn is still enough later there =
+  settles_soon layout count told served differ fair before after parts slot seat has conn is still enough later there =
       let now : Stand = fold (turned buses) empty_stand before in
       let w : World = course buses now.events in
       let due : List Next = owed conn (history buses w) (rows buses w) in
@@ -64,7 +64,7 @@ module _ (buses : List Bus) where
       let end : (fold (turned buses) now after).events ≡ (fold (turned buses) empty_stand (turns told)).events =
       ap (λ (s : Stand). s.events) (sym (fold-append (turned buses) empty_stand before after)
       ∙ ap (fold (turned buses) empty_stand) (sym parts)) in
-      let done = turns_settle buses layout place seat after now (unsent conn) due runs still has p
+      let done = turns_settle buses layout slot seat after now (unsent conn) due runs still has p
       (subst (λ k. length due + k ≤ 300 * length after) (sym (one_write (unsent conn))) enough) in
       settled_is (fold (turned buses) empty_stand (turns told)).events seat.conn later
       (subst (λ (es : List Event). Panel buses seat.conn es [] []) end done) there
@@ -138,10 +138,10 @@ module _ (buses : List Bus) where
 
   turns_take : (layout : IsLayout buses) (all : List (List Call)) (stand : Stand) → OfEachTurn buses (IsTurnOfGuests buses) stand all
       → OfEachTurn buses (λ stand calls. OfEachVisit buses (TakesWaits buses) (begun buses stand calls).events calls
-      (seats (begun buses stand calls).places)) stand all
+      (seats (begun buses stand calls).slots)) stand all
   turns_take layout [] stand h = tt
   turns_take layout (calls ∷ all) stand h = (
-    visits_take layout (begun buses stand calls).events calls (seats (begun buses stand calls).places) h.0.fair h.0.asked,
+    visits_take layout (begun buses stand calls).events calls (seats (begun buses stand calls).slots) h.0.fair h.0.asked,
     turns_take layout all (turned buses stand calls) h.1,
   )
 

@@ -17,16 +17,16 @@ use Rattle.srcp_serve.proofs.Settling.OthersKeep.{AreOfOthers, is_of}
 
 -- ---- slots
 
-abbrev pub HasPlace : ℕ → Seat → List (Option Seat) → Type 0
-HasPlace place seat places = slice_get places place ≡ Some (Some seat)
+abbrev pub HasSlot : ℕ → Seat → List (Option Seat) → Type 0
+HasSlot slot seat slots = slice_get slots slot ≡ Some (Some seat)
 
-seated_stays : (new : Seat) (places : List (Option Seat)) (place : ℕ) (seat : Seat) → HasPlace place seat places
-    → HasPlace place seat (seated new places)
-seated_stays new [] place seat e = cc
-seated_stays new (None ∷ places) zero seat e = cc
-seated_stays new (None ∷ places) (suc place) seat e = e
-seated_stays new (Some other ∷ places) zero seat e = e
-seated_stays new (Some other ∷ places) (suc place) seat e = seated_stays new places place seat e
+seated_stays : (new : Seat) (slots : List (Option Seat)) (slot : ℕ) (seat : Seat) → HasSlot slot seat slots
+    → HasSlot slot seat (seated new slots)
+seated_stays new [] slot seat e = cc
+seated_stays new (None ∷ slots) zero seat e = cc
+seated_stays new (None ∷ slots) (suc slot) seat e = e
+seated_stays new (Some other ∷ slots) zero seat e = e
+seated_stays new (Some other ∷ slots) (suc slot) seat e = seated_stays new slots slot seat e
 
 -- those that are visited before it and after it
 pub record IsAmong (seat : Seat) (all : List Seat) : Type 0 where
@@ -34,41 +34,41 @@ pub record IsAmong (seat : Seat) (all : List Seat) : Type 0 where
   pub rest : List Seat
   pub are : all ≡ front ++ seat ∷ rest
 
-pub among_seats : (places : List (Option Seat)) (place : ℕ) (seat : Seat) → HasPlace place seat places → IsAmong seat (seats places)
-among_seats [] place seat e = cc
-among_seats (None ∷ places) zero seat e = cc
-among_seats (None ∷ places) (suc place) seat e = among_seats places place seat e
-among_seats (Some other ∷ places) zero seat e = let same : other ≡ seat =
-    cc in record { front = []; rest = seats places; are = ap (λ s. s ∷ seats places) same }
-among_seats (Some other ∷ places) (suc place) seat e =
-    let more = among_seats places place seat e in
+pub among_seats : (slots : List (Option Seat)) (slot : ℕ) (seat : Seat) → HasSlot slot seat slots → IsAmong seat (seats slots)
+among_seats [] slot seat e = cc
+among_seats (None ∷ slots) zero seat e = cc
+among_seats (None ∷ slots) (suc slot) seat e = among_seats slots slot seat e
+among_seats (Some other ∷ slots) zero seat e = let same : other ≡ seat =
+    cc in record { front = []; rest = seats slots; are = ap (λ s. s ∷ seats slots) same }
+among_seats (Some other ∷ slots) (suc slot) seat e =
+    let more = among_seats slots slot seat e in
     record { front = other ∷ more.front; rest = more.rest; are = ap (λ all. other ∷ all) more.are }
 
-module _ (buses : List Bus) (place : ℕ) (seat : Seat) where
-  moments_stay : (stand : Stand) (moments : List ℕ) → HasPlace place seat stand.places
-      → HasPlace place seat (fold (with_moment buses) stand moments).places
+module _ (buses : List Bus) (slot : ℕ) (seat : Seat) where
+  moments_stay : (stand : Stand) (moments : List ℕ) → HasSlot slot seat stand.slots
+      → HasSlot slot seat (fold (with_moment buses) stand moments).slots
   moments_stay stand [] e = e
   moments_stay stand (moment ∷ moments) e = moments_stay (with_moment buses stand moment) moments e
 
-  welcomed_stays : (stand : Stand) (guest : Guest) → HasPlace place seat stand.places
-      → HasPlace place seat (welcomed buses stand guest).places
+  welcomed_stays : (stand : Stand) (guest : Guest) → HasSlot slot seat stand.slots
+      → HasSlot slot seat (welcomed buses stand guest).slots
   welcomed_stays stand guest e =
       elim (is_let_in buses stand.events guest.granted) as
-      (λ t. HasPlace place seat (if t then let_in buses stand guest else record stand {
+      (λ t. HasSlot slot seat (if t then let_in buses stand guest else record stand {
         events =
             stand.events ++ Open guest.granted ∷ [];
-      }).places) [
-        | true ↦ seated_stays _ stand.places place seat e
+      }).slots) [
+        | true ↦ seated_stays _ stand.slots slot seat e
         | false ↦ e
       ]
 
-  guests_stay : (stand : Stand) (guests : List Guest) → HasPlace place seat stand.places
-      → HasPlace place seat (fold (welcomed buses) stand guests).places
+  guests_stay : (stand : Stand) (guests : List Guest) → HasSlot slot seat stand.slots
+      → HasSlot slot seat (fold (welcomed buses) stand guests).slots
   guests_stay stand [] e = e
   guests_stay stand (guest ∷ guests) e = guests_stay (welcomed buses stand guest) guests (welcomed_stays stand guest e)
 
-  pub begun_stays : (stand : Stand) (calls : List Call) → HasPlace place seat stand.places
-      → HasPlace place seat (begun buses stand calls).places
+  pub begun_stays : (stand : Stand) (calls : List Call) → HasSlot slot seat stand.slots
+      → HasSlot slot seat (begun buses stand calls).slots
   begun_stays stand calls e = guests_stay (timed buses stand calls) (filter_map newcomer_of calls)
       (moments_stay stand (filter_map moment_of calls) e)
 

@@ -20,7 +20,7 @@ use Rattle.srcp_serve.proofs.CallsByTurnAndPeer.{AreAsked, PeersApart}
 use Rattle.srcp_serve.proofs.EventsOfATurn.{begun_events, opening_events, turn_events, turned_events}
 use Rattle.srcp_serve.proofs.SentIsTakenAfterAllTurns.{IsTurnOfGuests}
 use Rattle.srcp_serve.proofs.Settling.PanelsTakeTheirLines.{Panel, panel_others}
-use Rattle.srcp_serve.proofs.Settling.SeatsStay.{HasPlace, among_seats, begun_stays, opening_others, others_apart, visit_in, visits_others}
+use Rattle.srcp_serve.proofs.Settling.SeatsStay.{HasSlot, among_seats, begun_stays, opening_others, others_apart, visit_in, visits_others}
 use Rattle.srcp_serve.proofs.Settling.StepsFollow.{brought_adds}
 use Rattle.srcp_serve.proofs.Settling.VisitsWriteUntilNothingIsLeft.{one_unless_nil, visited_whole}
 
@@ -33,7 +33,7 @@ stays_exchange calls seat e = ap (λ b. exchange seat.conn (visit calls seat) ++
 neither : (a b : ℕ) → a + b ≡ 0 → (a ≡ 0) × (b ≡ 0)
 neither a b e = (omega arith, omega arith)
 
-module _ (buses : List Bus) (layout : IsLayout buses) (place : ℕ) (seat : Seat) where
+module _ (buses : List Bus) (layout : IsLayout buses) (slot : ℕ) (seat : Seat) where
   -- after a turn it has its slot still, nothing of it is unsent, and these lines are left to it: none, or it was handed 300
   pub record IsTurnedWhole (stand : Stand) (calls : List Call) (bytes : List ℕ) (nexts : List Next) : Type 0 where
     pub lines : List Next
@@ -41,16 +41,16 @@ module _ (buses : List Bus) (layout : IsLayout buses) (place : ℕ) (seat : Seat
     pub whole : nexts ≡ lines ++ rest
     pub panel : Panel buses seat.conn (turned buses stand calls).events [] rest
     pub ends : (rest ≡ []) ⊎ (length lines + one_unless_nil bytes ≡ 300)
-    pub stays : HasPlace place seat (turned buses stand calls).places
+    pub stays : HasSlot slot seat (turned buses stand calls).slots
 
   turned_whole : (stand : Stand) (calls : List Call) (bytes : List ℕ) (nexts : List Next) → IsTurnOfGuests buses stand calls
-      → IsStill buses seat stand calls → HasPlace place seat stand.places → Panel buses seat.conn stand.events bytes nexts
+      → IsStill buses seat stand calls → HasSlot slot seat stand.slots → Panel buses seat.conn stand.events bytes nexts
       → IsTurnedWhole stand calls bytes nexts
   turned_whole stand calls bytes nexts t still has p =
       let n : ℕ = seat.conn in
       let now : Stand = begun buses stand calls in
-      let here : HasPlace place seat now.places = begun_stays buses place seat stand calls has in
-      let among = among_seats now.places place seat here in
+      let here : HasSlot slot seat now.slots = begun_stays buses slot seat stand calls has in
+      let among = among_seats now.slots slot seat here in
       let apart = others_apart now.guests among.front seat among.rest (subst (AreGuests now.guests) among.are t.known)
       (subst PeersApart among.are t.apart) in
       let first : List Event = opening_events calls in
@@ -92,14 +92,14 @@ module _ (buses : List Bus) (layout : IsLayout buses) (place : ℕ) (seat : Seat
         whole = v.whole;
         panel = subst (λ (es : List Event). Panel buses n es [] v.rest) end at_end;
         ends = v.ends;
-        stays = slice_get-map (kept calls) now.places place ∙ ap (option_map (kept calls)) here
+        stays = slice_get-map (kept calls) now.slots slot ∙ ap (option_map (kept calls)) here
             ∙ ap (λ t. Some (if t then None else Some seat)) v.stays;
       }
 
   -- so often that nothing is left
   pub turns_settle : (all : List (List Call)) (stand : Stand) (bytes : List ℕ) (nexts : List Next)
       → OfEachTurn buses (IsTurnOfGuests buses) stand all → OfEachTurn buses (IsStill buses seat) stand all
-      → HasPlace place seat stand.places
+      → HasSlot slot seat stand.slots
       → Panel buses seat.conn stand.events bytes nexts → length nexts + one_unless_nil bytes ≤ 300 * length all
       → Panel buses seat.conn (fold (turned buses) stand all).events [] []
   turns_settle [] stand bytes nexts t still has p few = nothing bytes nexts p few

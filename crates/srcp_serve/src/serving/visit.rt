@@ -36,7 +36,7 @@ impl<'d, D: Door> Server<'d, D> {
     /// whether it keeps its slot.
     pub(super) fn visit<R: Rows>(&mut self, core: &mut Core<'_, R>, seat: Seat) -> bool
         requires { self.old.tally.faults ≤ D.faults self.old.door.now }
-        ensures places { self.new.places ≡ self.old.places }
+        ensures slots { self.new.slots ≡ self.old.slots }
         ensures calls { CallsDoor D.faults D.told AsksPeers self.old self.new }
         ensures course { Visits seat.peer seat.key core.old (D.told self.old.door.now)
             core.new (D.told self.new.door.now) result }
@@ -51,7 +51,7 @@ impl<'d, D: Door> Server<'d, D> {
     /// Hangs up the connection of a peer and closes the peer.
     pub(super) fn disconnect<R: Rows>(&mut self, core: &mut Core<'_, R>, seat: Seat)
         requires { self.old.tally.faults ≤ D.faults self.old.door.now }
-        ensures places { self.new.places ≡ self.old.places }
+        ensures slots { self.new.slots ≡ self.old.slots }
         ensures calls { CallsDoor D.faults D.told AsksPeers self.old self.new }
         ensures denied { core.new.denied ≡ core.old.denied }
         ensures course { Disconnects seat.peer seat.key core.old (D.told self.old.door.now)
@@ -64,7 +64,7 @@ impl<'d, D: Door> Server<'d, D> {
     /// Closes a peer. A failure is counted, and the peer is closed all the same.
     pub(super) fn close(&mut self, peer: u32)
         requires { self.old.tally.faults ≤ D.faults self.old.door.now }
-        ensures places { self.new.places ≡ self.old.places }
+        ensures slots { self.new.slots ≡ self.old.slots }
         ensures calls { CallsDoor D.faults D.told AsksPeers self.old self.new }
         ensures course { Closes peer (D.told self.old.door.now) (D.told self.new.door.now) }
     {
@@ -77,7 +77,7 @@ impl<'d, D: Door> Server<'d, D> {
     /// Reads once, if the connection accepts bytes. Returns false if the peer is lost.
     fn read_in<R: Rows>(&mut self, core: &mut Core<'_, R>, seat: Seat) -> bool
         requires { self.old.tally.faults ≤ D.faults self.old.door.now }
-        ensures places { self.new.places ≡ self.old.places }
+        ensures slots { self.new.slots ≡ self.old.slots }
         ensures calls { CallsDoor D.faults D.told AsksPeers self.old self.new }
         ensures course { ReadsIn seat.peer seat.key core.old (D.told self.old.door.now)
             core.new (D.told self.new.door.now) result }
@@ -99,7 +99,7 @@ impl<'d, D: Door> Server<'d, D> {
     /// Writes what the core lends, as long as the peer takes all of it. Returns false if the peer is lost.
     fn write_out<R: Rows>(&mut self, core: &mut Core<'_, R>, seat: Seat) -> bool
         requires { self.old.tally.faults ≤ D.faults self.old.door.now }
-        ensures places { self.new.places ≡ self.old.places }
+        ensures slots { self.new.slots ≡ self.old.slots }
         ensures calls { CallsDoor D.faults D.told AsksPeers self.old self.new }
         ensures denied { core.new.denied ≡ core.old.denied }
         ensures course { WritesOut seat.peer seat.key core.old (D.told self.old.door.now)
@@ -118,7 +118,7 @@ impl<'d, D: Door> Server<'d, D> {
     /// Writes what the core lends, once, and drops of it what the peer took.
     fn write_once<R: Rows>(&mut self, core: &mut Core<'_, R>, seat: Seat) -> Wrote
         requires { self.old.tally.faults ≤ D.faults self.old.door.now }
-        ensures places { self.new.places ≡ self.old.places }
+        ensures slots { self.new.slots ≡ self.old.slots }
         ensures calls { CallsDoor D.faults D.told AsksPeers self.old self.new }
         ensures denied { core.new.denied ≡ core.old.denied }
         ensures course { WritesOnce seat.peer seat.key core.old (D.told self.old.door.now)

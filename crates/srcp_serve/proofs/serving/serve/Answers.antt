@@ -1,7 +1,7 @@
 use Rattle.std.proofs.Common.{rules, replicate, List, Option, None, ◌≡◌, ◌∙◌, ◌+◌, arith, refl, subst, sym, ℕ}
 use Rattle.srcp_core.specs.Held.{Held}
 use Rattle.srcp_serve.specs.Calls.{Call}
-use Rattle.srcp_serve.specs.Places.{ServesCourse, ServesSoFar}
+use Rattle.srcp_serve.specs.Slots.{ServesCourse, ServesSoFar}
 use Rattle.srcp_serve.specs.Turns.{AsksTurns}
 use Rattle.srcp_serve.proofs.ServingFollows.{fewer, serves_all, serves_first, serves_on}
 use Rattle.srcp_serve.proofs.FaultsAreCounted.{counts_then, none_failed}
@@ -16,7 +16,7 @@ loop-init g c =
     record {
       same_door = refl;
       faults = rw (n.faults, n.door) (none_failed 0 _ _ (omega arith) refl);
-      course = rw (n.door, n.places) first;
+      course = rw (n.door, n.slots) first;
       few = omega arith;
       told = rw n.door (turns_none told);
     }
@@ -28,10 +28,10 @@ loop-preserved g c = record {
   few = fewer c.turn-opens.result c.loop.opened c.loop.counter c.one_more_if-opened.result c.loop.invariant.few
       c.one_more_if-opened.ensures;
   course = subst (λ (n : ℕ). ServesSoFar (c.loop.counter + 1) n c.args.core.now (g.D.Door.told c.args.door.now) c.turn-opens.new.core
-      (g.D.Door.told c.turn-opens.new.self.door.now) c.turn-opens.new.self.places) (sym c.one_more_if-opened.ensures)
+      (g.D.Door.told c.turn-opens.new.self.door.now) c.turn-opens.new.self.slots) (sym c.one_more_if-opened.ensures)
       (serves_on c.loop.counter c.loop.opened c.turn-opens.result c.args.core.now c.loop.core c.turn-opens.new.core (g.D.Door.told
       c.args.door.now) (g.D.Door.told c.loop.server.door.now)
-      (g.D.Door.told c.turn-opens.new.self.door.now) c.loop.server.places c.turn-opens.new.self.places
+      (g.D.Door.told c.turn-opens.new.self.door.now) c.loop.server.slots c.turn-opens.new.self.slots
       c.loop.invariant.course c.loop.invariant.told c.turn-opens.ensures.calls.asks c.turn-opens.ensures.course);
   told =
       turns_on c.loop.counter (g.D.Door.told c.args.door.now) (g.D.Door.told c.loop.server.door.now)
@@ -64,5 +64,5 @@ returns-clause-course g c =
     let old = g.D.Door.told c.args.door.now in
     let new = g.D.Door.told c.loop.server.door.now in
     same_served g.D.Door.told c.args.turns c.loop.opened c.args.core.now c.loop.core old {x = c.loop.server.door.now} (search rules)
-    (serves_all c.loop.counter c.args.turns c.loop.opened c.args.core.now c.loop.core old new c.loop.server.places all
+    (serves_all c.loop.counter c.args.turns c.loop.opened c.args.core.now c.loop.core old new c.loop.server.slots all
     (subst (λ (k : ℕ). AsksTurns k old new) all c.loop.invariant.told) c.loop.invariant.course)

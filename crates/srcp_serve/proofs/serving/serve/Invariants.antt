@@ -1,6 +1,6 @@
 use Rattle.std.specs.Prelude.{◌≡◌, ◌≤◌}
 use Rattle.srcp_serve.specs.Tally.{CountsFaults}
-use Rattle.srcp_serve.specs.Places.{ServesSoFar}
+use Rattle.srcp_serve.specs.Slots.{ServesSoFar}
 use Rattle.srcp_serve.specs.Turns.{AsksTurns}
 use Rattle.srcp_serve.proofs.serving.serve.Given as goal
 
@@ -10,7 +10,7 @@ invariant-loop g l =
     record {
       same_door : l.server.door.ghost_name ≡ l.initial.server.door.ghost_name;
       faults : CountsFaults 0 (g.D.Door.faults l.fn.door) l.server.tally.faults (g.D.Door.faults l.server.door.now);
-      course : ServesSoFar l.counter l.opened l.fn.core (g.D.Door.told l.fn.door) l.core told l.server.places;
+      course : ServesSoFar l.counter l.opened l.fn.core (g.D.Door.told l.fn.door) l.core told l.server.slots;
       few : l.opened ≤ l.counter;
       told : AsksTurns l.counter (g.D.Door.told l.fn.door) told;
     }

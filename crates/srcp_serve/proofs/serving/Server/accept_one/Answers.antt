@@ -31,18 +31,18 @@ returns-in-Err-clause-calls g c = record {
 
 pub returns-in-Ok-None-clause-course : goal.returns-in-Ok-None-clause-course
 returns-in-Ok-None-clause-course g c =
-    lets_nobody c.args.core.now (g.D.Door.told c.args.self.now.door.now) (g.D.Door.told c.accept.new.self) c.args.self.now.places
+    lets_nobody c.args.core.now (g.D.Door.told c.args.self.now.door.now) (g.D.Door.told c.accept.new.self) c.args.self.now.slots
     (subst (λ (o : Option ℕ). Tells (g.D.Door.told c.args.self.now.door.now) (AcceptCall (Ok o)) (g.D.Door.told c.accept.new.self))
     c.in-Ok-None.field-0-is c.in-Ok-None.ensures.told)
 
 pub returns-in-Ok-Some-clause-course : goal.returns-in-Ok-Some-clause-course
 returns-in-Ok-Some-clause-course g c =
     lets_peer c.in-Ok-Some.peer c.connect.result c.args.core.now c.connect.new.core (g.D.Door.told c.args.self.now.door.now)
-    (g.D.Door.told c.accept.new.self) (g.D.Door.told c.connect.new.self.door.now) c.args.self.now.places c.connect.new.self.places
+    (g.D.Door.told c.accept.new.self) (g.D.Door.told c.connect.new.self.door.now) c.args.self.now.slots c.connect.new.self.slots
     (subst (λ (o : Option ℕ). Tells (g.D.Door.told c.args.self.now.door.now) (AcceptCall (Ok o)) (g.D.Door.told c.accept.new.self))
     c.in-Ok-Some.field-0-is c.in-Ok-Some.ensures.told) c.connect.ensures.calls.asks c.connect.ensures.course
 
 pub returns-in-Err-clause-course : goal.returns-in-Err-clause-course
 returns-in-Err-clause-course g c =
     lets_none c.args.core.now (g.D.Door.told c.args.self.now.door.now)
-    (g.D.Door.told c.accept.new.self) c.args.self.now.places c.in-Err.field-0 c.in-Err.ensures.told
+    (g.D.Door.told c.accept.new.self) c.args.self.now.slots c.in-Err.field-0 c.in-Err.ensures.told

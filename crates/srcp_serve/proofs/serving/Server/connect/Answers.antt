@@ -1,5 +1,5 @@
 use Rattle.std.proofs.Common.{true, false, List, Option, ◌∙◌, subst, sym}
-use Rattle.srcp_serve.specs.Places.{Connects}
+use Rattle.srcp_serve.specs.Slots.{Connects}
 use Rattle.srcp_serve.specs.declared.serving.visit.Seat.{Seat as Own}
 use Rattle.srcp_serve.proofs.NewcomersAreSeated.{seats_full, seats_in, seats_none}
 use Rattle.srcp_serve.proofs.serving.Server.connect.Goals as goal
@@ -9,9 +9,9 @@ returns-in_default-clause-course g c =
     let s = c.args.self.now in
     let before = g.D.Door.told s.door.now in
     let after = g.D.Door.told c.close.new.self.door.now in
-    subst (λ (owns : List (Option Own)). Connects c.args.peer c.args.core.now before s.places c.connect.new.self after owns false)
-    (sym c.close.ensures.places)
-    (seats_full c.args.peer c.args.core.now c.connect.new.self c.in_default.field-0 before after s.places c.close.ensures.course
+    subst (λ (owns : List (Option Own)). Connects c.args.peer c.args.core.now before s.slots c.connect.new.self after owns false)
+    (sym c.close.ensures.slots)
+    (seats_full c.args.peer c.args.core.now c.connect.new.self c.in_default.field-0 before after s.slots c.close.ensures.course
     c.in_default.ensures.refused)
 
 pub returns-in_default-first_free-clause-course : goal.returns-in_default-first_free-clause-course
@@ -19,16 +19,16 @@ returns-in_default-first_free-clause-course g c =
     let s = c.args.self.now in
     let before = g.D.Door.told s.door.now in
     let after = g.D.Door.told c.disconnect.new.self.door.now in
-    subst (λ (owns : List (Option Own)). Connects c.args.peer c.args.core.now before s.places c.disconnect.new.core after owns false)
-    (sym c.disconnect.ensures.places)
-    (seats_none c.args.peer false c.args.core.now c.disconnect.new.core before after s.places c.in-Ok.ensures.admitted.room
+    subst (λ (owns : List (Option Own)). Connects c.args.peer c.args.core.now before s.slots c.disconnect.new.core after owns false)
+    (sym c.disconnect.ensures.slots)
+    (seats_none c.args.peer false c.args.core.now c.disconnect.new.core before after s.slots c.in-Ok.ensures.admitted.room
     c.first_free.ensures.all (sym c.first_free.ensures.first ∙ c.in_default-first_free.is))
 
 pub returns-clause-course : goal.returns-clause-course
 returns-clause-course g c =
     let s = c.args.self.now in
     let told = g.D.Door.told s.door.now in
-    subst (λ (owns : List (Option Own)). Connects c.args.peer c.args.core.now told s.places c.connect.new.self told owns true)
+    subst (λ (owns : List (Option Own)). Connects c.args.peer c.args.core.now told s.slots c.connect.new.self told owns true)
     (sym c.give.ensures)
-    (seats_in c.args.peer c.in-Ok.key c.in-Some.free c.args.core.now c.connect.new.self told s.places c.in-Ok.ensures.admitted
+    (seats_in c.args.peer c.in-Ok.key c.in-Some.free c.args.core.now c.connect.new.self told s.slots c.in-Ok.ensures.admitted
     (sym c.first_free.ensures.first ∙ c.in-Some.is))

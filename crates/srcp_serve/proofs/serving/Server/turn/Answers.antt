@@ -1,5 +1,5 @@
 use Rattle.std.proofs.Common.{List, Option, subst}
-use Rattle.srcp_serve.specs.Places.{AcceptsOne}
+use Rattle.srcp_serve.specs.Slots.{AcceptsOne}
 use Rattle.srcp_serve.specs.Turns.{AsksMoment, AsksNewcomer, AsksPeers, AsksTurn}
 use Rattle.srcp_serve.specs.declared.serving.visit.Seat.{Seat as Own}
 use Rattle.srcp_serve.proofs.TurnsFollow.{makes_turn}
@@ -11,18 +11,18 @@ pub returns-clause-calls : goal.returns-clause-calls
 returns-clause-calls g c =
     calls_then _ _ AsksTurn AsksPeers AsksTurn turn_goes_on _ _ _
     (calls_then _ _ AsksMoment AsksNewcomer AsksTurn turn_begins _ _ _ c.take_moment.ensures.calls c.accept_one-opens.ensures.calls)
-    c.visit_places.ensures.calls
+    c.visit_slots.ensures.calls
 
 pub returns-clause-course : goal.returns-clause-course
 returns-clause-course g c =
     let s = c.args.self.now in
     let t = c.take_moment.new.self in
     let i = c.accept_one-opens.new.self in
-    let v = c.visit_places.new.self in
-    makes_turn c.accept_one-opens.result c.args.core.now c.take_moment.new.core c.accept_one-opens.new.core c.visit_places.new.core
+    let v = c.visit_slots.new.self in
+    makes_turn c.accept_one-opens.result c.args.core.now c.take_moment.new.core c.accept_one-opens.new.core c.visit_slots.new.core
     (g.D.Door.told s.door.now) (g.D.Door.told t.door.now) (g.D.Door.told i.door.now) (g.D.Door.told v.door.now)
-    s.places i.places v.places c.take_moment.ensures.course c.take_moment.ensures.denied c.accept_one-opens.ensures.calls.asks
+    s.slots i.slots v.slots c.take_moment.ensures.course c.take_moment.ensures.denied c.accept_one-opens.ensures.calls.asks
     (subst (λ (owns : List (Option Own)). AcceptsOne c.take_moment.new.core (g.D.Door.told t.door.now) owns
-    c.accept_one-opens.new.core (g.D.Door.told i.door.now) i.places c.accept_one-opens.result)
-    c.take_moment.ensures.places c.accept_one-opens.ensures.course)
-    c.visit_places.ensures.calls.asks c.visit_places.ensures.course (returns-clause-calls g c).asks
+    c.accept_one-opens.new.core (g.D.Door.told i.door.now) i.slots c.accept_one-opens.result)
+    c.take_moment.ensures.slots c.accept_one-opens.ensures.course)
+    c.visit_slots.ensures.calls.asks c.visit_slots.ensures.course (returns-clause-calls g c).asks

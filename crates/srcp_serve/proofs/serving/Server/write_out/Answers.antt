@@ -5,7 +5,7 @@ use Rattle.srcp_serve.proofs.serving.Server.write_out.Goals as goal
 
 pub loop-init : goal.loop-init
 loop-init g c = record {
-  places = refl;
+  slots = refl;
   calls = calls_none _ _ c.args.self.now c.requires;
   denied = refl;
   course = takes_first c.args.seat.peer c.args.seat.key c.args.core.now (g.D.Door.told c.args.self.now.door.now);
@@ -13,7 +13,7 @@ loop-init g c = record {
 
 pub loop-preserved : goal.loop-preserved
 loop-preserved g c = record {
-  places = c.write_once.ensures.places ∙ c.loop.invariant.places;
+  slots = c.write_once.ensures.slots ∙ c.loop.invariant.slots;
   calls = calls_on _ _ _ _ _ c.loop.invariant.calls c.write_once.ensures.calls;
   denied = c.write_once.ensures.denied ∙ c.loop.invariant.denied;
   course =
@@ -54,11 +54,11 @@ returns-clause-course g c =
     ends_full c.args.seat.peer c.args.seat.key c.args.core.now c.loop.core (g.D.Door.told c.args.self.now.door.now)
     (g.D.Door.told c.loop.self.door.now) c.loop.counter most c.loop.invariant.course
 
-pub returns-in-Less-clause-places : goal.returns-in-Less-clause-places
-returns-in-Less-clause-places g c = c.write_once.ensures.places ∙ c.loop.invariant.places
+pub returns-in-Less-clause-slots : goal.returns-in-Less-clause-slots
+returns-in-Less-clause-slots g c = c.write_once.ensures.slots ∙ c.loop.invariant.slots
 
-pub returns-in-Failed-clause-places : goal.returns-in-Failed-clause-places
-returns-in-Failed-clause-places g c = c.write_once.ensures.places ∙ c.loop.invariant.places
+pub returns-in-Failed-clause-slots : goal.returns-in-Failed-clause-slots
+returns-in-Failed-clause-slots g c = c.write_once.ensures.slots ∙ c.loop.invariant.slots
 
-pub returns-clause-places : goal.returns-clause-places
-returns-clause-places g c = c.loop.invariant.places
+pub returns-clause-slots : goal.returns-clause-slots
+returns-clause-slots g c = c.loop.invariant.slots

@@ -6,7 +6,7 @@ use Rattle.srcp_serve.proofs.serving.Server.write_out.Given as goal
 
 abbrev pub invariant-loop : goal.invariant-loop
 invariant-loop g l = record {
-  places : l.self.places ≡ l.fn.self.places;
+  slots : l.self.slots ≡ l.fn.self.slots;
   calls : CallsDoor g.D.Door.faults g.D.Door.told AsksPeers l.fn.self l.self;
   denied : l.core.denied ≡ l.fn.core.denied;
   course : TakesSoFar l.seat.peer l.seat.key l.fn.core (g.D.Door.told l.fn.self.door.now) l.core (g.D.Door.told l.self.door.now) l.counter;

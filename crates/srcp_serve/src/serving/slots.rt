@@ -3,7 +3,7 @@
 ghost use Rattle.std.specs.Prelude.{◌≡◌, ◌<◌, ◌≤◌, Some, None, is_none, length, position, replicate};
 ghost use Rattle.std.specs.Prelude.{slice_set};
 ghost use Rattle.std.specs.List.{slice_index_or};
-ghost use Rattle.srcp_serve.specs.Places.{AreFreeFrom};
+ghost use Rattle.srcp_serve.specs.Slots.{AreFreeFrom};
 
 use super::visit::Seat;
 use srcp_core::MOST_CONNECTIONS;
@@ -11,16 +11,16 @@ use std::marker::Model;
 
 /// Holds the slots, each with the peer that has it. Contracts see them as a list.
 #[derive(Drop)]
-pub(super) struct Places {
+pub(super) struct Slots {
     seats: [Option<Seat>; MOST_CONNECTIONS],
     // All slots from here on are free, so a turn skips them.
     end: usize,
 }
 
-impl Model for Places {
+impl Model for Slots {
     ghost use Rattle.std.specs.Prelude.{◌≡◌, ◌≤◌, Option, List, length};
     ghost use Rattle.srcp_core.specs.declared.limits.TheConstants.{MOST_CONNECTIONS};
-    ghost use Rattle.srcp_serve.specs.Places.{AreFreeFrom};
+    ghost use Rattle.srcp_serve.specs.Slots.{AreFreeFrom};
     ghost use Rattle.srcp_serve.specs.declared.serving.visit.Seat.{Seat};
 
     ghost Value = { List (Option Seat) };
@@ -31,12 +31,12 @@ impl Model for Places {
         (length p.seats ≡ MOST_CONNECTIONS) × (p.end ≤ MOST_CONNECTIONS) × AreFreeFrom p.end p.seats };
 }
 
-impl Places {
+impl Slots {
     /// Makes slots that are all free.
-    pub(super) fn new() -> Places
+    pub(super) fn new() -> Slots
         ensures { result ≡ replicate MOST_CONNECTIONS None }
     {
-        Places {
+        Slots {
             seats: [None; MOST_CONNECTIONS],
             end: 0,
         }
@@ -52,11 +52,11 @@ impl Places {
     }
 
     /// Returns the peer of the slot, if it has one.
-    pub(super) fn seat(&self, place: usize) -> Option<Seat>
-        requires { place < MOST_CONNECTIONS }
-        ensures { result ≡ slice_index_or self.now place None }
+    pub(super) fn seat(&self, slot: usize) -> Option<Seat>
+        requires { slot < MOST_CONNECTIONS }
+        ensures { result ≡ slice_index_or self.now slot None }
     {
-        self.seats[place]
+        self.seats[slot]
     }
 
     /// Returns the first free slot, if there is one.
@@ -64,23 +64,23 @@ impl Places {
         ensures first { result ≡ position is_none self.now }
         ensures all { length self.now ≡ MOST_CONNECTIONS }
     {
-        self.seats.iter().position(|place| place.is_none())
+        self.seats.iter().position(|slot| slot.is_none())
     }
 
     /// Gives the slot to a peer.
-    pub(super) fn give(&mut self, place: usize, seat: Seat)
-        requires { place < MOST_CONNECTIONS }
-        ensures { self.new ≡ slice_set self.old place (Some seat) }
+    pub(super) fn give(&mut self, slot: usize, seat: Seat)
+        requires { slot < MOST_CONNECTIONS }
+        ensures { self.new ≡ slice_set self.old slot (Some seat) }
     {
-        self.seats[place] = Some(seat);
-        self.end = self.end.max(place + 1);
+        self.seats[slot] = Some(seat);
+        self.end = self.end.max(slot + 1);
     }
 
     /// Frees the slot.
-    pub(super) fn free(&mut self, place: usize)
-        requires { place < MOST_CONNECTIONS }
-        ensures { self.new ≡ slice_set self.old place None }
+    pub(super) fn free(&mut self, slot: usize)
+        requires { slot < MOST_CONNECTIONS }
+        ensures { self.new ≡ slice_set self.old slot None }
     {
-        self.seats[place] = None;
+        self.seats[slot] = None;
     }
 }

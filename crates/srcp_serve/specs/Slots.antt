@@ -22,11 +22,11 @@ use Rattle.srcp_serve.specs.declared.serving.visit.Seat.{Seat as Own}
 
 -- all slots from this one on are free
 abbrev pub AreFreeFrom : ℕ → List (Option Own) → Type 0
-AreFreeFrom place owns = AllByRecursion (λ own. own ≡ None) (drop place owns)
+AreFreeFrom slot owns = AllByRecursion (λ own. own ≡ None) (drop slot owns)
 
 -- at most this slot was freed, and no other changed
 abbrev pub MayFree : ℕ → (old new : List (Option Own)) → Type 0
-MayFree place old new = (new ≡ old) ⊎ (new ≡ slice_set old place None)
+MayFree slot old new = (new ≡ old) ⊎ (new ≡ slice_set old slot None)
 
 -- ---- visits
 
@@ -54,7 +54,7 @@ AreOwn visits = AllByRecursion (λ v. AreAbout v.0.peer v.1) visits
 
 -- the visits of a round; a round has one entry for each slot, `None` if it is free
 abbrev pub visits_of : List (Option Visit) → List Visit
-visits_of round = filter_map (λ place. place) round
+visits_of round = filter_map (λ slot. slot) round
 
 -- who has the slot before the visit
 abbrev pub seat_of : Option Visit → Option Seat
@@ -78,8 +78,8 @@ SitsAt keys (Some own) None = ⊥
 -- so it is of all slots
 abbrev pub Sit : List (Option ℕ) → List (Option Own) → List (Option Seat) → Type 0
 Sit keys [] [] = ⊤
-Sit keys (own ∷ owns) (place ∷ places) = SitsAt keys own place × Sit keys owns places
-Sit keys [] (place ∷ places) = ⊥
+Sit keys (own ∷ owns) (slot ∷ slots) = SitsAt keys own slot × Sit keys owns slots
+Sit keys [] (slot ∷ slots) = ⊥
 Sit keys (own ∷ owns) [] = ⊥
 
 -- the slot is free, or another peer on another connection has it
@@ -90,8 +90,8 @@ IsApartFrom seat (Some other) = ((seat.conn == other.conn) ≡ false) × ((seat.
 -- no connection and no peer has two slots
 abbrev pub SeatsDiffer : List (Option Seat) → Type 0
 SeatsDiffer [] = ⊤
-SeatsDiffer (None ∷ places) = SeatsDiffer places
-SeatsDiffer (Some seat ∷ places) = AllByRecursion (IsApartFrom seat) places × SeatsDiffer places
+SeatsDiffer (None ∷ slots) = SeatsDiffer slots
+SeatsDiffer (Some seat ∷ slots) = AllByRecursion (IsApartFrom seat) slots × SeatsDiffer slots
 
 -- the peer does not have the slot
 abbrev pub IsNotOf : ℕ → Option Seat → Type 0
@@ -116,9 +116,9 @@ IsLeftOut calls (Some seat) = IsOther seat.peer calls
 pub record IsHosting (buses : List Bus) (stand : Stand) (keys : List (Option ℕ)) (held : Held)
     (owns : List (Option Own)) : Type 0 where
   pub layout : IsLayout buses
-  pub sit : Sit keys owns stand.places
-  pub few : count_by is_some stand.places ≤ count_by is_some keys
-  pub differ : SeatsDiffer stand.places
+  pub sit : Sit keys owns stand.slots
+  pub few : count_by is_some stand.slots ≤ count_by is_some keys
+  pub differ : SeatsDiffer stand.slots
   pub long : length keys ≡ length stand.guests
   pub stands : StandsFor buses keys held (course buses stand.events)
 
@@ -146,7 +146,7 @@ pub record IsSettled (buses : List Bus) (stand : Stand) (call : Call) (early : L
   pub counted : CountsRefusals core_old (call ∷ early) held
   pub asked_for : CountsAsked buses stand.events (accepted buses stand call).events core_old held
   pub asked : map question early ≡ flat_map (turns_away buses stand.events) (filter_map newcomer_of (call ∷ []))
-  pub others : AllByRecursion (IsLeftOut early) (accepted buses stand call).places
+  pub others : AllByRecursion (IsLeftOut early) (accepted buses stand call).slots
   pub hosting : IsHosting buses (accepted buses stand call) keys held owns
   pub opened : length (accepted buses stand call).guests ≡ length stand.guests + one_if opens
 
@@ -190,7 +190,7 @@ module _ (buses : List Bus) (stand : Stand) (old : Option (List DoorCall)) (told
           (record {
             events = stand.events ++ made_by (visits_of round);
             guests = stand.guests;
-            places = front ++ (map left_by round ++ ahead);
+            slots = front ++ (map left_by round ++ ahead);
           })
           keys held owns
 
@@ -204,7 +204,7 @@ module _ (buses : List Bus) (stand : Stand) (old : Option (List DoorCall)) (told
       pub turn : IsTurnGiven calls
       pub asked : map question calls ≡ turn_asks buses stand calls
       pub known : AllByRecursion (IsOneOf (peers ++ filter_map peer_of (map told_call calls)))
-          (turned buses stand calls).places
+          (turned buses stand calls).slots
       pub hosting : IsHosting buses (turned buses stand calls) keys held owns
       pub opened : length (turned buses stand calls).guests ≡ length stand.guests + one_if opens
 
@@ -225,30 +225,30 @@ TakesMoment old told_old new told_new = (owns : List (Option Own))
 abbrev pub Connects : (peer : ℕ) (old : Held) (told_old : Option (List DoorCall)) (owns_old : List (Option Own))
     (new : Held) (told_new : Option (List DoorCall)) (owns_new : List (Option Own)) (opens : Bool) → Type 0
 Connects peer old told_old owns_old new told_new owns_new opens = FromEveryState
-    (λ buses stand keys told. AllByRecursion (IsNotOf peer) stand.places
+    (λ buses stand keys told. AllByRecursion (IsNotOf peer) stand.slots
     → HasConnected buses stand told_old told new owns_new old peer opens)
     old owns_old told_new
 
 -- `After` holds of the peers so far, if the calls that were added accept none of them, and no peer twice
-abbrev pub IfPeersDiffer : (told_old : Option (List DoorCall)) (told : List DoorCall) (places : List (Option Seat))
+abbrev pub IfPeersDiffer : (told_old : Option (List DoorCall)) (told : List DoorCall) (slots : List (Option Seat))
     → (After : List ℕ → Type 0) → Type 0
-IfPeersDiffer told_old told places After = (peers : List ℕ) (calls : List DoorCall) → Adds told_old told calls
-    → PeersDiffer peers calls → AllByRecursion (IsOneOf peers) places → After peers
+IfPeersDiffer told_old told slots After = (peers : List ℕ) (calls : List DoorCall) → Adds told_old told calls
+    → PeersDiffer peers calls → AllByRecursion (IsOneOf peers) slots → After peers
 
 -- the door is asked for a newcomer
 abbrev pub AcceptsOne : (old : Held) (told_old : Option (List DoorCall)) (owns_old : List (Option Own))
     (new : Held) (told_new : Option (List DoorCall)) (owns_new : List (Option Own)) (opens : Bool) → Type 0
 AcceptsOne old told_old owns_old new told_new owns_new opens = FromEveryState
-    (λ buses stand keys told. IfPeersDiffer told_old told stand.places
+    (λ buses stand keys told. IfPeersDiffer told_old told stand.slots
     (λ peers. HasAccepted buses stand told_old told new owns_new old opens))
     old owns_old told_new
 
 -- whoever has that slot is visited
-abbrev pub VisitsPlace : (place : ℕ) (old : Held) (told_old : Option (List DoorCall)) (owns_old : List (Option Own))
+abbrev pub VisitsSlot : (slot : ℕ) (old : Held) (told_old : Option (List DoorCall)) (owns_old : List (Option Own))
     (new : Held) (told_new : Option (List DoorCall)) (owns_new : List (Option Own)) → Type 0
-VisitsPlace place old told_old owns_old new told_new owns_new = FromEveryState
+VisitsSlot slot old told_old owns_old new told_new owns_new = FromEveryState
     (λ buses stand keys told. (front : List (Option Seat)) (seat : Option Seat) (ahead : List (Option Seat))
-    → length front ≡ place → stand.places ≡ front ++ seat ∷ ahead
+    → length front ≡ slot → stand.slots ≡ front ++ seat ∷ ahead
     → HasVisited buses stand told_old told new owns_new old front (seat ∷ []) ahead)
     old owns_old told_new
 
@@ -257,7 +257,7 @@ pub record HasVisitedSoFar (buses : List Bus) (stand : Stand) (old : Option (Lis
     (held : Held) (owns : List (Option Own)) (core_old : Held) (count : ℕ) : Type 0 where
   pub seats : List (Option Seat)
   pub ahead : List (Option Seat)
-  pub are : stand.places ≡ seats ++ ahead
+  pub are : stand.slots ≡ seats ++ ahead
   pub many : length seats ≡ count
   pub visited : HasVisited buses stand old told held owns core_old [] seats ahead
 
@@ -268,17 +268,17 @@ VisitsSoFar count old told_old owns_old now told_now owns_now = FromEveryState
     (λ buses stand keys told. HasVisitedSoFar buses stand told_old told now owns_now old count) old owns_old told_now
 
 -- all slots are visited, in their order
-abbrev pub VisitsPlaces : (old : Held) (told_old : Option (List DoorCall)) (owns_old : List (Option Own))
+abbrev pub VisitsSlots : (old : Held) (told_old : Option (List DoorCall)) (owns_old : List (Option Own))
     (new : Held) (told_new : Option (List DoorCall)) (owns_new : List (Option Own)) → Type 0
-VisitsPlaces old told_old owns_old new told_new owns_new = FromEveryState
-    (λ buses stand keys told. HasVisited buses stand told_old told new owns_new old [] stand.places [])
+VisitsSlots old told_old owns_old new told_new owns_new = FromEveryState
+    (λ buses stand keys told. HasVisited buses stand told_old told new owns_new old [] stand.slots [])
     old owns_old told_new
 
 -- a turn is made
 abbrev pub MakesTurn : (old : Held) (told_old : Option (List DoorCall)) (owns_old : List (Option Own))
     (new : Held) (told_new : Option (List DoorCall)) (owns_new : List (Option Own)) (opens : Bool) → Type 0
 MakesTurn old told_old owns_old new told_new owns_new opens = FromEveryState
-    (λ buses stand keys told. IfPeersDiffer told_old told stand.places
+    (λ buses stand keys told. IfPeersDiffer told_old told stand.slots
     (λ peers. HasMadeTurn buses stand told_old told new owns_new old peers opens))
     old owns_old told_new
 
@@ -293,7 +293,7 @@ pub record IsServing (buses : List Bus) (count opens : ℕ) (told : List DoorCal
   pub counted : CountsRefusals old calls held
   pub asked_for : CountsAsked buses [] (events_of buses calls) old held
   pub served : IsServed buses count calls
-  pub known : AllByRecursion (IsOneOf (filter_map peer_of told)) (stand_after buses calls).places
+  pub known : AllByRecursion (IsOneOf (filter_map peer_of told)) (stand_after buses calls).slots
   pub hosting : IsHosting buses (stand_after buses calls) keys held owns
   pub opened : length (stand_after buses calls).guests ≡ opens
 

@@ -14,8 +14,8 @@ use Rattle.srcp_core.specs.Under.{Event}
 use Rattle.srcp_core.proofs.Agreement.NumbersAndKeys.{key_push, key_within, without_other}
 use Rattle.srcp_serve.specs.Given.{Call, ExpectCall, NowCall, AcceptCall, ReadCall, WriteCall, CloseCall}
 use Rattle.srcp_serve.specs.Serving.{Seat, Stand, seated, seats, kept, visit, is_about, is_close}
-use Rattle.srcp_serve.specs.Places.{Visit, calls_of, visits_of, seat_of, left_by, AreOwn, SitsAt, Sit, IsApartFrom, SeatsDiffer, IsNotOf}
-use Rattle.srcp_serve.specs.Places.{IsHosting, IsOneOf, IsOther, IsLeftOut}
+use Rattle.srcp_serve.specs.Slots.{Visit, calls_of, visits_of, seat_of, left_by, AreOwn, SitsAt, Sit, IsApartFrom, SeatsDiffer, IsNotOf}
+use Rattle.srcp_serve.specs.Slots.{IsHosting, IsOneOf, IsOther, IsLeftOut}
 use Rattle.srcp_serve.specs.Visits.{AreAbout}
 use Rattle.srcp_serve.specs.declared.serving.visit.Seat.{Seat as Own}
 use Rattle.srcp_serve.proofs.VisitsAreSeenAgain.{AreApart, one_visit}
@@ -76,76 +76,76 @@ count_without (suc (suc n)) (k ∷ keys) key e =
     let b = count_cons k keys in
     omega (arith, a, b, h)
 
-pub count_seated : (seat : Seat) (places : List (Option Seat)) → count_by is_some (seated seat places) ≤ count_by is_some places + 1
+pub count_seated : (seat : Seat) (slots : List (Option Seat)) → count_by is_some (seated seat slots) ≤ count_by is_some slots + 1
 count_seated seat [] = omega arith
-count_seated seat (None ∷ places) = let a = count_cons None places in let b = count_cons (Some seat) places in omega (arith, a, b)
-count_seated seat (Some other ∷ places) =
-    let h = count_seated seat places in
-    let a = count_cons (Some other) places in
-    let b = count_cons (Some other) (seated seat places) in
+count_seated seat (None ∷ slots) = let a = count_cons None slots in let b = count_cons (Some seat) slots in omega (arith, a, b)
+count_seated seat (Some other ∷ slots) =
+    let h = count_seated seat slots in
+    let a = count_cons (Some other) slots in
+    let b = count_cons (Some other) (seated seat slots) in
     omega (arith, a, b, h)
 
 -- ---- which peer has which slot
 
-pub length-sit : (keys : List (Option ℕ)) (owns : List (Option Own)) (places : List (Option Seat)) → Sit keys owns places
-    → length owns ≡ length places
+pub length-sit : (keys : List (Option ℕ)) (owns : List (Option Own)) (slots : List (Option Seat)) → Sit keys owns slots
+    → length owns ≡ length slots
 length-sit keys [] [] h = refl
-length-sit keys [] (place ∷ places) h = absurd h
+length-sit keys [] (slot ∷ slots) h = absurd h
 length-sit keys (own ∷ owns) [] h = absurd h
-length-sit keys (own ∷ owns) (place ∷ places) h = ap (λ n. suc n) (length-sit keys owns places h.1)
+length-sit keys (own ∷ owns) (slot ∷ slots) h = ap (λ n. suc n) (length-sit keys owns slots h.1)
 
-pub sits_here : (keys : List (Option ℕ)) (owns : List (Option Own)) (front : List (Option Seat)) (place : Option Seat)
+pub sits_here : (keys : List (Option ℕ)) (owns : List (Option Own)) (front : List (Option Seat)) (slot : Option Seat)
     (ahead : List (Option Seat)) (i : ℕ) (d : Option Own)
-    → length front ≡ i → Sit keys owns (front ++ place ∷ ahead) → SitsAt keys (slice_index_or owns i d) place
-sits_here keys [] [] place ahead i d e h = absurd h
-sits_here keys [] (p ∷ front) place ahead i d e h = absurd h
-sits_here keys (own ∷ owns) [] place ahead zero d e h = h.0
-sits_here keys (own ∷ owns) [] place ahead (suc i) d e h = cc
-sits_here keys (own ∷ owns) (p ∷ front) place ahead zero d e h = cc
-sits_here keys (own ∷ owns) (p ∷ front) place ahead (suc i) d e h =
-    let less : length front ≡ i = omega (arith, e) in sits_here keys owns front place ahead i d less h.1
+    → length front ≡ i → Sit keys owns (front ++ slot ∷ ahead) → SitsAt keys (slice_index_or owns i d) slot
+sits_here keys [] [] slot ahead i d e h = absurd h
+sits_here keys [] (p ∷ front) slot ahead i d e h = absurd h
+sits_here keys (own ∷ owns) [] slot ahead zero d e h = h.0
+sits_here keys (own ∷ owns) [] slot ahead (suc i) d e h = cc
+sits_here keys (own ∷ owns) (p ∷ front) slot ahead zero d e h = cc
+sits_here keys (own ∷ owns) (p ∷ front) slot ahead (suc i) d e h =
+    let less : length front ≡ i = omega (arith, e) in sits_here keys owns front slot ahead i d less h.1
 
-sit_cleared : (keys : List (Option ℕ)) (owns : List (Option Own)) (front : List (Option Seat)) (place : Option Seat)
+sit_cleared : (keys : List (Option ℕ)) (owns : List (Option Own)) (front : List (Option Seat)) (slot : Option Seat)
     (ahead : List (Option Seat)) (i : ℕ)
-    → length front ≡ i → Sit keys owns (front ++ place ∷ ahead) → Sit keys (slice_set owns i None) (front ++ None ∷ ahead)
-sit_cleared keys [] [] place ahead i e h = absurd h
-sit_cleared keys [] (p ∷ front) place ahead i e h = absurd h
-sit_cleared keys (own ∷ owns) [] place ahead zero e h = (tt, h.1)
-sit_cleared keys (own ∷ owns) [] place ahead (suc i) e h = cc
-sit_cleared keys (own ∷ owns) (p ∷ front) place ahead zero e h = cc
-sit_cleared keys (own ∷ owns) (p ∷ front) place ahead (suc i) e h =
-    let less : length front ≡ i = omega (arith, e) in (h.0, sit_cleared keys owns front place ahead i less h.1)
+    → length front ≡ i → Sit keys owns (front ++ slot ∷ ahead) → Sit keys (slice_set owns i None) (front ++ None ∷ ahead)
+sit_cleared keys [] [] slot ahead i e h = absurd h
+sit_cleared keys [] (p ∷ front) slot ahead i e h = absurd h
+sit_cleared keys (own ∷ owns) [] slot ahead zero e h = (tt, h.1)
+sit_cleared keys (own ∷ owns) [] slot ahead (suc i) e h = cc
+sit_cleared keys (own ∷ owns) (p ∷ front) slot ahead zero e h = cc
+sit_cleared keys (own ∷ owns) (p ∷ front) slot ahead (suc i) e h =
+    let less : length front ≡ i = omega (arith, e) in (h.0, sit_cleared keys owns front slot ahead i less h.1)
 
 -- the number has no slot
 abbrev IsNotNumber : ℕ → Option Seat → Type 0
 IsNotNumber n None = Unit {0}
 IsNotNumber n (Some seat) = (n == seat.conn) ≡ false
 
-sit_kept : (n : ℕ) (keys : List (Option ℕ)) (owns : List (Option Own)) (places : List (Option Seat)) → AllByRecursion (IsNotNumber n) places
-    → Sit keys owns places → Sit (without_key n keys) owns places
+sit_kept : (n : ℕ) (keys : List (Option ℕ)) (owns : List (Option Own)) (slots : List (Option Seat)) → AllByRecursion (IsNotNumber n) slots
+    → Sit keys owns slots → Sit (without_key n keys) owns slots
 sit_kept n keys [] [] free h = tt
-sit_kept n keys [] (place ∷ places) free h = absurd h
+sit_kept n keys [] (slot ∷ slots) free h = absurd h
 sit_kept n keys (own ∷ owns) [] free h = absurd h
-sit_kept n keys (None ∷ owns) (None ∷ places) free h = (tt, sit_kept n keys owns places free.1 h.1)
-sit_kept n keys (None ∷ owns) (Some seat ∷ places) free h = absurd h.0
-sit_kept n keys (Some own ∷ owns) (None ∷ places) free h = absurd h.0
-sit_kept n keys (Some own ∷ owns) (Some seat ∷ places) free h =
-    ((h.0.0, without_other n seat.conn keys (other_no n seat.conn free.0) ∙ h.0.1), sit_kept n keys owns places free.1 h.1)
+sit_kept n keys (None ∷ owns) (None ∷ slots) free h = (tt, sit_kept n keys owns slots free.1 h.1)
+sit_kept n keys (None ∷ owns) (Some seat ∷ slots) free h = absurd h.0
+sit_kept n keys (Some own ∷ owns) (None ∷ slots) free h = absurd h.0
+sit_kept n keys (Some own ∷ owns) (Some seat ∷ slots) free h =
+    ((h.0.0, without_other n seat.conn keys (other_no n seat.conn free.0) ∙ h.0.1), sit_kept n keys owns slots free.1 h.1)
 
-number_ahead : (seat : Seat) (places : List (Option Seat)) → AllByRecursion (IsApartFrom seat) places
-    → AllByRecursion (IsNotNumber seat.conn) places
+number_ahead : (seat : Seat) (slots : List (Option Seat)) → AllByRecursion (IsApartFrom seat) slots
+    → AllByRecursion (IsNotNumber seat.conn) slots
 number_ahead seat [] h = tt
-number_ahead seat (None ∷ places) h = (tt, number_ahead seat places h.1)
-number_ahead seat (Some other ∷ places) h = (h.0.0, number_ahead seat places h.1)
+number_ahead seat (None ∷ slots) h = (tt, number_ahead seat slots h.1)
+number_ahead seat (Some other ∷ slots) h = (h.0.0, number_ahead seat slots h.1)
 
 pub all_here : {X : Type 0} (P : X → Type 0) (front : List X) (x : X) (ahead : List X) → AllByRecursion P (front ++ x ∷ ahead) → P x
 all_here P [] x ahead h = h.0
 all_here P (y ∷ front) x ahead h = all_here P front x ahead h.1
 
-all_cleared : (P : Option Seat → Type 0) (front : List (Option Seat)) (place : Option Seat) (ahead : List (Option Seat)) → P None
-    → AllByRecursion P (front ++ place ∷ ahead) → AllByRecursion P (front ++ None ∷ ahead)
-all_cleared P [] place ahead none h = (none, h.1)
-all_cleared P (p ∷ front) place ahead none h = (h.0, all_cleared P front place ahead none h.1)
+all_cleared : (P : Option Seat → Type 0) (front : List (Option Seat)) (slot : Option Seat) (ahead : List (Option Seat)) → P None
+    → AllByRecursion P (front ++ slot ∷ ahead) → AllByRecursion P (front ++ None ∷ ahead)
+all_cleared P [] slot ahead none h = (none, h.1)
+all_cleared P (p ∷ front) slot ahead none h = (h.0, all_cleared P front slot ahead none h.1)
 
 numbers_around : (front : List (Option Seat)) (seat : Seat) (ahead : List (Option Seat)) → SeatsDiffer (front ++ Some seat ∷ ahead)
     → AllByRecursion (IsNotNumber seat.conn) (front ++ None ∷ ahead)
@@ -172,33 +172,33 @@ differ_cleared (Some other ∷ front) seat ahead h =
 
 -- ---- a newcomer
 
-pub sit_pushed : (keys : List (Option ℕ)) (key : ℕ) (owns : List (Option Own)) (places : List (Option Seat)) → Sit keys owns places
-    → Sit (keys ++ Some key ∷ []) owns places
+pub sit_pushed : (keys : List (Option ℕ)) (key : ℕ) (owns : List (Option Own)) (slots : List (Option Seat)) → Sit keys owns slots
+    → Sit (keys ++ Some key ∷ []) owns slots
 sit_pushed keys key [] [] h = tt
-sit_pushed keys key [] (place ∷ places) h = absurd h
+sit_pushed keys key [] (slot ∷ slots) h = absurd h
 sit_pushed keys key (own ∷ owns) [] h = absurd h
-sit_pushed keys key (None ∷ owns) (None ∷ places) h = (tt, sit_pushed keys key owns places h.1)
-sit_pushed keys key (None ∷ owns) (Some seat ∷ places) h = absurd h.0
-sit_pushed keys key (Some own ∷ owns) (None ∷ places) h = absurd h.0
-sit_pushed keys key (Some own ∷ owns) (Some seat ∷ places) h =
-    ((h.0.0, key_push seat.conn keys (Some key) (key_within seat.conn keys own.key h.0.1).1 ∙ h.0.1), sit_pushed keys key owns places h.1)
+sit_pushed keys key (None ∷ owns) (None ∷ slots) h = (tt, sit_pushed keys key owns slots h.1)
+sit_pushed keys key (None ∷ owns) (Some seat ∷ slots) h = absurd h.0
+sit_pushed keys key (Some own ∷ owns) (None ∷ slots) h = absurd h.0
+sit_pushed keys key (Some own ∷ owns) (Some seat ∷ slots) h =
+    ((h.0.0, key_push seat.conn keys (Some key) (key_within seat.conn keys own.key h.0.1).1 ∙ h.0.1), sit_pushed keys key owns slots h.1)
 
 -- which slot is free, as the first
 abbrev pub free_in : List (Option Own) → ℕ
 free_in owns = prefix_len (λ own. not (is_none own)) owns
 
-pub sit_seated : (keys : List (Option ℕ)) (own : Own) (seat : Seat) (owns : List (Option Own)) (places : List (Option Seat))
-    → SitsAt keys (Some own) (Some seat) → Sit keys owns places → Sit keys (slice_set owns (free_in owns) (Some own)) (seated seat places)
+pub sit_seated : (keys : List (Option ℕ)) (own : Own) (seat : Seat) (owns : List (Option Own)) (slots : List (Option Seat))
+    → SitsAt keys (Some own) (Some seat) → Sit keys owns slots → Sit keys (slice_set owns (free_in owns) (Some own)) (seated seat slots)
 sit_seated keys own seat [] [] new h = tt
-sit_seated keys own seat [] (place ∷ places) new h = absurd h
+sit_seated keys own seat [] (slot ∷ slots) new h = absurd h
 sit_seated keys own seat (o ∷ owns) [] new h = absurd h
-sit_seated keys own seat (None ∷ owns) (None ∷ places) new h = (new, h.1)
-sit_seated keys own seat (None ∷ owns) (Some other ∷ places) new h = absurd h.0
-sit_seated keys own seat (Some o ∷ owns) (None ∷ places) new h = absurd h.0
-sit_seated keys own seat (Some o ∷ owns) (Some other ∷ places) new h =
+sit_seated keys own seat (None ∷ owns) (None ∷ slots) new h = (new, h.1)
+sit_seated keys own seat (None ∷ owns) (Some other ∷ slots) new h = absurd h.0
+sit_seated keys own seat (Some o ∷ owns) (None ∷ slots) new h = absurd h.0
+sit_seated keys own seat (Some o ∷ owns) (Some other ∷ slots) new h =
     let step : suc (free_in owns) ≡ 1 + free_in owns = omega arith in
-    subst (λ (i : ℕ). Sit keys (slice_set (Some o ∷ owns) i (Some own)) (Some other ∷ seated seat places)) step
-    (h.0, sit_seated keys own seat owns places new h.1)
+    subst (λ (i : ℕ). Sit keys (slice_set (Some o ∷ owns) i (Some own)) (Some other ∷ seated seat slots)) step
+    (h.0, sit_seated keys own seat owns slots new h.1)
 
 pub free_is : (owns : List (Option Own)) (free : ℕ) → position is_none owns ≡ Some free → free ≡ free_in owns
 free_is owns free e = by (nat_lt (free_in owns) (length owns)) e
@@ -207,54 +207,54 @@ free_is owns free e = by (nat_lt (free_in owns) (length owns)) e
     by true e = cc
     by false e = cc
 
-all_taken : (keys : List (Option ℕ)) (owns : List (Option Own)) (places : List (Option Seat)) → Sit keys owns places
-    → length owns ≤ free_in owns → length owns ≤ count_by is_some places
-all_taken keys [] places h e = omega arith
+all_taken : (keys : List (Option ℕ)) (owns : List (Option Own)) (slots : List (Option Seat)) → Sit keys owns slots
+    → length owns ≤ free_in owns → length owns ≤ count_by is_some slots
+all_taken keys [] slots h e = omega arith
 all_taken keys (own ∷ owns) [] h e = absurd h
-all_taken keys (None ∷ owns) (place ∷ places) h e = absurd (omega (arith, e))
-all_taken keys (Some own ∷ owns) (None ∷ places) h e = absurd h.0
-all_taken keys (Some own ∷ owns) (Some seat ∷ places) h e =
+all_taken keys (None ∷ owns) (slot ∷ slots) h e = absurd (omega (arith, e))
+all_taken keys (Some own ∷ owns) (None ∷ slots) h e = absurd h.0
+all_taken keys (Some own ∷ owns) (Some seat ∷ slots) h e =
     let less : length owns ≤ free_in owns = omega (arith, e) in
-    let ih = all_taken keys owns places h.1 less in
-    let c = count_cons (Some seat) places in
+    let ih = all_taken keys owns slots h.1 less in
+    let c = count_cons (Some seat) slots in
     omega (arith, ih, c)
 
 -- if no slot is free, all are taken
-pub none_free : (keys : List (Option ℕ)) (owns : List (Option Own)) (places : List (Option Seat)) → Sit keys owns places
-    → position is_none owns ≡ None → length owns ≤ count_by is_some places
-none_free keys owns places h e = all_taken keys owns places h (by (nat_lt (free_in owns) (length owns)) refl e)
+pub none_free : (keys : List (Option ℕ)) (owns : List (Option Own)) (slots : List (Option Seat)) → Sit keys owns slots
+    → position is_none owns ≡ None → length owns ≤ count_by is_some slots
+none_free keys owns slots h e = all_taken keys owns slots h (by (nat_lt (free_in owns) (length owns)) refl e)
   where
     by : (b : Bool) → nat_lt (free_in owns) (length owns) ≡ b → cond b (Some (free_in owns)) None ≡ None → length owns ≤ free_in owns
     by true t e = cc
     by false t e = grind (arith, nat_tests)
 
-pub all_seated : (P : Option Seat → Type 0) (seat : Seat) (places : List (Option Seat)) → P (Some seat) → AllByRecursion P places
-    → AllByRecursion P (seated seat places)
+pub all_seated : (P : Option Seat → Type 0) (seat : Seat) (slots : List (Option Seat)) → P (Some seat) → AllByRecursion P slots
+    → AllByRecursion P (seated seat slots)
 all_seated P seat [] new h = tt
-all_seated P seat (None ∷ places) new h = (new, h.1)
-all_seated P seat (Some other ∷ places) new h = (h.0, all_seated P seat places new h.1)
+all_seated P seat (None ∷ slots) new h = (new, h.1)
+all_seated P seat (Some other ∷ slots) new h = (h.0, all_seated P seat slots new h.1)
 
-pub differ_seated : (seat : Seat) (places : List (Option Seat)) → AllByRecursion (IsApartFrom seat) places → SeatsDiffer places
-    → SeatsDiffer (seated seat places)
+pub differ_seated : (seat : Seat) (slots : List (Option Seat)) → AllByRecursion (IsApartFrom seat) slots → SeatsDiffer slots
+    → SeatsDiffer (seated seat slots)
 differ_seated seat [] new h = tt
-differ_seated seat (None ∷ places) new h = (new.1, h)
-differ_seated seat (Some other ∷ places) new h = (
-  all_seated (IsApartFrom other) seat places (same_no seat.conn other.conn new.0.0, same_no seat.peer other.peer new.0.1) h.0,
-  differ_seated seat places new.1 h.1,
+differ_seated seat (None ∷ slots) new h = (new.1, h)
+differ_seated seat (Some other ∷ slots) new h = (
+  all_seated (IsApartFrom other) seat slots (same_no seat.conn other.conn new.0.0, same_no seat.peer other.peer new.0.1) h.0,
+  differ_seated seat slots new.1 h.1,
 )
 
-pub new_apart : (keys : List (Option ℕ)) (seat : Seat) (owns : List (Option Own)) (places : List (Option Seat)) → Sit keys owns places
-    → seat.conn ≡ length keys + 1 → AllByRecursion (IsNotOf seat.peer) places → AllByRecursion (IsApartFrom seat) places
+pub new_apart : (keys : List (Option ℕ)) (seat : Seat) (owns : List (Option Own)) (slots : List (Option Seat)) → Sit keys owns slots
+    → seat.conn ≡ length keys + 1 → AllByRecursion (IsNotOf seat.peer) slots → AllByRecursion (IsApartFrom seat) slots
 new_apart keys seat [] [] h e new = tt
-new_apart keys seat [] (place ∷ places) h e new = absurd h
+new_apart keys seat [] (slot ∷ slots) h e new = absurd h
 new_apart keys seat (own ∷ owns) [] h e new = absurd h
-new_apart keys seat (None ∷ owns) (None ∷ places) h e new = (tt, new_apart keys seat owns places h.1 e new.1)
-new_apart keys seat (None ∷ owns) (Some other ∷ places) h e new = absurd h.0
-new_apart keys seat (Some own ∷ owns) (None ∷ places) h e new = absurd h.0
-new_apart keys seat (Some own ∷ owns) (Some other ∷ places) h e new =
+new_apart keys seat (None ∷ owns) (None ∷ slots) h e new = (tt, new_apart keys seat owns slots h.1 e new.1)
+new_apart keys seat (None ∷ owns) (Some other ∷ slots) h e new = absurd h.0
+new_apart keys seat (Some own ∷ owns) (None ∷ slots) h e new = absurd h.0
+new_apart keys seat (Some own ∷ owns) (Some other ∷ slots) h e new =
     let within : other.conn ≤ length keys = (key_within other.conn keys own.key h.0.1).1 in
     let no : (seat.conn == other.conn) ≡ false = past seat.conn other.conn (length keys) e within in
-    ((no, new.0), new_apart keys seat owns places h.1 e new.1)
+    ((no, new.0), new_apart keys seat owns slots h.1 e new.1)
   where
     past : (a b n : ℕ) → a ≡ n + 1 → b ≤ n → (a == b) ≡ false
     past a b n e h = grind (arith, nat_tests)

@@ -16,23 +16,23 @@ use Rattle.srcp_serve.specs.Calls.{Call as DoorCall}
 use Rattle.srcp_serve.specs.Given.{Call, CountsRefusals}
 use Rattle.srcp_serve.specs.Serving.{Seat, Stand, question}
 use Rattle.srcp_serve.specs.Serving.{visit_events}
-use Rattle.srcp_serve.specs.Places.{AreOwn, Visit, calls_of, made_by, asked_by, visits_of, seat_of, left_by, Sit, SitsAt}
-use Rattle.srcp_serve.specs.Places.{IsHosting, HasVisited, HasVisitedSoFar, VisitsPlace}
-use Rattle.srcp_serve.specs.Places.{VisitsPlaces, VisitsSoFar}
+use Rattle.srcp_serve.specs.Slots.{AreOwn, Visit, calls_of, made_by, asked_by, visits_of, seat_of, left_by, Sit, SitsAt}
+use Rattle.srcp_serve.specs.Slots.{IsHosting, HasVisited, HasVisitedSoFar, VisitsSlot}
+use Rattle.srcp_serve.specs.Slots.{VisitsSlots, VisitsSoFar}
 use Rattle.srcp_serve.specs.Turns.{AsksPeers}
 use Rattle.srcp_serve.specs.Visits.{AddsGiven, CountsAsked, Visits}
 use Rattle.srcp_serve.specs.declared.serving.visit.Seat.{Seat as Own}
-use Rattle.srcp_serve.proofs.PlacesAreTakenAndFreed.{count_cleared, count_without, differ_cleared, hosts_on}
-use Rattle.srcp_serve.proofs.PlacesAreTakenAndFreed.{length-sit, own_append}
-use Rattle.srcp_serve.proofs.PlacesAreTakenAndFreed.{sit_without}
-use Rattle.srcp_serve.proofs.PlacesAreTakenAndFreed.{sits_here, visits-append}
+use Rattle.srcp_serve.proofs.SlotsAreTakenAndFreed.{count_cleared, count_without, differ_cleared, hosts_on}
+use Rattle.srcp_serve.proofs.SlotsAreTakenAndFreed.{length-sit, own_append}
+use Rattle.srcp_serve.proofs.SlotsAreTakenAndFreed.{sit_without}
+use Rattle.srcp_serve.proofs.SlotsAreTakenAndFreed.{sits_here, visits-append}
 use Rattle.srcp_serve.proofs.RefusalsWereAskedFor.{asked_none, asked_then}
 use Rattle.srcp_serve.proofs.CallsAreAdded.{adds_none, given_then, refusals_then}
 use Rattle.srcp_serve.proofs.VisitsAreSeenAgain.{asked_by-append}
 
-pub place_free : (place : ℕ) (d : Option Own) (old : Held) (told_old : Option (List DoorCall)) (owns : List (Option Own))
-    → slice_index_or owns place d ≡ None → VisitsPlace place old told_old owns old told_old owns
-place_free place d old told_old owns here buses stand keys told hosting is front None ahead e at = record {
+pub slot_free : (slot : ℕ) (d : Option Own) (old : Held) (told_old : Option (List DoorCall)) (owns : List (Option Own))
+    → slice_index_or owns slot d ≡ None → VisitsSlot slot old told_old owns old told_old owns
+slot_free slot d old told_old owns here buses stand keys told hosting is front None ahead e at = record {
   round = None ∷ [];
   keys = keys;
   adds = adds_none told_old told is;
@@ -43,37 +43,37 @@ place_free place d old told_old owns here buses stand keys told hosting is front
   asked = refl;
   hosting =
       subst (λ (all : List Event).
-      IsHosting buses (record { events = all; guests = stand.guests; places = front ++ None ∷ ahead }) keys old owns)
+      IsHosting buses (record { events = all; guests = stand.guests; slots = front ++ None ∷ ahead }) keys old owns)
       (sym (append-nil stand.events))
       (subst (λ (all : List (Option Seat)).
-      IsHosting buses (record { events = stand.events; guests = stand.guests; places = all }) keys old owns)
+      IsHosting buses (record { events = stand.events; guests = stand.guests; slots = all }) keys old owns)
       at hosting);
 }
-place_free place d old told_old owns here buses stand keys told hosting is front (Some seat) ahead e at =
+slot_free slot d old told_old owns here buses stand keys told hosting is front (Some seat) ahead e at =
     absurd (subst (λ (o : Option Own). SitsAt keys o (Some seat)) here
-    (sits_here keys owns front (Some seat) ahead place d e
+    (sits_here keys owns front (Some seat) ahead slot d e
     (subst (λ (all : List (Option Seat)). Sit keys owns all) at hosting.sit)))
 
-module _ (place : ℕ) (d : Option Own) (own : Own) (old new : Held) (told_old told_new : Option (List DoorCall)) (owns : List (Option Own))
-    (here : slice_index_or owns place d ≡ Some own) where
+module _ (slot : ℕ) (d : Option Own) (own : Own) (old new : Held) (told_old told_new : Option (List DoorCall)) (owns : List (Option Own))
+    (here : slice_index_or owns slot d ≡ Some own) where
   -- the peer of the slot was visited, and has the slot still or not
-  place_visited : (stays : Bool) (owns_after : List (Option Own)) → Visits own.peer own.key old told_old new told_new stays
+  slot_visited : (stays : Bool) (owns_after : List (Option Own)) → Visits own.peer own.key old told_old new told_new stays
       → ((buses : List Bus) (stand : Stand) (events : List Event) (keys : List (Option ℕ)) (front : List (Option Seat)) (seat : Seat)
-      (ahead : List (Option Seat)) → length front ≡ place
-      → IsHosting buses (record stand { places = front ++ Some seat ∷ ahead }) keys old owns → key_of seat.conn keys ≡ Some own.key
+      (ahead : List (Option Seat)) → length front ≡ slot
+      → IsHosting buses (record stand { slots = front ++ Some seat ∷ ahead }) keys old owns → key_of seat.conn keys ≡ Some own.key
       → StandsFor buses (if stays then keys else without_key seat.conn keys) new (course buses events)
       → IsHosting buses
-      (record { events = events; guests = stand.guests; places = front ++ (if not stays then None else Some seat) ∷ ahead })
+      (record { events = events; guests = stand.guests; slots = front ++ (if not stays then None else Some seat) ∷ ahead })
       (if stays then keys else without_key seat.conn keys) new owns_after)
-      → VisitsPlace place old told_old owns new told_new owns_after
-  place_visited stays owns_after visits hosts buses stand keys told hosting is front None ahead e at =
+      → VisitsSlot slot old told_old owns new told_new owns_after
+  slot_visited stays owns_after visits hosts buses stand keys told hosting is front None ahead e at =
       absurd (subst (λ (o : Option Own). SitsAt keys o None) here
-      (sits_here keys owns front None ahead place d e (subst (λ (all : List (Option Seat)). Sit keys owns all) at hosting.sit)))
-  place_visited stays owns_after visits hosts buses stand keys told hosting is front (Some seat) ahead e at =
-      let h : IsHosting buses (record stand { places = front ++ Some seat ∷ ahead }) keys old owns =
-      subst (λ (all : List (Option Seat)). IsHosting buses (record stand { places = all }) keys old owns) at hosting in
+      (sits_here keys owns front None ahead slot d e (subst (λ (all : List (Option Seat)). Sit keys owns all) at hosting.sit)))
+  slot_visited stays owns_after visits hosts buses stand keys told hosting is front (Some seat) ahead e at =
+      let h : IsHosting buses (record stand { slots = front ++ Some seat ∷ ahead }) keys old owns =
+      subst (λ (all : List (Option Seat)). IsHosting buses (record stand { slots = all }) keys old owns) at hosting in
       let sits : SitsAt keys (Some own) (Some seat) =
-      subst (λ (o : Option Own). SitsAt keys o (Some seat)) here (sits_here keys owns front (Some seat) ahead place d e h.sit) in
+      subst (λ (o : Option Own). SitsAt keys o (Some seat)) here (sits_here keys owns front (Some seat) ahead slot d e h.sit) in
       let visit : Visits seat.peer own.key old told_old new told_new stays =
       subst (λ (p : ℕ). Visits p own.key old told_old new told_new stays) sits.0 visits in
       let x = visit buses stand.events keys seat.conn told (record { layout = h.layout; named = sits.1; stands = h.stands }) is in
@@ -97,29 +97,29 @@ module _ (place : ℕ) (d : Option Own) (own : Own) (old new : Held) (told_old t
             (record {
               events = stand.events ++ more;
               guests = stand.guests;
-              places = front ++ left_by (Some (seat, x.calls)) ∷ ahead;
+              slots = front ++ left_by (Some (seat, x.calls)) ∷ ahead;
             })
             keys_after new owns_after)
             (sym (append-nil events))
             (subst (λ (o : Option Seat).
-            IsHosting buses (record { events = stand.events ++ events; guests = stand.guests; places = front ++ o ∷ ahead })
+            IsHosting buses (record { events = stand.events ++ events; guests = stand.guests; slots = front ++ o ∷ ahead })
             keys_after new owns_after)
             (sym left) (hosts buses stand (stand.events ++ events) keys front seat ahead e h sits.1 x.stands));
       }
 
-  pub place_stays : Visits own.peer own.key old told_old new told_new true → VisitsPlace place old told_old owns new told_new owns
-  place_stays visits = place_visited true owns visits (λ buses stand events keys front seat ahead e h named stands.
-      hosts_on buses (record stand { places = front ++ Some seat ∷ ahead }) events keys old new owns h stands)
+  pub slot_stays : Visits own.peer own.key old told_old new told_new true → VisitsSlot slot old told_old owns new told_new owns
+  slot_stays visits = slot_visited true owns visits (λ buses stand events keys front seat ahead e h named stands.
+      hosts_on buses (record stand { slots = front ++ Some seat ∷ ahead }) events keys old new owns h stands)
 
-  pub place_goes : Visits own.peer own.key old told_old new told_new false
-      → VisitsPlace place old told_old owns new told_new (slice_set owns place None)
-  place_goes visits = place_visited false (slice_set owns place None) visits (λ buses stand events keys front seat ahead e h named stands.
+  pub slot_goes : Visits own.peer own.key old told_old new told_new false
+      → VisitsSlot slot old told_old owns new told_new (slice_set owns slot None)
+  slot_goes visits = slot_visited false (slice_set owns slot None) visits (λ buses stand events keys front seat ahead e h named stands.
       let a = count_cleared seat front ahead in
       let b = count_without seat.conn keys own.key named in
       let c = h.few in
       record {
         layout = h.layout;
-        sit = sit_without keys owns front seat ahead place e h.differ h.sit;
+        sit = sit_without keys owns front seat ahead slot e h.differ h.sit;
         few = omega (arith, a, b, c);
         differ = differ_cleared front seat ahead h.differ;
         long = length_without seat.conn keys ∙ h.long;
@@ -128,11 +128,11 @@ module _ (place : ℕ) (d : Option Own) (own : Own) (old new : Held) (told_old t
 
 -- ---- the slots, one after another
 
-pub places_first : (old : Held) (told_old : Option (List DoorCall)) (owns : List (Option Own))
+pub slots_first : (old : Held) (told_old : Option (List DoorCall)) (owns : List (Option Own))
     → VisitsSoFar 0 old told_old owns old told_old owns
-places_first old told_old owns buses stand keys told hosting is = record {
+slots_first old told_old owns buses stand keys told hosting is = record {
   seats = [];
-  ahead = stand.places;
+  ahead = stand.slots;
   are = refl;
   many = refl;
   visited = record {
@@ -145,7 +145,7 @@ places_first old told_old owns buses stand keys told hosting is = record {
     own = tt;
     asked = refl;
     hosting =
-        subst (λ (all : List Event). IsHosting buses (record { events = all; guests = stand.guests; places = stand.places }) keys old owns)
+        subst (λ (all : List Event). IsHosting buses (record { events = all; guests = stand.guests; slots = stand.slots }) keys old owns)
         (sym (append-nil stand.events)) hosting;
   };
 }
@@ -153,17 +153,17 @@ places_first old told_old owns buses stand keys told hosting is = record {
 module _ (buses : List Bus) (stand : Stand) (old : Option (List DoorCall)) (core_old : Held) (seats : List (Option Seat)) where
   -- one slot more was visited
   visited_then : (mid : List DoorCall) (told_mid : Option (List DoorCall)) (between new : Held) (owns owns_after : List (Option Own))
-      (told : List DoorCall) (place : Option Seat) (ahead : List (Option Seat))
+      (told : List DoorCall) (slot : Option Seat) (ahead : List (Option Seat))
       → told_mid ≡ Some mid
-      → (x : HasVisited buses stand old mid between owns core_old [] seats (place ∷ ahead))
+      → (x : HasVisited buses stand old mid between owns core_old [] seats (slot ∷ ahead))
       → HasVisited buses (record {
         events = stand.events ++ made_by (visits_of x.round);
         guests = stand.guests;
-        places = map left_by x.round ++ place ∷ ahead;
+        slots = map left_by x.round ++ slot ∷ ahead;
       }) told_mid told new owns_after between
-      (map left_by x.round) (place ∷ []) ahead
-      → HasVisited buses stand old told new owns_after core_old [] (seats ++ place ∷ []) ahead
-  visited_then mid told_mid between new owns owns_after told place ahead is x y =
+      (map left_by x.round) (slot ∷ []) ahead
+      → HasVisited buses stand old told new owns_after core_old [] (seats ++ slot ∷ []) ahead
+  visited_then mid told_mid between new owns owns_after told slot ahead is x y =
       let both : List (Option Visit) = x.round ++ y.round in
       let xs : List Visit = visits_of x.round in
       let ys : List Visit = visits_of y.round in
@@ -172,7 +172,7 @@ module _ (buses : List Bus) (stand : Stand) (old : Option (List DoorCall)) (core
       let made : made_by (visits_of both) ≡ made_by xs ++ made_by ys = ap made_by all ∙ flat_map-append (λ v. visit_events v.1 v.0) xs ys in
       let events : (stand.events ++ made_by xs) ++ made_by ys ≡ stand.events ++ made_by (visits_of both) =
       append_assoc stand.events (made_by xs) (made_by ys) ∙ ap (λ more. stand.events ++ more) (sym made) in
-      let places : map left_by x.round ++ (map left_by y.round ++ ahead) ≡ map left_by both ++ ahead =
+      let slots : map left_by x.round ++ (map left_by y.round ++ ahead) ≡ map left_by both ++ ahead =
       sym (append_assoc (map left_by x.round) (map left_by y.round) ahead)
       ∙ ap (λ front. front ++ ahead) (sym (map-append left_by x.round y.round)) in
       record {
@@ -197,13 +197,13 @@ module _ (buses : List Bus) (stand : Stand) (old : Option (List DoorCall)) (core
             ∙ sym (asked_by-append buses stand.events xs ys) ∙ ap (asked_by buses stand.events) (sym all);
         hosting =
             subst (λ (all : List Event).
-            IsHosting buses (record { events = all; guests = stand.guests; places = map left_by both ++ ahead }) y.keys new
+            IsHosting buses (record { events = all; guests = stand.guests; slots = map left_by both ++ ahead }) y.keys new
             owns_after)
             events
             (subst (λ (all : List (Option Seat)).
-            IsHosting buses (record { events = (stand.events ++ made_by xs) ++ made_by ys; guests = stand.guests; places = all })
+            IsHosting buses (record { events = (stand.events ++ made_by xs) ++ made_by ys; guests = stand.guests; slots = all })
             y.keys new owns_after)
-            places y.hosting);
+            slots y.hosting);
       }
 
 -- there are as many slots after the visits as before
@@ -211,25 +211,25 @@ length-left : (round : List (Option Visit)) (seats : List (Option Seat)) → map
     → length (map left_by round) ≡ length seats
 length-left round seats e = length-map round left_by ∙ sym (length-map round seat_of) ∙ ap length e
 
-module _ (place : ℕ) (old mid new : Held) (told_old told_mid told_new : Option (List DoorCall))
-    (owns_old owns owns_after : List (Option Own)) (long : length owns ≡ 64) (within : place < 64)
-    (visits : VisitsPlace place mid told_mid owns new told_new owns_after) where
-  placed_on : (buses : List Bus) (stand : Stand) (told told_then : List DoorCall) → told_new ≡ Some told → told_mid ≡ Some told_then
-      → (seats ahead : List (Option Seat)) → stand.places ≡ seats ++ ahead → length seats ≡ place
+module _ (slot : ℕ) (old mid new : Held) (told_old told_mid told_new : Option (List DoorCall))
+    (owns_old owns owns_after : List (Option Own)) (long : length owns ≡ 64) (within : slot < 64)
+    (visits : VisitsSlot slot mid told_mid owns new told_new owns_after) where
+  slotd_on : (buses : List Bus) (stand : Stand) (told told_then : List DoorCall) → told_new ≡ Some told → told_mid ≡ Some told_then
+      → (seats ahead : List (Option Seat)) → stand.slots ≡ seats ++ ahead → length seats ≡ slot
       → HasVisited buses stand told_old told_then mid owns old [] seats ahead
-      → HasVisitedSoFar buses stand told_old told new owns_after old (place + 1)
-  placed_on buses stand told told_then is was seats [] are many x =
+      → HasVisitedSoFar buses stand told_old told new owns_after old (slot + 1)
+  slotd_on buses stand told told_then is was seats [] are many x =
       let a = length-sit x.keys owns (map left_by x.round ++ []) x.hosting.sit in
       let none : List (Option Seat) = [] in
       let b = length-append (map left_by x.round) none in
       let c = length-left x.round seats x.seats_are in
       absurd (omega (arith, a, b, c, many, long, within))
-  placed_on buses stand told told_then is was seats (p ∷ ahead) are many x =
+  slotd_on buses stand told told_then is was seats (p ∷ ahead) are many x =
       let now : Stand =
       record {
         events = stand.events ++ made_by (visits_of x.round);
         guests = stand.guests;
-        places = map left_by x.round ++ p ∷ ahead;
+        slots = map left_by x.round ++ p ∷ ahead;
       } in
       let y = visits buses now x.keys told x.hosting is (map left_by x.round) p ahead (length-left x.round seats x.seats_are ∙ many) refl in
       record {
@@ -240,23 +240,23 @@ module _ (place : ℕ) (old mid new : Held) (told_old told_mid told_new : Option
         visited = visited_then buses stand told_old old seats told_then told_mid mid new owns owns_after told p ahead was x y;
       }
 
-  pub places_on : VisitsSoFar place old told_old owns_old mid told_mid owns → AsksPeers told_mid told_new
-      → VisitsSoFar (place + 1) old told_old owns_old new told_new owns_after
-  places_on so asks buses stand keys told hosting is =
+  pub slots_on : VisitsSoFar slot old told_old owns_old mid told_mid owns → AsksPeers told_mid told_new
+      → VisitsSoFar (slot + 1) old told_old owns_old new told_new owns_after
+  slots_on so asks buses stand keys told hosting is =
       let w = (asks told is).adds in
       let s = so buses stand keys w.before hosting w.was in
-      placed_on buses stand told w.before is w.was s.seats s.ahead s.are s.many s.visited
+      slotd_on buses stand told w.before is w.was s.seats s.ahead s.are s.many s.visited
 
-pub places_all : (place : ℕ) (old now : Held) (told_old told_now : Option (List DoorCall)) (owns_old owns : List (Option Own))
-    → length owns ≡ 64 → place ≡ 64 → VisitsSoFar place old told_old owns_old now told_now owns
-    → VisitsPlaces old told_old owns_old now told_now owns
-places_all place old now told_old told_now owns_old owns long most so buses stand keys told hosting is =
+pub slots_all : (slot : ℕ) (old now : Held) (told_old told_now : Option (List DoorCall)) (owns_old owns : List (Option Own))
+    → length owns ≡ 64 → slot ≡ 64 → VisitsSoFar slot old told_old owns_old now told_now owns
+    → VisitsSlots old told_old owns_old now told_now owns
+slots_all slot old now told_old told_now owns_old owns long most so buses stand keys told hosting is =
     let s = so buses stand keys told hosting is in
     all s.seats s.ahead s.are s.many s.visited
   where
-    all : (seats ahead : List (Option Seat)) → stand.places ≡ seats ++ ahead → length seats ≡ place
+    all : (seats ahead : List (Option Seat)) → stand.slots ≡ seats ++ ahead → length seats ≡ slot
         → HasVisited buses stand told_old told now owns old [] seats ahead
-        → HasVisited buses stand told_old told now owns old [] stand.places []
+        → HasVisited buses stand told_old told now owns old [] stand.slots []
     all seats [] are many x =
         subst (λ (ps : List (Option Seat)). HasVisited buses stand told_old told now owns old [] ps []) (sym (are ∙ append-nil seats)) x
     all seats (p ∷ ahead) are many x =

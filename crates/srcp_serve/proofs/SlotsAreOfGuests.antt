@@ -17,41 +17,41 @@ use Rattle.srcp_serve.proofs.GuestsAreSentTheirVisits.{IsGuest, AreGuests, turne
 
 -- ---- slots
 
-pub kept_all : (P : Seat → Type 0) (calls : List Call) (places : List (Option Seat)) → AllByRecursion P (seats places)
-    → AllByRecursion P (seats (map (kept calls) places))
+pub kept_all : (P : Seat → Type 0) (calls : List Call) (slots : List (Option Seat)) → AllByRecursion P (seats slots)
+    → AllByRecursion P (seats (map (kept calls) slots))
 kept_all P calls [] h = tt
-kept_all P calls (None ∷ places) h = kept_all P calls places h
-kept_all P calls (Some seat ∷ places) h = by (list_any is_close (visit calls seat)) (kept_all P calls places h.1)
+kept_all P calls (None ∷ slots) h = kept_all P calls slots h
+kept_all P calls (Some seat ∷ slots) h = by (list_any is_close (visit calls seat)) (kept_all P calls slots h.1)
   where
-    by : (b : Bool) → AllByRecursion P (seats (map (kept calls) places))
-        → AllByRecursion P (seats ((if b then None else Some seat) ∷ map (kept calls) places))
+    by : (b : Bool) → AllByRecursion P (seats (map (kept calls) slots))
+        → AllByRecursion P (seats ((if b then None else Some seat) ∷ map (kept calls) slots))
     by true more = more
     by false more = (h.0, more)
 
-pub kept_apart : (calls : List Call) (places : List (Option Seat)) → PeersApart (seats places)
-    → PeersApart (seats (map (kept calls) places))
+pub kept_apart : (calls : List Call) (slots : List (Option Seat)) → PeersApart (seats slots)
+    → PeersApart (seats (map (kept calls) slots))
 kept_apart calls [] h = tt
-kept_apart calls (None ∷ places) h = kept_apart calls places h
-kept_apart calls (Some seat ∷ places) h = by (list_any is_close (visit calls seat)) (kept_apart calls places h.1)
+kept_apart calls (None ∷ slots) h = kept_apart calls slots h
+kept_apart calls (Some seat ∷ slots) h = by (list_any is_close (visit calls seat)) (kept_apart calls slots h.1)
   where
-    by : (b : Bool) → PeersApart (seats (map (kept calls) places))
-        → PeersApart (seats ((if b then None else Some seat) ∷ map (kept calls) places))
+    by : (b : Bool) → PeersApart (seats (map (kept calls) slots))
+        → PeersApart (seats ((if b then None else Some seat) ∷ map (kept calls) slots))
     by true more = more
-    by false more = (kept_all (λ other. (other.peer == seat.peer) ≡ false) calls places h.0, more)
+    by false more = (kept_all (λ other. (other.peer == seat.peer) ≡ false) calls slots h.0, more)
 
-pub seated_all : (P : Seat → Type 0) (seat : Seat) (places : List (Option Seat)) → P seat → AllByRecursion P (seats places)
-    → AllByRecursion P (seats (seated seat places))
+pub seated_all : (P : Seat → Type 0) (seat : Seat) (slots : List (Option Seat)) → P seat → AllByRecursion P (seats slots)
+    → AllByRecursion P (seats (seated seat slots))
 seated_all P seat [] new h = tt
-seated_all P seat (None ∷ places) new h = (new, h)
-seated_all P seat (Some other ∷ places) new h = (h.0, seated_all P seat places new h.1)
+seated_all P seat (None ∷ slots) new h = (new, h)
+seated_all P seat (Some other ∷ slots) new h = (h.0, seated_all P seat slots new h.1)
 
-pub seated_apart : (seat : Seat) (places : List (Option Seat)) → IsNoneOf seat.peer (seats places) → PeersApart (seats places)
-    → PeersApart (seats (seated seat places))
+pub seated_apart : (seat : Seat) (slots : List (Option Seat)) → IsNoneOf seat.peer (seats slots) → PeersApart (seats slots)
+    → PeersApart (seats (seated seat slots))
 seated_apart seat [] new h = tt
-seated_apart seat (None ∷ places) new h = (new, h)
-seated_apart seat (Some other ∷ places) new h = (
-  seated_all (λ x. (x.peer == other.peer) ≡ false) seat places (turned_round other.peer seat.peer new.0) h.0,
-  seated_apart seat places new.1 h.1,
+seated_apart seat (None ∷ slots) new h = (new, h)
+seated_apart seat (Some other ∷ slots) new h = (
+  seated_all (λ x. (x.peer == other.peer) ≡ false) seat slots (turned_round other.peer seat.peer new.0) h.0,
+  seated_apart seat slots new.1 h.1,
 )
 
 -- ---- guests
@@ -105,8 +105,8 @@ module _ (buses : List Bus) (before : ℕ → List ℕ) where
   -- each guest was sent what was taken before, and those that have a slot are guests
   pub record IsSentAsTaken (stand : Stand) : Type 0 where
     pub sending : IsSending (map before stand.guests) (course buses stand.events).connections
-    pub known : AreGuests stand.guests (seats stand.places)
-    pub apart : PeersApart (seats stand.places)
+    pub known : AreGuests stand.guests (seats stand.slots)
+    pub apart : PeersApart (seats stand.slots)
 
   pub sent_after_moment : (stand : Stand) (moment : ℕ) → IsSentAsTaken stand → IsSentAsTaken (with_moment buses stand moment)
   sent_after_moment stand moment h = record {
@@ -140,11 +140,11 @@ module _ (buses : List Bus) (before : ℕ → List ℕ) where
                 (sending_opened buses (map before stand.guests) guest.granted (course buses stand.events) h.sending e));
             known =
                 seated_all (λ seat. IsGuest seat.conn seat.peer (stand.guests ++ guest.peer ∷ []))
-                (record { peer = guest.peer; conn = length stand.guests + 1 }) stand.places (guest_last guest.peer stand.guests new)
-                (guests_before guest.peer stand.guests (seats stand.places) new h.known);
+                (record { peer = guest.peer; conn = length stand.guests + 1 }) stand.slots (guest_last guest.peer stand.guests new)
+                (guests_before guest.peer stand.guests (seats stand.slots) new h.known);
             apart =
-                seated_apart (record { peer = guest.peer; conn = length stand.guests + 1 }) stand.places
-                (new_unseated guest.peer stand.guests (seats stand.places) new h.known) h.apart;
+                seated_apart (record { peer = guest.peer; conn = length stand.guests + 1 }) stand.slots
+                (new_unseated guest.peer stand.guests (seats stand.slots) new h.known) h.apart;
           })
       by (Some cause) e =
           let no : welcomed buses stand guest ≡ record stand { events = stand.events ++ Open guest.granted ∷ [] } =

@@ -1,0 +1,46 @@
+use Rattle.std.proofs.Common.{◌≡◌, ◌∙◌, ℕ, arith, subst, sym}
+use Rattle.srcp_serve.specs.Slots.{AreFreeFrom}
+use Rattle.srcp_serve.proofs.SlotsBehindStayFree.{length_kept, slots_rest, still_free}
+use Rattle.srcp_serve.proofs.SlotsFollow.{slots_first, slots_on}
+use Rattle.srcp_serve.proofs.DoorIsCalled.{calls_none, calls_on}
+use Rattle.srcp_serve.proofs.serving.Server.visit_slots.Goals as goal
+
+pub loop-slot-init : goal.loop-slot-init
+loop-slot-init g c = record {
+  long = c.end-end.ensures.all;
+  free = c.end-end.ensures.free;
+  most = c.end-end.ensures.most;
+  calls = calls_none _ _ c.args.self.now c.requires;
+  course = slots_first c.args.core.now (g.D.Door.told c.args.self.now.door.now) c.args.self.now.slots;
+}
+
+pub loop-slot-preserved : goal.loop-slot-preserved
+loop-slot-preserved g c = record {
+  long = length_kept c.loop-slot.slot c.loop-slot.self.slots c.visit_slot.new.self.slots c.visit_slot.ensures.slots
+      ∙ c.loop-slot.invariant.long;
+  free = still_free c.end-end.result c.loop-slot.slot c.loop-slot.self.slots c.visit_slot.new.self.slots c.visit_slot.ensures.slots
+      c.loop-slot.invariant.free;
+  most = c.loop-slot.invariant.most;
+  calls = calls_on _ _ _ _ _ c.loop-slot.invariant.calls c.visit_slot.ensures.calls;
+  course = slots_on c.loop-slot.slot c.args.core.now c.loop-slot.core c.visit_slot.new.core (g.D.Door.told c.args.self.now.door.now)
+      (g.D.Door.told c.loop-slot.self.door.now)
+      (g.D.Door.told c.visit_slot.new.self.door.now) c.args.self.now.slots c.loop-slot.self.slots
+      c.visit_slot.new.self.slots
+      c.loop-slot.invariant.long (omega (arith, c.loop-slot-test.true, c.loop-slot.invariant.most)) c.visit_slot.ensures.course
+      c.loop-slot.invariant.course c.visit_slot.ensures.calls.asks;
+}
+
+pub visit_slot-requires-clause-counted : goal.visit_slot-requires-clause-counted
+visit_slot-requires-clause-counted g c = c.loop-slot.invariant.calls.counted.within
+
+pub returns-clause-calls : goal.returns-clause-calls
+returns-clause-calls g c = c.loop-slot.invariant.calls
+
+pub returns-clause-course : goal.returns-clause-course
+returns-clause-course g c =
+    let i = c.loop-slot.invariant in
+    let last : c.loop-slot.slot ≡ c.end-end.result = omega (arith, c.loop-slot-test.false, c.loop-slot.auto.slot-end) in
+    slots_rest c.args.core.now c.loop-slot.core (g.D.Door.told c.args.self.now.door.now)
+    (g.D.Door.told c.loop-slot.self.door.now) c.args.self.now.slots
+    c.loop-slot.self.slots i.long c.loop-slot.slot (omega (arith, last, i.most))
+    (subst (λ (n : ℕ). AreFreeFrom n c.loop-slot.self.slots) (sym last) i.free) i.course

@@ -1,0 +1,15 @@
+use Rattle.std.specs.Prelude.{◌≡◌, ◌≤◌, length}
+use Rattle.srcp_serve.specs.Slots.{AreFreeFrom, VisitsSoFar}
+use Rattle.srcp_serve.specs.Tally.{CallsDoor}
+use Rattle.srcp_serve.specs.Turns.{AsksPeers}
+use Rattle.srcp_serve.proofs.serving.Server.visit_slots.Given as goal
+
+abbrev pub invariant-loop-slot : goal.invariant-loop-slot
+invariant-loop-slot g l = record {
+  long : length l.self.slots ≡ 64;
+  free : AreFreeFrom l.end l.self.slots;
+  most : l.end ≤ 64;
+  calls : CallsDoor g.D.Door.faults g.D.Door.told AsksPeers l.fn.self l.self;
+  course : VisitsSoFar l.slot l.fn.core (g.D.Door.told l.fn.self.door.now) l.fn.self.slots l.core
+      (g.D.Door.told l.self.door.now) l.self.slots;
+}
