@@ -124,14 +124,14 @@ impl Pace {
             Pace::OneLine => first_weight(piece, share.line),
         };
         let most = if share.mark { 0 } else { left };
-        let front = front_within(piece, share.line, most);
-        let count = front.prefix.count;
-        *self = self.after(front.weight);
+        let longest = longest_prefix(piece, share.line, most);
+        let count = longest.prefix.count;
+        *self = self.after(longest.weight);
         share.line = share.line.after(&piece[..count]);
-        share.mark |= front.weight > 0;
+        share.mark |= longest.weight > 0;
         Allowed {
             count,
-            refused: front.more && !share.mark,
+            refused: longest.more && !share.mark,
         }
     }
 }
@@ -147,7 +147,7 @@ struct Prefix {
 
 /// A prefix of a piece, and what its lines weigh.
 #[derive(Clone, Copy)]
-struct Front {
+struct WeighedPrefix {
     prefix: Prefix,
     // The weight of the lines that end in it.
     weight: usize,
@@ -158,7 +158,7 @@ struct Front {
 
 /// Returns the prefix of a piece whose lines weigh at most `most`. A piece in which no line ends is taken whole, else
 /// whole lines are.
-fn front_within(piece: &[u8], line: Line, most: usize) -> Front
+fn longest_prefix(piece: &[u8], line: Line, most: usize) -> WeighedPrefix
     ensures longest { IsLongest line most piece.now result.prefix.count }
     ensures lines { result.prefix.lines ≡ lines (take result.prefix.count piece.now) }
     ensures weight { result.weight ≡ weight_of line (take result.prefix.count piece.now) }
@@ -174,7 +174,7 @@ fn front_within(piece: &[u8], line: Line, most: usize) -> Front
         let end = prefix.count + length;
         let next = line.weight(&piece[prefix.count..end]);
         if next > most - weight {
-            return Front {
+            return WeighedPrefix {
                 prefix,
                 weight,
                 more: true,
@@ -191,7 +191,7 @@ fn front_within(piece: &[u8], line: Line, most: usize) -> Front
     if prefix.lines == 0 {
         prefix.count = piece.len();
     }
-    Front {
+    WeighedPrefix {
         prefix,
         weight,
         more: false,
@@ -204,5 +204,5 @@ fn first_weight(piece: &[u8], line: Line) -> usize
     ensures first { IsFirstWeight line piece.now result }
     ensures most { result ≤ MOST_CHANGES }
 {
-    front_within(piece, line, 0).next
+    longest_prefix(piece, line, 0).next
 }

@@ -49,8 +49,8 @@ impl Timekeeper {
         ensures { self.new ≡ record self.old { last = passed self.old.last (target self.old elapsed) due } }
     {
         let goal = self.goal(elapsed);
-        let calm = due.map_or(goal, |due| due.saturating_sub(1));
-        self.last = self.last.max(goal.min(calm));
+        let before_due = due.map_or(goal, |due| due.saturating_sub(1));
+        self.last = self.last.max(goal.min(before_due));
     }
 
     /// Returns the next moment, if the monotonic clock shows `elapsed`.

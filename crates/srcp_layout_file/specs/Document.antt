@@ -16,13 +16,13 @@ use Rattle.srcp_layout_file.specs.declared.config.Field.TheVariants as field
 use Rattle.srcp_layout_file.specs.declared.document.groups.Groups.{Groups}
 
 -- what may be read, or the first fault
-abbrev pub Reading : Type 0 → Type 0
-Reading A = Result A ConfigFault
+abbrev pub OrFault : Type 0 → Type 0
+OrFault A = Result A ConfigFault
 
 -- ---- values
 
 -- an integer from low to high
-abbrev pub ranged : (low high : ℕ) → Field → Data → Reading ℕ
+abbrev pub ranged : (low high : ℕ) → Field → Data → OrFault ℕ
 ranged low high of (integer (pos n)) = if is_within low high n then Ok n else Err (fault.OutOfRange of)
 ranged low high of other = Err (fault.OutOfRange of)
 
@@ -32,32 +32,32 @@ list_of no_items = []
 list_of (item value values) = value ∷ list_of values
 
 -- the values of an array
-abbrev pub array_in : Field → Data → Reading (List Data)
+abbrev pub array_in : Field → Data → OrFault (List Data)
 array_in of (array values) = Ok (list_of values)
 array_in of other = Err (fault.OutOfRange of)
 
 -- ---- keys
 
 -- a value that must be there
-abbrev pub required_in : Field → Option Data → Reading Data
+abbrev pub required_in : Field → Option Data → OrFault Data
 required_in of None = Err (fault.Missing of)
 required_in of (Some value) = Ok value
 
 -- the value at the key, which must be there
-abbrev pub required : Field → Members → Reading Data
+abbrev pub required : Field → Members → OrFault Data
 required of members = required_in of (get_member (field_key of) members)
 
 -- the integer, or the default if there is no value
-abbrev pub or_default : (default low high : ℕ) → Field → Option Data → Reading ℕ
+abbrev pub or_default : (default low high : ℕ) → Field → Option Data → OrFault ℕ
 or_default default low high of None = Ok default
 or_default default low high of (Some value) = ranged low high of value
 
 -- the integer at the key, or the default if it is not given
-abbrev pub given_or : (default low high : ℕ) → Field → Members → Reading ℕ
+abbrev pub given_or : (default low high : ℕ) → Field → Members → OrFault ℕ
 given_or default low high of members = or_default default low high of (get_member (field_key of) members)
 
 -- the integer at the key, which must be there
-abbrev pub number_in : (low high : ℕ) → Field → Members → Reading ℕ
+abbrev pub number_in : (low high : ℕ) → Field → Members → OrFault ℕ
 number_in low high of members = required of members >>= ranged low high of
 
 -- ---- groups
@@ -72,7 +72,7 @@ is_group text = is_named (codes "POWER") text
     || (is_named (codes "GL") text || (is_named (codes "GA") text || is_named (codes "FB") text))
 
 -- the name of one of the four groups
-abbrev pub group_in : Data → Reading (List ℕ)
+abbrev pub group_in : Data → OrFault (List ℕ)
 group_in (string text) = if is_group text then Ok text else Err fault.UnknownGroup
 group_in other = Err (fault.OutOfRange field.Groups)
 
@@ -90,28 +90,28 @@ with_group groups text = record {
 }
 
 -- the groups before, and these from left to right
-abbrev pub groups_in : Groups → List Data → Reading Groups
+abbrev pub groups_in : Groups → List Data → OrFault Groups
 groups_in before [] = Ok before
 groups_in before (value ∷ values) = do
   text ← group_in value
   groups_in (with_group before text) values
 
 -- what is read only if the bus has the group
-abbrev pub if_named : {A : Type 0} → Bool → (otherwise : A) → Reading A → Reading A
+abbrev pub if_named : {A : Type 0} → Bool → (otherwise : A) → OrFault A → OrFault A
 if_named is_there otherwise reading = if is_there then reading else Ok otherwise
 
 -- ---- buses
 
 -- the number of a bus that is not there yet
-abbrev pub new_number : List Bus → ℕ → Reading ℕ
+abbrev pub new_number : List Bus → ℕ → OrFault ℕ
 new_number buses number = if has_number buses number then Err (fault.Twice number) else Ok number
 
 -- the number of a bus beside those before it
-abbrev pub number_beside : List Bus → Members → Reading ℕ
+abbrev pub number_beside : List Bus → Members → OrFault ℕ
 number_beside before members = number_in 1 250 field.Number members >>= new_number before
 
 -- a bus beside those before it: its number, its groups, and what these need
-abbrev pub bus_of : List Bus → Members → Reading Bus
+abbrev pub bus_of : List Bus → Members → OrFault Bus
 bus_of before members = do
   number ← number_beside before members
   groups ← required field.Groups members >>= (λ value. array_in field.Groups value >>= groups_in no_groups)
@@ -129,12 +129,12 @@ bus_of before members = do
   })
 
 -- a bus is a table
-abbrev pub bus_in : List Bus → Data → Reading Bus
+abbrev pub bus_in : List Bus → Data → OrFault Bus
 bus_in before (table members) = bus_of before members
 bus_in before other = Err (fault.OutOfRange field.Bus)
 
 -- the buses before, and these in the order of the document
-abbrev pub buses_in : List Bus → List Data → Reading (List Bus)
+abbrev pub buses_in : List Bus → List Data → OrFault (List Bus)
 buses_in before [] = Ok before
 buses_in before (value ∷ values) = do
   bus ← bus_in before value
@@ -143,21 +143,21 @@ buses_in before (value ∷ values) = do
 -- ---- documents
 
 -- what a document says
-abbrev pub config_in : Members → Reading Config
+abbrev pub config_in : Members → OrFault Config
 config_in members = do
   port ← given_or 4303 1 65535 field.Port members
   buses ← required field.Bus members >>= (λ value. array_in field.Bus value >>= buses_in [])
   Ok (record { port = port; layout = buses })
 
 -- the members of a document, if the bytes are one
-abbrev pub parsed : Option Members → Reading Members
+abbrev pub parsed : Option Members → OrFault Members
 parsed None = Err fault.NotToml
 parsed (Some members) = Ok members
 
 -- the document that the bytes write
-abbrev pub document : List ℕ → Reading Members
+abbrev pub document : List ℕ → OrFault Members
 document bytes = if is_utf8 bytes then parsed (parse_document bytes) else Err fault.NotToml
 
 -- what the bytes of a configuration say
-abbrev pub config_of : List ℕ → Reading Config
+abbrev pub config_of : List ℕ → OrFault Config
 config_of bytes = document bytes >>= config_in

@@ -8,9 +8,9 @@ use Rattle.std.specs.declared.io.ErrorKind.{ErrorKind}
 use Rattle.srcp_peers.specs.declared.system.Ready.{Ready}
 use Rattle.srcp_peers.specs.declared.system.Refusal.{Refusal}
 use Rattle.srcp_peers.specs.declared.system.Refusal.TheVariants.{Later, Again, Fault}
-use Rattle.srcp_peers.specs.declared.readiness.Reading.TheVariants as input
-use Rattle.srcp_peers.specs.declared.readiness.Writing.{Writing}
-use Rattle.srcp_peers.specs.declared.readiness.Writing.TheVariants as output
+use Rattle.srcp_peers.specs.declared.readiness.Input.TheVariants as input
+use Rattle.srcp_peers.specs.declared.readiness.Output.{Output}
+use Rattle.srcp_peers.specs.declared.readiness.Output.TheVariants as output
 use Rattle.srcp_peers.specs.declared.peer.Peer.{Peer}
 use Rattle.srcp_peers.specs.declared.stay.Stay.TheVariants as stay
 use Rattle.srcp_peers.specs.Steps.{Step, Tells, Reads, Shuts, Writes, Waits, Told}
@@ -27,7 +27,7 @@ use Rattle.srcp_door.specs.declared.pacing.Line.{Line}
 use Rattle.srcp_door.specs.declared.pacing.Line.TheVariants as line
 use Rattle.srcp_door.specs.declared.pacing.Share.{Share}
 use Rattle.srcp_peers.specs.Peers.{Agrees, ComesAs, IsKept, MayEnd, MayFail, ReadsAs, Spares, WritesAs, after_wake, given}
-use Rattle.srcp_peers.specs.Peers.{is_lost, is_resting, may_have, missed, refused, taken, woken_input, woken_output}
+use Rattle.srcp_peers.specs.Peers.{is_lost, is_resting, may_have, missed, output_after, refused, woken_input, woken_output}
 use Rattle.srcp_peers.specs.Turns.{got_bytes}
 use Rattle.srcp_peers.proofs.States.{comes_here, handed_as, read_comes, reads_here, unread_comes, unwritten_as, woken_comes}
 use Rattle.srcp_peers.proofs.States.{woken_writes, wrote_as}
@@ -89,9 +89,9 @@ agrees_own b x y p e h = subst (λ (a : Account). Agrees a p) (sym (picks b x y 
 
 pub kept_write : (old new : Option (List Step)) (p : Peer) (count : ℕ) (asked : Bool) → p.output ≡ output.Open
     → Tells old (Writes p.number p.outgoing (Ok count)) new → IsKept old p
-    → IsKept new (record p { outgoing = drop count p.outgoing; output = taken count (length p.outgoing); asked = asked })
+    → IsKept new (record p { outgoing = drop count p.outgoing; output = output_after count (length p.outgoing); asked = asked })
 kept_write old new p count asked is_open tells kept =
-    let q : Peer = record p { outgoing = drop count p.outgoing; output = taken count (length p.outgoing); asked = asked } in
+    let q : Peer = record p { outgoing = drop count p.outgoing; output = output_after count (length p.outgoing); asked = asked } in
     kept_after old new (Writes p.number p.outgoing (Ok count)) p q tells refl
     (λ (a : Account) (h : Agrees a p). agrees_own (p.number == p.number) _ a q (own p.number) (record {
       cut = h.cut;
@@ -126,7 +126,7 @@ kept_refused old new p fault asked is_open tells kept =
       rightly = h.rightly;
       unread = h.unread;
       served = h.served;
-      writes = subst (λ (s : Writing). WritesAs (wrote a.sent p.outgoing (Err fault)) p.outgoing (refused s (refusal_told fault)))
+      writes = subst (λ (s : Output). WritesAs (wrote a.sent p.outgoing (Err fault)) p.outgoing (refused s (refusal_told fault)))
           (sym is_open)
           (unwritten_as a.sent p.outgoing fault (subst (WritesAs a.sent p.outgoing) is_open h.writes));
       line = h.line;
@@ -350,17 +350,18 @@ kept_waited old new p most count ready rest tells kept =
 
 -- ---- the same, by the names that a function gives to the parts
 
-pub wrote_peer : (old new : Option (List Step)) (p : Peer) (count all : ℕ) (front left : List ℕ) (out : Writing) (asked : Bool)
+pub wrote_peer : (old new : Option (List Step)) (p : Peer) (count all : ℕ) (front left : List ℕ) (out : Output) (asked : Bool)
     → p.output ≡ output.Open
-    → front ≡ p.outgoing → left ≡ drop count p.outgoing → all ≡ length p.outgoing → out ≡ taken count all
+    → front ≡ p.outgoing → left ≡ drop count p.outgoing → all ≡ length p.outgoing → out ≡ output_after count all
     → Tells old (Writes p.number front (Ok count)) new → IsKept old p
     → IsKept new (record p { outgoing = left; output = out; asked = asked })
 wrote_peer old new p count all front left out asked is_open fronted lefted alled outed tells kept =
     let told : Tells old (Writes p.number p.outgoing (Ok count)) new = subst
     (λ (f : List ℕ). Tells old (Writes p.number f (Ok count)) new) fronted tells in
     let k = kept_write old new p count asked is_open told kept in
-    subst (λ (o : Writing). IsKept new (record p { outgoing = left; output = o; asked = asked })) (sym (outed ∙ ap (taken count) alled))
-    (subst (λ (l : List ℕ). IsKept new (record p { outgoing = l; output = taken count (length p.outgoing); asked = asked }))
+    subst (λ (o : Output). IsKept new (record p { outgoing = left; output = o; asked = asked })) (sym
+    (outed ∙ ap (output_after count) alled))
+    (subst (λ (l : List ℕ). IsKept new (record p { outgoing = l; output = output_after count (length p.outgoing); asked = asked }))
     (sym lefted) k)
 
 -- a call about one socket spares the others

@@ -3,10 +3,10 @@ use Rattle.std.proofs.Common.{◌≡◌, ◌∙◌, ℕ, ◌+◌, Bool, true, fa
 use Rattle.std.proofs.Common.{arith, length-append, ◌==◌, true≢false}
 use Rattle.std.specs.Prelude.{cond, ◌&&◌, ◌||◌, nat_lt}
 use Rattle.std.proofs.lemmas.Bool.Decides.{nat_tests}
-use Rattle.srcp_peers.specs.declared.readiness.Reading.{Reading}
-use Rattle.srcp_peers.specs.declared.readiness.Reading.TheVariants as input
-use Rattle.srcp_peers.specs.declared.readiness.Writing.{Writing}
-use Rattle.srcp_peers.specs.declared.readiness.Writing.TheVariants as output
+use Rattle.srcp_peers.specs.declared.readiness.Input.{Input}
+use Rattle.srcp_peers.specs.declared.readiness.Input.TheVariants as input
+use Rattle.srcp_peers.specs.declared.readiness.Output.{Output}
+use Rattle.srcp_peers.specs.declared.readiness.Output.TheVariants as output
 use Rattle.srcp_peers.specs.declared.peer.Peer.{Peer}
 use Rattle.srcp_peers.specs.Accounts.{Account, Sent, Received, is_at_rest, is_full, is_held, is_owed, is_silent}
 use Rattle.srcp_peers.specs.declared.stay.Stay.{Stay}
@@ -56,13 +56,13 @@ silent_ended held true ended failed owed h e o = rw (h, e, o) refl
 silent_ended held false ended failed owed h e o = rw (h, e, o) refl
 
 -- nothing is to be handed out or told of it
-silent_as : (received : Received) (incoming outgoing : List ℕ) (state : Reading) (owed : Bool) → owed ≡ not (length outgoing == 0)
+silent_as : (received : Received) (incoming outgoing : List ℕ) (state : Input) (owed : Bool) → owed ≡ not (length outgoing == 0)
     → ReadsAs received incoming state → ((length incoming == 0) && rests_reading outgoing state) ≡ true → is_silent received owed ≡ true
 silent_as received incoming outgoing state owed o h r =
     by state h (and_right (length incoming == 0) (rests_reading outgoing state) r)
     (and_left (length incoming == 0) (rests_reading outgoing state) r)
   where
-    by : (s : Reading) → ReadsAs received incoming s → rests_reading outgoing s ≡ true → (length incoming == 0) ≡ true
+    by : (s : Input) → ReadsAs received incoming s → rests_reading outgoing s ≡ true → (length incoming == 0) ≡ true
         → is_silent received owed ≡ true
     by input.Ready h r none = absurd (true≢false (sym r))
     by input.Draining h r none = absurd (true≢false (sym r))
@@ -83,7 +83,7 @@ all_full : (owed full : Bool) → full ≡ true → (not owed || full) ≡ true
 all_full true full f = f
 all_full false full f = refl
 
-pub rests_as : (sent : Sent) (received : Received) (outgoing incoming : List ℕ) (reading : Reading) (writing : Writing) (cut : Bool)
+pub rests_as : (sent : Sent) (received : Received) (outgoing incoming : List ℕ) (reading : Input) (writing : Output) (cut : Bool)
     → WritesAs sent outgoing writing → ReadsAs received incoming reading → sent.cut ≡ cut
     → (rests_writing outgoing writing && cond cut (length outgoing == 40960) ((length incoming == 0) && rests_reading outgoing reading))
     ≡ true
@@ -99,7 +99,7 @@ rests_as sent received outgoing incoming state out is_cut w h c r =
     either is false c e = ap (λ b. cond b (is_full sent) (is_silent received (is_owed sent))) c
         ∙ silent_as received incoming outgoing state (is_owed sent) (owed_is sent outgoing is) h e
 
-    by : (o : Writing) → WritesAs sent outgoing o → rests_writing outgoing o ≡ true
+    by : (o : Output) → WritesAs sent outgoing o → rests_writing outgoing o ≡ true
         → cond is_cut (length outgoing == 40960) ((length incoming == 0) && rests_reading outgoing state) ≡ true
         → is_at_rest sent received ≡ true
     by output.Open w out e = at_rest sent.lost (is_owed sent) sent.full

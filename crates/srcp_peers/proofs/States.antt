@@ -8,15 +8,15 @@ use Rattle.std.proofs.Math.Seq.{take-append_seam}
 use Rattle.std.specs.declared.io.ErrorKind.{ErrorKind}
 use Rattle.srcp_peers.specs.declared.system.Refusal.{Refusal}
 use Rattle.srcp_peers.specs.declared.system.Refusal.TheVariants.{Later, Again, Fault}
-use Rattle.srcp_peers.specs.declared.readiness.Reading.{Reading}
-use Rattle.srcp_peers.specs.declared.readiness.Reading.TheVariants as input
-use Rattle.srcp_peers.specs.declared.readiness.Writing.{Writing}
-use Rattle.srcp_peers.specs.declared.readiness.Writing.TheVariants as output
+use Rattle.srcp_peers.specs.declared.readiness.Input.{Input}
+use Rattle.srcp_peers.specs.declared.readiness.Input.TheVariants as input
+use Rattle.srcp_peers.specs.declared.readiness.Output.{Output}
+use Rattle.srcp_peers.specs.declared.readiness.Output.TheVariants as output
 use Rattle.srcp_peers.specs.Steps.{refusal_told}
 use Rattle.srcp_peers.specs.declared.stay.Stay.{Stay}
 use Rattle.srcp_peers.specs.declared.stay.Stay.TheVariants as stay
 use Rattle.srcp_peers.specs.Accounts.{Sent, Received, wrote, refused_write, read_in, refused_read, woken_sent, woken_came}
-use Rattle.srcp_peers.specs.Peers.{ComesAs, ReadsAs, WritesAs, refused, taken, given, given_some, missed, queued_more, may_have}
+use Rattle.srcp_peers.specs.Peers.{ComesAs, ReadsAs, WritesAs, output_after, refused, given, given_some, missed, queued_more, may_have}
 use Rattle.srcp_peers.specs.Peers.{woken_input, woken_output}
 
 -- ---- the output
@@ -53,7 +53,7 @@ refused_as sent outgoing Again h = h
 refused_as sent outgoing Fault h = (starts sent.written sent.took outgoing h.0, refl)
 
 -- what the door told to have taken
-pub written_as : (sent : Sent) (outgoing bytes : List ℕ) (state : Writing) → WritesAs sent outgoing state
+pub written_as : (sent : Sent) (outgoing bytes : List ℕ) (state : Output) → WritesAs sent outgoing state
     → WritesAs (record sent { written = sent.written ++ bytes }) (queued_more state outgoing bytes) state
 written_as sent outgoing bytes output.Open h = (ap (λ w. w ++ bytes) h.0 ∙ append_assoc sent.took outgoing bytes, h.1)
 written_as sent outgoing bytes output.Full h = (ap (λ w. w ++ bytes) h.0 ∙ append_assoc sent.took outgoing bytes, h.1, h.2)
@@ -61,7 +61,7 @@ written_as sent outgoing bytes output.Lost h = (starts_on sent.written sent.took
 
 -- a write that the system answered
 pub wrote_as : (sent : Sent) (outgoing : List ℕ) (count : ℕ) → WritesAs sent outgoing output.Open
-    → WritesAs (wrote sent outgoing (Ok count)) (drop count outgoing) (taken count (length outgoing))
+    → WritesAs (wrote sent outgoing (Ok count)) (drop count outgoing) (output_after count (length outgoing))
 wrote_as sent outgoing count h = taken_as sent outgoing count (count == 0) (nat_lt count (length outgoing)) h
 
 pub unwritten_as : (sent : Sent) (outgoing : List ℕ) (fault : ErrorKind) → WritesAs sent outgoing output.Open
@@ -69,7 +69,7 @@ pub unwritten_as : (sent : Sent) (outgoing : List ℕ) (fault : ErrorKind) → W
 unwritten_as sent outgoing fault h = refused_as sent outgoing (refusal_told fault) h
 
 -- its socket was found ready
-pub woken_writes : (sent : Sent) (outgoing : List ℕ) (state : Writing) (writable : Bool) → WritesAs sent outgoing state
+pub woken_writes : (sent : Sent) (outgoing : List ℕ) (state : Output) (writable : Bool) → WritesAs sent outgoing state
     → WritesAs (woken_sent sent writable) outgoing (woken_output state writable)
 woken_writes sent outgoing output.Open writable h = h
 woken_writes sent outgoing output.Full true h = (h.0, h.1)
@@ -77,7 +77,7 @@ woken_writes sent outgoing output.Full false h = (h.0, h.1, ap (λ b. b && true)
 woken_writes sent outgoing output.Lost writable h = h
 
 -- it is tried though it was not found ready
-pub again_writes : (sent : Sent) (outgoing : List ℕ) (state : Writing) (again : Bool) → WritesAs sent outgoing state
+pub again_writes : (sent : Sent) (outgoing : List ℕ) (state : Output) (again : Bool) → WritesAs sent outgoing state
     → WritesAs sent outgoing (woken_output state again)
 again_writes sent outgoing output.Open again h = h
 again_writes sent outgoing output.Full true h = (h.0, h.1)
@@ -91,7 +91,7 @@ came_more : (received : Received) (incoming bytes : List ℕ) → received.gave 
     → received.gave ++ bytes ≡ received.handed ++ (incoming ++ bytes)
 came_more received incoming bytes is = ap (λ g. g ++ bytes) is ∙ append_assoc received.handed incoming bytes
 
-given_as : (received : Received) (incoming bytes : List ℕ) (state : Reading) (zero short : Bool) → may_have state ≡ true
+given_as : (received : Received) (incoming bytes : List ℕ) (state : Input) (zero short : Bool) → may_have state ≡ true
     → ReadsAs received incoming state
     → ReadsAs (record received { gave = received.gave ++ bytes; quiet = not received.draining && short; ended = received.ended || zero })
     (incoming ++ bytes) (if zero then input.Ended else given_some state short)
@@ -105,7 +105,7 @@ given_as received incoming bytes input.Quiet zero short e h = absurd (true≢fal
 given_as received incoming bytes input.Ended zero short e h = absurd (true≢false (sym e))
 given_as received incoming bytes input.Failed zero short e h = absurd (true≢false (sym e))
 
-missed_as : (received : Received) (incoming : List ℕ) (state : Reading) (said : Refusal) → may_have state ≡ true
+missed_as : (received : Received) (incoming : List ℕ) (state : Input) (said : Refusal) → may_have state ≡ true
     → ReadsAs received incoming state → ReadsAs (refused_read received said) incoming (missed state said)
 missed_as received incoming input.Ready Later e h = (h.0, h.1, h.2, refl, refl)
 missed_as received incoming input.Ready Again e h = h
@@ -118,13 +118,13 @@ missed_as received incoming input.Ended said e h = absurd (true≢false (sym e))
 missed_as received incoming input.Failed said e h = absurd (true≢false (sym e))
 
 -- a read that the system answered
-pub read_as : (received : Received) (incoming buffer : List ℕ) (count : ℕ) (state : Reading) → may_have state ≡ true
+pub read_as : (received : Received) (incoming buffer : List ℕ) (count : ℕ) (state : Input) → may_have state ≡ true
     → ReadsAs received incoming state
     → ReadsAs (read_in received buffer (Ok count)) (incoming ++ take count buffer) (given state count (length buffer))
 read_as received incoming buffer count state e h = given_as received incoming (take count buffer) state (count == 0)
     (nat_lt count (length buffer)) e h
 
-pub unread_as : (received : Received) (incoming buffer : List ℕ) (fault : ErrorKind) (state : Reading) → may_have state ≡ true
+pub unread_as : (received : Received) (incoming buffer : List ℕ) (fault : ErrorKind) (state : Input) → may_have state ≡ true
     → ReadsAs received incoming state
     → ReadsAs (read_in received buffer (Err fault)) incoming (missed state (refusal_told fault))
 unread_as received incoming buffer fault state e h = missed_as received incoming state (refusal_told fault) e h
@@ -134,7 +134,7 @@ handed_more : (received : Received) (bytes rest : List ℕ) → received.gave �
     → received.gave ≡ (received.handed ++ bytes) ++ rest
 handed_more received bytes rest is = is ∙ sym (append_assoc received.handed bytes rest)
 
-pub handed_as : (received : Received) (bytes rest : List ℕ) (state : Reading) → ReadsAs received (bytes ++ rest) state
+pub handed_as : (received : Received) (bytes rest : List ℕ) (state : Input) → ReadsAs received (bytes ++ rest) state
     → ReadsAs (record received { handed = received.handed ++ bytes }) rest state
 handed_as received bytes rest input.Ready h = (handed_more received bytes rest h.0, h.1, h.2, h.3)
 handed_as received bytes rest input.Draining h = (handed_more received bytes rest h.0, h.1, h.2)
@@ -143,7 +143,7 @@ handed_as received bytes rest input.Ended h = (handed_more received bytes rest h
 handed_as received bytes rest input.Failed h = (handed_more received bytes rest h.0, h.1)
 
 -- its socket was found ready
-pub woken_reads : (received : Received) (incoming : List ℕ) (state : Reading) (readable closed : Bool) → ReadsAs received incoming state
+pub woken_reads : (received : Received) (incoming : List ℕ) (state : Input) (readable closed : Bool) → ReadsAs received incoming state
     → ReadsAs (woken_came received readable closed) incoming (woken_input state readable closed)
 woken_reads received incoming input.Ready readable true h = (h.0, h.1, h.2)
 woken_reads received incoming input.Ready readable false h = (h.0, h.1, h.2, ap (λ b. b || false) h.3)
@@ -157,15 +157,15 @@ woken_reads received incoming input.Failed readable closed h = h
 -- ---- the input of a peer that may linger
 
 -- one that is there
-pub comes_here : (received : Received) (incoming : List ℕ) (state : Reading) (here : Stay) → here ≡ stay.Here
+pub comes_here : (received : Received) (incoming : List ℕ) (state : Input) (here : Stay) → here ≡ stay.Here
     → ReadsAs received incoming state → ComesAs received incoming state here
 comes_here received incoming state now e h = subst (ComesAs received incoming state) (sym e) h
 
-pub reads_here : (received : Received) (incoming : List ℕ) (state : Reading) (here : Stay) → here ≡ stay.Here
+pub reads_here : (received : Received) (incoming : List ℕ) (state : Input) (here : Stay) → here ≡ stay.Here
     → ComesAs received incoming state here → ReadsAs received incoming state
 reads_here received incoming state now e h = subst (ComesAs received incoming state) e h
 
-pub read_comes : (received : Received) (incoming buffer : List ℕ) (count : ℕ) (state : Reading) (here : Stay) → may_have state ≡ true
+pub read_comes : (received : Received) (incoming buffer : List ℕ) (count : ℕ) (state : Input) (here : Stay) → may_have state ≡ true
     → ComesAs received incoming state here
     → ComesAs (read_in received buffer (Ok count)) (incoming ++ take count buffer) (given state count (length buffer)) here
 read_comes received incoming buffer count state stay.Here e h = read_as received incoming buffer count state e h
@@ -178,14 +178,14 @@ refused_starts received Later h = h
 refused_starts received Again h = h
 refused_starts received Fault h = h
 
-pub unread_comes : (received : Received) (incoming buffer : List ℕ) (fault : ErrorKind) (state : Reading) (here : Stay)
+pub unread_comes : (received : Received) (incoming buffer : List ℕ) (fault : ErrorKind) (state : Input) (here : Stay)
     → may_have state ≡ true → ComesAs received incoming state here
     → ComesAs (read_in received buffer (Err fault)) incoming (missed state (refusal_told fault)) here
 unread_comes received incoming buffer fault state stay.Here e h = unread_as received incoming buffer fault state e h
 unread_comes received incoming buffer fault state (stay.Draining since) e h = refused_starts received (refusal_told fault) h
 unread_comes received incoming buffer fault state (stay.Shut since) e h = refused_starts received (refusal_told fault) h
 
-pub woken_comes : (received : Received) (incoming : List ℕ) (state : Reading) (here : Stay) (readable closed : Bool)
+pub woken_comes : (received : Received) (incoming : List ℕ) (state : Input) (here : Stay) (readable closed : Bool)
     → ComesAs received incoming state here
     → ComesAs (woken_came received readable closed) incoming (woken_input state readable closed) here
 woken_comes received incoming state stay.Here readable closed h = woken_reads received incoming state readable closed h
@@ -193,11 +193,11 @@ woken_comes received incoming state (stay.Draining since) readable closed h = h
 woken_comes received incoming state (stay.Shut since) readable closed h = h
 
 -- what came of any peer starts with what was handed out
-pub comes_starts : (received : Received) (incoming : List ℕ) (state : Reading) (here : Stay) → ComesAs received incoming state here
+pub comes_starts : (received : Received) (incoming : List ℕ) (state : Input) (here : Stay) → ComesAs received incoming state here
     → StartsWith received.gave received.handed
 comes_starts received incoming state stay.Here h = by state h
   where
-    by : (s : Reading) → ReadsAs received incoming s → StartsWith received.gave received.handed
+    by : (s : Input) → ReadsAs received incoming s → StartsWith received.gave received.handed
     by input.Ready r = starts received.gave received.handed incoming r.0
     by input.Draining r = starts received.gave received.handed incoming r.0
     by input.Quiet r = starts received.gave received.handed incoming r.0

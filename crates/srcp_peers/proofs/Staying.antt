@@ -5,10 +5,10 @@ use Rattle.std.specs.Prelude.{◌&&◌, ◌||◌, cond}
 use Rattle.std.proofs.lemmas.List.{drop_all}
 use Rattle.srcp_peers.specs.Steps.{Step}
 use Rattle.srcp_peers.specs.declared.peer.Peer.{Peer}
-use Rattle.srcp_peers.specs.declared.readiness.Reading.{Reading}
-use Rattle.srcp_peers.specs.declared.readiness.Reading.TheVariants as input
-use Rattle.srcp_peers.specs.declared.readiness.Writing.{Writing}
-use Rattle.srcp_peers.specs.declared.readiness.Writing.TheVariants as output
+use Rattle.srcp_peers.specs.declared.readiness.Input.{Input}
+use Rattle.srcp_peers.specs.declared.readiness.Input.TheVariants as input
+use Rattle.srcp_peers.specs.declared.readiness.Output.{Output}
+use Rattle.srcp_peers.specs.declared.readiness.Output.TheVariants as output
 use Rattle.srcp_peers.specs.declared.stay.Stay.{Stay}
 use Rattle.srcp_peers.specs.declared.stay.Stay.TheVariants as stay
 use Rattle.srcp_peers.specs.Accounts.{Account, Lingering, Received, Sent, account, clocked, clock_after}
@@ -98,7 +98,7 @@ gone_agrees a p gone h = record {
 }
 
 -- what was read of one that lingers is dropped
-dropped_as : (received : Received) (incoming : List ℕ) (state : Reading) (here : Stay) → is_here here ≡ false
+dropped_as : (received : Received) (incoming : List ℕ) (state : Input) (here : Stay) → is_here here ≡ false
     → ComesAs received incoming state here → ComesAs received [] state here
 dropped_as received incoming state stay.Here e h = absurd (true≢false e)
 dropped_as received incoming state (stay.Draining since) e h = h
@@ -124,7 +124,7 @@ kept_dropped told p gone kept log is =
 -- ---- it is shut down
 
 -- nothing is owed where nothing is queued, but to a socket that takes no more
-owed_none : (sent : Sent) (outgoing : List ℕ) (state : Writing) → is_lost state ≡ false → outgoing ≡ [] → WritesAs sent outgoing state
+owed_none : (sent : Sent) (outgoing : List ℕ) (state : Output) → is_lost state ≡ false → outgoing ≡ [] → WritesAs sent outgoing state
     → is_owed sent ≡ false
 owed_none sent outgoing output.Open e none h = owed_is sent outgoing h.0 ∙ ap (λ (o : List ℕ). not (length o == 0)) none
 owed_none sent outgoing output.Full e none h = owed_is sent outgoing h.0 ∙ ap (λ (o : List ℕ). not (length o == 0)) none
@@ -134,7 +134,7 @@ ends : (ended held owed : Bool) → ended ≡ true → held ≡ false → owed �
 ends ended held owed e h o = rw (e, h, o) refl
 
 -- its end may be told
-pub may_end_then : (a : Account) (incoming outgoing : List ℕ) (state : Writing) → a.received.gave ≡ a.received.handed ++ incoming
+pub may_end_then : (a : Account) (incoming outgoing : List ℕ) (state : Output) → a.received.gave ≡ a.received.handed ++ incoming
     → a.received.ended ≡ true → incoming ≡ [] → outgoing ≡ [] → is_lost state ≡ false → WritesAs a.sent outgoing state
     → may_end a ≡ true
 may_end_then a incoming outgoing state came over none taken sound w =
@@ -179,7 +179,7 @@ closes_shut : (watched kept shut owed lost over : Bool) → watched ≡ false �
 closes_shut watched kept shut owed lost over w o s n = rw (w, o, s, n) refl
 
 -- a write found that it takes no more
-lost_is : (sent : Sent) (outgoing : List ℕ) (state : Writing) → is_lost state ≡ true → WritesAs sent outgoing state → sent.lost ≡ true
+lost_is : (sent : Sent) (outgoing : List ℕ) (state : Output) → is_lost state ≡ true → WritesAs sent outgoing state → sent.lost ≡ true
 lost_is sent outgoing output.Open e h = absurd (true≢false (sym e))
 lost_is sent outgoing output.Full e h = absurd (true≢false (sym e))
 lost_is sent outgoing output.Lost e h = h.1
@@ -192,7 +192,7 @@ or_lost false over lost e f = ap (λ b. lost || b) e ∙ by lost
     by true = refl
     by false = refl
 
-closable_then : (a : Account) (outgoing : List ℕ) (state : Writing) (here : Stay) (clock : ℕ) → a.lingering.clock ≡ clock
+closable_then : (a : Account) (outgoing : List ℕ) (state : Output) (here : Stay) (clock : ℕ) → a.lingering.clock ≡ clock
     → closable_as clock state here ≡ true → WritesAs a.sent outgoing state → StaysAs a.watched a.lingering outgoing here
     → (may_close a ≡ true) × (a.watched ≡ false)
 closable_then a outgoing state stay.Here clock is e w h = absurd (true≢false (sym e))
@@ -206,7 +206,7 @@ closable_then a outgoing state (stay.Draining since) clock is e w h = (
 )
 closable_then a outgoing state (stay.Shut since) clock is e w h = (by state w, h.0)
   where
-    by : (o : Writing) → WritesAs a.sent outgoing o → may_close a ≡ true
+    by : (o : Output) → WritesAs a.sent outgoing o → may_close a ≡ true
     by output.Open w = closes_shut a.watched a.lingering.kept a.lingering.shut (is_owed a.sent) a.sent.lost
         (is_overdue a.lingering.clock a.lingering.since) h.0 h.1 h.3 (owed_none a.sent outgoing output.Open refl h.4 w)
     by output.Full w = closes_shut a.watched a.lingering.kept a.lingering.shut (is_owed a.sent) a.sent.lost

@@ -4,8 +4,8 @@ use Rattle.std.proofs.Common.{true≢false}
 use Rattle.std.specs.Prelude.{◌&&◌, nat_lt}
 use Rattle.std.proofs.lemmas.Bool.Decides.{nat_tests}
 use Rattle.srcp_peers.specs.declared.peer.Peer.{Peer}
-use Rattle.srcp_peers.specs.declared.readiness.Reading.{Reading}
-use Rattle.srcp_peers.specs.declared.readiness.Reading.TheVariants as input
+use Rattle.srcp_peers.specs.declared.readiness.Input.{Input}
+use Rattle.srcp_peers.specs.declared.readiness.Input.TheVariants as input
 use Rattle.srcp_peers.specs.declared.stay.Stay.{Stay}
 use Rattle.srcp_peers.specs.declared.stay.Stay.TheVariants as stay
 use Rattle.srcp_peers.specs.Accounts.{Account, Lingering, Received, is_wanted, noted}
@@ -24,7 +24,7 @@ fewer : (all front back : ℕ) → all ≡ front + back → nat_lt all 256 ≡ t
 fewer all front back is e = grind (arith, nat_tests)
 
 -- some of what is held is handed out
-pub wants_less : (state : Reading) (all front back : List ℕ) → all ≡ front ++ back → is_wanting state all ≡ true
+pub wants_less : (state : Input) (all front back : List ℕ) → all ≡ front ++ back → is_wanting state all ≡ true
     → is_wanting state back ≡ true
 wants_less state all front back is e = both (may_have state) (nat_lt (length back) 256)
     (and_left (may_have state) (nat_lt (length all) 256) e)
@@ -32,7 +32,7 @@ wants_less state all front back is e = both (may_have state) (nat_lt (length bac
     (and_right (may_have state) (nat_lt (length all) 256) e))
 
 -- its socket was found ready
-pub wants_woken : (state : Reading) (incoming : List ℕ) (readable closed : Bool) → is_wanting state incoming ≡ true
+pub wants_woken : (state : Input) (incoming : List ℕ) (readable closed : Bool) → is_wanting state incoming ≡ true
     → is_wanting (woken_input state readable closed) incoming ≡ true
 wants_woken input.Ready incoming readable true e = e
 wants_woken input.Ready incoming readable false e = e
@@ -61,7 +61,7 @@ might received e = and_left (not received.quiet && (not received.ended && not re
 not_true : (b : Bool) → b ≡ true → not b ≡ true → false ≡ true
 not_true b e f = sym (ap not e) ∙ f
 
-wanted_here : (received : Received) (incoming : List ℕ) (state : Reading) → ReadsAs received incoming state → is_wanted received ≡ true
+wanted_here : (received : Received) (incoming : List ℕ) (state : Input) → ReadsAs received incoming state → is_wanted received ≡ true
     → is_wanting state incoming ≡ true
 wanted_here received incoming input.Ready h e = held_less received incoming h.0 e
 wanted_here received incoming input.Draining h e = held_less received incoming h.0 e
@@ -74,7 +74,7 @@ wanted_here received incoming input.Failed h e = absurd (true≢false (sym (not_
     (and_right (not received.ended) (not received.failed)
     (and_right (not received.quiet) (not received.ended && not received.failed) (might received e))))))
 
-wanted_as : (watched : Bool) (lingering : Lingering) (received : Received) (incoming outgoing : List ℕ) (state : Reading) (here : Stay)
+wanted_as : (watched : Bool) (lingering : Lingering) (received : Received) (incoming outgoing : List ℕ) (state : Input) (here : Stay)
     → ComesAs received incoming state here → StaysAs watched lingering outgoing here → (watched && is_wanted received) ≡ true
     → is_wanting state incoming ≡ true
 wanted_as watched lingering received incoming outgoing state stay.Here h s e =

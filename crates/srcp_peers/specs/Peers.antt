@@ -6,10 +6,10 @@ use Rattle.std.specs.declared.io.ErrorKind.{ErrorKind}
 use Rattle.srcp_peers.specs.declared.system.Ready.{Ready}
 use Rattle.srcp_peers.specs.declared.system.Refusal.{Refusal}
 use Rattle.srcp_peers.specs.declared.system.Refusal.TheVariants.{Later, Again, Fault}
-use Rattle.srcp_peers.specs.declared.readiness.Reading.{Reading}
-use Rattle.srcp_peers.specs.declared.readiness.Reading.TheVariants as input
-use Rattle.srcp_peers.specs.declared.readiness.Writing.{Writing}
-use Rattle.srcp_peers.specs.declared.readiness.Writing.TheVariants as output
+use Rattle.srcp_peers.specs.declared.readiness.Input.{Input}
+use Rattle.srcp_peers.specs.declared.readiness.Input.TheVariants as input
+use Rattle.srcp_peers.specs.declared.readiness.Output.{Output}
+use Rattle.srcp_peers.specs.declared.readiness.Output.TheVariants as output
 use Rattle.srcp_peers.specs.declared.readiness.Flush.{Flush}
 use Rattle.srcp_peers.specs.declared.readiness.Flush.TheVariants as flush
 use Rattle.srcp_peers.specs.declared.peer.Peer.{Peer}
@@ -22,7 +22,7 @@ use Rattle.srcp_peers.specs.Steps.{Step, Reads, Tells, Writes, refusal_told}
 use Rattle.srcp_peers.specs.Accounts.{Account, Lingering, Sent, Received, account, is_overdue}
 
 -- what a state of the input means, if `incoming` is held of it
-abbrev pub ReadsAs : Received → List ℕ → Reading → Type 0
+abbrev pub ReadsAs : Received → List ℕ → Input → Type 0
 ReadsAs received incoming input.Ready = (received.gave ≡ received.handed ++ incoming) × (received.failed ≡ false)
     × (received.ended ≡ false) × (received.draining ≡ false)
 ReadsAs received incoming input.Draining = (received.gave ≡ received.handed ++ incoming) × (received.failed ≡ false)
@@ -34,13 +34,13 @@ ReadsAs received incoming input.Ended = (received.gave ≡ received.handed ++ in
 ReadsAs received incoming input.Failed = (received.gave ≡ received.handed ++ incoming) × (received.failed ≡ true)
 
 -- what a state of the output means, if `outgoing` is queued for it
-abbrev pub WritesAs : Sent → List ℕ → Writing → Type 0
+abbrev pub WritesAs : Sent → List ℕ → Output → Type 0
 WritesAs sent outgoing output.Open = (sent.written ≡ sent.took ++ outgoing) × (sent.lost ≡ false)
 WritesAs sent outgoing output.Full = (sent.written ≡ sent.took ++ outgoing) × (sent.lost ≡ false) × (sent.full ≡ true)
 WritesAs sent outgoing output.Lost = StartsWith sent.written sent.took × (sent.lost ≡ true)
 
 -- what is known of what came of a peer: what comes of one that lingers is dropped
-abbrev pub ComesAs : Received → List ℕ → Reading → Stay → Type 0
+abbrev pub ComesAs : Received → List ℕ → Input → Stay → Type 0
 ComesAs received incoming state stay.Here = ReadsAs received incoming state
 ComesAs received incoming state (stay.Draining since) = StartsWith received.gave received.handed
 ComesAs received incoming state (stay.Shut since) = StartsWith received.gave received.handed
@@ -54,7 +54,7 @@ StaysAs watched lingering outgoing (stay.Shut since) = (watched ≡ false) × (l
     × (lingering.since ≡ since) × (lingering.shut ≡ true) × (outgoing ≡ [])
 
 -- a read may find something
-abbrev pub may_have : Reading → Bool
+abbrev pub may_have : Input → Bool
 may_have input.Ready = true
 may_have input.Draining = true
 may_have input.Quiet = false
@@ -62,7 +62,7 @@ may_have input.Ended = false
 may_have input.Failed = false
 
 -- it is read in the next visit: less than a piece is held
-abbrev pub is_wanting : Reading → List ℕ → Bool
+abbrev pub is_wanting : Input → List ℕ → Bool
 is_wanting state incoming = may_have state && nat_lt (length incoming) 256
 
 -- a peer is what its account says
@@ -103,30 +103,30 @@ IsOffered socket bytes old new = (later : List Step) → new ≡ Some later
 
 -- ---- what answers make of a peer
 
-abbrev pub refused : Writing → Refusal → Writing
+abbrev pub refused : Output → Refusal → Output
 refused state Later = output.Full
 refused state Again = state
 refused state Fault = output.Lost
 
 -- a write of `all` bytes that took `count` of them
-abbrev pub taken : (count all : ℕ) → Writing
-taken count all = if count == 0 then output.Lost else if nat_lt count all then output.Full else output.Open
+abbrev pub output_after : (count all : ℕ) → Output
+output_after count all = if count == 0 then output.Lost else if nat_lt count all then output.Full else output.Open
 
 -- more is queued, unless the socket takes no more
-abbrev pub queued_more : Writing → List ℕ → List ℕ → List ℕ
+abbrev pub queued_more : Output → List ℕ → List ℕ → List ℕ
 queued_more output.Open outgoing bytes = outgoing ++ bytes
 queued_more output.Full outgoing bytes = outgoing ++ bytes
 queued_more output.Lost outgoing bytes = outgoing
 
 -- how many lines may still be queued while the socket takes no more: each takes one
-abbrev pub room_after : Writing → (room : ℕ) → ℕ
+abbrev pub room_after : Output → (room : ℕ) → ℕ
 room_after output.Open room = room
 room_after output.Full room = room - 1
 room_after output.Lost room = room
 
 -- how many of as many bytes as that are queued, if `fitting` of them have space: none without room for a line while the
 -- socket takes no more; what is written to a lost peer goes nowhere
-abbrev pub enqueued_as : Writing → (room fitting all : ℕ) → ℕ
+abbrev pub enqueued_as : Output → (room fitting all : ℕ) → ℕ
 enqueued_as output.Open room fitting all = fitting
 enqueued_as output.Full room fitting all = if nat_lt 0 room then fitting else 0
 enqueued_as output.Lost room fitting all = all
@@ -135,7 +135,7 @@ abbrev pub enqueued : Peer → (bytes : List ℕ) → ℕ
 enqueued p bytes = enqueued_as p.output p.room (min (length bytes) (40960 - length p.outgoing)) (length bytes)
 
 -- a read that gave `count` bytes, if there was room for `room`
-abbrev pub given_some : Reading → Bool → Reading
+abbrev pub given_some : Input → Bool → Input
 given_some input.Ready true = input.Quiet
 given_some input.Ready false = input.Ready
 given_some input.Draining left = input.Draining
@@ -143,10 +143,10 @@ given_some input.Quiet left = input.Quiet
 given_some input.Ended left = input.Ended
 given_some input.Failed left = input.Failed
 
-abbrev pub given : Reading → ℕ → ℕ → Reading
+abbrev pub given : Input → ℕ → ℕ → Input
 given state count room = if count == 0 then input.Ended else given_some state (nat_lt count room)
 
-abbrev pub missed : Reading → Refusal → Reading
+abbrev pub missed : Input → Refusal → Input
 missed state Later = input.Quiet
 missed state Again = state
 missed state Fault = input.Failed
@@ -159,14 +159,14 @@ after_read p buffer (Ok count) = record p {
 after_read p buffer (Err fault) = record p { input = missed p.input (refusal_told fault) }
 
 -- its socket was found ready
-abbrev pub woken_input : Reading → (readable closed : Bool) → Reading
+abbrev pub woken_input : Input → (readable closed : Bool) → Input
 woken_input input.Ready readable closed = cond closed input.Draining input.Ready
 woken_input input.Draining readable closed = input.Draining
 woken_input input.Quiet readable closed = cond closed input.Draining (cond readable input.Ready input.Quiet)
 woken_input input.Ended readable closed = input.Ended
 woken_input input.Failed readable closed = input.Failed
 
-abbrev pub woken_output : Writing → Bool → Writing
+abbrev pub woken_output : Output → Bool → Output
 woken_output output.Open writable = output.Open
 woken_output output.Full writable = cond writable output.Open output.Full
 woken_output output.Lost writable = output.Lost
@@ -178,7 +178,7 @@ after_wake p ready = if ready.socket == p.number then record p {
 } else p
 
 -- its socket takes no more
-abbrev pub is_lost : Writing → Bool
+abbrev pub is_lost : Output → Bool
 is_lost output.Open = false
 is_lost output.Full = false
 is_lost output.Lost = true
@@ -208,7 +208,7 @@ flush_of what (stay.Draining since) = flush.All
 flush_of what (stay.Shut since) = flush.All
 
 -- how it stays behind that, if `outgoing` is still queued: it is shut down once its socket took all, if it lingers
-abbrev pub stay_after : Stay → (outgoing : List ℕ) → Writing → Stay
+abbrev pub stay_after : Stay → (outgoing : List ℕ) → Output → Stay
 stay_after stay.Here outgoing state = stay.Here
 stay_after (stay.Draining since) outgoing state =
     cond ((length outgoing == 0) && not (is_lost state)) (stay.Shut since) (stay.Draining since)
@@ -244,7 +244,7 @@ abbrev pub is_waiting : Peer → Bool
 is_waiting p = not (length p.outgoing == 0) && not (is_lost p.output)
 
 -- its input is over, and none of it held
-abbrev pub is_over : List ℕ → Reading → Bool
+abbrev pub is_over : List ℕ → Input → Bool
 is_over incoming input.Ready = false
 is_over incoming input.Draining = false
 is_over incoming input.Quiet = false
@@ -263,13 +263,13 @@ MayFail p = (p.input ≡ input.Failed) ⊎ (is_lost p.output ≡ true)
 -- ---- what a peer may wait for
 
 -- nothing is queued that its socket may take
-abbrev pub rests_writing : List ℕ → Writing → Bool
+abbrev pub rests_writing : List ℕ → Output → Bool
 rests_writing outgoing output.Open = length outgoing == 0
 rests_writing outgoing output.Full = true
 rests_writing outgoing output.Lost = false
 
 -- no input of it is held or may come without a word of its socket, and its end is not to be told
-abbrev pub rests_reading : List ℕ → Reading → Bool
+abbrev pub rests_reading : List ℕ → Input → Bool
 rests_reading outgoing input.Ready = false
 rests_reading outgoing input.Draining = false
 rests_reading outgoing input.Quiet = true
@@ -287,7 +287,7 @@ is_resting p = is_here p.stay && has_rest p
 
 -- ---- when a peer may be closed
 
-abbrev pub closable_as : (clock : ℕ) → Writing → Stay → Bool
+abbrev pub closable_as : (clock : ℕ) → Output → Stay → Bool
 closable_as clock state stay.Here = false
 closable_as clock state (stay.Draining since) = is_lost state || is_overdue clock since
 closable_as clock state (stay.Shut since) = true
@@ -297,14 +297,14 @@ abbrev pub is_closable : (clock : ℕ) → Peer → Bool
 is_closable clock p = closable_as clock p.output p.stay
 
 -- no read finds anything any more
-abbrev pub has_ended : Reading → Bool
+abbrev pub has_ended : Input → Bool
 has_ended input.Ready = false
 has_ended input.Draining = false
 has_ended input.Quiet = false
 has_ended input.Ended = true
 has_ended input.Failed = true
 
-abbrev pub gone_as : (clock : ℕ) → Reading → Writing → Stay → Bool
+abbrev pub gone_as : (clock : ℕ) → Input → Output → Stay → Bool
 gone_as clock came state stay.Here = false
 gone_as clock came state (stay.Draining since) = is_lost state || is_overdue clock since
 gone_as clock came state (stay.Shut since) = is_lost state || (has_ended came || is_overdue clock since)

@@ -8,8 +8,8 @@ ghost use Rattle.srcp_peers.specs.Times.{KeepsTimes};
 ghost use Rattle.srcp_peers.specs.Peers.{Asks, IsKept, MayEnd, MayFail, Offers, Spares, IsRead, after_wake, has_rest};
 ghost use Rattle.srcp_peers.specs.Peers.{holds_input, is_due, is_over, is_resting, is_waiting, is_wanting, may_have};
 ghost use Rattle.srcp_peers.specs.Peers.{enqueued, queued_more, room_after, tries_again, woken_output};
-ghost use Rattle.srcp_peers.specs.declared.readiness.Reading.{Reading};
-ghost use Rattle.srcp_peers.specs.declared.readiness.Writing.{Writing};
+ghost use Rattle.srcp_peers.specs.declared.readiness.Input.{Input};
+ghost use Rattle.srcp_peers.specs.declared.readiness.Output.{Output};
 ghost use Rattle.srcp_peers.specs.Turns.{after_read, got_bytes, tells_end};
 ghost use Rattle.srcp_peers.specs.Ends.{begun, written};
 ghost use Rattle.srcp_door.specs.Pacing.{IsShort, fits, line_after, weight_of};
@@ -18,7 +18,7 @@ ghost use Rattle.srcp_door.specs.declared.pacing.Line.{Line};
 
 use crate::ending::Ending;
 use crate::queue::{MOST_INCOMING, MOST_OUTGOING, Outgoing, Queue, Queues};
-use crate::readiness::{Flush, Reading, Writing};
+use crate::readiness::{Flush, Input, Output};
 use crate::stay::Stay;
 use crate::system::{Ready, System, refusal_of};
 use crate::turn::Turn;
@@ -54,9 +54,9 @@ pub struct Peer {
     /// What was read of it and not handed out.
     pub incoming: Queue<MOST_INCOMING>,
     /// What a read may find.
-    pub input: Reading,
+    pub input: Input,
     /// What a write may find.
-    pub output: Writing,
+    pub output: Output,
     /// Whether less was taken for it than was handed over last: the core has more for it, and takes nothing of it.
     pub cut: bool,
     /// Whether it is there.
@@ -85,8 +85,8 @@ impl Peer {
           number = number;
           outgoing = [];
           incoming = [];
-          input = Reading.Ready;
-          output = Writing.Open;
+          input = Input.Ready;
+          output = Output.Open;
           cut = false;
           stay = Stay.Here;
           share = record { line = Line.Ended; mark = true };
@@ -100,8 +100,8 @@ impl Peer {
             number,
             outgoing,
             incoming,
-            input: Reading::Ready,
-            output: Writing::Open,
+            input: Input::Ready,
+            output: Output::Open,
             cut: false,
             stay: Stay::Here,
             share: Share {
@@ -140,7 +140,7 @@ impl Peer {
           output = self.new.output;
           asked = self.new.asked;
         } }
-        ensures offered { woken_output self.old.output (tries_again what) ≡ Writing.Open → self.old.outgoing ≢ []
+        ensures offered { woken_output self.old.output (tries_again what) ≡ Output.Open → self.old.outgoing ≢ []
             → is_due what self.old ≡ true
             → Offers self.old.number self.old.outgoing (S.told system.old) (S.told system.new) }
     {
@@ -161,7 +161,7 @@ impl Peer {
           output = self.new.output;
           asked = self.new.asked;
         } }
-        ensures offered { self.old.output ≡ Writing.Open → self.old.outgoing ≢ [] → is_due what self.old ≡ true
+        ensures offered { self.old.output ≡ Output.Open → self.old.outgoing ≢ [] → is_due what self.old ≡ true
             → Offers self.old.number self.old.outgoing (S.told system.old) (S.told system.new) }
     {
         if !self.output.is_open() || self.outgoing.is_empty() || !self.is_due(what) {
@@ -172,7 +172,7 @@ impl Peer {
         match system.write(self.number, self.outgoing.front()) {
             Ok(count) => {
                 self.outgoing.drop_front(count);
-                self.output = Writing::taken(count, all);
+                self.output = Output::after(count, all);
             }
             Err(fault) => self.output = self.output.refused(refusal_of(fault)),
         }
@@ -362,8 +362,8 @@ impl Peer {
             return Due::Fault;
         }
         match self.input {
-            Reading::Failed => Due::Fault,
-            Reading::Ended if self.ending.is_settled() && self.outgoing.is_empty() => Due::End,
+            Input::Failed => Due::Fault,
+            Input::Ended if self.ending.is_settled() && self.outgoing.is_empty() => Due::End,
             _ => Due::Nothing,
         }
     }
@@ -405,10 +405,10 @@ impl Peer {
         } }
     {
         match self.output {
-            Writing::Open => (),
-            Writing::Full if self.room > 0 => self.room -= 1,
-            Writing::Full => return 0,
-            Writing::Lost => return bytes.len(),
+            Output::Open => (),
+            Output::Full if self.room > 0 => self.room -= 1,
+            Output::Full => return 0,
+            Output::Lost => return bytes.len(),
         }
         self.outgoing.take(bytes)
     }

@@ -1,8 +1,8 @@
 //! What a read and a write of a peer's socket may find, and what is flushed to it.
 
 ghost use Rattle.std.specs.Prelude.{◌≡◌, ◌≢◌, true, false};
-ghost use Rattle.srcp_peers.specs.Peers.{flushes_all, given, is_lost, is_over, may_have, missed, refused};
-ghost use Rattle.srcp_peers.specs.Peers.{rests_reading, has_ended, rests_writing, taken, tries_again, woken_input};
+ghost use Rattle.srcp_peers.specs.Peers.{flushes_all, given, is_lost, is_over, may_have, missed, output_after, refused};
+ghost use Rattle.srcp_peers.specs.Peers.{rests_reading, has_ended, rests_writing, tries_again, woken_input};
 ghost use Rattle.srcp_peers.specs.Peers.{woken_output};
 
 use crate::queue::{MOST_INCOMING, Outgoing, Queue};
@@ -10,7 +10,7 @@ use crate::system::Refusal;
 
 /// What a read of a socket may find.
 #[derive(Clone, Copy)]
-pub enum Reading {
+pub enum Input {
     /// Something, for all that is known.
     Ready,
     /// Something behind urgent data, or the end, which no event tells again: it is read until nothing comes.
@@ -25,7 +25,7 @@ pub enum Reading {
 
 /// What a write to a socket may find.
 #[derive(Clone, Copy)]
-pub enum Writing {
+pub enum Output {
     /// Room, for all that is known.
     Open,
     /// None, until the socket is found ready.
@@ -62,14 +62,14 @@ impl Flush {
     }
 }
 
-impl Reading {
+impl Input {
     /// Returns whether a read may find something.
     pub(crate) fn is_ready(self) -> bool
         ensures { result ≡ may_have self }
     {
         match self {
-            Reading::Ready | Reading::Draining => true,
-            Reading::Quiet | Reading::Ended | Reading::Failed => false,
+            Input::Ready | Input::Draining => true,
+            Input::Quiet | Input::Ended | Input::Failed => false,
         }
     }
 
@@ -78,46 +78,46 @@ impl Reading {
         ensures { result ≡ has_ended self }
     {
         match self {
-            Reading::Ready | Reading::Draining | Reading::Quiet => false,
-            Reading::Ended | Reading::Failed => true,
+            Input::Ready | Input::Draining | Input::Quiet => false,
+            Input::Ended | Input::Failed => true,
         }
     }
 
     /// Returns what follows a read that gave `count` bytes, if there was room for `room`.
-    pub(crate) fn given(self, count: usize, room: usize) -> Reading
+    pub(crate) fn given(self, count: usize, room: usize) -> Input
         ensures { result ≡ given self count room }
     {
         if count == 0 {
-            return Reading::Ended;
+            return Input::Ended;
         }
         match self {
-            Reading::Ready if count < room => Reading::Quiet,
-            Reading::Ready => Reading::Ready,
-            Reading::Draining => Reading::Draining,
-            Reading::Quiet => Reading::Quiet,
-            Reading::Ended => Reading::Ended,
-            Reading::Failed => Reading::Failed,
+            Input::Ready if count < room => Input::Quiet,
+            Input::Ready => Input::Ready,
+            Input::Draining => Input::Draining,
+            Input::Quiet => Input::Quiet,
+            Input::Ended => Input::Ended,
+            Input::Failed => Input::Failed,
         }
     }
 
     /// Returns what follows a read that failed.
-    pub(crate) fn missed(self, said: Refusal) -> Reading
+    pub(crate) fn missed(self, said: Refusal) -> Input
         ensures { result ≡ missed self said }
     {
         match said {
-            Refusal::Later => Reading::Quiet,
+            Refusal::Later => Input::Quiet,
             Refusal::Again => self,
-            Refusal::Fault => Reading::Failed,
+            Refusal::Fault => Input::Failed,
         }
     }
 
     /// Returns what follows a socket that was found ready.
-    pub(crate) fn woken(self, readable: bool, drains: bool) -> Reading
+    pub(crate) fn woken(self, readable: bool, drains: bool) -> Input
         ensures { result ≡ woken_input self readable drains }
     {
         match self {
-            Reading::Ready | Reading::Quiet if drains => Reading::Draining,
-            Reading::Quiet if readable => Reading::Ready,
+            Input::Ready | Input::Quiet if drains => Input::Draining,
+            Input::Quiet if readable => Input::Ready,
             state => state,
         }
     }
@@ -126,7 +126,7 @@ impl Reading {
     pub(crate) fn is_over(self, incoming: &Queue<MOST_INCOMING>) -> bool
         ensures { result ≡ is_over incoming.now self }
     {
-        matches!(self, Reading::Ended) && incoming.is_empty()
+        matches!(self, Input::Ended) && incoming.is_empty()
     }
 
     /// Returns whether nothing is to be told of it but what its socket says.
@@ -134,22 +134,22 @@ impl Reading {
         ensures { result ≡ rests_reading outgoing.now self }
     {
         match self {
-            Reading::Ready | Reading::Draining | Reading::Failed => false,
-            Reading::Quiet => true,
-            Reading::Ended => !outgoing.is_empty(),
+            Input::Ready | Input::Draining | Input::Failed => false,
+            Input::Quiet => true,
+            Input::Ended => !outgoing.is_empty(),
         }
     }
 }
 
-impl Writing {
+impl Output {
     /// Returns whether a write may be taken.
     pub(crate) fn is_open(self) -> bool
-        ensures yes { result ≡ true → self ≡ Writing.Open }
-        ensures no { result ≡ false → self ≢ Writing.Open }
+        ensures yes { result ≡ true → self ≡ Output.Open }
+        ensures no { result ≡ false → self ≢ Output.Open }
     {
         match self {
-            Writing::Open => true,
-            Writing::Full | Writing::Lost => false,
+            Output::Open => true,
+            Output::Full | Output::Lost => false,
         }
     }
 
@@ -158,41 +158,41 @@ impl Writing {
         ensures { result ≡ is_lost self }
     {
         match self {
-            Writing::Lost => true,
-            Writing::Open | Writing::Full => false,
+            Output::Lost => true,
+            Output::Open | Output::Full => false,
         }
     }
 
     /// Returns what follows a write of `all` bytes of which `count` were taken.
-    pub(crate) fn taken(count: usize, all: usize) -> Writing
-        ensures { result ≡ taken count all }
+    pub(crate) fn after(count: usize, all: usize) -> Output
+        ensures { result ≡ output_after count all }
     {
         if count == 0 {
-            Writing::Lost
+            Output::Lost
         } else if count < all {
-            Writing::Full
+            Output::Full
         } else {
-            Writing::Open
+            Output::Open
         }
     }
 
     /// Returns what follows a write that failed.
-    pub(crate) fn refused(self, said: Refusal) -> Writing
+    pub(crate) fn refused(self, said: Refusal) -> Output
         ensures { result ≡ refused self said }
     {
         match said {
-            Refusal::Later => Writing::Full,
+            Refusal::Later => Output::Full,
             Refusal::Again => self,
-            Refusal::Fault => Writing::Lost,
+            Refusal::Fault => Output::Lost,
         }
     }
 
     /// Returns what follows a socket that was found ready.
-    pub(crate) fn woken(self, writable: bool) -> Writing
+    pub(crate) fn woken(self, writable: bool) -> Output
         ensures { result ≡ woken_output self writable }
     {
         match self {
-            Writing::Full if writable => Writing::Open,
+            Output::Full if writable => Output::Open,
             state => state,
         }
     }
@@ -202,9 +202,9 @@ impl Writing {
         ensures { result ≡ rests_writing outgoing.now self }
     {
         match self {
-            Writing::Open => outgoing.is_empty(),
-            Writing::Full => true,
-            Writing::Lost => false,
+            Output::Open => outgoing.is_empty(),
+            Output::Full => true,
+            Output::Lost => false,
         }
     }
 }

@@ -24,13 +24,13 @@ module _ (cut : ℕ) where
       ]
 
   -- no such byte stands before the first one
-  clear_to : (text : List ℕ) (place : ℕ) → place ≡ position_or_len is_cut text → list_any is_cut (take place text) ≡ false
-  clear_to [] place is = rw is refl
+  clear_to : (text : List ℕ) (index : ℕ) → index ≡ position_or_len is_cut text → list_any is_cut (take index text) ≡ false
+  clear_to [] index is = rw is refl
   clear_to (byte ∷ text) zero is = refl
-  clear_to (byte ∷ text) (suc place) is =
+  clear_to (byte ∷ text) (suc index) is =
       elim (cases_Bool (eqb byte cut)) [
-        | inl t ↦ absurd (let h : suc place ≡ 0 = rw t at is in omega arith)
-        | inr f ↦ let h : suc place ≡ 1 + position_or_len is_cut text = rw f at is in rw (f, clear_to text place (omega arith)) refl
+        | inl t ↦ absurd (let h : suc index ≡ 0 = rw t at is in omega arith)
+        | inr f ↦ let h : suc index ≡ 1 + position_or_len is_cut text = rw f at is in rw (f, clear_to text index (omega arith)) refl
       ]
 
   pub clear_none : (text : List ℕ) → position is_cut text ≡ None → list_any is_cut text ≡ false
@@ -42,42 +42,42 @@ module _ (cut : ℕ) where
             (clear_to text (position_or_len is_cut text) refl)
       ]
 
-  place_of : (text : List ℕ) (place : ℕ) → position is_cut text ≡ Some place → (place ≡ position_or_len is_cut text) × (place < length text)
-  place_of text place some =
+  index_of : (text : List ℕ) (index : ℕ) → position is_cut text ≡ Some index → (index ≡ position_or_len is_cut text) × (index < length text)
+  index_of text index some =
       elim (cases_lt (position_or_len is_cut text) (length text)) [
         | inl lt ↦
             let h = rw (lt-ltb (position_or_len is_cut text) (length text) lt) at some in
-            let same : place ≡ position_or_len is_cut text = cc in
+            let same : index ≡ position_or_len is_cut text = cc in
             (same, omega arith)
         | inr ge ↦ (let h = rw (le-ltb (position_or_len is_cut text) (length text) ge) at some in cc)
       ]
 
-  pub clear_some : (text : List ℕ) (place : ℕ) → position is_cut text ≡ Some place → list_any is_cut (take place text) ≡ false
-  clear_some text place some = clear_to text place (place_of text place some).0
+  pub clear_some : (text : List ℕ) (index : ℕ) → position is_cut text ≡ Some index → list_any is_cut (take index text) ≡ false
+  clear_some text index some = clear_to text index (index_of text index some).0
 
   -- the first one stands behind them
-  whole_at : (text : List ℕ) (place : ℕ) → place ≡ position_or_len is_cut text → place < length text
-      → text ≡ take place text ++ cut ∷ drop (place + 1) text
-  whole_at [] place is within = absurd (omega arith)
+  whole_at : (text : List ℕ) (index : ℕ) → index ≡ position_or_len is_cut text → index < length text
+      → text ≡ take index text ++ cut ∷ drop (index + 1) text
+  whole_at [] index is within = absurd (omega arith)
   whole_at (byte ∷ text) zero is within =
       elim (cases_Bool (eqb byte cut)) [
         | inl t ↦ ap (λ b. b ∷ text) (eqb-true byte cut t)
         | inr f ↦ absurd (let h : 0 ≡ 1 + position_or_len is_cut text = rw f at is in omega arith)
       ]
-  whole_at (byte ∷ text) (suc place) is within =
+  whole_at (byte ∷ text) (suc index) is within =
       elim (cases_Bool (eqb byte cut)) [
-        | inl t ↦ absurd (let h : suc place ≡ 0 = rw t at is in omega arith)
+        | inl t ↦ absurd (let h : suc index ≡ 0 = rw t at is in omega arith)
         | inr f ↦
-            let h : suc place ≡ 1 + position_or_len is_cut text = rw f at is in
-            let next : suc place + 1 ≡ suc (place + 1) = omega arith in
-            rw next (ap (λ rest. byte ∷ rest) (whole_at text place (omega arith) (omega arith)))
+            let h : suc index ≡ 1 + position_or_len is_cut text = rw f at is in
+            let next : suc index + 1 ≡ suc (index + 1) = omega arith in
+            rw next (ap (λ rest. byte ∷ rest) (whole_at text index (omega arith) (omega arith)))
       ]
 
-  pub whole_some : (text : List ℕ) (place : ℕ) → position is_cut text ≡ Some place
-      → text ≡ take place text ++ cut ∷ take (length text - (place + 1)) (drop (place + 1) text)
-  whole_some text place some =
-      let at = place_of text place some in
-      rw (between_to_end text (place + 1) (length text) (omega arith)) (whole_at text place at.0 at.1)
+  pub whole_some : (text : List ℕ) (index : ℕ) → position is_cut text ≡ Some index
+      → text ≡ take index text ++ cut ∷ take (length text - (index + 1)) (drop (index + 1) text)
+  whole_some text index some =
+      let at = index_of text index some in
+      rw (between_to_end text (index + 1) (length text) (omega arith)) (whole_at text index at.0 at.1)
 
   pub cut_none : (text : List ℕ) → position is_cut text ≡ None → slice_split is_cut text ≡ text ∷ []
   cut_none text none =
@@ -86,13 +86,13 @@ module _ (cut : ℕ) where
         | inr ge ↦ split_none text ge
       ]
 
-  pub cut_some : (text : List ℕ) (place : ℕ) → position is_cut text ≡ Some place
-      → slice_split is_cut text ≡ take place text ∷ slice_split is_cut (take (length text - (place + 1)) (drop (place + 1) text))
-  cut_some text place some =
+  pub cut_some : (text : List ℕ) (index : ℕ) → position is_cut text ≡ Some index
+      → slice_split is_cut text ≡ take index text ∷ slice_split is_cut (take (length text - (index + 1)) (drop (index + 1) text))
+  cut_some text index some =
       elim (cases_lt (position_or_len is_cut text) (length text)) [
         | inl lt ↦
             let h = rw (lt-ltb (position_or_len is_cut text) (length text) lt) at some in
-            let same : position_or_len is_cut text ≡ place = cc in
+            let same : position_or_len is_cut text ≡ index = cc in
             rw (← same, between_to_end text (position_or_len is_cut text + 1) (length text) (omega arith))
             (slice_split_first is_cut text 0 lt)
         | inr ge ↦ (let h = rw (le-ltb (position_or_len is_cut text) (length text) ge) at some in cc)

@@ -26,7 +26,7 @@ use Rattle.srcp_serve.specs.Serving.{handed, is_closing, reads_of, writes_of, cl
 use Rattle.srcp_serve.specs.Serving.{loses_reading, loses_writing, falls_short, piece_of, count_of}
 use Rattle.srcp_serve.specs.Turns.{AsksPeers}
 use Rattle.srcp_serve.specs.Visits.{AddsGiven, AreAbout, AreWritesTo, Closes, CountsAsked, FromEveryCourse, IsLetGo, IsReadFrom, IsVisited}
-use Rattle.srcp_serve.specs.Visits.{IsWrittenTo, Disconnects, Reading, ReadsIn, Visits, WritesOut, read_calls}
+use Rattle.srcp_serve.specs.Visits.{IsWrittenTo, Disconnects, OneRead, ReadsIn, Visits, WritesOut, read_calls}
 use Rattle.srcp_serve.proofs.RefusalsWereAskedFor.{asked_one, asked_rooms, asked_then}
 use Rattle.srcp_serve.proofs.CallsAreAdded.{given_then, refusals_then}
 use Rattle.srcp_serve.proofs.VisitsAreSeenAgain.{own_calls}
@@ -37,7 +37,7 @@ same_peer peer = grind (arith, nat_tests)
 -- ---- the calls of a read
 
 abbrev AsRead : Type 0
-AsRead = Option Reading
+AsRead = Option OneRead
 
 reads_count : (peer : ℕ) (read : AsRead) → filter_map count_of (read_calls peer read) ≡ []
 reads_count peer None = refl

@@ -59,13 +59,13 @@ abbrev pub AreAbout : ℕ → List Call → Type 0
 AreAbout peer calls = AllByRecursion (λ call. is_about peer call ≡ true) calls
 
 -- a read: its answer, the buffer after it, and for each line that ends in the bytes whether it was given memory
-pub record Reading : Type 0 where
+pub record OneRead : Type 0 where
   pub answer : Result Got DoorFault
   pub buffer : List ℕ
   pub grants : List Bool
 
 -- the read of a visit, if there was one, as a list of calls
-abbrev pub read_calls : (peer : ℕ) → Option Reading → List Call
+abbrev pub read_calls : (peer : ℕ) → Option OneRead → List Call
 read_calls peer None = []
 read_calls peer (Some read) = ReadCall peer read.answer read.buffer read.grants ∷ []
 
@@ -78,7 +78,7 @@ module _ (buses : List Bus) (events : List Event) (keys : List (Option ℕ)) (n 
     (old : Option (List DoorCall)) (told : List DoorCall) (new : Held) where
   -- the peer was read, if its connection accepts bytes
   pub record IsReadFrom (core_old : Held) (stays : Bool) : Type 0 where
-    pub read : Option Reading
+    pub read : Option OneRead
     pub adds : AddsGiven old told (read_calls peer read)
     pub counted : CountsRefusals core_old (read_calls peer read) new
     pub asked_for : CountsAsked buses events

@@ -106,16 +106,16 @@ impl<'a> ScriptDoor<'a> {
     }
 
     /// Returns what was written to the peer of this index, or no bytes if there is none.
-    pub(crate) fn written(&self, place: usize) -> &[u8] {
-        match self.peers.get(place) {
+    pub(crate) fn written(&self, index: usize) -> &[u8] {
+        match self.peers.get(index) {
             Some(peer) => peer.written.as_slice(),
             None => &[],
         }
     }
 
     /// Returns how many times the peer of this index was closed.
-    pub(crate) fn closes(&self, place: usize) -> u32 {
-        match self.peers.get(place) {
+    pub(crate) fn closes(&self, index: usize) -> u32 {
+        match self.peers.get(index) {
             Some(peer) => peer.closes,
             None => 0,
         }

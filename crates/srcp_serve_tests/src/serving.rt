@@ -46,8 +46,8 @@ fn serve_and_run(
 }
 
 /// Returns what a connection of a run was sent, or no bytes if there is no such connection.
-fn sent(told: &Record, place: usize) -> &[u8] {
-    match told.connections.as_slice().get(place) {
+fn sent(told: &Record, index: usize) -> &[u8] {
+    match told.connections.as_slice().get(index) {
         Some(conn) => conn.sent.as_slice(),
         None => NOTHING,
     }
@@ -139,10 +139,10 @@ fn lets_64_peers_in(rt: HostRuntime) -> Result<(), Fail> {
         faults: 0,
     };
     assert_eq!(rt; served, wanted);
-    for place in 0..64 {
-        assert_eq!(rt; door.written(place), WELCOME);
-        assert_eq!(rt; sent(&told, place), WELCOME);
-        assert_eq!(rt; door.closes(place), 0);
+    for index in 0..64 {
+        assert_eq!(rt; door.written(index), WELCOME);
+        assert_eq!(rt; sent(&told, index), WELCOME);
+        assert_eq!(rt; door.closes(index), 0);
     }
     assert_eq!(rt; door.written(64), NOTHING);
     assert_eq!(rt; door.closes(64), 1);
@@ -174,8 +174,8 @@ fn gives_a_slot_to_the_next(rt: HostRuntime) -> Result<(), Fail> {
         faults: 0,
     };
     assert_eq!(rt; served, wanted);
-    for place in 0..3 {
-        assert_eq!(rt; sent(&told, place), door.written(place));
+    for index in 0..3 {
+        assert_eq!(rt; sent(&told, index), door.written(index));
     }
     assert_eq!(rt; door.written(0), WELCOME);
     assert!(rt; door.written(1).ends_with(b"0.000 200 OK GO 2\n"));

@@ -86,7 +86,7 @@ struct Seat {
 /// Returns the events that these calls make.
 pub(crate) fn events_of(alloc: Global, calls: &[Asked]) -> Result<Vec<Event>, AllocError> {
     let mut events = Vec::new(alloc);
-    let mut places = Vec::new(alloc);
+    let mut slots = Vec::new(alloc);
     let mut opened = 0usize;
     for turn in calls.chunk_by(|_, next| !matches!(next, Asked::Expect { .. })) {
         if let Some(Asked::Now(Ok(moment))) = turn.get(1) {
@@ -96,10 +96,10 @@ pub(crate) fn events_of(alloc: Global, calls: &[Asked]) -> Result<Vec<Event>, Al
             events.push(Event::Open)?;
             if !turns_away(turn, *peer) {
                 opened = opened.saturating_add(1);
-                take_place(&mut places, *peer, opened)?;
+                take_slot(&mut slots, *peer, opened)?;
             }
         }
-        push_visits(alloc, turn, &mut places, &mut events)?;
+        push_visits(alloc, turn, &mut slots, &mut events)?;
     }
     Ok(events)
 }
@@ -111,11 +111,11 @@ fn turns_away(turn: &[Asked], newcomer: u32) -> bool {
 }
 
 /// Gives the first free slot to a peer.
-fn take_place(places: &mut Vec<Option<Seat>>, peer: u32, conn: usize) -> Result<(), AllocError> {
+fn take_slot(slots: &mut Vec<Option<Seat>>, peer: u32, conn: usize) -> Result<(), AllocError> {
     let seat = Seat { peer, conn };
-    match places.iter_mut().find(|place| place.is_none()) {
-        Some(place) => *place = Some(seat),
-        None => places.push(Some(seat))?,
+    match slots.iter_mut().find(|slot| slot.is_none()) {
+        Some(slot) => *slot = Some(seat),
+        None => slots.push(Some(seat))?,
     }
     Ok(())
 }
@@ -124,11 +124,11 @@ fn take_place(places: &mut Vec<Option<Seat>>, peer: u32, conn: usize) -> Result<
 fn push_visits(
     alloc: Global,
     turn: &[Asked],
-    places: &mut [Option<Seat>],
+    slots: &mut [Option<Seat>],
     events: &mut Vec<Event>,
 ) -> Result<(), AllocError> {
-    for place in places {
-        push_visit(alloc, turn, place, events)?;
+    for slot in slots {
+        push_visit(alloc, turn, slot, events)?;
     }
     Ok(())
 }
@@ -138,10 +138,10 @@ fn push_visits(
 fn push_visit(
     alloc: Global,
     turn: &[Asked],
-    place: &mut Option<Seat>,
+    slot: &mut Option<Seat>,
     events: &mut Vec<Event>,
 ) -> Result<(), AllocError> {
-    let Some(Seat { peer, conn }) = *place else {
+    let Some(Seat { peer, conn }) = *slot else {
         return Ok(());
     };
     let mut goes_on = true;
@@ -152,7 +152,7 @@ fn push_visit(
         }
         match call {
             Asked::Write { .. } => writes = writes.saturating_add(1),
-            Asked::Close { .. } => *place = None,
+            Asked::Close { .. } => *slot = None,
             _ => {}
         }
         goes_on = goes_on && !call.stops_writing();
@@ -160,7 +160,7 @@ fn push_visit(
     if goes_on && writes < MOST_WRITES {
         events.push(Event::Room { conn, bytes: 0 })?;
     }
-    if place.is_none() {
+    if slot.is_none() {
         events.push(Event::Shut { conn })?;
     }
     Ok(())

@@ -3,8 +3,8 @@ use Rattle.std.proofs.Common.{◌≡◌, ◌∙◌, ℕ, ◌+◌, Bool, true, fa
 use Rattle.std.proofs.Common.{get_or, Option, Some, None, sym, subst, ⊎_elim, true≢false}
 use Rattle.std.specs.Prelude.{All, ◌&&◌}
 use Rattle.srcp_peers.specs.declared.peer.Peer.{Peer}
-use Rattle.srcp_peers.specs.declared.readiness.Writing.{Writing}
-use Rattle.srcp_peers.specs.declared.readiness.Writing.TheVariants as output
+use Rattle.srcp_peers.specs.declared.readiness.Output.{Output}
+use Rattle.srcp_peers.specs.declared.readiness.Output.TheVariants as output
 use Rattle.srcp_peers.specs.declared.system.Ready.{Ready}
 use Rattle.srcp_peers.specs.Accounts.{Sent, account, is_owed}
 use Rattle.srcp_sockets.specs.Delivery.{AreDelivered, HasEnded, HasWaited, HaveEnded, IsAllDelivered, IsOver}
@@ -18,7 +18,7 @@ use Rattle.srcp_sockets.proofs.Standing.{find, nobody}
 use Rattle.srcp_peers.proofs.Saying.{times_more}
 
 -- nothing is queued that its socket may take
-delivered_as : (sent : Sent) (outgoing : List ℕ) (state : Writing) → (not (length outgoing == 0) && not (is_lost state)) ≡ false
+delivered_as : (sent : Sent) (outgoing : List ℕ) (state : Output) → (not (length outgoing == 0) && not (is_lost state)) ≡ false
     → WritesAs sent outgoing state → (is_owed sent ≡ false) ⊎ (sent.lost ≡ true)
 delivered_as sent outgoing output.Open e h = inl (owed_is sent outgoing h.0 ∙ alone (not (length outgoing == 0)) e)
   where

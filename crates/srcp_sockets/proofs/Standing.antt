@@ -7,9 +7,9 @@ use Rattle.std.proofs.lemmas.Bool.{cases_eq}
 use Rattle.std.proofs.lemmas.List.{length-set}
 use Rattle.std.proofs.lemmas.Bool.Decides.{nat_tests}
 use Rattle.srcp_peers.specs.declared.peer.Peer.{Peer}
-use Rattle.srcp_peers.specs.declared.readiness.Reading.TheVariants as input
-use Rattle.srcp_peers.specs.declared.readiness.Writing.{Writing}
-use Rattle.srcp_peers.specs.declared.readiness.Writing.TheVariants as output
+use Rattle.srcp_peers.specs.declared.readiness.Input.TheVariants as input
+use Rattle.srcp_peers.specs.declared.readiness.Output.{Output}
+use Rattle.srcp_peers.specs.declared.readiness.Output.TheVariants as output
 use Rattle.srcp_peers.specs.declared.stay.Stay.TheVariants as stay
 use Rattle.srcp_peers.specs.declared.waiting.Listening.{Listening}
 use Rattle.srcp_peers.specs.Steps.{Step, Tells, Told}
@@ -73,7 +73,7 @@ sound_of a p h = record {
   served = h.served;
 }
   where
-    took : (o : Writing) → WritesAs a.sent p.outgoing o → StartsWith a.sent.written a.sent.took
+    took : (o : Output) → WritesAs a.sent p.outgoing o → StartsWith a.sent.written a.sent.took
     took output.Open w = starts a.sent.written a.sent.took p.outgoing w.0
     took output.Full w = starts a.sent.written a.sent.took p.outgoing w.0
     took output.Lost w = w.0

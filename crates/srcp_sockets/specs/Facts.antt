@@ -2,10 +2,10 @@
 use Rattle.std.specs.Prelude.{ℕ, Bool, List, Option}
 use Rattle.std.proofs.Props.{props}
 use Rattle.srcp_peers.specs.declared.peer.Peer.{Peer}
-use Rattle.srcp_peers.specs.declared.readiness.Reading.{Reading}
-use Rattle.srcp_peers.specs.declared.readiness.Reading.TheVariants as input
-use Rattle.srcp_peers.specs.declared.readiness.Writing.{Writing}
-use Rattle.srcp_peers.specs.declared.readiness.Writing.TheVariants as output
+use Rattle.srcp_peers.specs.declared.readiness.Input.{Input}
+use Rattle.srcp_peers.specs.declared.readiness.Input.TheVariants as input
+use Rattle.srcp_peers.specs.declared.readiness.Output.{Output}
+use Rattle.srcp_peers.specs.declared.readiness.Output.TheVariants as output
 use Rattle.srcp_peers.specs.declared.stay.Stay.{Stay}
 use Rattle.srcp_peers.specs.declared.stay.Stay.TheVariants as stay
 use Rattle.srcp_peers.specs.declared.waiting.Listening.{Listening}
@@ -15,19 +15,19 @@ use Rattle.srcp_peers.specs.Accounts.{Lingering, Received, Sent}
 use Rattle.srcp_peers.specs.Peers.{ComesAs, ReadsAs, StaysAs, WritesAs}
 use Rattle.srcp_sockets.specs.Doors.{HeardAs, Stands}
 
-ReadsAs-prop : (received : Received) (incoming : List ℕ) (state : Reading) → IsProp (ReadsAs received incoming state)
+ReadsAs-prop : (received : Received) (incoming : List ℕ) (state : Input) → IsProp (ReadsAs received incoming state)
 ReadsAs-prop received incoming input.Ready = hlevel props
 ReadsAs-prop received incoming input.Draining = hlevel props
 ReadsAs-prop received incoming input.Quiet = hlevel props
 ReadsAs-prop received incoming input.Ended = hlevel props
 ReadsAs-prop received incoming input.Failed = hlevel props
 
-WritesAs-prop : (sent : Sent) (outgoing : List ℕ) (state : Writing) → IsProp (WritesAs sent outgoing state)
+WritesAs-prop : (sent : Sent) (outgoing : List ℕ) (state : Output) → IsProp (WritesAs sent outgoing state)
 WritesAs-prop sent outgoing output.Open = hlevel props
 WritesAs-prop sent outgoing output.Full = hlevel props
 WritesAs-prop sent outgoing output.Lost = hlevel props
 
-ComesAs-prop : (received : Received) (incoming : List ℕ) (state : Reading) (here : Stay) → IsProp
+ComesAs-prop : (received : Received) (incoming : List ℕ) (state : Input) (here : Stay) → IsProp
     (ComesAs received incoming state here)
 ComesAs-prop received incoming state stay.Here = ReadsAs-prop received incoming state
 ComesAs-prop received incoming state (stay.Draining since) = hlevel props

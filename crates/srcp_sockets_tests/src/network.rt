@@ -224,7 +224,7 @@ impl<'a> Network<'a> {
         if self.is_interrupted() {
             return Err(ErrorKind::Interrupted);
         }
-        match self.sockets.get_mut(place(number)) {
+        match self.sockets.get_mut(index_of(number)) {
             Some(socket) => socket.read(buffer),
             None => Err(ErrorKind::NotFound),
         }
@@ -236,7 +236,7 @@ impl<'a> Network<'a> {
         if self.is_interrupted() {
             return Err(ErrorKind::Interrupted);
         }
-        match self.sockets.get_mut(place(number)) {
+        match self.sockets.get_mut(index_of(number)) {
             Some(socket) => socket.write(bytes),
             None => Err(ErrorKind::NotFound),
         }
@@ -244,14 +244,14 @@ impl<'a> Network<'a> {
 
     /// Shuts a socket for writing.
     pub(crate) fn shutdown(&mut self, number: u32) {
-        if let Some(socket) = self.sockets.get_mut(place(number)) {
+        if let Some(socket) = self.sockets.get_mut(index_of(number)) {
             socket.shut = true;
         }
     }
 
     /// Closes a socket.
     pub(crate) fn close(&mut self, number: u32) {
-        if let Some(socket) = self.sockets.get_mut(place(number)) {
+        if let Some(socket) = self.sockets.get_mut(index_of(number)) {
             socket.closed = true;
         }
     }
@@ -312,7 +312,7 @@ impl<'a> Network<'a> {
             }
             _ => (),
         }
-        match self.sockets.get_mut(place(event.socket)) {
+        match self.sockets.get_mut(index_of(event.socket)) {
             Some(socket) => socket.take(event.what),
             None => Ok(()),
         }
@@ -353,6 +353,6 @@ impl<'a> Network<'a> {
 }
 
 /// Returns the index of a socket. Sockets are numbered from 1 on, as they come.
-fn place(number: u32) -> usize {
+fn index_of(number: u32) -> usize {
     (number as usize).saturating_sub(1)
 }

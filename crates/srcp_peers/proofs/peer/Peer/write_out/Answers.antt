@@ -6,8 +6,8 @@ use Rattle.srcp_peers.proofs.peer.Peer.write_out.Goals as goal
 
 pub returns-in-Ok-clause-kept : goal.returns-in-Ok-clause-kept
 returns-in-Ok-clause-kept g c = wrote_peer (g.S.System.told c.args.system.now) (g.S.System.told c.write.new.self) c.args.self.now
-    c.in-Ok.count c.len-all.result c.front.result.now c.drop_front.new.self c.taken-self.result false (c.is_open.ensures.yes (search rules))
-    c.front.ensures c.drop_front.ensures c.len-all.ensures.count c.taken-self.ensures c.in-Ok.ensures.told c.requires
+    c.in-Ok.count c.len-all.result c.front.result.now c.drop_front.new.self c.after-self.result false (c.is_open.ensures.yes (search rules))
+    c.front.ensures c.drop_front.ensures c.len-all.ensures.count c.after-self.ensures c.in-Ok.ensures.told c.requires
 
 pub returns-in-Ok-clause-calls : goal.returns-in-Ok-clause-calls
 returns-in-Ok-clause-calls g c = says_step (g.S.System.told c.args.system.now) (g.S.System.told c.write.new.self)

@@ -7,7 +7,7 @@ use Rattle.srcp_door.specs.Pacing.{Seen, lines, seen_of, weight_of}
 use Rattle.srcp_door.specs.declared.pacing.Line.TheVariants.{Ended}
 use Rattle.srcp_door.proofs.Lines.{ends_line, found-end, lines_behind, lines_of-end, lines_of_part}
 use Rattle.srcp_door.proofs.Lines.{lines_within, longest_at, weight_by_lines, weight_none, weight_same}
-use Rattle.srcp_door.proofs.pacing.front_within.Goals as goal
+use Rattle.srcp_door.proofs.pacing.longest_prefix.Goals as goal
 
 pub lines-preserved : goal.lines-preserved
 lines-preserved c =

@@ -1,6 +1,6 @@
 use Rattle.std.proofs.Common.{◌≡◌, ◌≤◌, ◌-◌, [], length, take}
 use Rattle.srcp_door.specs.Pacing.{lines, seen_of}
-use Rattle.srcp_door.proofs.pacing.front_within.Given as goal
+use Rattle.srcp_door.proofs.pacing.longest_prefix.Given as goal
 
 abbrev pub invariant-lines : goal.invariant-lines
 invariant-lines l = record {
