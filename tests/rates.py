@@ -81,7 +81,7 @@ def panel_that_reads_slower_than_a_line_a_millisecond(program):
 
 def changes_at_one_moment_beside_many(program):
     """Ports fall back at one moment, 149 of them, while sessions before and behind a panel send without end. The panel is
-    told of each fall."""
+    sent each fall."""
     with served(program) as (port, _):
         first = Client(port, "COMMAND")
         addresses = [range(fall * PORTS + 1, (fall + 1) * PORTS + 1) for fall in range(FALLS)]
@@ -101,11 +101,11 @@ def changes_at_one_moment_beside_many(program):
         time.sleep(max(begun + 2.2 - time.monotonic(), 0))
         with sending_without_end(throttles):
             heard = in_a_process(falls_heard, panel, FALLS * PORTS)
-    return None if heard == FALLS * PORTS else f"a panel is told of {heard} of {FALLS * PORTS} falls"
+    return None if heard == FALLS * PORTS else f"a panel was sent {heard} of {FALLS * PORTS} falls"
 
 
 def falls_heard(panel, most):
-    """Returns how many falls a panel is told of until they are enough or it is closed."""
+    """Returns how many falls a panel is sent until they are enough or it is closed."""
     heard, rest = 0, panel.begun
     while heard < most and (piece := panel.socket.recv(1 << 20)):
         *lines, rest = (rest + piece).split(b"\n")
