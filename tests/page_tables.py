@@ -104,7 +104,7 @@ def limits_of_the_protocol_page(_):
 
 def clauses_of_the_core_page(_):
     """Each call of the table has the clauses that it lists, and no others."""
-    files = [CRATES / "srcp_core/src/table.rt", *(CRATES / "srcp_core/src/table").glob("*.rt")]
+    files = [CRATES / "srcp_core/src/server_core.rt", *(CRATES / "srcp_core/src/server_core").glob("*.rt")]
     code = "".join(file.read_text() for file in files)
     call, listed = None, {}
     for first, clause, _ in rows_under("core-proof.md", "What the clauses of a call say"):

@@ -23,7 +23,7 @@ pub record Place : Type 0 where
 pub record Held : Type 0 where
   pub buses : List Bus
   pub rows : State
-  pub moment : ℕ  -- the moment that was told last
+  pub moment : ℕ  -- the last moment
   pub last_id : ℕ  -- the session id that was given last
   pub places : List (Option Place)
   pub denied : ℕ  -- how many allocations were refused

@@ -5,7 +5,7 @@ use Rattle.std.specs.Borrow.{Fml, RattleType, MutBor}
 use Rattle.std.specs.Io.BufRead.{Rests}
 use Rattle.srcp_rules.specs.declared.rows.Rows.{Ghosts}
 use Rattle.srcp_core.specs.Held.{Held}
-use Rattle.srcp_core.specs.contracts.table.Core.{the_row}
+use Rattle.srcp_core.specs.contracts.server_core.Core.{the_row}
 
 -- once the loan is over, what the core holds is this
 abbrev pub EndsAs : (R : RattleType) → Ghosts R.Denot → MutBor Held → Held → Fml

@@ -275,11 +275,15 @@ abbrev pub obeyed : ℕ → ℕ → Effect → Held → Held
 obeyed key session result held =
     finished result.ends key session (replied key result.reply (carried result.updates held))
 
--- a command, by whether memory was given to it, if it wants memory
+-- whether a command is obeyed, by whether memory was given to it: it is if it wants none
+abbrev pub is_obeyed : Bool → ℕ → Command → Held → Bool
+is_obeyed granted session command held = granted || not (wants_memory held.rows session held.moment command)
+
+-- a command, by whether memory was given to it
 abbrev pub commanded : Bool → ℕ → ℕ → Result Command Code → Held → Held
 commanded granted key session (Err code) held = replied key (Refused code) held
 commanded granted key session (Ok command) held =
-    if granted || not (wants_memory held.rows session held.moment command)
+    if is_obeyed granted session command held
     then obeyed key session (effect held.rows session held.moment command) held else denied_line key held
 
 -- a line is answered, by whether memory was given to it
@@ -290,7 +294,7 @@ answered granted key (Commands session command) held = commanded granted key ses
 
 -- ---- the steps of the registry that the answer to a line is
 
--- the steps that a recorded run is told of
+-- the steps that a run records
 abbrev pub steps_in : LineRecord → List Step
 steps_in line = option_to_list line.step ++ option_to_list line.end
 
@@ -311,8 +315,7 @@ abbrev pub steps_commanded : Bool → ℕ → Result Command Code → Held → L
 steps_commanded granted session (Err code) held = []
 steps_commanded granted session (Ok command) held =
     Obeyed session held.moment command
-    ∷ (if (granted || not (wants_memory held.rows session held.moment command))
-    && (effect held.rows session held.moment command).ends
+    ∷ (if is_obeyed granted session command held && (effect held.rows session held.moment command).ends
     then Ended session held.moment ∷ [] else [])
 
 -- the steps of a line
@@ -401,7 +404,8 @@ abbrev pub lines_answered : ℕ → List ℕ → List Bool → Held → ℕ × H
 lines_answered key piece grants held =
     fold (λ before granted. line_answered key granted before (heard_at key piece before.0 before.1)) (0, held) grants
 
--- the lines up to an offset in the piece are answered: how many bytes are unsent then, and that no line has begun
+-- the lines up to an offset in the piece are answered. Then 64 bytes at most are unsent for each byte of the piece so
+-- far, and 62 more for a reply that shows a row; and no line has begun
 pub record HasRoom (key : ℕ) (piece : List ℕ) (start : ℕ) (held : Held) : Type 0 where
   pub far : start ≤ length piece
   pub idle : start ≡ 0 → length (unsent_at key held) ≡ 0

@@ -13,7 +13,7 @@ use Rattle.srcp_core.specs.declared.record.ConnRecord.{ConnRecord}
 use Rattle.srcp_core.specs.declared.record.Record.{Record}
 
 module _ (buses : List Bus) where
-  -- what is told of an information session is what came of a connection of the course, which was told rightly
+  -- what is recorded of an information session is what came of a connection of the course, which was told rightly
   pub record IsRecordedSession (events : List Event) (number : ℕ) (one : ConnRecord) : Type 0 where
     pub conn : Connection
     pub session : IsSession buses events number conn
@@ -21,7 +21,7 @@ module _ (buses : List Bus) where
     pub listed : IsListedRightly buses (course buses events) conn
     pub held : IsHeldRightly buses events number conn
 
-  -- what is told of any connection is what came of a connection of the course, which was served
+  -- what is recorded of any connection is what came of a connection of the course, which was served
   -- rightly, and was sent nothing after an overrun or a shut
   pub record IsRecordedConnection (events : List Event) (number : ℕ) (one : ConnRecord) : Type 0 where
     pub conn : Connection
@@ -30,8 +30,8 @@ module _ (buses : List Bus) where
     pub served : IsServedRightly buses events number conn
     pub no_more : IsSentNoMoreSince buses events number conn
 
-  -- the rows that are told are a whole registry, as it was after each step, and no step gave a device that was there a
-  -- key that it had not
+  -- the recorded rows are a whole registry, as it was after each step, and no step gave a device that was there a key
+  -- that it had not
   pub record IsRecordedRegistry (events : List Event) (run : Record) : Type 0 where
     pub rows_whole : IsWhole buses run.rows
     pub world : IsWholeWorld buses (course buses events)

@@ -1,4 +1,4 @@
--- The model of the code: what a run has told so far.
+-- The model of the code: what a run has recorded so far.
 use Rattle.std.specs.Prelude.{◌≡◌, ℕ, zero, suc, Bool, true, false, if◌then◌else◌, List, [], ◌∷◌, ◌++◌, map, length}
 use Rattle.std.specs.Prelude.{Option, Some, None, fold}
 use Rattle.std.specs.Prelude.{slice_get, slice_set, slice_index_or}
@@ -16,7 +16,7 @@ use Rattle.srcp_core.specs.declared.record.Refusal.{Refusal}
 use Rattle.srcp_core.specs.declared.record.Step.{Step}
 use Rattle.srcp_core.specs.declared.record.Step.TheVariants.{Obeyed, Began, Moment, Ended}
 
--- what was told so far
+-- what was recorded so far
 pub record Recording : Type 0 where
   pub keys : List (Option ℕ)  -- the key of each connection, while it is open
   pub steps : List Step
@@ -33,7 +33,7 @@ abbrev pub without_key : ℕ → List (Option ℕ) → List (Option ℕ)
 without_key zero keys = keys
 without_key (suc n) keys = slice_set keys n None
 
--- what is told of a connection before the end
+-- what is recorded of a connection before the end
 abbrev pub record_of : Connection → ConnRecord
 record_of conn = record {
   session = conn.session;

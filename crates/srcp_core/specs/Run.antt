@@ -12,7 +12,7 @@ use Rattle.srcp_core.specs.Recording.{Recording, key_of, without_key, record_of,
 use Rattle.srcp_core.specs.Laws.{HasMoment, IsRecordOf}
 use Rattle.srcp_core.specs.Stands.{StandsFor}
 use Rattle.srcp_core.specs.declared.record.Record.{Record}
-use Rattle.srcp_core.specs.Under.{Event, Shut, Open, Bytes, step_told, under, all_under, denied_by}
+use Rattle.srcp_core.specs.Under.{Event, Shut, Open, Bytes, recorded_step, under, all_under, denied_by}
 use Rattle.srcp_core.specs.declared.event.Event.{Event as PlainEvent}
 use Rattle.srcp_core.specs.declared.record.CoreFault.{CoreFault}
 
@@ -24,14 +24,14 @@ count_at key most held = min (length (unsent_at key (let_out key held))) most
 abbrev pub taken_at : ℕ → ℕ → Held → Held
 taken_at key most held = changed_at key (without_sent (count_at key most held)) (let_out key held)
 
--- and what is told of them
+-- and what is recorded of them
 abbrev pub taking : ℕ → ℕ → ℕ → Held → Recording → Recording
 taking n key most held r =
     took n (take (count_at key most held) (unsent_at key (let_out key held))) (gave n (item_at key held) r)
 
 -- the recording tells of that course
 pub record Tells (r : Recording) (w : World) : Type 0 where
-  pub steps : r.steps ≡ map step_told w.steps
+  pub steps : r.steps ≡ map recorded_step w.steps
   pub refused : r.refused ≡ w.refused
   pub connections : r.connections ≡ map record_of w.connections
 
@@ -144,15 +144,15 @@ pub record RunsRecord (buses : List Bus) (events : List PlainEvent) (run : Recor
   pub is : IsRecordOf buses (all_under grants events) run
 
 -- a record in full, or its outline
-abbrev pub told_in : (in_full : Bool) → Record → Record
-told_in true run = run
-told_in false run = outline run
+abbrev pub recorded_in : (in_full : Bool) → Record → Record
+recorded_in true run = run
+recorded_in false run = outline run
 
 -- the record is that, of one that is of the course
 pub record RunsTold (in_full : Bool) (buses : List Bus) (events : List PlainEvent) (run : Record) : Type 0 where
   pub whole : Record
   pub runs : RunsRecord buses events whole
-  pub is : run ≡ told_in in_full whole
+  pub is : run ≡ recorded_in in_full whole
 
 -- the moment that an event tells has 64 bits
 abbrev pub HasPlainMoment : PlainEvent → Type 0

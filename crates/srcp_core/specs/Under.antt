@@ -14,7 +14,7 @@ use Rattle.srcp_core.specs.Handshake.{Greeting, Goes, Refuses, greets as greets_
 use Rattle.srcp_core.specs.declared.event.Event.{Event as PlainEvent}
 use Rattle.srcp_core.specs.declared.event.Event.TheVariants as plain
 use Rattle.srcp_core.specs.declared.record.Step.{Step as PlainStep}
-use Rattle.srcp_core.specs.declared.record.Step.TheVariants as told
+use Rattle.srcp_core.specs.declared.record.Step.TheVariants as recorded
 
 -- ---- events
 
@@ -122,9 +122,9 @@ pub data Step : Type 0 where
   Moment : (moment : ℕ) → Step
   Ended : (session moment : ℕ) → Step
 
--- what is told of it: a command is told whatever came of it
-abbrev pub step_told : Step → PlainStep
-step_told (Obeyed session moment order) = told.Obeyed session moment order.command
-step_told (Began session moment mode) = told.Began session moment mode
-step_told (Moment moment) = told.Moment moment
-step_told (Ended session moment) = told.Ended session moment
+-- what is recorded of it: a command is recorded whatever came of it
+abbrev pub recorded_step : Step → PlainStep
+recorded_step (Obeyed session moment order) = recorded.Obeyed session moment order.command
+recorded_step (Began session moment mode) = recorded.Began session moment mode
+recorded_step (Moment moment) = recorded.Moment moment
+recorded_step (Ended session moment) = recorded.Ended session moment

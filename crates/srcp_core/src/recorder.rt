@@ -10,7 +10,7 @@ ghost use Rattle.srcp_core.specs.Recording.{with_item, with_refusal, without_key
 use crate::entries::Entries;
 use crate::line::LineRecord;
 use crate::record::{ConnRecord, CoreFault, Finish, Item, Record, Refusal, Step};
-use crate::table::Core;
+use crate::server_core::Core;
 use srcp_feed::Next;
 use srcp_info::Mode;
 use srcp_rules::{Memory, Rows};

@@ -11,7 +11,7 @@ ghost use Rattle.srcp_core.specs.Run.{Happens, Follows, count_at, taken_at, taki
 use crate::event::Event;
 use crate::record::{CoreFault, Record, Step};
 use crate::recorder::{Detail, Full, Outline, Recorder};
-use crate::table::Core;
+use crate::server_core::Core;
 use srcp_rules::{Layout, Memory, Rows};
 use std::alloc::Global;
 

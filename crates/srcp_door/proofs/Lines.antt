@@ -42,7 +42,7 @@ weight_grows seen (x ∷ xs) =
     (cases_Bool (x == 10)) in
     omega (arith, one, later)
 
--- no line ends before the first place at which there is a line end
+-- no line ends before the first index at which there is a line end
 lines_before : (bytes : List ℕ) (n : ℕ) → n ≤ length bytes → Nowhere (Passes (is_byte 10) bytes) 0 n → lines (take n bytes) ≡ 0
 lines_before bytes zero within none = refl
 lines_before bytes (suc n) within none =
@@ -56,7 +56,7 @@ lines_before bytes (suc n) within none =
 abbrev rest : List ℕ → ℕ → List ℕ
 rest bytes i = take (length bytes - i) (drop i bytes)
 
--- no line ends in `&bytes[i..j]` where a search of `&bytes[i..]` finds no line end before
+-- no line ends in `&bytes[i..j]` if a search of `&bytes[i..]` finds no line end before
 pub lines-part : (bytes : List ℕ) (i j : ℕ) → j ≤ length bytes
     → Nowhere (Passes (is_byte 10) (rest bytes i)) 0 (j - i) → lines (take (j - i) (drop i bytes)) ≡ 0
 lines-part bytes i j within none =
@@ -68,7 +68,7 @@ pub found-end : (bytes : List ℕ) (i n : ℕ)
     → NoneBefore (Passes (is_byte 10) (rest bytes i)) 0 (length (rest bytes i)) n → i + n < length bytes
 found-end bytes i n found = let high = rw (take_rest bytes i, length-drop i bytes) at found.high in omega arith
 
--- what is seen of a front, by what is seen of a shorter one and of the part behind it
+-- what is seen of a prefix, by what is seen of a shorter one and of the part behind it
 pub seen_of_part : (line : Line) (bytes : List ℕ) (i j : ℕ) → i ≤ j
     → fold seen_after (seen_of line (take i bytes)) (take (j - i) (drop i bytes)) ≡ seen_of line (take j bytes)
 seen_of_part line bytes i j le =
@@ -83,7 +83,7 @@ seen_of-end line bytes i within here =
     fold_more seen_after (record { line = line; text = []; weight = 0 }) bytes i 0 within
     ∙ ap (seen_after (seen_of line (take i bytes))) here
 
--- a front has the lines of a shorter one where a search finds no line end behind that
+-- a prefix has the lines of a shorter one if a search finds no line end behind that
 pub lines_of_part : (bytes : List ℕ) (i j : ℕ) → i ≤ j → j ≤ length bytes
     → Nowhere (Passes (is_byte 10) (rest bytes i)) 0 (j - i) → lines (take i bytes) ≡ lines (take j bytes)
 lines_of_part bytes i j le within nowhere =
@@ -94,7 +94,7 @@ lines_of_part bytes i j le within nowhere =
     let same = ap (λ n. lines (take n bytes)) parts in
     omega (arith, split, same, none)
 
--- a front has one line more than the one that lacks its line end
+-- a prefix has one line more than the one that lacks its line end
 pub lines_of-end : (bytes : List ℕ) (i : ℕ) → i < length bytes → slice_index bytes i ≡ 10
     → lines (take (i + 1) bytes) ≡ lines (take i bytes) + 1
 lines_of-end bytes i within here = count_by_more_yes (λ byte. byte == 10) bytes i 0 within (ap (λ byte. byte == 10) here)
@@ -147,7 +147,7 @@ pub lines_within : (bytes : List ℕ) (i : ℕ) → i ≤ length bytes → lines
 lines_within bytes i within =
     subst (λ (all : List ℕ). lines (take i bytes) ≤ lines all) (take-length bytes) (lines_upto bytes i (length bytes) within)
 
--- it has fewer where an LF is behind it
+-- it has fewer if an LF is behind it
 pub lines_behind : (bytes : List ℕ) (i j : ℕ) → j < length bytes → slice_index bytes j ≡ 10 → lines (take i bytes) ≡ lines (take j bytes)
     → lines (take i bytes) < lines bytes
 lines_behind bytes i j within here same =

@@ -14,7 +14,7 @@ const MOST_STEPS: u64 = 60_000;
 /// The same in milliseconds.
 const MOST_BEHIND: u64 = STEP * MOST_STEPS;
 
-/// Tells moments in milliseconds since 1970: the wall clock at the start, and what elapsed since on the monotonic
+/// Reports moments in milliseconds since 1970: the wall clock at the start, and what elapsed since on the monotonic
 /// clock. Contracts see both clocks at the start, and the last moment.
 #[derive(Drop)]
 pub struct Timekeeper {

@@ -41,7 +41,7 @@ use Rattle.srcp_grammar.specs.Devices.{key_at, device_in, lock_on}
 use Rattle.srcp_grammar.specs.Command.{IsCommandOf, IsDrive, IsLock, IsNewGa, IsNewGl, IsPowerSwitch, IsSensor, IsSwitch, IsTimedLock}
 use Rattle.srcp_grammar.specs.Grammar.{◌>>=◌, number_in, bit_of, bits_of, letter_of, switch_of, text_of, time_of, device_group_on, groups}
 use Rattle.srcp_grammar.specs.Grammar.{operations, named_in, alone, addressed, get_session, term_session, powered, driven, init_gl, ga_port}
-use Rattle.srcp_grammar.specs.Grammar.{get_ga, switched, init_ga, sensed, named_lock, timed_lock, asked, directed, commanded, reads}
+use Rattle.srcp_grammar.specs.Grammar.{get_ga, switched, init_ga, sensed, named_lock, timed_lock, asked, directed, parsed, reads}
 use Rattle.srcp_grammar.proofs.FindLaws.{found_holds}
 use Rattle.srcp_info.proofs.ListingLaws.{find_passes}
 use Rattle.srcp_grammar.proofs.LayoutLaws.{within}
@@ -460,12 +460,12 @@ module _ (buses : List Bus) (layout : IsLayout buses) where
       then_ok (IsCommandOf buses) (has_group bus g) C422 (asked operation g bus ws)
       (λ on. asked_fits buses layout bus found operation g ws on)))
 
-  commanded_fits : (words : List (List ℕ)) → IfOk (commanded buses words) (IsCommandOf buses)
-  commanded_fits [] = tt
-  commanded_fits (w ∷ ws) =
+  parsed_fits : (words : List (List ℕ)) → IfOk (parsed buses words) (IsCommandOf buses)
+  parsed_fits [] = tt
+  parsed_fits (w ∷ ws) =
       read_any (IsCommandOf buses) (ok_or (named_in operations w) C410) (λ operation. directed buses operation ws)
       (λ operation. directed_fits operation ws)
 
   -- a line that reads as a command reads as one of the layout
   pub reads_fits : (line : List ℕ) → IfOk (reads buses line) (IsCommandOf buses)
-  reads_fits line = commanded_fits (words_of line)
+  reads_fits line = parsed_fits (words_of line)

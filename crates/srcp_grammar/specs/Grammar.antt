@@ -45,14 +45,14 @@ abbrev pub ◌>>=◌ : {A B : Type 0} → Result A Code → (A → Result B Code
 abbrev pub named_in : {A : Type 0} → List (List ℕ × A) → List ℕ → Option A
 named_in table word = option_map (λ entry. entry.1) (find (λ entry. is_keyword entry.0 word) table)
 
--- the words of the first place
+-- the words that may come first
 abbrev pub operations : List (List ℕ × Operation)
 operations =
     (codes "GET", Get) ∷ (codes "SET", Set) ∷ (codes "CHECK", Check) ∷ (codes "INIT", Init) ∷ (codes "TERM", Term)
     ∷ (codes "WAIT", Wait) ∷ (codes "VERIFY", Verify)
     ∷ (codes "RESET", Reset) ∷ []
 
--- the words of the third place
+-- the words that may come third
 abbrev pub groups : List (List ℕ × CommandGroup)
 groups =
     (codes "SESSION", Session) ∷ (codes "POWER", Power) ∷ (codes "GL", Gl) ∷ (codes "GA", Ga) ∷ (codes "FB", Fb)
@@ -100,11 +100,11 @@ letter_of word = ok_or (named_in letters word) C420
 abbrev pub switch_of : List ℕ → Result Bool Code
 switch_of word = ok_or (named_in switches word) C412
 
--- the words joined by one space, where that can be a text
+-- the words joined by one space, if that can be a text
 abbrev pub text_of : List (List ℕ) → Result (List ℕ) Code
 text_of words = if is_text (join_with_byte 32 words) then Ok (join_with_byte 32 words) else Err C412
 
--- milliseconds up to 60000, or none where the word is -1
+-- milliseconds up to 60000, or none if the word is -1
 abbrev pub time_of : List ℕ → Result (Option ℕ) Code
 time_of word =
     if bytes_eq word (codes "-1") then Ok None else do
@@ -295,12 +295,12 @@ directed buses operation (number ∷ word ∷ words) = do
 directed buses operation words = Err C419
 
 -- the operation, then what it is directed at
-abbrev pub commanded : List Bus → List (List ℕ) → Result Command Code
-commanded buses [] = Err C410
-commanded buses (word ∷ words) = do
+abbrev pub parsed : List Bus → List (List ℕ) → Result Command Code
+parsed buses [] = Err C410
+parsed buses (word ∷ words) = do
   operation ← ok_or (named_in operations word) C410
   directed buses operation words
 
 -- the command that the line is, or its first refusal from left to right
 abbrev pub reads : (buses : List Bus) → List ℕ → Result Command Code
-reads buses line = commanded buses (words_of line)
+reads buses line = parsed buses (words_of line)

@@ -17,7 +17,7 @@ use Rattle.srcp_grammar.specs.declared.command.CommandGroup.TheVariants as named
 use Rattle.srcp_grammar.specs.declared.command.DeviceGroup.{DeviceGroup}
 use Rattle.srcp_grammar.specs.declared.command.DeviceGroup.TheVariants as devices
 
--- a bus within the limits; how many ports an accessory has is free where the bus has none
+-- a bus within the limits; how many ports an accessory has is free if the bus has none
 pub record IsBus (bus : Bus) : Type 0 where
   pub number : (1 ≤ bus.number) × (bus.number ≤ 250)
   pub gl_max : bus.gl_max ≤ 10239
@@ -67,7 +67,7 @@ has_group bus named.Ga = nat_lt 0 bus.ga_max
 has_group bus named.Fb = nat_lt 0 bus.fb_ports
 has_group bus named.Lock = nat_lt 0 bus.gl_max || nat_lt 0 bus.ga_max
 
--- the greatest address of the bus's locomotives or accessories, 0 where it has none
+-- the greatest address of the bus's locomotives or accessories, 0 if it has none
 abbrev pub address_max : Bus → DeviceGroup → ℕ
 address_max bus devices.Gl = bus.gl_max
 address_max bus devices.Ga = bus.ga_max
@@ -76,11 +76,11 @@ address_max bus devices.Ga = bus.ga_max
 abbrev pub is_within : (least most : ℕ) → ℕ → Bool
 is_within least most number = nat_le least number && nat_le number most
 
--- n where the test passes, else none
+-- n if the test passes, else none
 abbrev pub rows_if : Bool → ℕ → ℕ
 rows_if test n = if test then n else 0
 
--- how many rows a device of this group and address has on the bus, 0 where there is no such device
+-- how many rows a device of this group and address has on the bus, 0 if there is no such device
 abbrev pub rows_on : Bus → Group → (address : ℕ) → ℕ
 rows_on bus Session address = rows_if (bus.number == 0 && is_within 1 4294967295 address) 1
 rows_on bus Power address = rows_if (bus.power && address == 0) 1
@@ -90,7 +90,7 @@ rows_on bus Fb address = rows_if (is_within 1 bus.fb_ports address) 1
 rows_on bus LockGl address = rows_if (is_within 1 bus.gl_max address) 1
 rows_on bus LockGa address = rows_if (is_within 1 bus.ga_max address) 1
 
--- how many rows the device has where it is there: its ports are below this number
+-- how many rows the device has if it is there: its ports are below this number
 abbrev pub row_count : List Bus → Device → ℕ
 row_count buses device = option_map_or (λ bus. rows_on bus device.group device.address) (bus_at buses device.bus) 0
 

@@ -86,7 +86,7 @@ impl Layout {
         }
     }
 
-    /// Adds a bus at its place.
+    /// Adds a bus, in the order of the numbers.
     ///
     /// # Errors
     /// Returns the first of these that holds, and then the layout stays as it is:
@@ -95,7 +95,7 @@ impl Layout {
     /// 3. memory is refused (`Memory`).
     pub fn add(&mut self, bus: Bus) -> Result<(), LayoutFault>
         ensures ok { OnOk result (self.new ≡ with_bus bus self.old) }
-        ensures taken { OnOk result (IsBus bus × (has_number self.old bus.number ≡ false)) }
+        ensures valid { OnOk result (IsBus bus × (has_number self.old bus.number ≡ false)) }
         ensures fault { IfErr result (IsFaultOf self.old bus) }
         ensures err { OnErr result (self.new ≡ self.old) }
     {
@@ -105,10 +105,10 @@ impl Layout {
         if self.bus(bus.number).is_some() {
             return Err(LayoutFault::Twice);
         }
-        let place = self
+        let index = self
             .buses
             .partition_point(|other| other.number < bus.number);
-        if self.buses.insert(place, bus).is_err() {
+        if self.buses.insert(index, bus).is_err() {
             return Err(LayoutFault::Memory);
         }
         Ok(())

@@ -5,7 +5,7 @@ ghost use Rattle.std.specs.Option.{ok_or};
 ghost use Rattle.srcp_info.specs.declared.change.Code.TheVariants.{C412 as WrongValue};
 ghost use Rattle.srcp_text.specs.Words.{number_of};
 ghost use Rattle.srcp_grammar.specs.Command.{IsCommandOf};
-ghost use Rattle.srcp_grammar.specs.Grammar.{commanded, directed, reads};
+ghost use Rattle.srcp_grammar.specs.Grammar.{parsed, directed, reads};
 ghost use Rattle.srcp_grammar.specs.Layout.{bus_at};
 
 use crate::buses::{bus_at, has_group};
@@ -35,7 +35,7 @@ fn parse_bus(buses: &[Bus], word: &[u8]) -> Result<Bus, Code>
 
 /// Reads the operation, the bus and the group, which has to be on it, and what the operation asks for.
 fn parse_words(buses: &[Bus], mut words: Words<'_>) -> Result<Command, Code>
-    ensures { result ≡ commanded buses.now words.entry }
+    ensures { result ≡ parsed buses.now words.entry }
 {
     let Some(first) = words.next() else {
         return Err(Code::UNKNOWN_COMMAND);
@@ -70,7 +70,7 @@ fn parse_words(buses: &[Bus], mut words: Words<'_>) -> Result<Command, Code>
 /// 5. 422 if the group is not on the bus;
 /// 6. 423 if the group does not have the operation;
 /// 7. 419 or 418 if words are missing or too many;
-/// 8. 412 or 420 for the first word that cannot stand at its place.
+/// 8. 412 or 420 for the first word that cannot stand where it does.
 pub fn parse_command(line: &[u8], layout: &Layout) -> Result<Command, Code>
     ensures reads { result ≡ reads layout.now line.now }
     ensures fits { IfOk result (IsCommandOf layout.now) }

@@ -2,7 +2,6 @@
 ghost use Rattle.std.specs.Prelude.{◌≡◌, ◌+◌, ◌<◌, ◌≤◌, length};
 ghost use Rattle.std.specs.List.{AllByRecursion};
 ghost use Rattle.srcp_index.specs.Earliest.{IsEarliestDue};
-ghost use Rattle.srcp_info.specs.WellFormed.{can_go};
 ghost use Rattle.srcp_index.specs.Indexed.{IsIndexed, removable_rows, may_rank};
 
 use crate::indexes::Indexes;
@@ -127,13 +126,6 @@ fn removable_rows(rows: &[Row]) -> usize
     ensures { result ≡ removable_rows rows.now }
 {
     rows.iter()
-        .filter(|row| can_go(row.shown.key.group))
+        .filter(|row| row.shown.key.group.can_go())
         .count()
-}
-
-/// Returns whether the devices of the group come and go.
-fn can_go(group: Group) -> bool
-    ensures { result ≡ can_go group }
-{
-    !matches!(group, Group::Power | Group::Fb)
 }

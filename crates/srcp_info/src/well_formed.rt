@@ -2,7 +2,7 @@
 
 ghost use Rattle.std.specs.Prelude.{◌≡◌, ◌≤◌, ◌↔◌, IsTrue};
 ghost use Rattle.std.specs.List.{list_all, slice_split};
-ghost use Rattle.srcp_info.specs.WellFormed.{IsBetween, IsAddress, IsSpeed, IsValueAt, IsWellFormed, can_go, is_lock};
+ghost use Rattle.srcp_info.specs.WellFormed.{IsBetween, IsAddress, IsSpeed, IsValueAt, IsWellFormed, is_lock};
 ghost use Rattle.srcp_info.specs.WellFormed.{is_space, is_text, is_text_byte, is_text_word};
 
 use crate::change::Change;
@@ -85,16 +85,6 @@ fn is_lock(group: Group) -> bool
     }
 }
 
-/// Returns whether the devices of the group come and go.
-fn can_go(group: Group) -> bool
-    ensures { result ≡ can_go group }
-{
-    match group {
-        Group::Power | Group::Fb => false,
-        Group::Session | Group::Gl | Group::Ga | Group::LockGl | Group::LockGa => true,
-    }
-}
-
 /// Returns whether a locomotive can have this speed. None is above the greatest, unless that is 0, and an emergency
 /// stop has speed 0.
 fn is_speed(mode: u32, v: u32, vmax: u32) -> bool
@@ -160,7 +150,7 @@ pub(crate) fn is_well_formed(change: Change) -> bool
                 && is_value_at(key.group, key.port, &shown.value)
         }
         Change::Gone { device, .. } => {
-            is_address(device.group, device.bus, device.address) && can_go(device.group)
+            is_address(device.group, device.bus, device.address) && device.group.can_go()
         }
     }
 }

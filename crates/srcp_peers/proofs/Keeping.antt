@@ -13,13 +13,14 @@ use Rattle.srcp_peers.specs.declared.readiness.Output.{Output}
 use Rattle.srcp_peers.specs.declared.readiness.Output.TheVariants as output
 use Rattle.srcp_peers.specs.declared.peer.Peer.{Peer}
 use Rattle.srcp_peers.specs.declared.stay.Stay.TheVariants as stay
-use Rattle.srcp_peers.specs.Steps.{Step, Tells, Reads, Shuts, Writes, Waits, Told}
-use Rattle.srcp_peers.specs.Steps.{refusal_told}
+use Rattle.srcp_peers.specs.Steps.{Step, Tells, Reads, Shuts, Writes, Waits, Answers}
+use Rattle.srcp_peers.specs.Steps.{refusal_of}
 use Rattle.srcp_serve.specs.Calls.{ReadCall}
 use Rattle.srcp_serve.specs.declared.door.DoorFault.{DoorFault}
 use Rattle.srcp_serve.specs.declared.door.Got.{Got}
 use Rattle.srcp_serve.specs.declared.door.Got.TheVariants as got
-use Rattle.srcp_peers.specs.Accounts.{Account, Sent, Received, account, account_step, told_step, is_at_rest, is_short, may_end, may_fail}
+use Rattle.srcp_peers.specs.Accounts.{Account, Sent, Received, account, account_step, answered_step, is_at_rest, is_short}
+use Rattle.srcp_peers.specs.Accounts.{may_end, may_fail}
 use Rattle.srcp_peers.specs.Accounts.{refused_read, refused_write, shut_down, untouched, waited, wrote, woken, woken_sent}
 use Rattle.srcp_peers.specs.Accounts.{woken_came}
 use Rattle.srcp_door.specs.Pacing.{line_after}
@@ -59,8 +60,8 @@ spares_after other old new step tells same later is =
     let t = tells later is in
     (t.0, t.1, ap (account other) t.2 ∙ account_more other t.0 step ∙ same (account other t.0))
 
-pub spares_none : (other : ℕ) (told : Option (List Step)) → Spares other told told
-spares_none other told later is = (later, is, refl)
+pub spares_none : (other : ℕ) (trace : Option (List Step)) → Spares other trace trace
+spares_none other trace later is = (later, is, refl)
 
 pub spares_then : (other : ℕ) (old mid new : Option (List Step)) → Spares other old mid → Spares other mid new → Spares other old new
 spares_then other old mid new first second later is =
@@ -114,19 +115,19 @@ refused_cut sent Fault = refl
 
 pub kept_refused : (old new : Option (List Step)) (p : Peer) (fault : ErrorKind) (asked : Bool) → p.output ≡ output.Open
     → Tells old (Writes p.number p.outgoing (Err fault)) new → IsKept old p
-    → IsKept new (record p { output = refused p.output (refusal_told fault); asked = asked })
+    → IsKept new (record p { output = refused p.output (refusal_of fault); asked = asked })
 kept_refused old new p fault asked is_open tells kept =
-    let q : Peer = record p { output = refused p.output (refusal_told fault); asked = asked } in
+    let q : Peer = record p { output = refused p.output (refusal_of fault); asked = asked } in
     kept_after old new (Writes p.number p.outgoing (Err fault)) p q tells refl
     (λ (a : Account) (h : Agrees a p). agrees_own (p.number == p.number) (record a { sent = wrote a.sent p.outgoing (Err fault) }) a q
     (own p.number) (record {
-      cut = refused_cut a.sent (refusal_told fault) ∙ h.cut;
+      cut = refused_cut a.sent (refusal_of fault) ∙ h.cut;
       reads = h.reads;
       stays = h.stays;
       rightly = h.rightly;
       unread = h.unread;
       served = h.served;
-      writes = subst (λ (s : Output). WritesAs (wrote a.sent p.outgoing (Err fault)) p.outgoing (refused s (refusal_told fault)))
+      writes = subst (λ (s : Output). WritesAs (wrote a.sent p.outgoing (Err fault)) p.outgoing (refused s (refusal_of fault)))
           (sym is_open)
           (unwritten_as a.sent p.outgoing fault (subst (WritesAs a.sent p.outgoing) is_open h.writes));
       line = h.line;
@@ -161,9 +162,9 @@ refused_handed received Fault = refl
 
 pub kept_missed : (old new : Option (List Step)) (p : Peer) (buffer : List ℕ) (fault : ErrorKind) → may_have p.input ≡ true
     → Tells old (Reads p.number buffer (Err fault)) new → IsKept old p
-    → IsKept new (record p { input = missed p.input (refusal_told fault) })
+    → IsKept new (record p { input = missed p.input (refusal_of fault) })
 kept_missed old new p buffer fault ready tells kept =
-    let q : Peer = record p { input = missed p.input (refusal_told fault) } in
+    let q : Peer = record p { input = missed p.input (refusal_of fault) } in
     kept_after old new (Reads p.number buffer (Err fault)) p q tells refl
     (λ (a : Account) (h : Agrees a p). agrees_own (p.number == p.number) _ a q (own p.number) (record {
       cut = h.cut;
@@ -173,7 +174,7 @@ kept_missed old new p buffer fault ready tells kept =
       rightly = h.rightly;
       unread = was_read a.watched;
       served = h.served;
-      line = h.line ∙ ap (line_after line.Ended) (sym (refused_handed a.received (refusal_told fault)));
+      line = h.line ∙ ap (line_after line.Ended) (sym (refused_handed a.received (refusal_of fault)));
       honest = h.honest;
       rested = h.rested;
     })) kept
@@ -190,12 +191,12 @@ pub spares_shut : (n other : ℕ) (old new : Option (List Step)) → other ≢ n
 spares_shut n other old new differ tells =
     spares_after other old new (Shuts n) tells (λ a. skips (n == other) (shut_down a) a (alien n other differ))
 
--- what a read of the door told
+-- what a read of the door answered
 got_agrees : (a : Account) (p : Peer) (answer : Result Got DoorFault) (buffer rest : List ℕ) (share : Share) (asked : Bool)
     → p.stay ≡ stay.Here → p.incoming ≡ got_bytes answer buffer ++ rest
     → share.line ≡ line_after p.share.line (got_bytes answer buffer)
     → (answer ≡ Ok got.Ended → MayEnd p) → OnErr answer (MayFail p) → Agrees a p
-    → Agrees (told_step p.number a (ReadCall p.number answer buffer)) (record p { incoming = rest; share = share; asked = asked })
+    → Agrees (answered_step p.number a (ReadCall p.number answer buffer)) (record p { incoming = rest; share = share; asked = asked })
 got_agrees a p (Ok (got.Bytes count)) buffer rest share asked here is lined ended failed h =
     let q : Peer = record p { incoming = rest; share = share; asked = asked } in
     let r = reads_here a.received p.incoming p.input p.stay here h.reads in
@@ -263,10 +264,10 @@ pub kept_got : (old new : Option (List Step)) (p q : Peer) (answer : Result Got 
     → p.incoming ≡ got_bytes answer buffer ++ q.incoming
     → q.share.line ≡ line_after p.share.line (got_bytes answer buffer)
     → (answer ≡ Ok got.Ended → MayEnd p) → OnErr answer (MayFail p)
-    → Tells old (Told (ReadCall p.number answer buffer)) new → IsKept old p → IsKept new q
+    → Tells old (Answers (ReadCall p.number answer buffer)) new → IsKept old p → IsKept new q
 kept_got old new p q answer buffer here same is lined ended failed tells kept =
     subst (IsKept new) (sym same)
-    (kept_after old new (Told (ReadCall p.number answer buffer)) p
+    (kept_after old new (Answers (ReadCall p.number answer buffer)) p
     (record p { incoming = q.incoming; share = q.share; asked = q.asked }) tells refl
     (λ (a : Account) (h : Agrees a p). got_agrees a p answer buffer q.incoming q.share q.asked here is lined ended failed h) kept)
 
@@ -326,7 +327,7 @@ pub or_so : (b c : Bool) → c ≡ true → (b || c) ≡ true
 or_so true c e = refl
 or_so false c e = e
 
--- a wait, long only where the peer rests
+-- a wait, long only if the peer rests
 pub kept_waited : (old new : Option (List Step)) (p : Peer) (most : Option ℕ) (count : ℕ) (ready : List Ready)
     → (is_short most ≡ false → is_resting p ≡ true)
     → Tells old (Waits most count ready) new → IsKept old p → IsKept new (fold after_wake p (take count ready))
@@ -350,24 +351,24 @@ kept_waited old new p most count ready rest tells kept =
 
 -- ---- the same, by the names that a function gives to the parts
 
-pub wrote_peer : (old new : Option (List Step)) (p : Peer) (count all : ℕ) (front left : List ℕ) (out : Output) (asked : Bool)
+pub wrote_peer : (old new : Option (List Step)) (p : Peer) (count all : ℕ) (held left : List ℕ) (out : Output) (asked : Bool)
     → p.output ≡ output.Open
-    → front ≡ p.outgoing → left ≡ drop count p.outgoing → all ≡ length p.outgoing → out ≡ output_after count all
-    → Tells old (Writes p.number front (Ok count)) new → IsKept old p
+    → held ≡ p.outgoing → left ≡ drop count p.outgoing → all ≡ length p.outgoing → out ≡ output_after count all
+    → Tells old (Writes p.number held (Ok count)) new → IsKept old p
     → IsKept new (record p { outgoing = left; output = out; asked = asked })
-wrote_peer old new p count all front left out asked is_open fronted lefted alled outed tells kept =
-    let told : Tells old (Writes p.number p.outgoing (Ok count)) new = subst
-    (λ (f : List ℕ). Tells old (Writes p.number f (Ok count)) new) fronted tells in
-    let k = kept_write old new p count asked is_open told kept in
+wrote_peer old new p count all held left out asked is_open is_held lefted alled outed tells kept =
+    let writes : Tells old (Writes p.number p.outgoing (Ok count)) new = subst
+    (λ (f : List ℕ). Tells old (Writes p.number f (Ok count)) new) is_held tells in
+    let k = kept_write old new p count asked is_open writes kept in
     subst (λ (o : Output). IsKept new (record p { outgoing = left; output = o; asked = asked })) (sym
     (outed ∙ ap (output_after count) alled))
     (subst (λ (l : List ℕ). IsKept new (record p { outgoing = l; output = output_after count (length p.outgoing); asked = asked }))
     (sym lefted) k)
 
 -- a call about one socket spares the others
-told_other : (n other : ℕ) (a : Account) (answer : Result Got DoorFault) (buffer : List ℕ) → other ≢ n → told_step other a
+answered_other : (n other : ℕ) (a : Account) (answer : Result Got DoorFault) (buffer : List ℕ) → other ≢ n → answered_step other a
     (ReadCall n answer buffer) ≡ a
-told_other n other a (Ok (got.Bytes count)) buffer differ = skips (n == other) _ a (alien n other differ)
-told_other n other a (Ok got.Nothing) buffer differ = refl
-told_other n other a (Ok got.Ended) buffer differ = skips (n == other) _ a (alien n other differ)
-told_other n other a (Err fault) buffer differ = skips (n == other) _ a (alien n other differ)
+answered_other n other a (Ok (got.Bytes count)) buffer differ = skips (n == other) _ a (alien n other differ)
+answered_other n other a (Ok got.Nothing) buffer differ = refl
+answered_other n other a (Ok got.Ended) buffer differ = skips (n == other) _ a (alien n other differ)
+answered_other n other a (Err fault) buffer differ = skips (n == other) _ a (alien n other differ)

@@ -6,6 +6,6 @@ pub mod Staying
 pub mod Saying
 pub mod Keeping
 pub mod Lists
-pub mod Tellings
+pub mod AccountStreams
 pub mod Lined
 pub mod Offering

@@ -11,11 +11,11 @@ use Rattle.srcp_serve.specs.declared.door.Got.{Got}
 use Rattle.srcp_serve.specs.declared.door.Got.TheVariants as got
 use Rattle.srcp_serve.specs.Calls.{ExpectCall, NowCall, AcceptCall, ReadCall, WriteCall, CloseCall}
 use Rattle.srcp_peers.specs.Accounts.{account}
-use Rattle.srcp_peers.specs.Steps.{Accepts, Clocks, Closes, Reads, Shuts, Step, Told, Waits, Writes}
+use Rattle.srcp_peers.specs.Steps.{Accepts, Clocks, Closes, Reads, Shuts, Step, Answers, Waits, Writes}
 use Rattle.srcp_peers.specs.Streams.{handed_in}
-use Rattle.srcp_peers.specs.Times.{Times, first_times, times, times_step, told_moment}
+use Rattle.srcp_peers.specs.Times.{Times, first_times, times, times_step, answered_moment}
 use Rattle.srcp_peers.specs.Turns.{got_bytes}
-use Rattle.srcp_peers.proofs.Tellings.{by_calls, handed_is, in_call}
+use Rattle.srcp_peers.proofs.AccountStreams.{by_calls, handed_is, in_call}
 
 -- ---- a line after more bytes
 
@@ -57,7 +57,7 @@ none_line : (b : Bool) (l : Line) → (if b then line_after l [] else l) ≡ l
 none_line true l = refl
 none_line false l = refl
 
-moment_lines : (socket : ℕ) (t : Times) (answer : Result ℕ DoorFault) → (told_moment t answer).lines socket ≡ t.lines socket
+moment_lines : (socket : ℕ) (t : Times) (answer : Result ℕ DoorFault) → (answered_moment t answer).lines socket ≡ t.lines socket
 moment_lines socket t (Ok moment) = refl
 moment_lines socket t (Err fault) = refl
 
@@ -71,16 +71,17 @@ line_step socket t (Closes who) = refl
 line_step socket t (Waits most count ready) = refl
 line_step socket t (Clocks (Some time)) = refl
 line_step socket t (Clocks None) = refl
-line_step socket t (Told (ExpectCall due slack)) = refl
-line_step socket t (Told (NowCall answer)) = moment_lines socket t answer
-line_step socket t (Told (AcceptCall answer)) = refl
-line_step socket t (Told (ReadCall who (Ok (got.Bytes count)) buffer)) = read_line (who == socket) (t.lines socket) (Ok (got.Bytes count))
+line_step socket t (Answers (ExpectCall due slack)) = refl
+line_step socket t (Answers (NowCall answer)) = moment_lines socket t answer
+line_step socket t (Answers (AcceptCall answer)) = refl
+line_step socket t (Answers (ReadCall who (Ok (got.Bytes count)) buffer)) =
+    read_line (who == socket) (t.lines socket) (Ok (got.Bytes count))
     buffer
-line_step socket t (Told (ReadCall who (Ok got.Nothing) buffer)) = none_line (who == socket) (t.lines socket)
-line_step socket t (Told (ReadCall who (Ok got.Ended) buffer)) = none_line (who == socket) (t.lines socket)
-line_step socket t (Told (ReadCall who (Err fault) buffer)) = none_line (who == socket) (t.lines socket)
-line_step socket t (Told (WriteCall who bytes answer)) = refl
-line_step socket t (Told (CloseCall who answer)) = refl
+line_step socket t (Answers (ReadCall who (Ok got.Nothing) buffer)) = none_line (who == socket) (t.lines socket)
+line_step socket t (Answers (ReadCall who (Ok got.Ended) buffer)) = none_line (who == socket) (t.lines socket)
+line_step socket t (Answers (ReadCall who (Err fault) buffer)) = none_line (who == socket) (t.lines socket)
+line_step socket t (Answers (WriteCall who bytes answer)) = refl
+line_step socket t (Answers (CloseCall who answer)) = refl
 
 lines_of : (socket : ℕ) (t : Times) (log : List Step)
     → (fold times_step t log).lines socket ≡ line_after (t.lines socket) (flat_map (in_call (handed_in socket)) log)

@@ -14,13 +14,13 @@ use Rattle.srcp_peers.specs.AllPeers.{AreApart, AreKept, AreThose, AreWithin, Is
 use Rattle.srcp_peers.proofs.Keeping.{alien, all_number, kept_after, kept_waited, skips}
 use Rattle.srcp_peers.proofs.Staying.{clocked_agrees}
 
--- a peer of which nothing is told stays what its account says
+-- a peer of which no step says anything stays what its account says
 pub kept_spared : (old new : Option (List Step)) (p : Peer) → Spares p.number old new → IsKept old p → IsKept new p
 kept_spared old new p spares kept later is =
     let s = spares later is in
     subst (λ (a : Account). Agrees a p) (sym s.2) (kept s.0 s.1)
 
--- all peers, after a step that changed one of them and told nothing of the others
+-- all peers, after a step that changed one of them and says nothing of the others
 pub set_kept : (old new : Option (List Step)) (peers : List Peer) (i : ℕ) (p q : Peer) → i < length peers
     → AreApart peers → AreKept old peers → IsKept new q
     → ((other : ℕ) → other ≢ (get_or peers i p).number → Spares other old new) → AreKept new (set peers i q)
@@ -35,7 +35,7 @@ set_kept old new peers i p q within apart kept after spares k d lt =
     (kept_spared old new (get_or peers k d) (spares (get_or peers k d).number differ) (kept k d low)))
     (cases_eq k i)
 
--- the sockets stay apart where the one keeps its number
+-- the sockets stay apart if the one keeps its number
 pub set_apart : (peers : List Peer) (i : ℕ) (p q : Peer) → i < length peers → q.number ≡ (get_or peers i p).number
     → AreApart peers → AreApart (set peers i q)
 set_apart peers i p q within same apart j k d lj lk differ e =
@@ -50,7 +50,7 @@ set_apart peers i p q within same apart j k d lj lk differ e =
         (λ (ne : n ≡ i → ⊥). ap (λ (x : Peer). x.number) (get_or-set_other peers i n q d ne))
         (cases_eq n i)
 
--- the same peers, where one keeps its number
+-- the same peers, if one keeps its number
 pub set_those : (first peers : List Peer) (i : ℕ) (p q : Peer) → i < length peers → length peers ≡ length first
     → q.number ≡ (get_or peers i p).number → AreThose first peers → AreThose first (set peers i q)
 set_those first peers i p q within long same those k d lt = numbers k (omega (arith, long)) ∙ those k d lt
@@ -162,7 +162,7 @@ pub woken_apart : (before after : List Peer) (ready : List Ready) → length aft
 woken_apart before after ready long woken apart = apart_later before after long
     (λ k d lt. ap (λ (x : Peer). x.number) (woken k d lt) ∙ all_number (slice_index_or before k d) ready) apart
 
--- all peers after a wait, which is long only where all rest
+-- all peers after a wait, which is long only if all rest
 pub waited_all : (old new : Option (List Step)) (peers later : List Peer) (most : Option ℕ) (count : ℕ) (ready : List Ready)
     → (is_short most ≡ false → All (λ peer. is_resting peer ≡ true) peers) → Tells old (Waits most count ready) new
     → length later ≡ length peers

@@ -113,6 +113,6 @@ pub offered_first : (turns : ℕ) (what : Flush) (before peers : List Peer) (fir
     → AreOffered what peers old new → AreOffered what before first new
 offered_first turns what before peers first old new same earlier says here = ⊎_elim
     (λ (e : turns ≡ 0). subst (λ (ps : List Peer). AreOffered what ps first new) (same e).0
-    (subst (λ (told : Option (List Step)). AreOffered what peers told new) (same e).1 here))
+    (subst (λ (trace : Option (List Step)). AreOffered what peers trace new) (same e).1 here))
     (λ (ne : turns ≡ 0 → ⊥). all_offered_then what before first old new (earlier (omega (arith, ne))) says)
     (cases_eq turns 0)

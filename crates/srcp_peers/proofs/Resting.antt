@@ -13,12 +13,12 @@ use Rattle.srcp_peers.specs.declared.stay.Stay.{Stay}
 use Rattle.srcp_peers.specs.declared.stay.Stay.TheVariants as stay
 use Rattle.srcp_peers.specs.Peers.{Agrees, ComesAs, ReadsAs, WritesAs, has_rest, is_here, is_resting, rests_reading, rests_writing}
 
--- more is longer where it is not nothing
-longer : (front all n : ℕ) → all ≡ front + n → nat_lt front all ≡ not (n == 0)
-longer front all n is = grind (arith, nat_tests)
+-- more is longer if it is not nothing
+longer : (prefix all n : ℕ) → all ≡ prefix + n → nat_lt prefix all ≡ not (n == 0)
+longer prefix all n is = grind (arith, nat_tests)
 
-as_long : (front all n most : ℕ) → all ≡ front + n → (front + most == all) ≡ (n == most)
-as_long front all n most is = grind (arith, nat_tests)
+as_long : (prefix all n most : ℕ) → all ≡ prefix + n → (prefix + most == all) ≡ (n == most)
+as_long prefix all n most is = grind (arith, nat_tests)
 
 pub owed_is : (sent : Sent) (outgoing : List ℕ) → sent.written ≡ sent.took ++ outgoing → is_owed sent ≡ not (length outgoing == 0)
 owed_is sent outgoing is = longer (length sent.took) (length sent.written) (length outgoing)
@@ -55,7 +55,7 @@ silent_ended : (held quiet ended failed owed : Bool) → held ≡ false → ende
 silent_ended held true ended failed owed h e o = rw (h, e, o) refl
 silent_ended held false ended failed owed h e o = rw (h, e, o) refl
 
--- nothing is to be handed out or told of it
+-- nothing is to be handed out or reported of it
 silent_as : (received : Received) (incoming outgoing : List ℕ) (state : Input) (owed : Bool) → owed ≡ not (length outgoing == 0)
     → ReadsAs received incoming state → ((length incoming == 0) && rests_reading outgoing state) ≡ true → is_silent received owed ≡ true
 silent_as received incoming outgoing state owed o h r =

@@ -2,14 +2,14 @@
 use Rattle.std.proofs.Common.{◌≡◌, ◌∙◌, List, [], ◌∷◌, ◌++◌}
 use Rattle.std.proofs.Common.{Option, Some, None, ℕ, refl, ap, sym, append-nil, append_assoc}
 use Rattle.std.proofs.lemmas.List.Elements.{filter_map-append}
-use Rattle.srcp_peers.specs.Steps.{Step, SaysNothing, SaysOne, Tells, Accepts, Clocks, Closes, Reads, Shuts, Writes, Waits, Told, calls}
+use Rattle.srcp_peers.specs.Steps.{Step, SaysNothing, SaysOne, Tells, Accepts, Clocks, Closes, Reads, Shuts, Writes, Waits, Answers, calls}
 use Rattle.srcp_peers.specs.Steps.{call_of}
 use Rattle.srcp_serve.specs.Calls.{Call}
 use Rattle.std.proofs.lemmas.List.Sums.{fold-append}
 use Rattle.srcp_peers.specs.Times.{KeepsTimes, Times, first_times, times, times_step}
 
-pub says_none : (told : Option (List Step)) → SaysNothing told told
-says_none told later is = (later, [], is, sym (append-nil later), refl)
+pub says_none : (trace : Option (List Step)) → SaysNothing trace trace
+says_none trace later is = (later, [], is, sym (append-nil later), refl)
 
 pub says_then : (old mid new : Option (List Step)) → SaysNothing old mid → SaysNothing mid new → SaysNothing old new
 says_then old mid new first second later is =
@@ -22,7 +22,7 @@ says_then old mid new first second later is =
       filter_map-append call_of f.1 s.1 ∙ ap (λ (cs : List Call). cs ++ calls s.1) f.4 ∙ s.4,
     )
 
--- the calls of the door are those that were told
+-- the calls of the door stay the same
 pub calls_stay : (old new : Option (List Step)) → SaysNothing old new → (later : List Step) → new ≡ Some later
     → (log : List Step) × (old ≡ Some log) × (calls later ≡ calls log)
 calls_stay old new says later is =
@@ -41,7 +41,7 @@ one_silent (Waits most count ready) e = refl
 one_silent (Shuts n) e = refl
 one_silent (Closes n) e = refl
 one_silent (Clocks answer) e = refl
-one_silent (Told call) e = cc
+one_silent (Answers call) e = cc
 
 pub says_step : (old new : Option (List Step)) (step : Step) → Tells old step new → call_of step ≡ None → SaysNothing old new
 says_step old new step tells none later is =
@@ -49,10 +49,10 @@ says_step old new step tells none later is =
     (t.0, step ∷ [], t.1, t.2, one_silent step none)
 
 -- one call of the door
-pub says_call : (old new : Option (List Step)) (call : Call) → Tells old (Told call) new → SaysOne old call new
+pub says_call : (old new : Option (List Step)) (call : Call) → Tells old (Answers call) new → SaysOne old call new
 says_call old new call tells later is =
     let t = tells later is in
-    (t.0, t.1, ap calls t.2 ∙ filter_map-append call_of t.0 (Told call ∷ []))
+    (t.0, t.1, ap calls t.2 ∙ filter_map-append call_of t.0 (Answers call ∷ []))
 
 pub says_after : (old mid new : Option (List Step)) (call : Call) → SaysNothing old mid → SaysOne mid call new → SaysOne old call new
 says_after old mid new call first second later is =
@@ -66,8 +66,8 @@ pub times_more : (wall start : ℕ) (log : List Step) (step : Step)
     → times wall start (log ++ step ∷ []) ≡ times_step (times wall start log) step
 times_more wall start log step = fold-append times_step (first_times wall start) log (step ∷ [])
 
-pub keeps_none : (told : Option (List Step)) → KeepsTimes told told
-keeps_none told later is = (later, is, λ wall start. refl)
+pub keeps_none : (trace : Option (List Step)) → KeepsTimes trace trace
+keeps_none trace later is = (later, is, λ wall start. refl)
 
 pub keeps_then : (old mid new : Option (List Step)) → KeepsTimes old mid → KeepsTimes mid new → KeepsTimes old new
 keeps_then old mid new first second later is =

@@ -12,7 +12,7 @@ use Rattle.srcp_peers.specs.declared.readiness.Input.{Input}
 use Rattle.srcp_peers.specs.declared.readiness.Input.TheVariants as input
 use Rattle.srcp_peers.specs.declared.readiness.Output.{Output}
 use Rattle.srcp_peers.specs.declared.readiness.Output.TheVariants as output
-use Rattle.srcp_peers.specs.Steps.{refusal_told}
+use Rattle.srcp_peers.specs.Steps.{refusal_of}
 use Rattle.srcp_peers.specs.declared.stay.Stay.{Stay}
 use Rattle.srcp_peers.specs.declared.stay.Stay.TheVariants as stay
 use Rattle.srcp_peers.specs.Accounts.{Sent, Received, wrote, refused_write, read_in, refused_read, woken_sent, woken_came}
@@ -21,16 +21,16 @@ use Rattle.srcp_peers.specs.Peers.{woken_input, woken_output}
 
 -- ---- the output
 
--- a list starts with its front
-pub starts : (all front back : List ℕ) → all ≡ front ++ back → StartsWith all front
-starts all front back is = ap (take (length front)) is ∙ take-append_seam front back
+-- a list starts with its prefix
+pub starts : (all prefix back : List ℕ) → all ≡ prefix ++ back → StartsWith all prefix
+starts all prefix back is = ap (take (length prefix)) is ∙ take-append_seam prefix back
 
 -- and with what it started with, after more
-pub starts_on : (all front more : List ℕ) → StartsWith all front → StartsWith (all ++ more) front
-starts_on all front more h =
-    let long : length (take (length front) all) ≡ length front = ap length h in
-    let few : length front ≤ length all = omega (arith, long, length-take (length front) all) in
-    take-append-le (length front) all more few ∙ h
+pub starts_on : (all prefix more : List ℕ) → StartsWith all prefix → StartsWith (all ++ more) prefix
+starts_on all prefix more h =
+    let long : length (take (length prefix) all) ≡ length prefix = ap length h in
+    let few : length prefix ≤ length all = omega (arith, long, length-take (length prefix) all) in
+    take-append-le (length prefix) all more few ∙ h
 
 -- what was taken and what is left is together what it was
 parted : (sent : Sent) (outgoing : List ℕ) (count : ℕ) → sent.written ≡ sent.took ++ outgoing
@@ -52,7 +52,7 @@ refused_as sent outgoing Later h = (h.0, h.1, refl)
 refused_as sent outgoing Again h = h
 refused_as sent outgoing Fault h = (starts sent.written sent.took outgoing h.0, refl)
 
--- what the door told to have taken
+-- what the door said it took
 pub written_as : (sent : Sent) (outgoing bytes : List ℕ) (state : Output) → WritesAs sent outgoing state
     → WritesAs (record sent { written = sent.written ++ bytes }) (queued_more state outgoing bytes) state
 written_as sent outgoing bytes output.Open h = (ap (λ w. w ++ bytes) h.0 ∙ append_assoc sent.took outgoing bytes, h.1)
@@ -65,8 +65,8 @@ pub wrote_as : (sent : Sent) (outgoing : List ℕ) (count : ℕ) → WritesAs se
 wrote_as sent outgoing count h = taken_as sent outgoing count (count == 0) (nat_lt count (length outgoing)) h
 
 pub unwritten_as : (sent : Sent) (outgoing : List ℕ) (fault : ErrorKind) → WritesAs sent outgoing output.Open
-    → WritesAs (wrote sent outgoing (Err fault)) outgoing (refused output.Open (refusal_told fault))
-unwritten_as sent outgoing fault h = refused_as sent outgoing (refusal_told fault) h
+    → WritesAs (wrote sent outgoing (Err fault)) outgoing (refused output.Open (refusal_of fault))
+unwritten_as sent outgoing fault h = refused_as sent outgoing (refusal_of fault) h
 
 -- its socket was found ready
 pub woken_writes : (sent : Sent) (outgoing : List ℕ) (state : Output) (writable : Bool) → WritesAs sent outgoing state
@@ -126,8 +126,8 @@ read_as received incoming buffer count state e h = given_as received incoming (t
 
 pub unread_as : (received : Received) (incoming buffer : List ℕ) (fault : ErrorKind) (state : Input) → may_have state ≡ true
     → ReadsAs received incoming state
-    → ReadsAs (read_in received buffer (Err fault)) incoming (missed state (refusal_told fault))
-unread_as received incoming buffer fault state e h = missed_as received incoming state (refusal_told fault) e h
+    → ReadsAs (read_in received buffer (Err fault)) incoming (missed state (refusal_of fault))
+unread_as received incoming buffer fault state e h = missed_as received incoming state (refusal_of fault) e h
 
 -- bytes were handed out
 handed_more : (received : Received) (bytes rest : List ℕ) → received.gave ≡ received.handed ++ (bytes ++ rest)
@@ -180,10 +180,10 @@ refused_starts received Fault h = h
 
 pub unread_comes : (received : Received) (incoming buffer : List ℕ) (fault : ErrorKind) (state : Input) (here : Stay)
     → may_have state ≡ true → ComesAs received incoming state here
-    → ComesAs (read_in received buffer (Err fault)) incoming (missed state (refusal_told fault)) here
+    → ComesAs (read_in received buffer (Err fault)) incoming (missed state (refusal_of fault)) here
 unread_comes received incoming buffer fault state stay.Here e h = unread_as received incoming buffer fault state e h
-unread_comes received incoming buffer fault state (stay.Draining since) e h = refused_starts received (refusal_told fault) h
-unread_comes received incoming buffer fault state (stay.Shut since) e h = refused_starts received (refusal_told fault) h
+unread_comes received incoming buffer fault state (stay.Draining since) e h = refused_starts received (refusal_of fault) h
+unread_comes received incoming buffer fault state (stay.Shut since) e h = refused_starts received (refusal_of fault) h
 
 pub woken_comes : (received : Received) (incoming : List ℕ) (state : Input) (here : Stay) (readable closed : Bool)
     → ComesAs received incoming state here

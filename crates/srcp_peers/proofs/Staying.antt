@@ -12,7 +12,7 @@ use Rattle.srcp_peers.specs.declared.readiness.Output.TheVariants as output
 use Rattle.srcp_peers.specs.declared.stay.Stay.{Stay}
 use Rattle.srcp_peers.specs.declared.stay.Stay.TheVariants as stay
 use Rattle.srcp_peers.specs.Accounts.{Account, Lingering, Received, Sent, account, clocked, clock_after}
-use Rattle.srcp_peers.specs.Accounts.{is_held, is_overdue, is_owed, let_go}
+use Rattle.srcp_peers.specs.Accounts.{is_held, is_overdue, is_owed, left_by_core}
 use Rattle.srcp_peers.specs.Accounts.{may_close, may_end, may_fail, shut_down}
 use Rattle.srcp_peers.specs.Peers.{Agrees, ComesAs, IsKept, MayFail, ReadsAs, StaysAs, WritesAs, closable_as, is_closable, is_here, is_lost}
 use Rattle.srcp_peers.proofs.Resting.{held_is, owed_is}
@@ -59,9 +59,9 @@ clocked_agrees a p answer h = record {
 
 -- ---- the core closes it
 
-pub let_go_agrees : (a : Account) (p : Peer) (since : ℕ) → p.stay ≡ stay.Here → a.lingering.clock ≡ since → Agrees a p
-    → Agrees (let_go a) (record p { stay = stay.Draining since })
-let_go_agrees a p since here clock h =
+pub left_agrees : (a : Account) (p : Peer) (since : ℕ) → p.stay ≡ stay.Here → a.lingering.clock ≡ since → Agrees a p
+    → Agrees (left_by_core a) (record p { stay = stay.Draining since })
+left_agrees a p since here clock h =
     let s : StaysAs a.watched a.lingering p.outgoing stay.Here = subst (StaysAs a.watched a.lingering p.outgoing) here h.stays in
     record {
       reads = comes_starts a.received p.incoming p.input p.stay h.reads;
@@ -83,7 +83,7 @@ stays_gone a outgoing stay.Here e h = absurd (true≢false e)
 stays_gone a outgoing (stay.Draining since) e h = (refl, h.1, ap (λ w. cond w a.lingering.clock a.lingering.since) h.0 ∙ h.2, h.3)
 stays_gone a outgoing (stay.Shut since) e h = (refl, h.1, ap (λ w. cond w a.lingering.clock a.lingering.since) h.0 ∙ h.2, h.3, h.4)
 
-pub gone_agrees : (a : Account) (p : Peer) → is_here p.stay ≡ false → Agrees a p → Agrees (let_go a) p
+pub gone_agrees : (a : Account) (p : Peer) → is_here p.stay ≡ false → Agrees a p → Agrees (left_by_core a) p
 gone_agrees a p gone h = record {
   reads = h.reads;
   writes = h.writes;
@@ -104,9 +104,9 @@ dropped_as received incoming state stay.Here e h = absurd (true≢false e)
 dropped_as received incoming state (stay.Draining since) e h = h
 dropped_as received incoming state (stay.Shut since) e h = h
 
-pub kept_dropped : (told : Option (List Step)) (p : Peer) → is_here p.stay ≡ false → IsKept told p
-    → IsKept told (record p { incoming = [] })
-kept_dropped told p gone kept log is =
+pub kept_dropped : (trace : Option (List Step)) (p : Peer) → is_here p.stay ≡ false → IsKept trace p
+    → IsKept trace (record p { incoming = [] })
+kept_dropped trace p gone kept log is =
     let h = kept log is in
     record {
       reads = dropped_as (account p.number log).received p.incoming p.input p.stay gone h.reads;
@@ -123,7 +123,7 @@ kept_dropped told p gone kept log is =
 
 -- ---- it is shut down
 
--- nothing is owed where nothing is queued, but to a socket that takes no more
+-- nothing is owed if nothing is queued, but to a socket that takes no more
 owed_none : (sent : Sent) (outgoing : List ℕ) (state : Output) → is_lost state ≡ false → outgoing ≡ [] → WritesAs sent outgoing state
     → is_owed sent ≡ false
 owed_none sent outgoing output.Open e none h = owed_is sent outgoing h.0 ∙ ap (λ (o : List ℕ). not (length o == 0)) none
@@ -133,7 +133,7 @@ owed_none sent outgoing output.Lost e none h = absurd (true≢false e)
 ends : (ended held owed : Bool) → ended ≡ true → held ≡ false → owed ≡ false → (ended && (not held && not owed)) ≡ true
 ends ended held owed e h o = rw (e, h, o) refl
 
--- its end may be told
+-- its end may be reported
 pub may_end_then : (a : Account) (incoming outgoing : List ℕ) (state : Output) → a.received.gave ≡ a.received.handed ++ incoming
     → a.received.ended ≡ true → incoming ≡ [] → outgoing ≡ [] → is_lost state ≡ false → WritesAs a.sent outgoing state
     → may_end a ≡ true
@@ -219,7 +219,7 @@ pub may_close_then : (a : Account) (p : Peer) (clock : ℕ) → a.lingering.cloc
     → (may_close a ≡ true) × (a.watched ≡ false)
 may_close_then a p clock is e h = closable_then a p.outgoing p.output p.stay clock is e h.writes h.stays
 
--- ---- it is told to be lost
+-- ---- it is reported as lost
 
 fails_read : (gone failed lost : Bool) → failed ≡ true → (gone || (failed || lost)) ≡ true
 fails_read true failed lost e = refl
@@ -230,7 +230,7 @@ fails_write true failed lost e = refl
 fails_write false true lost e = refl
 fails_write false false lost e = e
 
--- a peer that may be told to be lost may be so by its account
+-- a peer that may be reported as lost may be so by its account
 pub may_fail_then : (a : Account) (p : Peer) → p.stay ≡ stay.Here → MayFail p → Agrees a p → may_fail a ≡ true
 may_fail_then a p here failed h = ⊎_elim
     (λ (e : p.input ≡ input.Failed).

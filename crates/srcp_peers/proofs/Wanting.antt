@@ -20,15 +20,15 @@ pub was_read : (watched : Bool) {X : Type 0} → (watched && false) ≡ true →
 was_read true e = absurd (true≢false (sym e))
 was_read false e = absurd (true≢false (sym e))
 
-fewer : (all front back : ℕ) → all ≡ front + back → nat_lt all 256 ≡ true → nat_lt back 256 ≡ true
-fewer all front back is e = grind (arith, nat_tests)
+fewer : (all prefix back : ℕ) → all ≡ prefix + back → nat_lt all 256 ≡ true → nat_lt back 256 ≡ true
+fewer all prefix back is e = grind (arith, nat_tests)
 
 -- some of what is held is handed out
-pub wants_less : (state : Input) (all front back : List ℕ) → all ≡ front ++ back → is_wanting state all ≡ true
+pub wants_less : (state : Input) (all prefix back : List ℕ) → all ≡ prefix ++ back → is_wanting state all ≡ true
     → is_wanting state back ≡ true
-wants_less state all front back is e = both (may_have state) (nat_lt (length back) 256)
+wants_less state all prefix back is e = both (may_have state) (nat_lt (length back) 256)
     (and_left (may_have state) (nat_lt (length all) 256) e)
-    (fewer (length all) (length front) (length back) (ap length is ∙ length-append front back)
+    (fewer (length all) (length prefix) (length back) (ap length is ∙ length-append prefix back)
     (and_right (may_have state) (nat_lt (length all) 256) e))
 
 -- its socket was found ready
@@ -42,8 +42,8 @@ wants_woken input.Ended incoming readable closed e = absurd (true≢false (sym e
 wants_woken input.Failed incoming readable closed e = absurd (true≢false (sym e))
 
 -- a wait is over
-shorter : (front all n : ℕ) → all ≡ front + n → nat_lt all (front + 256) ≡ nat_lt n 256
-shorter front all n is = grind (arith, nat_tests)
+shorter : (prefix all n : ℕ) → all ≡ prefix + n → nat_lt all (prefix + 256) ≡ nat_lt n 256
+shorter prefix all n is = grind (arith, nat_tests)
 
 held_less : (received : Received) (incoming : List ℕ) → received.gave ≡ received.handed ++ incoming → is_wanted received ≡ true
     → nat_lt (length incoming) 256 ≡ true

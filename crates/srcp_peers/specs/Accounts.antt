@@ -5,13 +5,13 @@ use Rattle.std.specs.declared.io.ErrorKind.{ErrorKind}
 use Rattle.srcp_peers.specs.declared.system.Ready.{Ready}
 use Rattle.srcp_peers.specs.declared.system.Refusal.{Refusal}
 use Rattle.srcp_peers.specs.declared.system.Refusal.TheVariants.{Later, Again, Fault}
-use Rattle.srcp_peers.specs.Steps.{Step, Accepts, Clocks, Closes, Reads, Shuts, Writes, Waits, Told, refusal_told}
+use Rattle.srcp_peers.specs.Steps.{Step, Accepts, Clocks, Closes, Reads, Shuts, Writes, Waits, Answers, refusal_of}
 use Rattle.srcp_serve.specs.Calls.{Call, ExpectCall, NowCall, AcceptCall, ReadCall, WriteCall, CloseCall}
 use Rattle.srcp_serve.specs.declared.door.Got.TheVariants as got
 
 -- what was sent to it
 pub record Sent : Type 0 where
-  pub written : List ℕ  -- what the door told to have taken for it
+  pub written : List ℕ  -- what the door said it took for it
   pub took : List ℕ  -- what the socket took
   pub full : Bool  -- a write was cut, and since then it was not found ready for more
   pub lost : Bool  -- a write found that it takes no more
@@ -31,7 +31,7 @@ pub record Lingering : Type 0 where
   pub clock : ℕ  -- what the monotonic clock showed last, in milliseconds; 0 until it is read
   pub since : ℕ  -- what it showed when the core closed it
   pub kept : Bool  -- it was accepted, and was not closed
-  pub shut : Bool  -- it was told that nothing more is written to it
+  pub shut : Bool  -- its writing side was shut down
   pub rightly : Bool  -- it was shut down and closed only when it might be
 
 pub record Account : Type 0 where
@@ -39,9 +39,9 @@ pub record Account : Type 0 where
   pub received : Received
   pub lingering : Lingering
   pub watched : Bool  -- it was accepted, and the core did not close it
-  pub honest : Bool  -- its end, and that it is lost, was told only when it might be
+  pub honest : Bool  -- its end, or that it is lost, was reported only when it might be
   pub unread : Bool  -- a read might find something when a wait was over, with less than a piece held, and none was made
-  pub served : Bool  -- no moment was told while it was there and unread
+  pub served : Bool  -- no moment was reported while it was there and unread
   pub rested : Bool  -- each long wait found it at rest
 
 -- nothing happened to it
@@ -71,7 +71,7 @@ is_full sent = length sent.took + 40960 == length sent.written
 abbrev pub is_held : Received → Bool
 is_held received = nat_lt (length received.handed) (length received.gave)
 
--- nothing is to be handed out or told of it, and its socket has none: its end is told once all is taken
+-- nothing is to be handed out or reported of it, and its socket has none: its end is reported once all is taken
 abbrev pub is_silent : Received → (owed : Bool) → Bool
 is_silent received owed = not (is_held received) && ((received.quiet && (not received.ended && not received.failed))
     || (received.ended && owed))
@@ -83,11 +83,11 @@ abbrev pub is_at_rest : Sent → Received → Bool
 is_at_rest sent received = not sent.lost && ((not (is_owed sent) || sent.full) && cond sent.cut (is_full sent)
     (is_silent received (is_owed sent)))
 
--- its end may be told: a read found it, all that came was handed out, and its socket took all that was taken for it
+-- its end may be reported: a read found it, all that came was handed out, and its socket took all that was taken for it
 abbrev pub may_end : Account → Bool
 may_end a = a.received.ended && (not (is_held a.received) && not (is_owed a.sent))
 
--- a read of it may be told to have failed: a read or a write of its socket failed, or it is not there
+-- a read of it may be reported as failed: a read or a write of its socket failed, or it is not there
 abbrev pub may_fail : Account → Bool
 may_fail a = not a.watched || (a.received.failed || a.sent.lost)
 
@@ -128,7 +128,7 @@ wrote sent bytes (Ok count) = record sent {
   full = nat_lt count (length bytes);
   lost = sent.lost || (count == 0);
 }
-wrote sent bytes (Err fault) = refused_write sent (refusal_told fault)
+wrote sent bytes (Err fault) = refused_write sent (refusal_of fault)
 
 abbrev pub refused_read : Received → Refusal → Received
 refused_read received Later = record received { quiet = true; draining = false }
@@ -141,7 +141,7 @@ read_in received buffer (Ok count) = record received {
   quiet = not received.draining && nat_lt count (length buffer);
   ended = received.ended || (count == 0);
 }
-read_in received buffer (Err fault) = refused_read received (refusal_told fault)
+read_in received buffer (Err fault) = refused_read received (refusal_of fault)
 
 abbrev pub read_of : Account → List ℕ → Result ℕ ErrorKind → Account
 read_of a buffer answer = record a { received = read_in a.received buffer answer; unread = false }
@@ -176,7 +176,7 @@ is_wanted received = (not received.quiet && (not received.ended && not received.
 abbrev pub noted : Account → Account
 noted a = record a { unread = is_wanted a.received }
 
--- a newcomer is accepted: its socket may have something and take something
+-- a pending connection is accepted: its socket may have something and take something
 abbrev pub accepted : Account → Result Unit ErrorKind → Account
 accepted a (Ok done) = record a {
   sent = record a.sent { full = false; lost = false; cut = false };
@@ -195,11 +195,11 @@ heard_refusal received Fault = received
 
 abbrev pub heard : Received → Result Unit ErrorKind → Received
 heard received (Ok done) = received
-heard received (Err fault) = heard_refusal received (refusal_told fault)
+heard received (Err fault) = heard_refusal received (refusal_of fault)
 
 -- the core closes it
-abbrev pub let_go : Account → Account
-let_go a = record a {
+abbrev pub left_by_core : Account → Account
+left_by_core a = record a {
   watched = false;
   lingering = record a.lingering { since = cond a.watched a.lingering.clock a.lingering.since };
 }
@@ -220,27 +220,27 @@ clock_after clock None = clock
 abbrev pub clocked : Account → Option ℕ → Account
 clocked a answer = record a { lingering = record a.lingering { clock = clock_after a.lingering.clock answer } }
 
--- what a call of the door says
-abbrev pub told_step : ℕ → Account → Call → Account
-told_step socket a (ReadCall who (Ok (got.Bytes count)) buffer) =
+-- what an answer of the door says
+abbrev pub answered_step : ℕ → Account → Call → Account
+answered_step socket a (ReadCall who (Ok (got.Bytes count)) buffer) =
     if who == socket then record a {
       received = record a.received { handed = a.received.handed ++ take count buffer };
     } else a
-told_step socket a (ReadCall who (Ok got.Ended) buffer) = if who == socket
+answered_step socket a (ReadCall who (Ok got.Ended) buffer) = if who == socket
     then record a { honest = a.honest && may_end a } else a
-told_step socket a (ReadCall who (Ok got.Nothing) buffer) = a
-told_step socket a (ReadCall who (Err fault) buffer) = if who == socket
+answered_step socket a (ReadCall who (Ok got.Nothing) buffer) = a
+answered_step socket a (ReadCall who (Err fault) buffer) = if who == socket
     then record a { honest = a.honest && may_fail a } else a
-told_step socket a (WriteCall who bytes (Ok count)) =
+answered_step socket a (WriteCall who bytes (Ok count)) =
     if who == socket then record a {
       sent = record a.sent { written = a.sent.written ++ take count bytes; cut = nat_lt count (length bytes) };
     } else a
-told_step socket a (WriteCall who bytes (Err fault)) = if who == socket
+answered_step socket a (WriteCall who bytes (Err fault)) = if who == socket
     then record a { honest = a.honest && not a.watched } else a
-told_step socket a (CloseCall who answer) = if who == socket then let_go a else a
-told_step socket a (ExpectCall due slack) = a
-told_step socket a (NowCall answer) = record a { served = a.served && not (a.watched && a.unread) }
-told_step socket a (AcceptCall answer) = a
+answered_step socket a (CloseCall who answer) = if who == socket then left_by_core a else a
+answered_step socket a (ExpectCall due slack) = a
+answered_step socket a (NowCall answer) = record a { served = a.served && not (a.watched && a.unread) }
+answered_step socket a (AcceptCall answer) = a
 
 abbrev pub account_step : ℕ → Account → Step → Account
 account_step socket a (Accepts number answer) =
@@ -254,7 +254,7 @@ account_step socket a (Waits most count ready) = noted (fold (woken socket) (wai
 account_step socket a (Shuts who) = if who == socket then shut_down a else a
 account_step socket a (Closes who) = if who == socket then closed a else a
 account_step socket a (Clocks answer) = clocked a answer
-account_step socket a (Told call) = told_step socket a call
+account_step socket a (Answers call) = answered_step socket a call
 
 -- what all steps say of it
 abbrev pub account : ℕ → List Step → Account

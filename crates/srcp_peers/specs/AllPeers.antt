@@ -7,7 +7,7 @@ use Rattle.srcp_peers.specs.Peers.{IsKept, OffersDue, stay_after}
 
 -- each is what its account says
 abbrev pub AreKept : Option (List Step) → List Peer → Type 0
-AreKept told peers = (k : ℕ) (d : Peer) → k < length peers → IsKept told (slice_index_or peers k d)
+AreKept trace peers = (k : ℕ) (d : Peer) → k < length peers → IsKept trace (slice_index_or peers k d)
 
 -- no two have one socket
 abbrev pub AreApart : List Peer → Type 0

@@ -1,4 +1,4 @@
--- When the end of a peer may be told.
+-- When the end of a peer may be reported.
 use Rattle.std.specs.Prelude.{◌+◌, ◌&&◌, nat_lt, Bool, cond}
 use Rattle.srcp_peers.specs.declared.ending.Ending.{Ending}
 use Rattle.srcp_peers.specs.declared.ending.Ending.TheVariants.{Open, Settling, Settled}

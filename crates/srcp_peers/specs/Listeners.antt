@@ -1,4 +1,4 @@
--- Whether a newcomer may be accepted.
+-- Whether a pending connection may be accepted.
 use Rattle.std.specs.Prelude.{◌==◌, ◌&&◌, ◌||◌, if◌then◌else◌}
 use Rattle.srcp_peers.specs.declared.waiting.Listening.{Listening}
 use Rattle.srcp_peers.specs.declared.waiting.Listening.TheVariants as listening

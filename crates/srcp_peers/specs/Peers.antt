@@ -18,7 +18,7 @@ use Rattle.srcp_peers.specs.declared.stay.Stay.TheVariants as stay
 use Rattle.srcp_door.specs.Pacing.{line_after}
 use Rattle.srcp_peers.specs.declared.ending.Ending.TheVariants as ending
 use Rattle.srcp_door.specs.declared.pacing.Line.TheVariants as line
-use Rattle.srcp_peers.specs.Steps.{Step, Reads, Tells, Writes, refusal_told}
+use Rattle.srcp_peers.specs.Steps.{Step, Reads, Tells, Writes, refusal_of}
 use Rattle.srcp_peers.specs.Accounts.{Account, Lingering, Sent, Received, account, is_overdue}
 
 -- what a state of the input means, if `incoming` is held of it
@@ -80,7 +80,7 @@ pub record Agrees (a : Account) (p : Peer) : Type 0 where
 
 -- so it is after all steps
 abbrev pub IsKept : Option (List Step) → Peer → Type 0
-IsKept told p = (log : List Step) → told ≡ Some log → Agrees (account p.number log) p
+IsKept trace p = (log : List Step) → trace ≡ Some log → Agrees (account p.number log) p
 
 -- the steps that came say nothing of this socket
 abbrev pub Spares : ℕ → Option (List Step) → Option (List Step) → Type 0
@@ -156,7 +156,7 @@ after_read p buffer (Ok count) = record p {
   incoming = p.incoming ++ take count buffer;
   input = given p.input count (length buffer);
 }
-after_read p buffer (Err fault) = record p { input = missed p.input (refusal_told fault) }
+after_read p buffer (Err fault) = record p { input = missed p.input (refusal_of fault) }
 
 -- its socket was found ready
 abbrev pub woken_input : Input → (readable closed : Bool) → Input
@@ -251,12 +251,12 @@ is_over incoming input.Quiet = false
 is_over incoming input.Ended = length incoming == 0
 is_over incoming input.Failed = false
 
--- its end may be told: its input is over and was handed out, a visit had no more for it, and its socket took all
+-- its end may be reported: its input is over and was handed out, a visit had no more for it, and its socket took all
 abbrev pub MayEnd : Peer → Type 0
 MayEnd p = (p.input ≡ input.Ended) × (p.incoming ≡ []) × (p.ending ≡ ending.Settled) × (p.outgoing ≡ [])
     × (is_lost p.output ≡ false)
 
--- it may be told to be lost: a read or a write of its socket failed
+-- it may be reported as lost: a read or a write of its socket failed
 abbrev pub MayFail : Peer → Type 0
 MayFail p = (p.input ≡ input.Failed) ⊎ (is_lost p.output ≡ true)
 
@@ -268,7 +268,7 @@ rests_writing outgoing output.Open = length outgoing == 0
 rests_writing outgoing output.Full = true
 rests_writing outgoing output.Lost = false
 
--- no input of it is held or may come without a word of its socket, and its end is not to be told
+-- no input of it is held or may come unless its socket is ready, and its end is not to be reported
 abbrev pub rests_reading : List ℕ → Input → Bool
 rests_reading outgoing input.Ready = false
 rests_reading outgoing input.Draining = false
@@ -317,5 +317,5 @@ is_gone clock p = gone_as clock p.input p.output p.stay
 
 -- while it is there it is not unread
 abbrev pub IsRead : Option (List Step) → ℕ → Type 0
-IsRead told socket = (log : List Step) → told ≡ Some log
+IsRead trace socket = (log : List Step) → trace ≡ Some log
     → ((account socket log).watched && (account socket log).unread) ≡ false

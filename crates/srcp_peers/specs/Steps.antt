@@ -1,4 +1,4 @@
--- What the system was asked and answered, and what the door told between it.
+-- What the system was asked and answered, and what the door answered between it.
 use Rattle.std.specs.Prelude.{◌≡◌, ℕ, List, [], ◌∷◌, ◌++◌, filter_map, Option, Some, None, Result}
 use Rattle.std.specs.declared.io.ErrorKind.{ErrorKind}
 use Rattle.std.specs.declared.io.ErrorKind.TheVariants as kind
@@ -7,33 +7,33 @@ use Rattle.srcp_peers.specs.declared.system.Refusal.{Refusal}
 use Rattle.srcp_peers.specs.declared.system.Refusal.TheVariants.{Later, Again, Fault}
 use Rattle.srcp_serve.specs.Calls.{Call}
 
--- a call of the system with its answer, or a call of the door
+-- a call of the system with its answer, or an answer of the door
 pub data Step : Type 0 where
-  -- the number that a newcomer's socket was to have
+  -- the number that the socket of a pending connection was to have
   Accepts : (number : ℕ) (answer : Result Unit ErrorKind) → Step
-  -- the buffer after a read, and how many bytes are in front of it
+  -- the buffer after a read, and how many bytes at its start were read
   Reads : (socket : ℕ) (buffer : List ℕ) (answer : Result ℕ ErrorKind) → Step
   -- what was handed over, and how many bytes of it were taken
   Writes : (socket : ℕ) (bytes : List ℕ) (answer : Result ℕ ErrorKind) → Step
   -- how long a wait may be, and which sockets it found ready
   Waits : (most : Option ℕ) (count : ℕ) (ready : List Ready) → Step
-  -- a socket was told that nothing more is written to it
+  -- the writing side of a socket was shut down
   Shuts : (socket : ℕ) → Step
   -- a socket was closed
   Closes : (socket : ℕ) → Step
   -- what the clock showed, in milliseconds, if it could be read
   Clocks : (answer : Option ℕ) → Step
-  -- a call of the door, at its end
-  Told : (call : Call) → Step
+  -- the door answers a call
+  Answers : (call : Call) → Step
 
--- what is told after a step is what was told before it, and the step
+-- the trace after a step is the trace before it, and the step
 abbrev pub Tells : Option (List Step) → Step → Option (List Step) → Type 0
 Tells old step new = (later : List Step) → new ≡ Some later
     → (log : List Step) × (old ≡ Some log) × (later ≡ log ++ step ∷ [])
 
--- the call of the door, if it is one
+-- the call that the door answers, if the step is one
 abbrev pub call_of : Step → Option Call
-call_of (Told call) = Some call
+call_of (Answers call) = Some call
 call_of other = None
 
 -- the calls of the door alone
@@ -51,7 +51,7 @@ SaysOne old call new = (later : List Step) → new ≡ Some later
     → (log : List Step) × (old ≡ Some log) × (calls later ≡ calls log ++ call ∷ [])
 
 -- what a call of the system that failed says of a socket
-abbrev pub refusal_told : ErrorKind → Refusal
-refusal_told kind.WouldBlock = Later
-refusal_told kind.Interrupted = Again
-refusal_told _ = Fault
+abbrev pub refusal_of : ErrorKind → Refusal
+refusal_of kind.WouldBlock = Later
+refusal_of kind.Interrupted = Again
+refusal_of _ = Fault

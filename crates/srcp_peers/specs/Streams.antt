@@ -1,11 +1,11 @@
--- What a reader is told of the sockets of a door.
+-- The bytes that the steps carried to and from each socket of a door.
 use Rattle.std.specs.Prelude.{ℕ, ◌==◌, List, [], take, flat_map, if◌then◌else◌}
 use Rattle.std.specs.Prelude.{Ok}
 use Rattle.srcp_serve.specs.declared.door.Got.TheVariants as got
 use Rattle.srcp_serve.specs.Calls.{Call, ReadCall, WriteCall}
 use Rattle.srcp_peers.specs.Steps.{Step, Reads, Writes, calls}
 
--- what a call of the door told to have taken for a peer
+-- what a call of the door said it took for a peer
 abbrev pub taken_in : ℕ → Call → List ℕ
 taken_in peer (WriteCall who bytes (Ok count)) = if who == peer then take count bytes else []
 taken_in peer other = []

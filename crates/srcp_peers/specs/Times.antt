@@ -14,23 +14,23 @@ use Rattle.srcp_peers.specs.declared.system.Refusal.{Refusal}
 use Rattle.srcp_peers.specs.declared.system.Refusal.TheVariants.{Later, Again, Fault}
 use Rattle.srcp_peers.specs.declared.turn.Turn.{Turn}
 use Rattle.srcp_peers.specs.Accounts.{is_short}
-use Rattle.srcp_peers.specs.Steps.{Step, Accepts, Clocks, Closes, Reads, Shuts, Told, Waits, Writes, refusal_told}
+use Rattle.srcp_peers.specs.Steps.{Step, Accepts, Clocks, Closes, Reads, Shuts, Answers, Waits, Writes, refusal_of}
 use Rattle.srcp_peers.specs.Turns.{after_call, after_read, after_wait, begun, first_turn, got_bytes, hands_out}
-use Rattle.srcp_peers.specs.Turns.{is_pending, moment_at, tells_end, time_left, told_at}
+use Rattle.srcp_peers.specs.Turns.{is_pending, moment_at, reports_end, time_left, reported_at}
 
 pub record Times : Type 0 where
   pub turn : Turn  -- the turn, by the calls so far
   pub clock : ℕ  -- what the monotonic clock showed last; 0 before it is read
   pub waits : ℕ  -- how often the door waited
-  pub exact : Bool  -- each moment was the one that was to be told
+  pub exact : Bool  -- each moment was the one that was to be reported
   pub punctual : Bool  -- no wait ended past what falls due
   pub patient : Bool  -- each long wait came after a turn in which nothing happened, or there was no panel
   pub prompt : Bool  -- no input was handed out in a turn that was late
   pub lines : ℕ → Line  -- the line of each socket that is being handed out
   pub paced : Bool  -- the lines that were handed out weighed no more than might go
-  pub single : Bool  -- the end of one peer was told in each turn at most
-  pub heard : Option (Result (Option ℕ) DoorFault)  -- what is to be told of a newcomer, if the system was asked since
-  pub honest : Bool  -- what was told of it was that
+  pub single : Bool  -- the end of one peer was reported in each turn at most
+  pub heard : Option (Result (Option ℕ) DoorFault)  -- what `accept` is to answer, if the system was asked since
+  pub honest : Bool  -- `accept` answered that
 
 abbrev pub first_times : (wall start : ℕ) → Times
 first_times wall start = record {
@@ -57,28 +57,28 @@ ends_by left (Some most) = nat_le most left
 abbrev pub in_time : Turn → Option ℕ → Bool
 in_time turn most = option_map_or (λ left. ends_by left most) (time_left turn) true
 
-abbrev pub told_moment : Times → Result ℕ DoorFault → Times
-told_moment t (Ok moment) = record t {
-  turn = told_at t.turn t.clock moment;
+abbrev pub answered_moment : Times → Result ℕ DoorFault → Times
+answered_moment t (Ok moment) = record t {
+  turn = reported_at t.turn t.clock moment;
   exact = t.exact && (moment == moment_at t.turn t.clock);
 }
-told_moment t (Err fault) = record t { turn = begun t.turn false }
+answered_moment t (Err fault) = record t { turn = begun t.turn false }
 
 -- the line of each socket after a read
 abbrev pub lines_after : (ℕ → Line) → (who : ℕ) → Result Got DoorFault → List ℕ → (socket : ℕ) → Line
 lines_after lines who answer buffer socket =
     if who == socket then line_after (lines socket) (got_bytes answer buffer) else lines socket
 
-abbrev pub told_read : Times → (who : ℕ) → Result Got DoorFault → List ℕ → Times
-told_read t who answer buffer = record t {
+abbrev pub answered_read : Times → (who : ℕ) → Result Got DoorFault → List ℕ → Times
+answered_read t who answer buffer = record t {
   turn = after_read t.turn (t.lines who) answer buffer;
   prompt = t.prompt && not (t.turn.late && hands_out answer);
   lines = lines_after t.lines who answer buffer;
   paced = t.paced && fits t.turn.pace (weight_of (t.lines who) (got_bytes answer buffer));
-  single = t.single && (not (tells_end answer) || t.turn.ends);
+  single = t.single && (not (reports_end answer) || t.turn.ends);
 }
 
--- what is to be told of a newcomer, if an accept of the system failed
+-- what `accept` is to answer, if an accept of the system failed
 abbrev pub refused_newcomer : Refusal → Result (Option ℕ) DoorFault
 refused_newcomer Later = Ok None
 refused_newcomer Again = Ok None
@@ -87,34 +87,34 @@ refused_newcomer Fault = Err Accept
 -- and if it answered so
 abbrev pub newcomer_of : (number : ℕ) → Result Unit ErrorKind → Result (Option ℕ) DoorFault
 newcomer_of number (Ok done) = Ok (Some number)
-newcomer_of number (Err fault) = refused_newcomer (refusal_told fault)
+newcomer_of number (Err fault) = refused_newcomer (refusal_of fault)
 
--- that was told. If the system was not asked, nobody came, or memory or the numbers ran out
-abbrev pub is_told : (heard : Option (Result (Option ℕ) DoorFault)) → Result (Option ℕ) DoorFault → Bool
-is_told (Some (Ok (Some number))) (Ok (Some peer)) = number == peer
-is_told (Some (Ok (Some number))) (Ok None) = false
-is_told (Some (Ok (Some number))) (Err fault) = false
-is_told (Some (Ok None)) (Ok (Some peer)) = false
-is_told (Some (Ok None)) (Ok None) = true
-is_told (Some (Ok None)) (Err fault) = false
-is_told (Some (Err said)) (Ok peer) = false
-is_told (Some (Err said)) (Err fault) = true
-is_told None (Ok (Some peer)) = false
-is_told None (Ok None) = true
-is_told None (Err fault) = true
+-- that was answered. If the system was not asked, nobody came, or memory or the numbers ran out
+abbrev pub is_as_heard : (heard : Option (Result (Option ℕ) DoorFault)) → Result (Option ℕ) DoorFault → Bool
+is_as_heard (Some (Ok (Some number))) (Ok (Some peer)) = number == peer
+is_as_heard (Some (Ok (Some number))) (Ok None) = false
+is_as_heard (Some (Ok (Some number))) (Err fault) = false
+is_as_heard (Some (Ok None)) (Ok (Some peer)) = false
+is_as_heard (Some (Ok None)) (Ok None) = true
+is_as_heard (Some (Ok None)) (Err fault) = false
+is_as_heard (Some (Err said)) (Ok peer) = false
+is_as_heard (Some (Err said)) (Err fault) = true
+is_as_heard None (Ok (Some peer)) = false
+is_as_heard None (Ok None) = true
+is_as_heard None (Err fault) = true
 
-abbrev pub told_accept : Times → Result (Option ℕ) DoorFault → Times
-told_accept t answer = record t {
+abbrev pub answered_accept : Times → Result (Option ℕ) DoorFault → Times
+answered_accept t answer = record t {
   turn = after_call t.turn (AcceptCall answer);
   heard = None;
-  honest = t.honest && is_told t.heard answer;
+  honest = t.honest && is_as_heard t.heard answer;
 }
 
-abbrev pub told_times : Times → Call → Times
-told_times t (NowCall answer) = told_moment t answer
-told_times t (ReadCall who answer buffer) = told_read t who answer buffer
-told_times t (AcceptCall answer) = told_accept t answer
-told_times t other = record t { turn = after_call t.turn other }
+abbrev pub answered_times : Times → Call → Times
+answered_times t (NowCall answer) = answered_moment t answer
+answered_times t (ReadCall who answer buffer) = answered_read t who answer buffer
+answered_times t (AcceptCall answer) = answered_accept t answer
+answered_times t other = record t { turn = after_call t.turn other }
 
 abbrev pub clocked : Times → Option ℕ → Times
 clocked t (Some time) = record t { clock = time }
@@ -133,7 +133,7 @@ times_step t (Waits most count ready) = record t {
   patient = t.patient && (is_short most || not (is_pending t.turn.slack t.turn.busy));
 }
 times_step t (Clocks answer) = clocked t answer
-times_step t (Told call) = told_times t call
+times_step t (Answers call) = answered_times t call
 
 -- what all steps say, if the clocks showed this at the start
 abbrev pub times : (wall start : ℕ) → List Step → Times

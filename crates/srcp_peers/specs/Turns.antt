@@ -54,14 +54,14 @@ got_bytes (Ok got.Nothing) buffer = []
 got_bytes (Ok got.Ended) buffer = []
 got_bytes (Err fault) buffer = []
 
--- it told the end of a peer, or that it is lost
-abbrev pub tells_end : Result Got DoorFault → Bool
-tells_end (Ok (got.Bytes count)) = false
-tells_end (Ok got.Nothing) = false
-tells_end (Ok got.Ended) = true
-tells_end (Err fault) = true
+-- it reported the end of a peer, or that it is lost
+abbrev pub reports_end : Result Got DoorFault → Bool
+reports_end (Ok (got.Bytes count)) = false
+reports_end (Ok got.Nothing) = false
+reports_end (Ok got.Ended) = true
+reports_end (Err fault) = true
 
--- after that no other is told in the turn
+-- after that no other is reported in the turn
 abbrev pub ended : Turn → Turn
 ended turn = record turn { busy = true; ends = false }
 
@@ -81,20 +81,20 @@ after_wait turn = record turn { busy = false }
 
 -- ---- the moment
 
--- the moment that is to be told, if the monotonic clock shows this time: what this stands for, or a step of
+-- the moment that is to be reported, if the monotonic clock shows this time: what this stands for, or a step of
 -- 10 milliseconds if something falls due meanwhile; at most 10 minutes are made up in such steps
 abbrev pub moment_at : Turn → (time : ℕ) → ℕ
 moment_at turn time =
     next_moment 10 600000 (passed turn.timekeeper.last (target turn.timekeeper time) turn.due)
     (target turn.timekeeper time)
 
--- the moment was asked for: from then on lines of a turn's weight may be handed out, and the end of one peer be told
+-- the moment was asked for: from then on lines of a turn's weight may be handed out, and one end be reported
 abbrev pub begun : Turn → (tick : Bool) → Turn
 begun turn tick = record turn { pace = pace_of turn.slack tick; ends = true }
 
--- after a moment was told; the turn is late if the moment is behind the time
-abbrev pub told_at : Turn → (time moment : ℕ) → Turn
-told_at turn time moment = record (begun turn (not (time == turn.clock))) {
+-- after a moment was reported; the turn is late if the moment is behind the time
+abbrev pub reported_at : Turn → (time moment : ℕ) → Turn
+reported_at turn time moment = record (begun turn (not (time == turn.clock))) {
   timekeeper = record { wall = turn.timekeeper.wall; start = turn.timekeeper.start; last = moment };
   clock = time;
   late = nat_lt moment (target turn.timekeeper time);
@@ -151,7 +151,7 @@ abbrev pub flushing : (ticked held : Bool) → Turn → Flush
 flushing true held turn = cond (is_short turn.slack) Again All
 flushing false held turn = cond (held || is_pending turn.slack turn.busy) Answers All
 
--- a read that handed out input, or told its end
+-- a read that handed out input, or reported its end
 abbrev pub hands_out : Result Got DoorFault → Bool
 hands_out (Ok (got.Bytes count)) = true
 hands_out (Ok got.Nothing) = false

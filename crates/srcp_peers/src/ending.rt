@@ -1,12 +1,12 @@
-//! When the end of a peer may be told.
+//! When the end of a peer may be reported.
 
 ghost use Rattle.std.specs.Prelude.{◌≡◌, ◌≢◌, ◌↔◌, ◌⊎◌, ◌<◌, false, true, IsTrue, ℕ};
 ghost use Rattle.srcp_peers.specs.Ends.{begun, written};
 
 use srcp_serve::MOST_WRITES;
 
-/// How far a peer is on the way to its end. That is told once its input is over, a whole visit behind that had no more
-/// for it, and its socket took all of it. So changes that go on coming put it off no longer than that.
+/// The state of a peer before its end. That is reported once its input is over, a whole visit behind that had no
+/// more for it, and its socket took all of it. So changes that go on coming put it off no longer than that.
 #[derive(Clone, Copy)]
 pub enum Ending {
     /// Its input is not over.
@@ -57,7 +57,7 @@ impl Ending {
         matches!(self, Ending::Open)
     }
 
-    /// Returns whether its end may be told once its socket took all.
+    /// Returns whether its end may be reported once its socket took all.
     pub(crate) fn is_settled(self) -> bool
         ensures { IsTrue result ↔ self ≡ Ending.Settled }
     {

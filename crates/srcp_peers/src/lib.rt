@@ -1,6 +1,6 @@
 //! A peer of a door with its socket: what is queued for it, what was read of it, when its socket is written to and
-//! read, when its end may be told, and how it lingers once the core closed it. `peers` has what a turn does with all of
-//! them, `Turn` what a door knows of its turn, and `longest_wait` says how long that may wait.
+//! read, when its end may be reported, and how it lingers once the core closed it. `peers` has what a turn does with
+//! all of them, `Turn` what a door knows of its turn, and `longest_wait` says how long that may wait.
 //!
 //! `System` is the small trait of system calls. What the list of these calls says of one socket is its account, and
 //! whatever the system answers, a state of a peer means what its account says. The crate makes none of these calls
@@ -26,4 +26,4 @@ pub use readiness::{Flush, Input, Output};
 pub use stay::{LINGER, Stay};
 pub use system::{Ready, Refusal, System, refusal_of};
 pub use turn::Turn;
-pub use waiting::{Listening, PAUSE, longest_wait};
+pub use waiting::{Listening, RETRY_DELAY, longest_wait};

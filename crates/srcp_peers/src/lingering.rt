@@ -18,7 +18,7 @@ use crate::system::System;
 /// How often the socket of a lingering peer is read in a turn: what still comes is dropped as fast as it comes.
 const MOST_DRAINED: u32 = 64;
 
-/// How many peers linger before one is closed for a newcomer.
+/// How many peers linger before one is closed for a pending connection.
 pub const MOST_LINGERING: usize = 64;
 
 impl Peer {
@@ -32,13 +32,14 @@ impl Peer {
     /// Flushes a peer that is there, and goes on with one that lingers.
     #[inline(always)]
     pub(crate) fn hand_over<S: System>(&mut self, system: &mut S, what: Flush)
-        requires { IsKept (S.told system.old) self.old }
-        ensures kept { IsKept (S.told system.new) self.new }
-        ensures others { (other : ℕ) → other ≢ self.old.number → Spares other (S.told system.old) (S.told system.new) }
-        ensures calls { SaysNothing (S.told system.old) (S.told system.new) }
-        ensures times { KeepsTimes (S.told system.old) (S.told system.new) }
+        requires { IsKept (S.trace system.old) self.old }
+        ensures kept { IsKept (S.trace system.new) self.new }
+        ensures others { (other : ℕ) → other ≢ self.old.number
+            → Spares other (S.trace system.old) (S.trace system.new) }
+        ensures calls { SaysNothing (S.trace system.old) (S.trace system.new) }
+        ensures times { KeepsTimes (S.trace system.old) (S.trace system.new) }
         ensures number { self.new.number ≡ self.old.number }
-        ensures offered { OffersDue what self.old (S.told system.old) (S.told system.new) }
+        ensures offered { OffersDue what self.old (S.trace system.old) (S.trace system.new) }
         ensures stay { self.new.stay ≡ stay_after self.old.stay self.new.outgoing self.new.output }
     {
         if self.stay.is_here() {
@@ -51,14 +52,15 @@ impl Peer {
     /// Goes on with a peer that lingers.
     #[inline(never)]
     fn part<S: System>(&mut self, system: &mut S)
-        requires { IsKept (S.told system.old) self.old }
-        ensures kept { IsKept (S.told system.new) self.new }
-        ensures others { (other : ℕ) → other ≢ self.old.number → Spares other (S.told system.old) (S.told system.new) }
-        ensures calls { SaysNothing (S.told system.old) (S.told system.new) }
-        ensures times { KeepsTimes (S.told system.old) (S.told system.new) }
+        requires { IsKept (S.trace system.old) self.old }
+        ensures kept { IsKept (S.trace system.new) self.new }
+        ensures others { (other : ℕ) → other ≢ self.old.number
+            → Spares other (S.trace system.old) (S.trace system.new) }
+        ensures calls { SaysNothing (S.trace system.old) (S.trace system.new) }
+        ensures times { KeepsTimes (S.trace system.old) (S.trace system.new) }
         ensures number { self.new.number ≡ self.old.number }
         ensures offered { is_here self.old.stay ≡ false
-            → OffersDue Flush.All self.old (S.told system.old) (S.told system.new) }
+            → OffersDue Flush.All self.old (S.trace system.old) (S.trace system.new) }
         ensures stay { self.new.stay ≡ stay_after self.old.stay self.new.outgoing self.new.output }
     {
         match self.stay {
@@ -70,14 +72,15 @@ impl Peer {
 
     /// Writes what is queued, and shuts the socket down once that is taken.
     fn finish<S: System>(&mut self, system: &mut S, since: u64)
-        requires kept { IsKept (S.told system.old) self.old }
+        requires kept { IsKept (S.trace system.old) self.old }
         requires draining { self.old.stay ≡ Stay.Draining since }
-        ensures kept { IsKept (S.told system.new) self.new }
-        ensures others { (other : ℕ) → other ≢ self.old.number → Spares other (S.told system.old) (S.told system.new) }
-        ensures calls { SaysNothing (S.told system.old) (S.told system.new) }
-        ensures times { KeepsTimes (S.told system.old) (S.told system.new) }
+        ensures kept { IsKept (S.trace system.new) self.new }
+        ensures others { (other : ℕ) → other ≢ self.old.number
+            → Spares other (S.trace system.old) (S.trace system.new) }
+        ensures calls { SaysNothing (S.trace system.old) (S.trace system.new) }
+        ensures times { KeepsTimes (S.trace system.old) (S.trace system.new) }
         ensures number { self.new.number ≡ self.old.number }
-        ensures offered { OffersDue Flush.All self.old (S.told system.old) (S.told system.new) }
+        ensures offered { OffersDue Flush.All self.old (S.trace system.old) (S.trace system.new) }
         ensures stay { self.new.stay ≡ stay_after self.old.stay self.new.outgoing self.new.output }
     {
         self.flush(system, Flush::All);
@@ -86,16 +89,17 @@ impl Peer {
         }
     }
 
-    /// Tells its socket that nothing more is written.
+    /// Shuts down the writing side of its socket.
     fn shut_down<S: System>(&mut self, system: &mut S, since: u64)
-        requires kept { IsKept (S.told system.old) self.old }
+        requires kept { IsKept (S.trace system.old) self.old }
         requires draining { self.old.stay ≡ Stay.Draining since }
         requires taken { self.old.outgoing ≡ [] }
         requires sound { is_lost self.old.output ≡ false }
-        ensures kept { IsKept (S.told system.new) self.new }
-        ensures others { (other : ℕ) → other ≢ self.old.number → Spares other (S.told system.old) (S.told system.new) }
-        ensures calls { SaysNothing (S.told system.old) (S.told system.new) }
-        ensures times { KeepsTimes (S.told system.old) (S.told system.new) }
+        ensures kept { IsKept (S.trace system.new) self.new }
+        ensures others { (other : ℕ) → other ≢ self.old.number
+            → Spares other (S.trace system.old) (S.trace system.new) }
+        ensures calls { SaysNothing (S.trace system.old) (S.trace system.new) }
+        ensures times { KeepsTimes (S.trace system.old) (S.trace system.new) }
         ensures number { self.new.number ≡ self.old.number }
         ensures same { self.new ≡ record self.old { stay = Stay.Shut since } }
     {
@@ -105,12 +109,13 @@ impl Peer {
 
     /// Drops what its socket gives, as far as a turn goes.
     fn drain<S: System>(&mut self, system: &mut S)
-        requires kept { IsKept (S.told system.old) self.old }
+        requires kept { IsKept (S.trace system.old) self.old }
         requires gone { is_here self.old.stay ≡ false }
-        ensures kept { IsKept (S.told system.new) self.new }
-        ensures others { (other : ℕ) → other ≢ self.old.number → Spares other (S.told system.old) (S.told system.new) }
-        ensures calls { SaysNothing (S.told system.old) (S.told system.new) }
-        ensures times { KeepsTimes (S.told system.old) (S.told system.new) }
+        ensures kept { IsKept (S.trace system.new) self.new }
+        ensures others { (other : ℕ) → other ≢ self.old.number
+            → Spares other (S.trace system.old) (S.trace system.new) }
+        ensures calls { SaysNothing (S.trace system.old) (S.trace system.new) }
+        ensures times { KeepsTimes (S.trace system.old) (S.trace system.new) }
         ensures number { self.new.number ≡ self.old.number }
         ensures stay { self.new.stay ≡ self.old.stay }
     {
@@ -124,12 +129,13 @@ impl Peer {
 
     /// Drops what was read of it, and reads once more.
     fn skip<S: System>(&mut self, system: &mut S)
-        requires kept { IsKept (S.told system.old) self.old }
+        requires kept { IsKept (S.trace system.old) self.old }
         requires gone { is_here self.old.stay ≡ false }
-        ensures kept { IsKept (S.told system.new) self.new }
-        ensures others { (other : ℕ) → other ≢ self.old.number → Spares other (S.told system.old) (S.told system.new) }
-        ensures calls { SaysNothing (S.told system.old) (S.told system.new) }
-        ensures times { KeepsTimes (S.told system.old) (S.told system.new) }
+        ensures kept { IsKept (S.trace system.new) self.new }
+        ensures others { (other : ℕ) → other ≢ self.old.number
+            → Spares other (S.trace system.old) (S.trace system.new) }
+        ensures calls { SaysNothing (S.trace system.old) (S.trace system.new) }
+        ensures times { KeepsTimes (S.trace system.old) (S.trace system.new) }
         ensures number { self.new.number ≡ self.old.number }
         ensures stay { self.new.stay ≡ self.old.stay }
     {

@@ -2,7 +2,7 @@
 
 ghost use Rattle.std.specs.Prelude.{◌≡◌, ◌≢◌, ◌<◌, ◌≤◌, ◌++◌, ◌==◌, ◌&&◌, true, false, not, ℕ, List, [], Option, Some};
 ghost use Rattle.std.specs.Prelude.{Ok, IfErr, OnErr, length, take, drop, min, fold, nat_lt};
-ghost use Rattle.srcp_peers.specs.Steps.{SaysNothing, Tells, Told};
+ghost use Rattle.srcp_peers.specs.Steps.{SaysNothing, Tells, Answers};
 ghost use Rattle.srcp_serve.specs.Calls.{ReadCall, WriteCall};
 ghost use Rattle.srcp_peers.specs.Times.{KeepsTimes};
 ghost use Rattle.srcp_peers.specs.Peers.{Asks, IsKept, MayEnd, MayFail, Offers, Spares, IsRead, after_wake, has_rest};
@@ -10,7 +10,7 @@ ghost use Rattle.srcp_peers.specs.Peers.{holds_input, is_due, is_over, is_restin
 ghost use Rattle.srcp_peers.specs.Peers.{enqueued, queued_more, room_after, tries_again, woken_output};
 ghost use Rattle.srcp_peers.specs.declared.readiness.Input.{Input};
 ghost use Rattle.srcp_peers.specs.declared.readiness.Output.{Output};
-ghost use Rattle.srcp_peers.specs.Turns.{after_read, got_bytes, tells_end};
+ghost use Rattle.srcp_peers.specs.Turns.{after_read, got_bytes, reports_end};
 ghost use Rattle.srcp_peers.specs.Ends.{begun, written};
 ghost use Rattle.srcp_door.specs.Pacing.{IsShort, fits, line_after, weight_of};
 ghost use Rattle.srcp_peers.specs.declared.ending.Ending.{Ending};
@@ -27,11 +27,11 @@ use srcp_door::{Line, Share};
 use srcp_info::LONGEST_LINE;
 use srcp_serve::{DoorFault, Got, MOST_WRITES};
 
-/// How many bytes of a peer may wait until the clock goes on. What else may be queued holds the lines that a peer is
-/// written in a visit at most.
-const MOST_WAITING: usize = MOST_OUTGOING - MOST_WRITES as usize * LONGEST_LINE;
+/// Above so many queued bytes a peer is flushed before the clock goes on. The queue then has space for all that a visit
+/// writes.
+const FLUSH_THRESHOLD: usize = MOST_OUTGOING - MOST_WRITES as usize * LONGEST_LINE;
 
-/// What is to be told of a peer of which nothing is held.
+/// What is to be reported of a peer of which nothing is held.
 #[derive(Clone, Copy)]
 enum Due {
     /// Nothing now.
@@ -79,7 +79,7 @@ pub struct Handed {
 }
 
 impl Peer {
-    /// Returns a newcomer. It has its mark, so that newcomers don't keep the others from their lines.
+    /// Returns a new peer. It has its mark, so that new peers do not keep the others from their lines.
     pub fn new(number: u32, queues: Queues) -> Peer
         ensures { result ≡ record {
           number = number;
@@ -129,11 +129,12 @@ impl Peer {
     /// Writes once what is queued, if its socket may take something, and what is flushed says that it is to.
     #[inline(always)]
     pub(crate) fn flush<S: System>(&mut self, system: &mut S, what: Flush)
-        requires { IsKept (S.told system.old) self.old }
-        ensures kept { IsKept (S.told system.new) self.new }
-        ensures others { (other : ℕ) → other ≢ self.old.number → Spares other (S.told system.old) (S.told system.new) }
-        ensures calls { SaysNothing (S.told system.old) (S.told system.new) }
-        ensures times { KeepsTimes (S.told system.old) (S.told system.new) }
+        requires { IsKept (S.trace system.old) self.old }
+        ensures kept { IsKept (S.trace system.new) self.new }
+        ensures others { (other : ℕ) → other ≢ self.old.number
+            → Spares other (S.trace system.old) (S.trace system.new) }
+        ensures calls { SaysNothing (S.trace system.old) (S.trace system.new) }
+        ensures times { KeepsTimes (S.trace system.old) (S.trace system.new) }
         ensures number { self.new.number ≡ self.old.number }
         ensures same { self.new ≡ record self.old {
           outgoing = self.new.outgoing;
@@ -142,7 +143,7 @@ impl Peer {
         } }
         ensures offered { woken_output self.old.output (tries_again what) ≡ Output.Open → self.old.outgoing ≢ []
             → is_due what self.old ≡ true
-            → Offers self.old.number self.old.outgoing (S.told system.old) (S.told system.new) }
+            → Offers self.old.number self.old.outgoing (S.trace system.old) (S.trace system.new) }
     {
         self.output = self.output.woken(what.tries_again());
         self.write_out(system, what);
@@ -150,11 +151,12 @@ impl Peer {
 
     #[inline(always)]
     fn write_out<S: System>(&mut self, system: &mut S, what: Flush)
-        requires { IsKept (S.told system.old) self.old }
-        ensures kept { IsKept (S.told system.new) self.new }
-        ensures others { (other : ℕ) → other ≢ self.old.number → Spares other (S.told system.old) (S.told system.new) }
-        ensures calls { SaysNothing (S.told system.old) (S.told system.new) }
-        ensures times { KeepsTimes (S.told system.old) (S.told system.new) }
+        requires { IsKept (S.trace system.old) self.old }
+        ensures kept { IsKept (S.trace system.new) self.new }
+        ensures others { (other : ℕ) → other ≢ self.old.number
+            → Spares other (S.trace system.old) (S.trace system.new) }
+        ensures calls { SaysNothing (S.trace system.old) (S.trace system.new) }
+        ensures times { KeepsTimes (S.trace system.old) (S.trace system.new) }
         ensures number { self.new.number ≡ self.old.number }
         ensures same { self.new ≡ record self.old {
           outgoing = self.new.outgoing;
@@ -162,7 +164,7 @@ impl Peer {
           asked = self.new.asked;
         } }
         ensures offered { self.old.output ≡ Output.Open → self.old.outgoing ≢ [] → is_due what self.old ≡ true
-            → Offers self.old.number self.old.outgoing (S.told system.old) (S.told system.new) }
+            → Offers self.old.number self.old.outgoing (S.trace system.old) (S.trace system.new) }
     {
         if !self.output.is_open() || self.outgoing.is_empty() || !self.is_due(what) {
             return;
@@ -184,23 +186,24 @@ impl Peer {
         ensures { result ≡ is_due what self.now }
     {
         what.is_all()
-            || self.outgoing.len() > MOST_WAITING
+            || self.outgoing.len() > FLUSH_THRESHOLD
             || self.asked && (self.cut || self.incoming.is_empty())
     }
 
     /// Begins a visit: reads its socket, and goes on on the way to its end. With `clear` its mark is cleared. At
     /// most `room` lines may be queued in the visit while its socket refuses more.
     pub(crate) fn begin_visit<S: System>(&mut self, system: &mut S, clear: bool, room: u32)
-        requires { IsKept (S.told system.old) self.old }
-        ensures kept { IsKept (S.told system.new) self.new }
-        ensures others { (other : ℕ) → other ≢ self.old.number → Spares other (S.told system.old) (S.told system.new) }
-        ensures calls { SaysNothing (S.told system.old) (S.told system.new) }
-        ensures times { KeepsTimes (S.told system.old) (S.told system.new) }
+        requires { IsKept (S.trace system.old) self.old }
+        ensures kept { IsKept (S.trace system.new) self.new }
+        ensures others { (other : ℕ) → other ≢ self.old.number
+            → Spares other (S.trace system.old) (S.trace system.new) }
+        ensures calls { SaysNothing (S.trace system.old) (S.trace system.new) }
+        ensures times { KeepsTimes (S.trace system.old) (S.trace system.new) }
         ensures number { self.new.number ≡ self.old.number }
         ensures stay { self.new.stay ≡ self.old.stay }
         ensures asked { may_have self.old.input ≡ true → length self.old.incoming < MOST_IN_PIECE
-            → Asks self.old.number (S.told system.old) (S.told system.new) }
-        ensures read { IsRead (S.told system.new) self.old.number }
+            → Asks self.old.number (S.trace system.old) (S.trace system.new) }
+        ensures read { IsRead (S.trace system.new) self.old.number }
         ensures ending { self.new.ending ≡ begun self.old.ending (is_over self.new.incoming self.new.input) }
         ensures mark { self.new.share ≡ record self.old.share { mark = not clear && self.old.share.mark } }
         ensures same { self.new ≡ record self.old {
@@ -229,15 +232,16 @@ impl Peer {
     /// Reads its socket once, if a read may find something and less than a piece is held.
     #[inline(always)]
     pub(crate) fn fill<S: System>(&mut self, system: &mut S)
-        requires { IsKept (S.told system.old) self.old }
-        ensures kept { IsKept (S.told system.new) self.new }
-        ensures others { (other : ℕ) → other ≢ self.old.number → Spares other (S.told system.old) (S.told system.new) }
-        ensures calls { SaysNothing (S.told system.old) (S.told system.new) }
-        ensures times { KeepsTimes (S.told system.old) (S.told system.new) }
+        requires { IsKept (S.trace system.old) self.old }
+        ensures kept { IsKept (S.trace system.new) self.new }
+        ensures others { (other : ℕ) → other ≢ self.old.number
+            → Spares other (S.trace system.old) (S.trace system.new) }
+        ensures calls { SaysNothing (S.trace system.old) (S.trace system.new) }
+        ensures times { KeepsTimes (S.trace system.old) (S.trace system.new) }
         ensures number { self.new.number ≡ self.old.number }
         ensures asked { may_have self.old.input ≡ true → length self.old.incoming < MOST_IN_PIECE
-            → Asks self.old.number (S.told system.old) (S.told system.new) }
-        ensures read { IsRead (S.told system.new) self.old.number }
+            → Asks self.old.number (S.trace system.old) (S.trace system.new) }
+        ensures read { IsRead (S.trace system.new) self.old.number }
         ensures same { self.new ≡ record self.old { incoming = self.new.incoming; input = self.new.input } }
     {
         if !self.is_wanting() {
@@ -250,21 +254,22 @@ impl Peer {
         }
     }
 
-    /// Moves what was read into the front of a buffer, as far as the turn's lines go, or tells the end or the fault
-    /// behind it, if the turn told no other.
+    /// Moves what was read to the start of a buffer, as far as the turn's lines go. If nothing is held, it reports the
+    /// end or the fault, if the turn reported no other.
     pub fn read<S: System>(&mut self, system: &mut S, turn: &mut Turn, buffer: &mut [u8]) -> Handed
-        requires kept { IsKept (S.told system.old) self.old }
+        requires kept { IsKept (S.trace system.old) self.old }
         requires here { self.old.stay ≡ Stay.Here }
-        ensures kept { IsKept (S.told system.new) self.new }
-        ensures told { Tells (S.told system.old) (Told (ReadCall self.old.number result.got buffer.new))
-            (S.told system.new) }
+        ensures kept { IsKept (S.trace system.new) self.new }
+        ensures trace { Tells (S.trace system.old) (Answers (ReadCall self.old.number result.got buffer.new))
+            (S.trace system.new) }
         ensures count { (n : ℕ) → result.got ≡ Ok (Got.Bytes n) → (0 < n) × (n ≤ length buffer.new) }
         ensures fault { IfErr result.got (λ fault. fault ≡ DoorFault.Read) }
-        ensures others { (other : ℕ) → other ≢ self.old.number → Spares other (S.told system.old) (S.told system.new) }
+        ensures others { (other : ℕ) → other ≢ self.old.number
+            → Spares other (S.trace system.old) (S.trace system.new) }
         ensures number { self.new.number ≡ self.old.number }
         ensures turn { turn.new ≡ after_read turn.old self.old.share.line result.got buffer.new }
         ensures fits { fits turn.old.pace (weight_of self.old.share.line (got_bytes result.got buffer.new)) ≡ true }
-        ensures ends { tells_end result.got ≡ true → turn.old.ends ≡ true }
+        ensures ends { reports_end result.got ≡ true → turn.old.ends ≡ true }
         ensures refused { result.refused ≡ true → IsShort turn.new.pace }
         ensures same { self.new ≡ record self.old {
           incoming = self.new.incoming;
@@ -273,7 +278,7 @@ impl Peer {
         } }
     {
         let handed = self.take_out(turn, buffer);
-        system.told_read(self.number, handed.got, buffer);
+        system.note_read(self.number, handed.got, buffer);
         handed
     }
 
@@ -286,7 +291,7 @@ impl Peer {
         ensures line { self.new.share.line ≡ line_after self.old.share.line (got_bytes result.got buffer.new) }
         ensures turn { turn.new ≡ after_read turn.old self.old.share.line result.got buffer.new }
         ensures fits { fits turn.old.pace (weight_of self.old.share.line (got_bytes result.got buffer.new)) ≡ true }
-        ensures ends { tells_end result.got ≡ true → turn.old.ends ≡ true }
+        ensures ends { reports_end result.got ≡ true → turn.old.ends ≡ true }
         ensures refused { result.refused ≡ true → IsShort turn.new.pace }
         ensures same { self.new ≡ record self.old {
           incoming = self.new.incoming;
@@ -296,17 +301,17 @@ impl Peer {
     {
         if self.incoming.is_empty() {
             return Handed {
-                got: self.told_end(turn),
+                got: self.reported_end(turn),
                 refused: false,
             };
         }
         self.hand_out(turn, buffer)
     }
 
-    /// Moves what is held of it into the front of a buffer, as far as the turn's lines go.
+    /// Moves what is held of it to the start of a buffer, as far as the turn's lines go.
     fn hand_out(&mut self, turn: &mut Turn, buffer: &mut [u8]) -> Handed
         ensures bytes { self.old.incoming ≡ got_bytes result.got buffer.new ++ self.new.incoming }
-        ensures ended { tells_end result.got ≡ false }
+        ensures ended { reports_end result.got ≡ false }
         ensures count { (n : ℕ) → result.got ≡ Ok (Got.Bytes n) → (0 < n) × (n ≤ length buffer.new) }
         ensures line { self.new.share.line ≡ line_after self.old.share.line (got_bytes result.got buffer.new) }
         ensures turn { turn.new ≡ after_read turn.old self.old.share.line result.got buffer.new }
@@ -336,24 +341,24 @@ impl Peer {
         }
     }
 
-    /// Returns what is told if nothing is held of it: its end or a fault, if the turn told no other.
-    fn told_end(&self, turn: &mut Turn) -> Result<Got, DoorFault>
+    /// Returns what is reported if nothing is held of it: its end or a fault, if the turn reported no other.
+    fn reported_end(&self, turn: &mut Turn) -> Result<Got, DoorFault>
         ensures none { (n : ℕ) → result ≢ Ok (Got.Bytes n) }
         ensures bytes { (buffer : List ℕ) → got_bytes result buffer ≡ [] }
         ensures ended { result ≡ Ok Got.Ended → self.now.incoming ≡ [] → MayEnd self.now }
         ensures failed { OnErr result (MayFail self.now) }
         ensures fault { IfErr result (λ fault. fault ≡ DoorFault.Read) }
         ensures turn { (line : Line) (buffer : List ℕ) → turn.new ≡ after_read turn.old line result buffer }
-        ensures ends { tells_end result ≡ true → turn.old.ends ≡ true }
+        ensures ends { reports_end result ≡ true → turn.old.ends ≡ true }
     {
         match self.due_end() {
             Due::Nothing => Ok(Got::Nothing),
-            Due::End => turn.tell_end(),
-            Due::Fault => turn.tell_fault(),
+            Due::End => turn.report_end(),
+            Due::Fault => turn.report_fault(),
         }
     }
 
-    /// Returns what is to be told if nothing is held of it.
+    /// Returns what is to be reported if nothing is held of it.
     fn due_end(&self) -> Due
         ensures end { result ≡ Due.End → self.now.incoming ≡ [] → MayEnd self.now }
         ensures fault { result ≡ Due.Fault → MayFail self.now }
@@ -370,14 +375,15 @@ impl Peer {
 
     /// Takes bytes, as many as there is space for, and returns how many. What is written to a lost peer goes nowhere.
     pub fn write<S: System>(&mut self, system: &mut S, bytes: &[u8]) -> usize
-        requires kept { IsKept (S.told system.old) self.old }
+        requires kept { IsKept (S.trace system.old) self.old }
         requires here { self.old.stay ≡ Stay.Here }
-        ensures kept { IsKept (S.told system.new) self.new }
+        ensures kept { IsKept (S.trace system.new) self.new }
         ensures count { result ≤ length bytes.now }
         ensures exact { result ≡ enqueued self.old bytes.now }
-        ensures told { Tells (S.told system.old) (Told (WriteCall self.old.number bytes.now (Ok result)))
-            (S.told system.new) }
-        ensures others { (other : ℕ) → other ≢ self.old.number → Spares other (S.told system.old) (S.told system.new) }
+        ensures trace { Tells (S.trace system.old) (Answers (WriteCall self.old.number bytes.now (Ok result)))
+            (S.trace system.new) }
+        ensures others { (other : ℕ) → other ≢ self.old.number
+            → Spares other (S.trace system.old) (S.trace system.new) }
         ensures number { self.new.number ≡ self.old.number }
         ensures same { self.new ≡ record self.old {
           outgoing = queued_more self.old.output self.old.outgoing (take result bytes.now);
@@ -391,7 +397,7 @@ impl Peer {
         if !self.ending.is_open() {
             self.ending = self.ending.written(!self.cut);
         }
-        system.told_write(self.number, bytes, Ok(count));
+        system.note_write(self.number, bytes, Ok(count));
         count
     }
 

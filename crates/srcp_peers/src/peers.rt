@@ -15,14 +15,14 @@ use crate::waiting::Listening;
 
 /// Flushes each peer that is there, and goes on with those that linger.
 pub fn flush<S: System>(system: &mut S, peers: &mut [Peer], what: Flush)
-    requires kept { AreKept (S.told system.old) peers.old }
+    requires kept { AreKept (S.trace system.old) peers.old }
     requires apart { AreApart peers.old }
-    ensures kept { AreKept (S.told system.new) peers.new }
+    ensures kept { AreKept (S.trace system.new) peers.new }
     ensures those { AreThose peers.old peers.new }
-    ensures others { (other : ℕ) → IsAbsent other peers.old → Spares other (S.told system.old) (S.told system.new) }
-    ensures calls { SaysNothing (S.told system.old) (S.told system.new) }
-    ensures times { KeepsTimes (S.told system.old) (S.told system.new) }
-    ensures offered { AreOffered what peers.old (S.told system.old) (S.told system.new) }
+    ensures others { (other : ℕ) → IsAbsent other peers.old → Spares other (S.trace system.old) (S.trace system.new) }
+    ensures calls { SaysNothing (S.trace system.old) (S.trace system.new) }
+    ensures times { KeepsTimes (S.trace system.old) (S.trace system.new) }
+    ensures offered { AreOffered what peers.old (S.trace system.old) (S.trace system.new) }
     ensures shut { AreShutDown peers.old peers.new }
 {
     for peer in peers.iter_mut() {
@@ -33,15 +33,15 @@ pub fn flush<S: System>(system: &mut S, peers: &mut [Peer], what: Flush)
 /// Begins the visit of each peer; with `clear` the marks are cleared. At most `room` lines may be queued for each whose
 /// socket refuses more.
 pub fn begin_visits<S: System>(system: &mut S, peers: &mut [Peer], clear: bool, room: u32)
-    requires kept { AreKept (S.told system.old) peers.old }
+    requires kept { AreKept (S.trace system.old) peers.old }
     requires apart { AreApart peers.old }
-    ensures kept { AreKept (S.told system.new) peers.new }
+    ensures kept { AreKept (S.trace system.new) peers.new }
     ensures those { AreThose peers.old peers.new }
-    ensures others { (other : ℕ) → IsAbsent other peers.old → Spares other (S.told system.old) (S.told system.new) }
-    ensures calls { SaysNothing (S.told system.old) (S.told system.new) }
-    ensures times { KeepsTimes (S.told system.old) (S.told system.new) }
+    ensures others { (other : ℕ) → IsAbsent other peers.old → Spares other (S.trace system.old) (S.trace system.new) }
+    ensures calls { SaysNothing (S.trace system.old) (S.trace system.new) }
+    ensures times { KeepsTimes (S.trace system.old) (S.trace system.new) }
     ensures read { (k : ℕ) (d : Peer) → k < length peers.new
-        → IsRead (S.told system.new) (slice_index_or peers.new k d).number }
+        → IsRead (S.trace system.new) (slice_index_or peers.new k d).number }
     ensures marks { AreMarked clear peers.old peers.new }
     ensures rooms { All (λ peer. peer.room ≡ room) peers.new }
 {

@@ -45,7 +45,7 @@ impl Queues {
     }
 }
 
-/// Bytes in the order in which they came, at most `MOST`. Seen as a list.
+/// A bounded FIFO queue of bytes, at most `MOST`. Contracts see it as a list.
 #[derive(Drop)]
 pub struct Queue<const MOST: usize> {
     // The bytes from `start` to `end` are held.
@@ -65,10 +65,10 @@ impl<const MOST: usize> Model for Queue<MOST> {
 }
 
 impl<const MOST: usize> Queue<MOST> {
-    /// Returns none yet. No other call takes memory.
+    /// Makes an empty queue. No other call allocates.
     ///
     /// # Errors
-    /// If memory is refused.
+    /// Returns an error if memory is refused.
     pub(crate) fn new(alloc: Global) -> Result<Queue<MOST>, AllocError>
         ensures { IfOk result (λ held. held ≡ []) }
     {
@@ -109,7 +109,7 @@ impl<const MOST: usize> Queue<MOST> {
         bytes.len()
     }
 
-    /// Moves what is held to the front of the buffer, and takes bytes, as many as there is space for behind it.
+    /// Moves what is held to the start of the buffer, and takes bytes, as many as there is space for behind it.
     #[inline(never)]
     fn take_at_front(&mut self, bytes: &[u8]) -> usize
         ensures count { result ≡ min (length bytes.now) (MOST - length self.old) }
@@ -135,7 +135,7 @@ impl<const MOST: usize> Queue<MOST> {
     ) -> Result<usize, ErrorKind>
         requires { length self.old < MOST }
         ensures { (buffer : List ℕ) × (length buffer ≡ MOST - length self.old)
-            × Tells (S.told system.old) (Reads socket buffer result) (S.told system.new)
+            × Tells (S.trace system.old) (Reads socket buffer result) (S.trace system.new)
             × MatchResult result (λ count. (count ≤ length buffer) × (self.new ≡ self.old ++ take count buffer))
             (λ _. self.new ≡ self.old) }
     {
@@ -151,7 +151,7 @@ impl<const MOST: usize> Queue<MOST> {
         }
     }
 
-    /// Returns the bytes, the one that came first in front.
+    /// Returns the bytes, oldest first.
     pub(crate) fn front(&self) -> &[u8]
         ensures { result.now ≡ self.now }
     {
@@ -182,7 +182,7 @@ fn put(buffer: &mut Vec<u8>, at: usize, bytes: &[u8])
     buffer[at..at + bytes.len()].copy_from_slice(bytes);
 }
 
-/// Moves the bytes from `start` to `end` to the front of a buffer.
+/// Moves the bytes from `start` to `end` to the start of a buffer.
 fn move_to_front(buffer: &mut Vec<u8>, start: usize, end: usize)
     requires { (start ≤ end) × (end ≤ length buffer.old.items) }
     ensures moved { slice_range buffer.new.items 0 (end - start) ≡ slice_range buffer.old.items start end }

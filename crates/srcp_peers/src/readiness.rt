@@ -13,7 +13,7 @@ use crate::system::Refusal;
 pub enum Input {
     /// Something, for all that is known.
     Ready,
-    /// Something behind urgent data, or the end, which no event tells again: it is read until nothing comes.
+    /// Something behind urgent data, or the end, which no event reports again: it is read until nothing comes.
     Draining,
     /// Nothing, until the socket is found ready.
     Quiet,
@@ -129,7 +129,7 @@ impl Input {
         matches!(self, Input::Ended) && incoming.is_empty()
     }
 
-    /// Returns whether nothing is to be told of it but what its socket says.
+    /// Returns whether nothing is to be reported of it but what its socket says.
     pub(crate) fn is_resting(self, outgoing: &Outgoing) -> bool
         ensures { result ≡ rests_reading outgoing.now self }
     {

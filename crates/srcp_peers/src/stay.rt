@@ -14,8 +14,8 @@ pub enum Stay {
     Here,
     /// The core closed it when the monotonic clock showed this. Its socket is still to take what is queued.
     Draining { since: u64 },
-    /// The core closed it then. Its socket took all, and was told that nothing more is written. What still comes is
-    /// dropped, until it ends.
+    /// The core closed it then. Its socket took all, and its writing side was shut down. What still comes is dropped,
+    /// until it ends.
     Shut { since: u64 },
 }
 

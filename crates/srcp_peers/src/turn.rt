@@ -8,7 +8,7 @@ ghost use Rattle.srcp_door.specs.Pacing.{Allows, IsShort, fits, line_after, weig
 ghost use Rattle.srcp_door.specs.declared.pacing.Line.{Line};
 ghost use Rattle.srcp_peers.specs.Turns.{after_call, after_read, after_wait, begun, earlier, ended, first_turn};
 ghost use Rattle.srcp_peers.specs.Turns.{handed_out, is_behind, is_pending, is_short, lack, moment_at, stop};
-ghost use Rattle.srcp_peers.specs.Turns.{tells_end, time_left, told_at};
+ghost use Rattle.srcp_peers.specs.Turns.{reports_end, time_left, reported_at};
 
 use srcp_door::{Allowed, MOST_SLACK, Pace, RESERVE, Share, Timekeeper};
 use srcp_feed::MOST_WAITING;
@@ -25,9 +25,9 @@ const EARLIER: u64 = 128;
 /// What a door knows of its turn.
 #[derive(Drop)]
 pub struct Turn {
-    /// The clocks at the start, and the moment that was told last.
+    /// The clocks at the start, and the moment that was reported last.
     pub timekeeper: Timekeeper,
-    /// What the monotonic clock showed when that moment was told, in milliseconds; 0 before the first.
+    /// What the monotonic clock showed when that moment was reported, in milliseconds; 0 before the first.
     pub clock: u64,
     /// The moment at which something falls due next, if anything does.
     pub due: Option<u64>,
@@ -37,11 +37,11 @@ pub struct Turn {
     pub before: Option<usize>,
     /// Whether something happened since the last wait.
     pub busy: bool,
-    /// Whether the moment that was told last is behind the time.
+    /// Whether the moment that was reported last is behind the time.
     pub late: bool,
     /// How much the lines may still weigh that are handed out.
     pub pace: Pace,
-    /// Whether the end of a peer may still be told.
+    /// Whether the end of a peer may still be reported.
     pub ends: bool,
 }
 
@@ -129,16 +129,17 @@ impl Turn {
         self.busy = false;
     }
 
-    /// Returns the moment that is to be told, if the monotonic clock shows a time. Moments never go back. After
+    /// Returns the moment that is to be reported, if the monotonic clock shows a time. Moments never go back. After
     /// a stall they catch up in steps of 10 milliseconds, from the moment on at which something falls due. From now on
-    /// lines may be handed out again, as many as the panels can take, and the end of one peer may be told.
+    /// lines may be handed out again, as many as the panels can take, and the end of one peer may be reported.
     ///
     /// # Errors
     /// `Now` if the clock cannot be read.
-    pub fn tell(&mut self, shown: Option<u64>) -> Result<u64, DoorFault>
+    pub fn report_moment(&mut self, shown: Option<u64>) -> Result<u64, DoorFault>
         ensures none { shown ≡ None → (result ≡ Err DoorFault.Now) × (self.new ≡ begun self.old false) }
         ensures some { (time : ℕ) → shown ≡ Some time
-            → (result ≡ Ok (moment_at self.old time)) × (self.new ≡ told_at self.old time (moment_at self.old time)) }
+            → (result ≡ Ok (moment_at self.old time))
+            × (self.new ≡ reported_at self.old time (moment_at self.old time)) }
         ensures fault { IfErr result (λ fault. fault ≡ DoorFault.Now) }
     {
         let Some(time) = shown else {
@@ -161,7 +162,7 @@ impl Turn {
         self.ends = true;
     }
 
-    /// Returns whether the end of a peer may be told now. If so, it is the one of this turn.
+    /// Returns whether the end of a peer may be reported now. If so, it is the one of this turn.
     pub(crate) fn allow_end(&mut self) -> bool
         ensures allowed { result ≡ self.old.ends }
         ensures new { self.new ≡ cond result (ended self.old) self.old }
@@ -172,12 +173,12 @@ impl Turn {
         allowed
     }
 
-    /// Answers a read of a peer whose end is due: by that, if the turn told no other end.
-    pub(crate) fn tell_end(&mut self) -> Result<Got, DoorFault>
+    /// Answers a read of a peer whose end is due: by that, if the turn reported no other end.
+    pub(crate) fn report_end(&mut self) -> Result<Got, DoorFault>
         ensures exact { result ≡ cond self.old.ends (Ok Got.Ended) (Ok Got.Nothing) }
-        ensures told { (result ≡ Ok Got.Nothing) ⊎ (result ≡ Ok Got.Ended) }
+        ensures reported { (result ≡ Ok Got.Nothing) ⊎ (result ≡ Ok Got.Ended) }
         ensures new { (line : Line) (buffer : List ℕ) → self.new ≡ after_read self.old line result buffer }
-        ensures ends { tells_end result ≡ true → self.old.ends ≡ true }
+        ensures ends { reports_end result ≡ true → self.old.ends ≡ true }
     {
         if self.allow_end() {
             Ok(Got::Ended)
@@ -186,15 +187,15 @@ impl Turn {
         }
     }
 
-    /// Answers a read of a peer that is lost or is not there: by that, if the turn told no other end.
+    /// Answers a read of a peer that is lost or is not there: by that, if the turn reported no other end.
     ///
     /// # Errors
     /// `Read` if it did not.
-    pub fn tell_fault(&mut self) -> Result<Got, DoorFault>
+    pub fn report_fault(&mut self) -> Result<Got, DoorFault>
         ensures exact { result ≡ cond self.old.ends (Err DoorFault.Read) (Ok Got.Nothing) }
-        ensures told { (result ≡ Ok Got.Nothing) ⊎ (result ≡ Err DoorFault.Read) }
+        ensures reported { (result ≡ Ok Got.Nothing) ⊎ (result ≡ Err DoorFault.Read) }
         ensures new { (line : Line) (buffer : List ℕ) → self.new ≡ after_read self.old line result buffer }
-        ensures ends { tells_end result ≡ true → self.old.ends ≡ true }
+        ensures ends { reports_end result ≡ true → self.old.ends ≡ true }
     {
         if self.allow_end() {
             Err(DoorFault::Read)

@@ -13,12 +13,12 @@ use crate::system::Refusal;
 use crate::turn::Turn;
 
 /// How long a turn waits at most in milliseconds if a call of the system is to be made again, or a peer lingers.
-pub const PAUSE: u64 = 8;
+pub const RETRY_DELAY: u64 = 8;
 
 /// How long a turn waits at most for what falls due, in milliseconds: an hour.
 const LONGEST_WAIT: u64 = 3_600_000;
 
-/// Whether a newcomer may be accepted.
+/// Whether a pending connection may be accepted.
 #[derive(Clone, Copy)]
 pub enum Listening {
     /// One may.
@@ -30,7 +30,7 @@ pub enum Listening {
 }
 
 impl Listening {
-    /// Returns whether no newcomer may be accepted.
+    /// Returns whether no pending connection may be accepted.
     pub fn is_quiet(self) -> bool
         ensures { IsTrue result ↔ self ≡ Listening.Quiet }
     {
@@ -52,7 +52,7 @@ impl Listening {
 /// Returns how many milliseconds a turn waits at most; `None` if only a socket ends the wait. While a peer that is
 /// there or the listener may have something, or a panel may have something coming, it does not wait; but if a panel is
 /// so far behind for the second turn that no line may go, it waits until the clock goes on. It waits neither past what
-/// falls due, nor longer than `most` if that is said, nor longer than the pause while a peer lingers.
+/// falls due, nor longer than `most` if that is said, nor longer than the retry delay while a peer lingers.
 pub fn longest_wait(
     peers: &[Peer],
     listening: Listening,
@@ -76,7 +76,7 @@ pub fn longest_wait(
     match listening {
         Listening::Ready => Some(0),
         Listening::Quiet if are_resting(peers) => left.map(|left| left.min(LONGEST_WAIT)),
-        Listening::Quiet | Listening::Refused => sooner(left, Some(PAUSE)),
+        Listening::Quiet | Listening::Refused => sooner(left, Some(RETRY_DELAY)),
     }
 }
 

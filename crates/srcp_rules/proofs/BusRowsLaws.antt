@@ -22,7 +22,7 @@ use Rattle.srcp_grammar.specs.Devices.{fb_device, power_device}
 use Rattle.srcp_rules.specs.State.{State, IsRising, first_row, has_row, put_row, row_after, row_at, without}
 use Rattle.srcp_rules.specs.Rows.{put_rows}
 use Rattle.srcp_rules.specs.declared.nested.bus_rows.BusRows.{BusRows}
-use Rattle.srcp_rules.specs.declared.nested.bus_rows.TheConstants.{GROUPS}
+use Rattle.srcp_info.specs.declared.key.TheConstants.{GROUPS}
 use Rattle.srcp_rules.specs.Nested.{AreDevices, AreOfDevice, AreOfGroup, AreRowsOfBus, AreSorted, IsIn, bus_rows, device_rows}
 use Rattle.srcp_rules.specs.Nested.{entry_at, group_rows}
 use Rattle.srcp_grammar.proofs.FindLaws.{each-weaken}

@@ -20,63 +20,63 @@ use Rattle.srcp_rules.specs.Effect.{term_device, init_device, fresh_gl, fresh_ga
 use Rattle.srcp_rules.specs.Laws.{ChangesNothing, AnswersAs, set_of}
 
 -- a refusal changes nothing
-abbrev Calm : Effect → Type 0
-Calm did = (code : Code) → did.reply ≡ Refused code → ChangesNothing did
+abbrev RefusalKeeps : Effect → Type 0
+RefusalKeeps did = (code : Code) → did.reply ≡ Refused code → ChangesNothing did
 
-calm_accepted : (updates : List Update) → Calm (accepted updates)
-calm_accepted updates code e = cc
+keeps_accepted : (updates : List Update) → RefusalKeeps (accepted updates)
+keeps_accepted updates code e = cc
 
-calm_showing : (o : Option Row) → Calm (showing o)
-calm_showing None code e = record { updates = refl; ends = refl }
-calm_showing (Some row) code e = cc
+keeps_showing : (o : Option Row) → RefusalKeeps (showing o)
+keeps_showing None code e = record { updates = refl; ends = refl }
+keeps_showing (Some row) code e = cc
 
-calm_done : (r : Result (List Update) Code) → Calm (done r)
-calm_done (Ok updates) code e = cc
-calm_done (Err why) code e = record { updates = refl; ends = refl }
+keeps_done : (r : Result (List Update) Code) → RefusalKeeps (done r)
+keeps_done (Ok updates) code e = cc
+keeps_done (Err why) code e = record { updates = refl; ends = refl }
 
-calm_checked : (r : Result (List Update) Code) → Calm (checked r)
-calm_checked (Ok updates) code e = cc
-calm_checked (Err why) code e = record { updates = refl; ends = refl }
+keeps_checked : (r : Result (List Update) Code) → RefusalKeeps (checked r)
+keeps_checked (Ok updates) code e = cc
+keeps_checked (Err why) code e = record { updates = refl; ends = refl }
 
 abbrev ended : Effect
 ended = record { reply = Accepted; updates = []; ends = true }
 
-calm_own : (b : Bool) → Calm (cond b ended (refused C415))
-calm_own true code e = cc
-calm_own false code e = record { updates = refl; ends = refl }
+keeps_own : (b : Bool) → RefusalKeeps (cond b ended (refused C415))
+keeps_own true code e = cc
+keeps_own false code e = record { updates = refl; ends = refl }
 
-calm_end : (session : ℕ) (id : Option ℕ) → Calm (term_session session id)
-calm_end session None = calm_own true
-calm_end session (Some id) = calm_own (id == session)
+keeps_end : (session : ℕ) (id : Option ℕ) → RefusalKeeps (term_session session id)
+keeps_end session None = keeps_own true
+keeps_end session (Some id) = keeps_own (id == session)
 
-pub refused_calm : (state : State) (session moment : ℕ) (command : Command) → Calm (effect state session moment command)
-refused_calm state session moment (GetSession id) = calm_showing (row_at (first_key (session_device id)) state)
-refused_calm state session moment (TermSession id) = calm_end session id
-refused_calm state session moment (GetPower bus) = calm_showing (row_at (first_key (power_device bus)) state)
-refused_calm state session moment (SetPower power) = calm_accepted (effect state session moment (SetPower power)).updates
-refused_calm state session moment (CheckPower power) = calm_accepted []
-refused_calm state session moment (InitPower bus) = calm_accepted []
-refused_calm state session moment (GetGl bus address) = calm_showing (row_at (key_at (device_in devices.Gl bus address) 1) state)
-refused_calm state session moment (SetGl drive) = calm_done (set_gl state session moment drive)
-refused_calm state session moment (CheckGl drive) = calm_checked (set_gl state session moment drive)
-refused_calm state session moment (InitGl gl) =
-    calm_done (init_device state session moment devices.Gl gl.bus gl.address (gl_init gl) (fresh_gl moment gl))
-refused_calm state session moment (TermGl bus address) = calm_done (term_device state session moment devices.Gl bus address)
-refused_calm state session moment (GetGa bus address port) =
-    calm_showing (row_at (key_at (device_in devices.Ga bus address) (1 + port)) state)
-refused_calm state session moment (SetGa switch) = calm_done (set_ga state session moment switch)
-refused_calm state session moment (CheckGa switch) = calm_checked (set_ga state session moment switch)
-refused_calm state session moment (InitGa ga) =
-    calm_done (init_device state session moment devices.Ga ga.bus ga.address (value.GaInit ga.letter) (fresh_ga moment ga))
-refused_calm state session moment (TermGa bus address) = calm_done (term_device state session moment devices.Ga bus address)
-refused_calm state session moment (GetFb bus port) = calm_showing (row_at (first_key (fb_device bus port)) state)
-refused_calm state session moment (SetFb sensor) = calm_accepted (effect state session moment (SetFb sensor)).updates
-refused_calm state session moment (CheckFb sensor) = calm_accepted []
-refused_calm state session moment (InitFb bus) = calm_accepted []
-refused_calm state session moment (GetLock place) = calm_showing (row_at (first_key (lock_at place)) state)
-refused_calm state session moment (SetLock lock) = calm_done (set_lock state session moment lock)
-refused_calm state session moment (CheckLock lock) = calm_checked (set_lock state session moment lock)
-refused_calm state session moment (TermLock place) = calm_done (term_lock state session moment place.group place.bus place.address)
+pub refusal_keeps : (state : State) (session moment : ℕ) (command : Command) → RefusalKeeps (effect state session moment command)
+refusal_keeps state session moment (GetSession id) = keeps_showing (row_at (first_key (session_device id)) state)
+refusal_keeps state session moment (TermSession id) = keeps_end session id
+refusal_keeps state session moment (GetPower bus) = keeps_showing (row_at (first_key (power_device bus)) state)
+refusal_keeps state session moment (SetPower power) = keeps_accepted (effect state session moment (SetPower power)).updates
+refusal_keeps state session moment (CheckPower power) = keeps_accepted []
+refusal_keeps state session moment (InitPower bus) = keeps_accepted []
+refusal_keeps state session moment (GetGl bus address) = keeps_showing (row_at (key_at (device_in devices.Gl bus address) 1) state)
+refusal_keeps state session moment (SetGl drive) = keeps_done (set_gl state session moment drive)
+refusal_keeps state session moment (CheckGl drive) = keeps_checked (set_gl state session moment drive)
+refusal_keeps state session moment (InitGl gl) =
+    keeps_done (init_device state session moment devices.Gl gl.bus gl.address (gl_init gl) (fresh_gl moment gl))
+refusal_keeps state session moment (TermGl bus address) = keeps_done (term_device state session moment devices.Gl bus address)
+refusal_keeps state session moment (GetGa bus address port) =
+    keeps_showing (row_at (key_at (device_in devices.Ga bus address) (1 + port)) state)
+refusal_keeps state session moment (SetGa switch) = keeps_done (set_ga state session moment switch)
+refusal_keeps state session moment (CheckGa switch) = keeps_checked (set_ga state session moment switch)
+refusal_keeps state session moment (InitGa ga) =
+    keeps_done (init_device state session moment devices.Ga ga.bus ga.address (value.GaInit ga.letter) (fresh_ga moment ga))
+refusal_keeps state session moment (TermGa bus address) = keeps_done (term_device state session moment devices.Ga bus address)
+refusal_keeps state session moment (GetFb bus port) = keeps_showing (row_at (first_key (fb_device bus port)) state)
+refusal_keeps state session moment (SetFb sensor) = keeps_accepted (effect state session moment (SetFb sensor)).updates
+refusal_keeps state session moment (CheckFb sensor) = keeps_accepted []
+refusal_keeps state session moment (InitFb bus) = keeps_accepted []
+refusal_keeps state session moment (GetLock place) = keeps_showing (row_at (first_key (lock_at place)) state)
+refusal_keeps state session moment (SetLock lock) = keeps_done (set_lock state session moment lock)
+refusal_keeps state session moment (CheckLock lock) = keeps_checked (set_lock state session moment lock)
+refusal_keeps state session moment (TermLock place) = keeps_done (term_lock state session moment place.group place.bus place.address)
 
 -- what is checked is answered as what is done
 pub checked_as_done : (r : Result (List Update) Code) → AnswersAs (checked r) (done r)

@@ -31,7 +31,7 @@ use Rattle.srcp_rules.specs.State.{State, Update, row_at}
 use Rattle.srcp_grammar.specs.Command.{IsCommandOf}
 use Rattle.srcp_grammar.specs.Grammar.{◌>>=◌, number_in, groups, named_in, alone, addressed, get_session, term_session}
 use Rattle.srcp_grammar.specs.Grammar.{powered, driven, ga_port, get_ga, switched, sensed, named_lock, timed_lock, asked, directed}
-use Rattle.srcp_grammar.specs.Grammar.{commanded}
+use Rattle.srcp_grammar.specs.Grammar.{parsed}
 use Rattle.srcp_rules.specs.Effect.{effect, refused, done, checked, shown_at, unless_refused, refusals, gl_refusals}
 use Rattle.srcp_rules.specs.Effect.{ga_put, gl_put, set_gl, set_ga, lock_put, set_lock}
 use Rattle.srcp_rules.specs.Weight.{names_session, weight_of, weight, LinesWeighEnough, WeightsAreSmall, GoesWeighOne}
@@ -256,7 +256,7 @@ module _ (state : State) (session moment : ℕ) (buses : List Bus) where
       any_ok (operation_by false false false found >>= (λ operation. directed buses operation words))
       (λ c fits. effect_few buses state session moment c fits)
 
-  words_weigh : (words : List (List ℕ)) → IfOk (commanded buses words) (Weighs (weight_of words))
+  words_weigh : (words : List (List ℕ)) → IfOk (parsed buses words) (Weighs (weight_of words))
   words_weigh [] = tt
   words_weigh (word ∷ words) =
       word_weighs words (is_keyword (codes "TERM") word && names_session words) (is_keyword (codes "GET") word)

@@ -15,7 +15,7 @@ use Rattle.srcp_grammar.specs.declared.layout.Bus.{Bus}
 use Rattle.srcp_grammar.specs.Layout.{IsLayout, row_count, server}
 use Rattle.srcp_rules.specs.State.{State, IsRising, is_there}
 use Rattle.srcp_rules.specs.declared.nested.bus_rows.BusRows.{BusRows}
-use Rattle.srcp_rules.specs.declared.nested.bus_rows.TheConstants.{GROUPS}
+use Rattle.srcp_info.specs.declared.key.TheConstants.{GROUPS}
 
 -- the key is of the group of the bus
 abbrev pub IsIn : (bus : ℕ) → Group → Key → Type 0

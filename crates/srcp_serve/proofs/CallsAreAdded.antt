@@ -10,40 +10,40 @@ use Rattle.srcp_core.specs.Held.{Held}
 use Rattle.srcp_core.specs.Under.{denied_by}
 use Rattle.srcp_core.proofs.Agreement.MemoryAnswers.{none_denied}
 use Rattle.srcp_serve.specs.Calls.{Call as DoorCall, Tells, CloseCall, Adds}
-use Rattle.srcp_serve.specs.Given.{Call, CountsRefusals, GivesUnlessCounted, answers_in, answers_of, told_call}
+use Rattle.srcp_serve.specs.Given.{Call, CountsRefusals, GivesUnlessCounted, answers_in, answers_of, door_call}
 use Rattle.srcp_serve.specs.Visits.{AddsGiven, Closes}
 use Rattle.srcp_serve.specs.declared.door.DoorFault.{DoorFault}
 
 -- one call more
-pub adds_one : (call : DoorCall) (old new : Option (List DoorCall)) (told : List DoorCall) → Tells old call new → new ≡ Some told
-    → Adds old told (call ∷ [])
-adds_one call None new told e is = absurd (none_some (sym e ∙ is))
+pub adds_one : (call : DoorCall) (old new : Option (List DoorCall)) (trace : List DoorCall) → Tells old call new → new ≡ Some trace
+    → Adds old trace (call ∷ [])
+adds_one call None new trace e is = absurd (none_some (sym e ∙ is))
   where
-    none_some : None ≡ Some told → ⊥
+    none_some : None ≡ Some trace → ⊥
     none_some e = cc
-adds_one call (Some calls) new told h is = record {
+adds_one call (Some calls) new trace h is = record {
   before = calls;
   was = refl;
-  is = subst (λ (o : Option (List DoorCall)). IfSome o (λ told. told ≡ calls ++ call ∷ [])) is h;
+  is = subst (λ (o : Option (List DoorCall)). IfSome o (λ trace. trace ≡ calls ++ call ∷ [])) is h;
 }
 
 -- no call
-pub adds_none : (old : Option (List DoorCall)) (told : List DoorCall) → old ≡ Some told → Adds old told []
-adds_none old told e = record { before = told; was = e; is = sym (append-nil told) }
+pub adds_none : (old : Option (List DoorCall)) (trace : List DoorCall) → old ≡ Some trace → Adds old trace []
+adds_none old trace e = record { before = trace; was = e; is = sym (append-nil trace) }
 
 -- these calls, and then those
-pub adds_then : (old mid_told : Option (List DoorCall)) (mid told xs ys : List DoorCall) → mid_told ≡ Some mid → Adds old mid xs
-    → Adds mid_told told ys → Adds old told (xs ++ ys)
-adds_then old mid_told mid told xs ys e a b =
+pub adds_then : (old mid_trace : Option (List DoorCall)) (mid trace xs ys : List DoorCall) → mid_trace ≡ Some mid → Adds old mid xs
+    → Adds mid_trace trace ys → Adds old trace (xs ++ ys)
+adds_then old mid_trace mid trace xs ys e a b =
     let same : b.before ≡ mid = same_Some b.before mid (sym b.was ∙ e) in
     record { before = a.before; was = a.was; is = b.is ∙ ap (λ calls. calls ++ ys) (same ∙ a.is) ∙ append_assoc a.before xs ys }
 
 -- the same of calls with the answers of memory
-pub given_then : (old mid_told : Option (List DoorCall)) (mid told : List DoorCall) (xs ys : List Call) → mid_told ≡ Some mid
-    → AddsGiven old mid xs → AddsGiven mid_told told ys → AddsGiven old told (xs ++ ys)
-given_then old mid_told mid told xs ys e a b =
-    subst (λ (calls : List DoorCall). Adds old told calls) (sym (map-append told_call xs ys))
-    (adds_then old mid_told mid told (map told_call xs) (map told_call ys) e a b)
+pub given_then : (old mid_trace : Option (List DoorCall)) (mid trace : List DoorCall) (xs ys : List Call) → mid_trace ≡ Some mid
+    → AddsGiven old mid xs → AddsGiven mid_trace trace ys → AddsGiven old trace (xs ++ ys)
+given_then old mid_trace mid trace xs ys e a b =
+    subst (λ (calls : List DoorCall). Adds old trace calls) (sym (map-append door_call xs ys))
+    (adds_then old mid_trace mid trace (map door_call xs) (map door_call ys) e a b)
 
 -- the refusals of these calls were counted, and then those of the others
 pub refusals_then : (old mid new : Held) (xs ys : List Call) → CountsRefusals old xs mid → CountsRefusals mid ys new
@@ -59,11 +59,11 @@ pub gives_all : GivesUnlessCounted
 gives_all old calls new counted none = (none_denied (answers_of calls) old.denied (sym counted ∙ none)).1
 
 -- the same calls were added
-pub same_calls : (old : Option (List DoorCall)) (told xs ys : List DoorCall) → Adds old told xs → Adds old told ys → xs ≡ ys
-same_calls old told xs ys a b =
+pub same_calls : (old : Option (List DoorCall)) (trace xs ys : List DoorCall) → Adds old trace xs → Adds old trace ys → xs ≡ ys
+same_calls old trace xs ys a b =
     let same : b.before ≡ a.before = same_Some b.before a.before (sym b.was ∙ a.was) in
     append_cancel_left a.before xs ys (sym a.is ∙ b.is ∙ ap (λ calls. calls ++ ys) same)
 
 pub closes_by : (peer : ℕ) (answer : Result Unit DoorFault) (old new : Option (List DoorCall)) → Tells old (CloseCall peer answer) new
     → Closes peer old new
-closes_by peer answer old new h told is = record { answer = answer; adds = adds_one (CloseCall peer answer) old new told h is }
+closes_by peer answer old new h trace is = record { answer = answer; adds = adds_one (CloseCall peer answer) old new trace h is }

@@ -10,11 +10,11 @@ use Rattle.srcp_core.specs.Under.{Event, Bytes}
 use Rattle.srcp_info.proofs.ClientLaws.{all_append}
 use Rattle.srcp_grammar.specs.declared.layout.Bus.{Bus}
 use Rattle.srcp_serve.specs.Given.{Guest, Call, ExpectCall, NowCall, AcceptCall, ReadCall, WriteCall, CloseCall}
-use Rattle.srcp_serve.specs.Serving.{Question, Expects, Moments, expects, Newcomers, Reads, Writes, Closes, Seat, Stand, OfEachTurn}
+use Rattle.srcp_serve.specs.Serving.{Question, Expects, Moments, expects, Newcomers, Reads, Writes, Closes, Client, Stand, OfEachTurn}
 use Rattle.srcp_serve.specs.Serving.{OfEachVisit, question, is_about, is_expect, visit, newcomer_of, piece_of, count_of, loses}
 use Rattle.srcp_serve.specs.Serving.{loses_reading, turns, exchange, is_let_in, is_ready, is_closing, handed, reads_of, writes_of}
 use Rattle.srcp_serve.specs.Serving.{closes_of, visit_asks, visits_ask, visit_events, turns_away, turn_asks, turns_ask, turned, timed}
-use Rattle.srcp_serve.specs.Serving.{begun, seats}
+use Rattle.srcp_serve.specs.Serving.{begun, clients}
 
 -- ---- questions by whom they are about
 
@@ -109,98 +109,98 @@ writes_own peer [] = tt
 writes_own peer (text ∷ texts) = (same_peer peer, writes_own peer texts)
 
 -- none has that peer
-abbrev pub IsNoneOf : ℕ → List Seat → Type 0
-IsNoneOf peer all = AllByRecursion (λ seat. (seat.peer == peer) ≡ false) all
+abbrev pub IsNoneOf : ℕ → List Client → Type 0
+IsNoneOf peer all = AllByRecursion (λ client. (client.peer == peer) ≡ false) all
 
 -- no two have one peer
-abbrev pub PeersApart : List Seat → Type 0
+abbrev pub PeersApart : List Client → Type 0
 PeersApart [] = Unit {0}
-PeersApart (seat ∷ all) = IsNoneOf seat.peer all × PeersApart all
+PeersApart (client ∷ all) = IsNoneOf client.peer all × PeersApart all
 
 module _ (buses : List Bus) where
   -- a visit asks of its own peer
-  pub visit_own : (events : List Event) (calls : List Call) (seat : Seat) → AreOf seat.peer (visit_asks buses events calls seat)
-  visit_own events calls seat =
-      let own = same_peer seat.peer in
-      let Own : Question → Type 0 = λ q. asks_of seat.peer q ≡ true in
-      all_append Own (reads_of buses events seat ++ writes_of buses events calls seat) (closes_of buses events calls seat)
-      (all_append Own (reads_of buses events seat) (writes_of buses events calls seat)
-      (elim (is_ready buses seat.conn events)
-      as (λ b. AreOf seat.peer (if b then Reads seat.peer 256 ∷ [] else [])) [ true ↦ (own, tt) | false ↦ tt ])
+  pub visit_own : (events : List Event) (calls : List Call) (client : Client) → AreOf client.peer (visit_asks buses events calls client)
+  visit_own events calls client =
+      let own = same_peer client.peer in
+      let Own : Question → Type 0 = λ q. asks_of client.peer q ≡ true in
+      all_append Own (reads_of buses events client ++ writes_of buses events calls client) (closes_of buses events calls client)
+      (all_append Own (reads_of buses events client) (writes_of buses events calls client)
+      (elim (is_ready buses client.conn events)
+      as (λ b. AreOf client.peer (if b then Reads client.peer 256 ∷ [] else [])) [ true ↦ (own, tt) | false ↦ tt ])
       (written (list_any loses_reading calls)))
-      (closed (list_any loses calls || is_closing buses seat.conn (events ++ exchange seat.conn calls)))
+      (closed (list_any loses calls || is_closing buses client.conn (events ++ exchange client.conn calls)))
     where
       written : (b : Bool)
-          → AreOf seat.peer
+          → AreOf client.peer
           (if b then []
-          else map (Writes seat.peer)
+          else map (Writes client.peer)
           (take 300
-          (handed buses seat.conn (events ++ map (Bytes seat.conn) (filter_map piece_of calls))
+          (handed buses client.conn (events ++ map (Bytes client.conn) (filter_map piece_of calls))
           (filter_map count_of calls))))
       written true = tt
-      written false = writes_own seat.peer _
+      written false = writes_own client.peer _
 
-      closed : (b : Bool) → AreOf seat.peer (if b then Closes seat.peer ∷ [] else [])
-      closed true = (same_peer seat.peer, tt)
+      closed : (b : Bool) → AreOf client.peer (if b then Closes client.peer ∷ [] else [])
+      closed true = (same_peer client.peer, tt)
       closed false = tt
 
-  pub visits_peers : (events : List Event) (calls : List Call) (all : List Seat) → AreOfPeers (visits_ask buses events calls all)
+  pub visits_peers : (events : List Event) (calls : List Call) (all : List Client) → AreOfPeers (visits_ask buses events calls all)
   visits_peers events calls [] = tt
-  visits_peers events calls (seat ∷ all) =
-      all_append (λ q. asks_peer q ≡ true) (visit_asks buses events (visit calls seat) seat)
-      (visits_ask buses (events ++ visit_events calls seat) calls all)
-      (of_peers seat.peer _ (visit_own events (visit calls seat) seat)) (visits_peers (events ++ visit_events calls seat) calls all)
+  visits_peers events calls (client ∷ all) =
+      all_append (λ q. asks_peer q ≡ true) (visit_asks buses events (visit calls client) client)
+      (visits_ask buses (events ++ visit_events calls client) calls all)
+      (of_peers client.peer _ (visit_own events (visit calls client) client)) (visits_peers (events ++ visit_events calls client) calls all)
 
   -- what the visits ask of a peer that has no slot among theirs
-  pub none_asked : (peer : ℕ) (events : List Event) (calls : List Call) (all : List Seat) → IsNoneOf peer all
+  pub none_asked : (peer : ℕ) (events : List Event) (calls : List Call) (all : List Client) → IsNoneOf peer all
       → filter (asks_of peer) (visits_ask buses events calls all) ≡ []
   none_asked peer events calls [] h = refl
-  none_asked peer events calls (seat ∷ all) h =
-      filter-append (asks_of peer) (visit_asks buses events (visit calls seat) seat)
-      (visits_ask buses (events ++ visit_events calls seat) calls all)
-      ∙ ap (λ qs. qs ++ filter (asks_of peer) (visits_ask buses (events ++ visit_events calls seat) calls all))
-      (other_questions seat.peer peer (visit_asks buses events (visit calls seat) seat) h.0 (visit_own events (visit calls seat) seat))
-      ∙ none_asked peer (events ++ visit_events calls seat) calls all h.1
+  none_asked peer events calls (client ∷ all) h =
+      filter-append (asks_of peer) (visit_asks buses events (visit calls client) client)
+      (visits_ask buses (events ++ visit_events calls client) calls all)
+      ∙ ap (λ qs. qs ++ filter (asks_of peer) (visits_ask buses (events ++ visit_events calls client) calls all))
+      (other_questions client.peer peer (visit_asks buses events (visit calls client) client) h.0 (visit_own events (visit calls client) client))
+      ∙ none_asked peer (events ++ visit_events calls client) calls all h.1
 
   -- each visit asked what it was to ask
-  abbrev pub AreAsked : List Event → List Call → List Seat → Type 0
+  abbrev pub AreAsked : List Event → List Call → List Client → Type 0
   AreAsked events calls all = OfEachVisit buses
-      (λ events calls seat. map question (visit calls seat) ≡ visit_asks buses events (visit calls seat) seat) events calls all
+      (λ events calls client. map question (visit calls client) ≡ visit_asks buses events (visit calls client) client) events calls all
 
   -- these questions are about none of them
-  abbrev pub IsOfNone : List Question → List Seat → Type 0
-  IsOfNone questions all = AllByRecursion (λ seat. filter (asks_of seat.peer) questions ≡ []) all
+  abbrev pub IsOfNone : List Question → List Client → Type 0
+  IsOfNone questions all = AllByRecursion (λ client. filter (asks_of client.peer) questions ≡ []) all
 
-  none_more : (seat : Seat) (before more : List Question) (all : List Seat) → AreOf seat.peer more → IsNoneOf seat.peer all
+  none_more : (client : Client) (before more : List Question) (all : List Client) → AreOf client.peer more → IsNoneOf client.peer all
       → IsOfNone before all → IsOfNone (before ++ more) all
-  none_more seat before more [] own h k = tt
-  none_more seat before more (other ∷ all) own h k =
-      let apart : (seat.peer == other.peer) ≡ false = let e = h.0 in grind (arith, nat_tests) in (
+  none_more client before more [] own h k = tt
+  none_more client before more (other ∷ all) own h k =
+      let apart : (client.peer == other.peer) ≡ false = let e = h.0 in grind (arith, nat_tests) in (
         filter-append (asks_of other.peer) before more ∙ ap (λ qs. qs ++ filter (asks_of other.peer) more) k.0
-            ∙ other_questions seat.peer other.peer more apart own,
-        none_more seat before more all own h.1 k.1,
+            ∙ other_questions client.peer other.peer more apart own,
+        none_more client before more all own h.1 k.1,
       )
 
   -- so the calls of a turn are parted by their peers
-  pub visits_parted : (before : List Question) (events : List Event) (calls : List Call) (all : List Seat) → PeersApart all
+  pub visits_parted : (before : List Question) (events : List Event) (calls : List Call) (all : List Client) → PeersApart all
       → IsOfNone before all → map question calls ≡ before ++ visits_ask buses events calls all → AreAsked events calls all
   visits_parted before events calls [] apart none e = tt
-  visits_parted before events calls (seat ∷ all) apart none e =
-      let mine : List Question = visit_asks buses events (visit calls seat) seat in
-      let next : List Event = events ++ visit_events calls seat in
+  visits_parted before events calls (client ∷ all) apart none e =
+      let mine : List Question = visit_asks buses events (visit calls client) client in
+      let next : List Event = events ++ visit_events calls client in
       let later : List Question = visits_ask buses next calls all in
-      let own : AreOf seat.peer mine = visit_own events (visit calls seat) seat in
-      let here : map question (visit calls seat) ≡ mine =
-      about_question seat.peer calls
-      ∙ ap (filter (asks_of seat.peer)) e
-      ∙ filter-append (asks_of seat.peer) before (mine ++ later)
-      ∙ ap (λ qs. qs ++ filter (asks_of seat.peer) (mine ++ later)) none.0
-      ∙ filter-append (asks_of seat.peer) mine later
-      ∙ ap (λ qs. qs ++ filter (asks_of seat.peer) later) (own_questions seat.peer mine own)
-      ∙ ap (λ qs. mine ++ qs) (none_asked seat.peer next calls all apart.0)
+      let own : AreOf client.peer mine = visit_own events (visit calls client) client in
+      let here : map question (visit calls client) ≡ mine =
+      about_question client.peer calls
+      ∙ ap (filter (asks_of client.peer)) e
+      ∙ filter-append (asks_of client.peer) before (mine ++ later)
+      ∙ ap (λ qs. qs ++ filter (asks_of client.peer) (mine ++ later)) none.0
+      ∙ filter-append (asks_of client.peer) mine later
+      ∙ ap (λ qs. qs ++ filter (asks_of client.peer) later) (own_questions client.peer mine own)
+      ∙ ap (λ qs. mine ++ qs) (none_asked client.peer next calls all apart.0)
       ∙ append-nil mine in (
         here,
-        visits_parted (before ++ mine) next calls all apart.1 (none_more seat before mine all own apart.0 none.1)
+        visits_parted (before ++ mine) next calls all apart.1 (none_more client before mine all own apart.0 none.1)
             (e ∙ sym (append_assoc before mine later)),
       )
 
@@ -250,19 +250,19 @@ module _ (buses : List Bus) where
   rest_asks stand calls =
       Moments ∷ Newcomers
       ∷ (flat_map (turns_away buses (timed buses stand calls).events) (filter_map newcomer_of calls)
-      ++ visits_ask buses (begun buses stand calls).events calls (seats (begun buses stand calls).slots))
+      ++ visits_ask buses (begun buses stand calls).events calls (clients (begun buses stand calls).slots))
 
   rest_moments : (stand : Stand) (calls : List Call) → NoMoments (rest_asks stand calls)
   rest_moments stand calls =
       let away : List Question = flat_map (turns_away buses (timed buses stand calls).events) (filter_map newcomer_of calls) in
-      let visits : List Question = visits_ask buses (begun buses stand calls).events calls (seats (begun buses stand calls).slots) in (
+      let visits : List Question = visits_ask buses (begun buses stand calls).events calls (clients (begun buses stand calls).slots) in (
         refl,
         (
           refl,
           no_moments (away ++ visits)
               (all_append (λ q. asks_peer q ≡ true) away visits
               (away_peers (timed buses stand calls).events (filter_map newcomer_of calls))
-              (visits_peers (begun buses stand calls).events calls (seats (begun buses stand calls).slots))),
+              (visits_peers (begun buses stand calls).events calls (clients (begun buses stand calls).slots))),
         ),
       )
 
@@ -283,50 +283,50 @@ module _ (buses : List Bus) where
       cc
 
   -- what is asked before the next moment, and then the turns
-  pub turns_parted : (stand : Stand) (told : List Call) (first : List Question) → NoMoments first
-      → map question told ≡ first ++ turns_ask buses stand (turns told)
-      → (map question (in_turn told) ≡ first) × AreTurnsAsked stand (turns told)
+  pub turns_parted : (stand : Stand) (trace : List Call) (first : List Question) → NoMoments first
+      → map question trace ≡ first ++ turns_ask buses stand (turns trace)
+      → (map question (in_turn trace) ≡ first) × AreTurnsAsked stand (turns trace)
   turns_parted stand [] [] h e = (refl, tt)
   turns_parted stand [] (q ∷ first) h e = cc
-  turns_parted stand (call ∷ told) first h e = by (λ other. turns_parted other told) (is_expect call) refl first h e
+  turns_parted stand (call ∷ trace) first h e = by (λ other. turns_parted other trace) (is_expect call) refl first h e
     where
-      other : (b : Bool) → is_expect call ≡ b → in_turn (call ∷ told) ≡ cond (not b) (call ∷ in_turn told) []
-      other b t = take_while-cons (λ next. not (is_expect next)) call told ∙ ap (λ c. cond (not c) (call ∷ in_turn told) []) t
+      other : (b : Bool) → is_expect call ≡ b → in_turn (call ∷ trace) ≡ cond (not b) (call ∷ in_turn trace) []
+      other b t = take_while-cons (λ next. not (is_expect next)) call trace ∙ ap (λ c. cond (not c) (call ∷ in_turn trace) []) t
 
-      turns_are : (b : Bool) → is_expect call ≡ b → turns (call ∷ told) ≡ (if b then (call ∷ in_turn told) ∷ turns told else turns told)
-      turns_are b t = ap (λ c. if c then (call ∷ in_turn told) ∷ turns told else turns told) t
+      turns_are : (b : Bool) → is_expect call ≡ b → turns (call ∷ trace) ≡ (if b then (call ∷ in_turn trace) ∷ turns trace else turns trace)
+      turns_are b t = ap (λ c. if c then (call ∷ in_turn trace) ∷ turns trace else turns trace) t
 
-      by : ((now : Stand) (asked : List Question) → NoMoments asked → map question told ≡ asked ++ turns_ask buses now (turns told)
-          → (map question (in_turn told) ≡ asked) × AreTurnsAsked now (turns told))
+      by : ((now : Stand) (asked : List Question) → NoMoments asked → map question trace ≡ asked ++ turns_ask buses now (turns trace)
+          → (map question (in_turn trace) ≡ asked) × AreTurnsAsked now (turns trace))
           → (b : Bool) → is_expect call ≡ b → (first : List Question) → NoMoments first
-          → map question (call ∷ told) ≡ first ++ turns_ask buses stand (turns (call ∷ told))
-          → (map question (in_turn (call ∷ told)) ≡ first) × AreTurnsAsked stand (turns (call ∷ told))
+          → map question (call ∷ trace) ≡ first ++ turns_ask buses stand (turns (call ∷ trace))
+          → (map question (in_turn (call ∷ trace)) ≡ first) × AreTurnsAsked stand (turns (call ∷ trace))
       by ih true t (q ∷ first) h e =
           let same : question call ≡ q = cc in
           let yes : asks_moment (question call) ≡ true = sym (is_moment call) ∙ t in
           let no : asks_moment (question call) ≡ false = ap asks_moment same ∙ h.0 in
           cc
       by ih true t [] h e =
-          let calls : List Call = call ∷ in_turn told in
-          let whole : question call ∷ map question told
-          ≡ turn_asks buses stand calls ++ turns_ask buses (turned buses stand calls) (turns told) =
+          let calls : List Call = call ∷ in_turn trace in
+          let whole : question call ∷ map question trace
+          ≡ turn_asks buses stand calls ++ turns_ask buses (turned buses stand calls) (turns trace) =
           e ∙ ap (turns_ask buses stand) (turns_are true t) in
           let head : question call ≡ expects buses stand.events = cc in
-          let tail : map question told ≡ rest_asks stand calls ++ turns_ask buses (turned buses stand calls) (turns told) = cc in
+          let tail : map question trace ≡ rest_asks stand calls ++ turns_ask buses (turned buses stand calls) (turns trace) = cc in
           let more = ih (turned buses stand calls) (rest_asks stand calls) (rest_moments stand calls) tail in (
             ap (map question) (other true t),
             subst (λ (ts : List (List Call)). AreTurnsAsked stand ts) (sym (turns_are true t))
-                (ap (λ q. q ∷ map question (in_turn told)) head ∙ ap (λ qs. expects buses stand.events ∷ qs) more.0, more.1),
+                (ap (λ q. q ∷ map question (in_turn trace)) head ∙ ap (λ qs. expects buses stand.events ∷ qs) more.0, more.1),
           )
       by ih false t [] h e =
           let no : asks_moment (question call) ≡ false = sym (is_moment call) ∙ t in
-          absurd (not_first stand call (map question told) (turns told) no (e ∙ ap (turns_ask buses stand) (turns_are false t)))
+          absurd (not_first stand call (map question trace) (turns trace) no (e ∙ ap (turns_ask buses stand) (turns_are false t)))
       by ih false t (q ∷ first) h e =
-          let whole : question call ∷ map question told ≡ q ∷ (first ++ turns_ask buses stand (turns told)) =
+          let whole : question call ∷ map question trace ≡ q ∷ (first ++ turns_ask buses stand (turns trace)) =
           e ∙ ap (λ ts. q ∷ (first ++ turns_ask buses stand ts)) (turns_are false t) in
           let head : question call ≡ q = cc in
-          let tail : map question told ≡ first ++ turns_ask buses stand (turns told) = cc in
+          let tail : map question trace ≡ first ++ turns_ask buses stand (turns trace) = cc in
           let more = ih stand first h.1 tail in (
-            ap (map question) (other false t) ∙ ap (λ a. a ∷ map question (in_turn told)) head ∙ ap (λ qs. q ∷ qs) more.0,
+            ap (map question) (other false t) ∙ ap (λ a. a ∷ map question (in_turn trace)) head ∙ ap (λ qs. q ∷ qs) more.0,
             subst (λ (ts : List (List Call)). AreTurnsAsked stand ts) (sym (turns_are false t)) more.1,
           )

@@ -4,7 +4,7 @@ use Rattle.std.specs.Prelude.{filter_map, flat_map, fold}
 use Rattle.srcp_grammar.specs.declared.layout.Bus.{Bus}
 use Rattle.srcp_core.specs.Under.{Event, At, Open}
 use Rattle.srcp_serve.specs.Given.{Guest, Call}
-use Rattle.srcp_serve.specs.Serving.{Stand, begun, is_let_in, let_in, moment_of, newcomer_of, seats, timed, turned, visit_events, welcomed}
+use Rattle.srcp_serve.specs.Serving.{Stand, begun, is_let_in, let_in, moment_of, newcomer_of, clients, timed, turned, visit_events, welcomed}
 use Rattle.srcp_serve.specs.Serving.{with_moment}
 
 -- a newcomer
@@ -42,9 +42,9 @@ module _ (buses : List Bus) where
 
   -- all events of the turn
   abbrev pub turn_events : Stand → List Call → List Event
-  turn_events stand calls = opening_events calls ++ flat_map (visit_events calls) (seats (begun buses stand calls).slots)
+  turn_events stand calls = opening_events calls ++ flat_map (visit_events calls) (clients (begun buses stand calls).slots)
 
   pub turned_events : (stand : Stand) (calls : List Call) → (turned buses stand calls).events ≡ stand.events ++ turn_events stand calls
   turned_events stand calls =
-      ap (λ (es : List Event). es ++ flat_map (visit_events calls) (seats (begun buses stand calls).slots)) (begun_events stand calls)
-      ∙ append_assoc stand.events (opening_events calls) (flat_map (visit_events calls) (seats (begun buses stand calls).slots))
+      ap (λ (es : List Event). es ++ flat_map (visit_events calls) (clients (begun buses stand calls).slots)) (begun_events stand calls)
+      ∙ append_assoc stand.events (opening_events calls) (flat_map (visit_events calls) (clients (begun buses stand calls).slots))

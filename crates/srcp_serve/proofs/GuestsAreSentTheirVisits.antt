@@ -8,7 +8,7 @@ use Rattle.srcp_core.specs.Under.{Event}
 use Rattle.srcp_grammar.specs.declared.layout.Bus.{Bus}
 use Rattle.srcp_core.specs.Course.{course}
 use Rattle.srcp_serve.specs.Given.{Call, ExpectCall, NowCall, AcceptCall, ReadCall, WriteCall, CloseCall}
-use Rattle.srcp_serve.specs.Serving.{Seat, IsFair, is_about, visit, visit_events, taken, taken_in}
+use Rattle.srcp_serve.specs.Serving.{Client, IsFair, is_about, visit, visit_events, taken, taken_in}
 use Rattle.srcp_serve.specs.declared.door.DoorFault.{DoorFault}
 use Rattle.srcp_serve.proofs.OnlyRoomSends.{IsSending}
 use Rattle.srcp_serve.proofs.RoomSendsWhatIsLent.{put}
@@ -73,11 +73,11 @@ taken_visit peer (WriteCall who bytes answer ∷ calls) =
     by false e = ap (λ t. t ++ taken peer (filter (is_about peer) calls)) (sym (none_of peer who bytes answer e))
 
 -- who is still to be visited took nothing yet
-abbrev pub so_far : (ℕ → List ℕ) → List Call → List Seat → ℕ → List ℕ
-so_far before calls all peer = before peer ++ (if list_any (λ seat. seat.peer == peer) all then [] else taken peer calls)
+abbrev pub so_far : (ℕ → List ℕ) → List Call → List Client → ℕ → List ℕ
+so_far before calls all peer = before peer ++ (if list_any (λ client. client.peer == peer) all then [] else taken peer calls)
 
-abbrev pub AreGuests : List ℕ → List Seat → Type 0
-AreGuests guests all = AllByRecursion (λ seat. IsGuest seat.conn seat.peer guests) all
+abbrev pub AreGuests : List ℕ → List Client → Type 0
+AreGuests guests all = AllByRecursion (λ client. IsGuest client.conn client.peer guests) all
 
 pub fair_visit : (peer : ℕ) (calls : List Call) → AllByRecursion IsFair calls → AllByRecursion IsFair (filter (is_about peer) calls)
 fair_visit peer [] h = tt
@@ -88,41 +88,41 @@ fair_visit peer (call ∷ calls) h = by (is_about peer call) (fair_visit peer ca
     by true a = (h.0, a)
     by false a = a
 
-none_any : (peer : ℕ) (all : List Seat) → IsNoneOf peer all → list_any (λ seat. seat.peer == peer) all ≡ false
+none_any : (peer : ℕ) (all : List Client) → IsNoneOf peer all → list_any (λ client. client.peer == peer) all ≡ false
 none_any peer [] h = refl
-none_any peer (seat ∷ all) h = ap (λ b. b || list_any (λ other. other.peer == peer) all) h.0 ∙ none_any peer all h.1
+none_any peer (client ∷ all) h = ap (λ b. b || list_any (λ other. other.peer == peer) all) h.0 ∙ none_any peer all h.1
 
 pub turned_round : (a b : ℕ) → (a == b) ≡ false → (b == a) ≡ false
 turned_round a b e = grind (arith, nat_tests)
 
 module _ (buses : List Bus) (guests : List ℕ) (before : ℕ → List ℕ) (calls : List Call) (fair : AllByRecursion IsFair calls) where
   -- the visits of a turn
-  pub sending_visits : (events : List Event) (all : List Seat) → AreGuests guests all → PeersApart all → AreAsked buses events calls all
+  pub sending_visits : (events : List Event) (all : List Client) → AreGuests guests all → PeersApart all → AreAsked buses events calls all
       → IsSending (map (so_far before calls all) guests) (course buses events).connections
       → IsSending (map (so_far before calls []) guests) (course buses (events ++ flat_map (visit_events calls) all)).connections
   sending_visits events [] known apart asked a =
       subst (λ (es : List Event). IsSending (map (so_far before calls []) guests) (course buses es).connections) (sym (append-nil events)) a
-  sending_visits events (seat ∷ all) known apart asked a =
-      let more : List ℕ = taken seat.peer (visit calls seat) in
+  sending_visits events (client ∷ all) known apart asked a =
+      let more : List ℕ = taken client.peer (visit calls client) in
       let one =
-      sending_visit buses seat events (visit calls seat) (map (so_far before calls (seat ∷ all)) guests) asked.0
-      (fair_visit seat.peer calls fair) a in
-      let self : (seat.peer == seat.peer) ≡ true = grind (arith, nat_tests) in
-      let own : so_far before calls (seat ∷ all) seat.peer ++ more ≡ so_far before calls all seat.peer =
-      ap (λ b. (before seat.peer ++ (if b || list_any (λ other. other.peer == seat.peer) all then [] else taken seat.peer calls)) ++ more)
+      sending_visit buses client events (visit calls client) (map (so_far before calls (client ∷ all)) guests) asked.0
+      (fair_visit client.peer calls fair) a in
+      let self : (client.peer == client.peer) ≡ true = grind (arith, nat_tests) in
+      let own : so_far before calls (client ∷ all) client.peer ++ more ≡ so_far before calls all client.peer =
+      ap (λ b. (before client.peer ++ (if b || list_any (λ other. other.peer == client.peer) all then [] else taken client.peer calls)) ++ more)
       self
-      ∙ append_assoc (before seat.peer) [] more
-      ∙ ap (λ t. before seat.peer ++ t) (taken_visit seat.peer calls)
-      ∙ ap (λ b. before seat.peer ++ (if b then [] else taken seat.peer calls)) (sym (none_any seat.peer all apart.0)) in
-      let others : (other : ℕ) → (other == seat.peer) ≡ false → so_far before calls (seat ∷ all) other ≡ so_far before calls all other =
+      ∙ append_assoc (before client.peer) [] more
+      ∙ ap (λ t. before client.peer ++ t) (taken_visit client.peer calls)
+      ∙ ap (λ b. before client.peer ++ (if b then [] else taken client.peer calls)) (sym (none_any client.peer all apart.0)) in
+      let others : (other : ℕ) → (other == client.peer) ≡ false → so_far before calls (client ∷ all) other ≡ so_far before calls all other =
       λ other e.
       ap (λ b. before other ++ (if b || list_any (λ x. x.peer == other) all then [] else taken other calls))
-      (turned_round other seat.peer e) in
-      let now : put seat.conn more (map (so_far before calls (seat ∷ all)) guests) ≡ map (so_far before calls all) guests =
-      put_guest (so_far before calls (seat ∷ all)) (so_far before calls all) more seat.conn seat.peer guests known.0 others own in
-      let next : List Event = events ++ visit_events calls seat in
+      (turned_round other client.peer e) in
+      let now : put client.conn more (map (so_far before calls (client ∷ all)) guests) ≡ map (so_far before calls all) guests =
+      put_guest (so_far before calls (client ∷ all)) (so_far before calls all) more client.conn client.peer guests known.0 others own in
+      let next : List Event = events ++ visit_events calls client in
       let here : IsSending (map (so_far before calls all) guests) (course buses next).connections =
       subst (λ (ts : List (List ℕ)). IsSending ts (course buses next).connections) now one in
       subst (λ (es : List Event). IsSending (map (so_far before calls []) guests) (course buses es).connections)
-      (append_assoc events (visit_events calls seat) (flat_map (visit_events calls) all))
+      (append_assoc events (visit_events calls client) (flat_map (visit_events calls) all))
       (sending_visits next all known.1 apart.1 asked.1 here)

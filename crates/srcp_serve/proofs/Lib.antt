@@ -26,7 +26,7 @@ pub mod AnswersAreFair
 pub mod TurnsAskInOrder
 pub mod DoorIsCalled
 pub mod MomentsFollow
-pub mod NewcomersAreSeated
+pub mod NewcomersAreConnected
 pub mod SlotsFollow
 mod SlotsBehindStayFree
 pub mod TurnsFollow

@@ -27,31 +27,31 @@ expected due slack old first is buses events keys layout stands =
     ∙ ap (Expects (due_next buses (course buses events))) (is ∙ calls_agree.slack old buses events keys layout stands)
 
 module _ (due slack : Option ℕ) (old : Held) (first : IsEarliestDue due old.rows) (least_is : slack ≡ least (map slack_at old.places))
-    (told_old told_mid told_new : Option (List DoorCall)) (expects_it : Tells told_old (door.ExpectCall due slack) told_mid) where
-  adds_both : (answer : Result ℕ DoorFault) (told : List DoorCall) → Tells told_mid (door.NowCall answer) told_new → told_new ≡ Some told
-      → Adds told_old told (door.ExpectCall due slack ∷ door.NowCall answer ∷ [])
-  adds_both answer told h is =
-      let y = adds_one (door.NowCall answer) told_mid told_new told h is in
-      adds_then told_old told_mid y.before told (door.ExpectCall due slack ∷ []) (door.NowCall answer ∷ []) y.was
-      (adds_one (door.ExpectCall due slack) told_old told_mid y.before expects_it y.was) y
+    (trace_old trace_mid trace_new : Option (List DoorCall)) (expects_it : Tells trace_old (door.ExpectCall due slack) trace_mid) where
+  adds_both : (answer : Result ℕ DoorFault) (trace : List DoorCall) → Tells trace_mid (door.NowCall answer) trace_new → trace_new ≡ Some trace
+      → Adds trace_old trace (door.ExpectCall due slack ∷ door.NowCall answer ∷ [])
+  adds_both answer trace h is =
+      let y = adds_one (door.NowCall answer) trace_mid trace_new trace h is in
+      adds_then trace_old trace_mid y.before trace (door.ExpectCall due slack ∷ []) (door.NowCall answer ∷ []) y.was
+      (adds_one (door.ExpectCall due slack) trace_old trace_mid y.before expects_it y.was) y
 
-  pub takes_moment : (moment : ℕ) (new : Held) → Tells told_mid (door.NowCall (Ok moment)) told_new → new ≡ advanced moment old
-      → TakesMoment old told_old new told_new
-  takes_moment moment new h is_advanced owns buses stand keys told hosting is = record {
+  pub takes_moment : (moment : ℕ) (new : Held) → Tells trace_mid (door.NowCall (Ok moment)) trace_new → new ≡ advanced moment old
+      → TakesMoment old trace_old new trace_new
+  takes_moment moment new h is_advanced owns buses stand keys trace hosting is = record {
     due = due;
     slack = slack;
     answer = Ok moment;
-    adds = adds_both (Ok moment) told h is;
+    adds = adds_both (Ok moment) trace h is;
     asked = expected due slack old first least_is buses stand.events keys hosting.layout hosting.stands;
     stands = calls_lead.moment moment old new is_advanced buses stand.events keys hosting.layout hosting.stands;
   }
 
-  pub keeps_moment : (failed : DoorFault) → Tells told_mid (door.NowCall (Err failed)) told_new → TakesMoment old told_old old told_new
-  keeps_moment failed h owns buses stand keys told hosting is = record {
+  pub keeps_moment : (failed : DoorFault) → Tells trace_mid (door.NowCall (Err failed)) trace_new → TakesMoment old trace_old old trace_new
+  keeps_moment failed h owns buses stand keys trace hosting is = record {
     due = due;
     slack = slack;
     answer = Err failed;
-    adds = adds_both (Err failed) told h is;
+    adds = adds_both (Err failed) trace h is;
     asked = expected due slack old first least_is buses stand.events keys hosting.layout hosting.stands;
     stands = hosting.stands;
   }

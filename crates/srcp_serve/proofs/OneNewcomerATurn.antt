@@ -7,7 +7,7 @@ use Rattle.std.proofs.lemmas.Bool.Decides.{nat_tests}
 use Rattle.srcp_core.specs.Under.{Event}
 use Rattle.srcp_grammar.specs.declared.layout.Bus.{Bus}
 use Rattle.srcp_serve.specs.Given.{Guest, Call, ExpectCall, NowCall, AcceptCall, ReadCall, WriteCall, CloseCall}
-use Rattle.srcp_serve.specs.Serving.{Question, Expects, Moments, Newcomers, Closes, Seat, Stand, question, newcomer_of, with_moment}
+use Rattle.srcp_serve.specs.Serving.{Question, Expects, Moments, Newcomers, Closes, Client, Stand, question, newcomer_of, with_moment}
 use Rattle.srcp_serve.specs.Serving.{is_let_in, turns_away}
 use Rattle.srcp_serve.proofs.CallsByTurnAndPeer.{IsNoneOf, IsOfNone, AreOfPeers, asks_of}
 use Rattle.srcp_serve.proofs.SlotsAreOfGuests.{IsSentAsTaken, sent_after_moment}
@@ -69,15 +69,15 @@ one_newcomer due slack (first ∷ now ∷ call ∷ calls) questions e h =
     by (Some peer) e = inr (peer, e)
 
 -- a peer that is turned away has no slot
-pub away_of_none : (due slack : Option ℕ) (buses : List Bus) (events : List Event) (peer : Guest) (all : List Seat) → IsNoneOf peer.peer all
+pub away_of_none : (due slack : Option ℕ) (buses : List Bus) (events : List Event) (peer : Guest) (all : List Client) → IsNoneOf peer.peer all
     → IsOfNone buses (Expects due slack ∷ Moments ∷ Newcomers ∷ (turns_away buses events peer ++ [])) all
 away_of_none due slack buses events peer [] h = tt
-away_of_none due slack buses events peer (seat ∷ all) h =
+away_of_none due slack buses events peer (client ∷ all) h =
     (by (is_let_in buses events peer.granted), away_of_none due slack buses events peer all h.1)
   where
-    other : (peer.peer == seat.peer) ≡ false
+    other : (peer.peer == client.peer) ≡ false
     other = let e = h.0 in grind (arith, nat_tests)
 
-    by : (b : Bool) → filter (asks_of seat.peer) ((if b then [] else Closes peer.peer ∷ []) ++ []) ≡ []
+    by : (b : Bool) → filter (asks_of client.peer) ((if b then [] else Closes peer.peer ∷ []) ++ []) ≡ []
     by true = refl
     by false = ap (λ b. cond b (Closes peer.peer ∷ []) []) other

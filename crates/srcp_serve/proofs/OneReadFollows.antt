@@ -25,18 +25,18 @@ use Rattle.srcp_serve.specs.declared.door.Got.TheVariants as got
 use Rattle.srcp_serve.proofs.RefusalsWereAskedFor.{asked_none, asked_one}
 use Rattle.srcp_serve.proofs.CallsAreAdded.{adds_none, adds_one}
 
-module _ (peer key : ℕ) (old : Held) (told_old : Option (List DoorCall)) (ready : Bool)
+module _ (peer key : ℕ) (old : Held) (trace_old : Option (List DoorCall)) (ready : Bool)
     (ready_is : ready ≡ is_none (bytes_fault key [] old)) where
   course_says : OfConnection key old (λ buses events n. ready ≡ is_none (fault buses (course buses events) (Bytes n (giving []))))
   course_says buses events keys n layout named s =
       ready_is ∙ ap is_none (calls_agree.bytes key (giving []) old buses events keys n layout named s)
 
-  pub read_not : ready ≡ false → ReadsIn peer key old told_old old told_old true
-  read_not e buses events keys n told s is =
+  pub read_not : ready ≡ false → ReadsIn peer key old trace_old old trace_old true
+  read_not e buses events keys n trace s is =
       let none : is_ready buses n events ≡ false = sym (course_says buses events keys n s.layout s.named s.stands) ∙ e in
       record {
         read = None;
-        adds = adds_none told_old told is;
+        adds = adds_none trace_old trace is;
         counted = refl;
         asked_for = asked_none buses events old;
         asked = ap (λ t. if t then Reads peer 256 ∷ [] else []) (sym none);
@@ -44,19 +44,19 @@ module _ (peer key : ℕ) (old : Held) (told_old : Option (List DoorCall)) (read
         stands = subst (λ (all : List Event). StandsFor buses keys old (course buses all)) (sym (append-nil events)) s.stands;
       }
 
-  module _ (answer : Result Got DoorFault) (buffer : List ℕ) (told_new : Option (List DoorCall)) (e : ready ≡ true)
-      (full : length buffer ≡ 256) (tells : Tells told_old (door.ReadCall peer answer buffer) told_new) where
+  module _ (answer : Result Got DoorFault) (buffer : List ℕ) (trace_new : Option (List DoorCall)) (e : ready ≡ true)
+      (full : length buffer ≡ 256) (tells : Tells trace_old (door.ReadCall peer answer buffer) trace_new) where
     asks : (buses : List Bus) (events : List Event) (n : ℕ) (grants : List Bool)
         → ready ≡ is_none (fault buses (course buses events) (Bytes n (giving [])))
         → question (ReadCall peer answer buffer grants) ∷ [] ≡ (if is_ready buses n events then Reads peer 256 ∷ [] else [])
     asks buses events n grants says = ap (λ k. Reads peer k ∷ []) full ∙ ap (λ t. if t then Reads peer 256 ∷ [] else []) (sym e ∙ says)
 
     pub read_other : (stays : Bool) → piece_of (ReadCall peer answer buffer []) ≡ None
-        → loses_reading (ReadCall peer answer buffer []) ≡ not stays → ReadsIn peer key old told_old old told_new stays
-    read_other stays none loses buses events keys n told s is =
+        → loses_reading (ReadCall peer answer buffer []) ≡ not stays → ReadsIn peer key old trace_old old trace_new stays
+    read_other stays none loses buses events keys n trace s is =
         record {
           read = Some (record { answer = answer; buffer = buffer; grants = [] });
-          adds = adds_one (door.ReadCall peer answer buffer) told_old told_new told tells is;
+          adds = adds_one (door.ReadCall peer answer buffer) trace_old trace_new trace tells is;
           counted = refl;
           asked_for = subst (λ (o : Option Piece). CountsAsked buses events (events ++ map (Bytes n) (pieces o)) old old) (sym none)
               (asked_none buses events old);
@@ -73,13 +73,13 @@ module _ (peer key : ℕ) (old : Held) (told_old : Option (List DoorCall)) (read
         pieces : Option Piece → List Piece
         pieces o = filter_map (λ x. x) (o ∷ [])
 
-  pub read_bytes : (count : ℕ) (buffer : List ℕ) (told_new : Option (List DoorCall)) (new : Held) (result : Result Unit CoreFault)
+  pub read_bytes : (count : ℕ) (buffer : List ℕ) (trace_new : Option (List DoorCall)) (new : Held) (result : Result Unit CoreFault)
       (stays : Bool)
-      → ready ≡ true → length buffer ≡ 256 → Tells told_old (door.ReadCall peer (Ok (got.Bytes count)) buffer) told_new
+      → ready ≡ true → length buffer ≡ 256 → Tells trace_old (door.ReadCall peer (Ok (got.Bytes count)) buffer) trace_new
       → MatchResult result (λ _. bytes_fault key (take count buffer) old ≡ None)
       (λ cause. bytes_fault key (take count buffer) old ≡ Some cause)
-      → OnOk result (IsReceived key (take count buffer) old new) → stays ≡ is_ok result → ReadsIn peer key old told_old new told_new stays
-  read_bytes count buffer told_new new result stays e full tells says received stays_ok buses events keys n told s named =
+      → OnOk result (IsReceived key (take count buffer) old new) → stays ≡ is_ok result → ReadsIn peer key old trace_old new trace_new stays
+  read_bytes count buffer trace_new new result stays e full tells says received stays_ok buses events keys n trace s named =
       let piece : List ℕ = take count buffer in
       let few : length piece ≤ 256 = omega (arith, length-take count buffer, full) in
       let free : bytes_fault key piece old ≡ None =
@@ -89,12 +89,12 @@ module _ (peer key : ℕ) (old : Held) (told_old : Option (List DoorCall)) (read
       let leads : LeadsOn key piece old new = calls_lead.accepted key piece old new free fine.1 in
       record {
         read = Some (record { answer = Ok (got.Bytes count); buffer = buffer; grants = leads.grants });
-        adds = adds_one (door.ReadCall peer (Ok (got.Bytes count)) buffer) told_old told_new told tells named;
+        adds = adds_one (door.ReadCall peer (Ok (got.Bytes count)) buffer) trace_old trace_new trace tells named;
         counted = leads.counted ∙ ap (denied_by old.denied) (sym (append-nil leads.grants));
         asked_for = asked_one buses events (Bytes n (record { bytes = piece; grants = leads.grants })) old new
             (leads.asked buses events keys n s.layout s.named s.stands);
         asked =
-            asks (Ok (got.Bytes count)) buffer told_new e full tells buses events n leads.grants
+            asks (Ok (got.Bytes count)) buffer trace_new e full tells buses events n leads.grants
             (course_says buses events keys n s.layout s.named s.stands);
         stays_is = ap not (sym (stays_ok ∙ fine.0));
         stands = leads.leads buses events keys n s.layout s.named s.stands;

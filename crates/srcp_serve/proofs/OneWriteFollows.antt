@@ -34,7 +34,7 @@ module _ (key count : ℕ) (old mid new : Held) (out : mid ≡ let_out key old) 
       let few_left = subst (λ (xs : List ℕ). count ≤ length xs) (lends ∙ ap (unsent_at key) (sym out)) few in
       calls_lead.lent_and_sent key count mid new old few_left sent out
 
-module _ (peer key : ℕ) (old : Held) (told_old : Option (List Call)) where
+module _ (peer key : ℕ) (old : Held) (trace_old : Option (List Call)) where
   -- these bytes are lent
   abbrev Lends : List ℕ → Type 0
   Lends bytes = bytes ≡ unsent_at key (let_out key old)
@@ -43,9 +43,9 @@ module _ (peer key : ℕ) (old : Held) (told_old : Option (List Call)) where
   lent_is bytes lends buses events keys n layout named s = lends ∙ calls_agree.lends key old buses events keys n layout named s
 
   -- there is no connection at the key
-  pub wrote_absent : (new : Held) (told_new : Option (List Call)) (wrote : Wrote) → at old key ≡ None
-      → WritesOnce peer key old told_old new told_new wrote
-  wrote_absent new told_new wrote gone buses events keys n told s is =
+  pub wrote_absent : (new : Held) (trace_new : Option (List Call)) (wrote : Wrote) → at old key ≡ None
+      → WritesOnce peer key old trace_old new trace_new wrote
+  wrote_absent new trace_new wrote gone buses events keys n trace s is =
       absurd (none_there
       (subst (λ (o : Option Place). IsSome o) gone (calls_agree.there key old buses events keys n s.layout s.named s.stands)))
     where
@@ -56,50 +56,50 @@ module _ (peer key : ℕ) (old : Held) (told_old : Option (List Call)) where
     asked : LeadsAt key (λ n. Room n 0) old mid
     asked = subst (λ (held : Held). LeadsAt key (λ n. Room n 0) old held) (sym out) (calls_lead.lent key old)
 
-    pub wrote_none : (bytes : List ℕ) → Lends bytes → (length bytes == 0) ≡ true → WritesOnce peer key old told_old mid told_old Less
-    wrote_none bytes lends none buses events keys n told s is =
+    pub wrote_none : (bytes : List ℕ) → Lends bytes → (length bytes == 0) ≡ true → WritesOnce peer key old trace_old mid trace_old Less
+    wrote_none bytes lends none buses events keys n trace s is =
         inl (record {
           none = sym (lent_is bytes lends buses events keys n s.layout s.named s.stands) ∙ nil_of bytes none;
-          adds = adds_none told_old told is;
+          adds = adds_none trace_old trace is;
           stands = asked buses events keys n s.layout s.named s.stands;
         })
 
-    pub wrote_failed : (bytes : List ℕ) (fault : DoorFault) (told_new : Option (List Call)) → Lends bytes
-        → Tells told_old (WriteCall peer bytes (Err fault)) told_new → (length bytes == 0) ≡ false
-        → WritesOnce peer key old told_old mid told_new Failed
-    wrote_failed bytes fault told_new lends tells some buses events keys n told s named =
+    pub wrote_failed : (bytes : List ℕ) (fault : DoorFault) (trace_new : Option (List Call)) → Lends bytes
+        → Tells trace_old (WriteCall peer bytes (Err fault)) trace_new → (length bytes == 0) ≡ false
+        → WritesOnce peer key old trace_old mid trace_new Failed
+    wrote_failed bytes fault trace_new lends tells some buses events keys n trace s named =
         let lent_bytes = lent_is bytes lends buses events keys n s.layout s.named s.stands in
         record {
           fault = fault;
           adds =
-              subst (λ (xs : List ℕ). Adds told_old told (WriteCall peer xs (Err fault) ∷ [])) lent_bytes
-              (adds_one (WriteCall peer bytes (Err fault)) told_old told_new told tells named);
+              subst (λ (xs : List ℕ). Adds trace_old trace (WriteCall peer xs (Err fault) ∷ [])) lent_bytes
+              (adds_one (WriteCall peer bytes (Err fault)) trace_old trace_new trace tells named);
           some = subst (λ (xs : List ℕ). 0 < length xs) lent_bytes (some_of bytes some);
           stands = asked buses events keys n s.layout s.named s.stands;
         }
 
-  module _ (bytes : List ℕ) (count : ℕ) (new : Held) (told_new : Option (List Call)) (lends : Lends bytes)
-      (sends : LeadsAt key (λ n. Room n count) old new) (tells : Tells told_old (WriteCall peer bytes (Ok count)) told_new) where
-    pub wrote_less : count < length bytes → WritesOnce peer key old told_old new told_new Less
-    wrote_less few buses events keys n told s named =
+  module _ (bytes : List ℕ) (count : ℕ) (new : Held) (trace_new : Option (List Call)) (lends : Lends bytes)
+      (sends : LeadsAt key (λ n. Room n count) old new) (tells : Tells trace_old (WriteCall peer bytes (Ok count)) trace_new) where
+    pub wrote_less : count < length bytes → WritesOnce peer key old trace_old new trace_new Less
+    wrote_less few buses events keys n trace s named =
         let lent_bytes = lent_is bytes lends buses events keys n s.layout s.named s.stands in
         inr (record {
           count = count;
           adds =
-              subst (λ (xs : List ℕ). Adds told_old told (WriteCall peer xs (Ok count) ∷ [])) lent_bytes
-              (adds_one (WriteCall peer bytes (Ok count)) told_old told_new told tells named);
+              subst (λ (xs : List ℕ). Adds trace_old trace (WriteCall peer xs (Ok count) ∷ [])) lent_bytes
+              (adds_one (WriteCall peer bytes (Ok count)) trace_old trace_new trace tells named);
           short = subst (λ (xs : List ℕ). count < length xs) lent_bytes few;
           stands = sends buses events keys n s.layout s.named s.stands;
         })
 
-    pub wrote_all : count ≡ length bytes → (length bytes == 0) ≡ false → WritesOnce peer key old told_old new told_new All
-    wrote_all full some buses events keys n told s named =
+    pub wrote_all : count ≡ length bytes → (length bytes == 0) ≡ false → WritesOnce peer key old trace_old new trace_new All
+    wrote_all full some buses events keys n trace s named =
         let lent_bytes = lent_is bytes lends buses events keys n s.layout s.named s.stands in
         record {
           count = count;
           adds =
-              subst (λ (xs : List ℕ). Adds told_old told (WriteCall peer xs (Ok count) ∷ [])) lent_bytes
-              (adds_one (WriteCall peer bytes (Ok count)) told_old told_new told tells named);
+              subst (λ (xs : List ℕ). Adds trace_old trace (WriteCall peer xs (Ok count) ∷ [])) lent_bytes
+              (adds_one (WriteCall peer bytes (Ok count)) trace_old trace_new trace tells named);
           all = subst (λ (xs : List ℕ). count ≡ length xs) lent_bytes full;
           some = subst (λ (k : ℕ). 0 < k) (sym full) (some_of bytes some);
           stands = sends buses events keys n s.layout s.named s.stands;

@@ -13,29 +13,29 @@ use Rattle.srcp_core.proofs.CourseLaws.LinesBringTheirWeight.{light_lines}
 use Rattle.srcp_serve.specs.Given.{Call, ExpectCall, NowCall, AcceptCall, ReadCall, WriteCall, CloseCall}
 use Rattle.srcp_serve.specs.Serving.{Expects, Stand, OfEachTurn, empty_stand, expects, question, turned, turn_asks, turns}
 use Rattle.srcp_serve.specs.Pacing.{IsLight, IsPaced, LightServingSparesAll, LightTurnsSpare, PacedServingSparesAll, PacedTurnsSpare}
-use Rattle.srcp_serve.specs.Pacing.{SparesPanels, besides_in, brought_in, events_in, told_room, weighs_in}
+use Rattle.srcp_serve.specs.Pacing.{SparesPanels, besides_in, brought_in, events_in, trace_room, weighs_in}
 use Rattle.srcp_serve.proofs.CallsByTurnAndPeer.{AreTurnsAsked, turns_parted}
 use Rattle.srcp_serve.proofs.EventsOfATurn.{turn_events, turned_events}
 
 module _ (buses : List Bus) where
   -- what the door was told is how many changes may come
-  room_told : (stand : Stand) (calls : List Call) → map question calls ≡ turn_asks buses stand calls
-      → told_room calls ≡ room buses (course buses stand.events)
-  room_told stand [] e = cc
-  room_told stand (ExpectCall due slack_told ∷ calls) e =
-      let head : Expects due slack_told ≡ expects buses stand.events = cc in
-      let same : slack_told ≡ slack buses (course buses stand.events) = cc in
+  room_trace : (stand : Stand) (calls : List Call) → map question calls ≡ turn_asks buses stand calls
+      → trace_room calls ≡ room buses (course buses stand.events)
+  room_trace stand [] e = cc
+  room_trace stand (ExpectCall due slack_expected ∷ calls) e =
+      let head : Expects due slack_expected ≡ expects buses stand.events = cc in
+      let same : slack_expected ≡ slack buses (course buses stand.events) = cc in
       ap option_or_256 same
-  room_told stand (NowCall answer ∷ calls) e = cc
-  room_told stand (AcceptCall answer granted ∷ calls) e = cc
-  room_told stand (ReadCall peer answer buffer grants ∷ calls) e = cc
-  room_told stand (WriteCall peer bytes answer ∷ calls) e = cc
-  room_told stand (CloseCall peer answer ∷ calls) e = cc
+  room_trace stand (NowCall answer ∷ calls) e = cc
+  room_trace stand (AcceptCall answer granted ∷ calls) e = cc
+  room_trace stand (ReadCall peer answer buffer grants ∷ calls) e = cc
+  room_trace stand (WriteCall peer bytes answer ∷ calls) e = cc
+  room_trace stand (CloseCall peer answer ∷ calls) e = cc
 
   -- what was told, of the course before the turn
-  room_within : (stand : Stand) (calls : List Call) (n : ℕ) → map question calls ≡ turn_asks buses stand calls → n ≤ told_room calls
+  room_within : (stand : Stand) (calls : List Call) (n : ℕ) → map question calls ≡ turn_asks buses stand calls → n ≤ trace_room calls
       → n ≤ room buses (course buses stand.events)
-  room_within stand calls n asked few = subst (λ k. n ≤ k) (room_told stand calls asked) few
+  room_within stand calls n asked few = subst (λ k. n ≤ k) (room_trace stand calls asked) few
 
   spares : (stand : Stand) (calls : List Call) → map question calls ≡ turn_asks buses stand calls → IsPaced buses stand calls
       → SparesPanels buses stand calls
@@ -88,16 +88,16 @@ module _ (buses : List Bus) where
   none_first (suc number) later over = let e = over.there in cc
 
   pub paced_spare : PacedTurnsSpare buses
-  paced_spare count told served = each_spares _ spares empty_stand (turns told) (turns_parted buses empty_stand told [] tt served.asked).1
+  paced_spare count trace served = each_spares _ spares empty_stand (turns trace) (turns_parted buses empty_stand trace [] tt served.asked).1
 
   pub paced_spares_all : PacedServingSparesAll buses
-  paced_spares_all count told served paced =
-      all_spared (IsPaced buses) empty_stand (turns told) (paced_spare count told served) paced none_first
+  paced_spares_all count trace served paced =
+      all_spared (IsPaced buses) empty_stand (turns trace) (paced_spare count trace served) paced none_first
 
   pub light_spare : LightTurnsSpare buses
-  light_spare layout count told served =
-      each_spares _ (light_spares layout) empty_stand (turns told) (turns_parted buses empty_stand told [] tt served.asked).1
+  light_spare layout count trace served =
+      each_spares _ (light_spares layout) empty_stand (turns trace) (turns_parted buses empty_stand trace [] tt served.asked).1
 
   pub light_spares_all : LightServingSparesAll buses
-  light_spares_all layout count told served light =
-      all_spared (IsLight buses) empty_stand (turns told) (light_spare layout count told served) light none_first
+  light_spares_all layout count trace served light =
+      all_spared (IsLight buses) empty_stand (turns trace) (light_spare layout count trace served) light none_first

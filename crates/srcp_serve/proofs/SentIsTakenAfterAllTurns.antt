@@ -12,15 +12,15 @@ use Rattle.srcp_grammar.specs.declared.layout.Bus.{Bus}
 use Rattle.srcp_core.specs.Connection.{sent}
 use Rattle.srcp_core.specs.Course.{course}
 use Rattle.srcp_serve.specs.Calls.{peer_of}
-use Rattle.srcp_serve.specs.Given.{Guest, Call, ExpectCall, NowCall, AcceptCall, ReadCall, WriteCall, CloseCall, told_call}
+use Rattle.srcp_serve.specs.Given.{Guest, Call, ExpectCall, NowCall, AcceptCall, ReadCall, WriteCall, CloseCall, door_call}
 use Rattle.srcp_serve.specs.Serving.{Question, Moments, expects, Newcomers, Closes, Stand, IsFair, question, is_expect, moment_of}
-use Rattle.srcp_serve.specs.Serving.{newcomer_of, taken, taken_in, seats, empty_stand, is_let_in, let_in, welcomed, timed, begun, turned}
+use Rattle.srcp_serve.specs.Serving.{newcomer_of, taken, taken_in, clients, empty_stand, is_let_in, let_in, welcomed, timed, begun, turned}
 use Rattle.srcp_serve.specs.Serving.{turns, turns_away, turn_asks, stand_after, IsServed, OfEachTurn, PeersDiffer, SendsWhatIsTaken}
 use Rattle.srcp_serve.specs.Serving.{SentIsTaken}
 use Rattle.srcp_serve.proofs.VisitsSendWhatIsTaken.{all_parts, no_writes}
 use Rattle.srcp_serve.proofs.CallsByTurnAndPeer.{AreAsked, AreTurnsAsked, IsNoneOf, PeersApart, in_turn, turns_parted, visits_parted}
 use Rattle.srcp_serve.proofs.GuestsAreSentTheirVisits.{AreGuests}
-use Rattle.srcp_serve.proofs.SlotsAreOfGuests.{IsSentAsTaken, IsNew, sent_after_newcomer, new_push, new_unseated}
+use Rattle.srcp_serve.proofs.SlotsAreOfGuests.{IsSentAsTaken, IsNew, sent_after_newcomer, new_push, new_unconnected}
 use Rattle.srcp_serve.proofs.SentIsTakenAfterVisits.{nothing_taken, same_each}
 use Rattle.srcp_serve.proofs.OneNewcomerATurn.{sent_after_moments}
 use Rattle.srcp_serve.proofs.SentIsTakenAfterATurn.{sent_after_turn, turn_begins}
@@ -131,23 +131,23 @@ module _ (buses : List Bus) (before : ℕ → List ℕ) (stand : Stand) (calls :
       let even_after : IsSentAsTaken buses before after =
       even_begun buses before peers more now new_now fresh_now
       (sent_after_moments buses before stand (filter_map moment_of calls) as_taken).0 in
-      let unseated : IsNoneOf peer (seats after.slots) = new_unseated peer after.guests (seats after.slots) none even_after.known in
+      let unconnected : IsNoneOf peer (clients after.slots) = new_unconnected peer after.guests (clients after.slots) none even_after.known in
       ap (λ t. t ++ taken peer calls) (fresh peer none_before)
-      ∙ nothing_taken buses before after calls first (away_no_writes buses now.events peers) asked peer unseated
+      ∙ nothing_taken buses before after calls first (away_no_writes buses now.events peers) asked peer unconnected
 
 -- ---- who came in
 
 -- as the door tells it
-pub peers_told : (calls : List Call) → filter_map peer_of (map told_call calls) ≡ map (λ guest. guest.peer) (filter_map newcomer_of calls)
-peers_told [] = refl
-peers_told (ExpectCall due slack ∷ calls) = peers_told calls
-peers_told (NowCall answer ∷ calls) = peers_told calls
-peers_told (AcceptCall (Ok None) granted ∷ calls) = peers_told calls
-peers_told (AcceptCall (Ok (Some peer)) granted ∷ calls) = ap (λ peers. peer ∷ peers) (peers_told calls)
-peers_told (AcceptCall (Err fault) granted ∷ calls) = peers_told calls
-peers_told (ReadCall peer answer buffer grants ∷ calls) = peers_told calls
-peers_told (WriteCall peer bytes answer ∷ calls) = peers_told calls
-peers_told (CloseCall peer answer ∷ calls) = peers_told calls
+pub peers_trace : (calls : List Call) → filter_map peer_of (map door_call calls) ≡ map (λ guest. guest.peer) (filter_map newcomer_of calls)
+peers_trace [] = refl
+peers_trace (ExpectCall due slack ∷ calls) = peers_trace calls
+peers_trace (NowCall answer ∷ calls) = peers_trace calls
+peers_trace (AcceptCall (Ok None) granted ∷ calls) = peers_trace calls
+peers_trace (AcceptCall (Ok (Some peer)) granted ∷ calls) = ap (λ peers. peer ∷ peers) (peers_trace calls)
+peers_trace (AcceptCall (Err fault) granted ∷ calls) = peers_trace calls
+peers_trace (ReadCall peer answer buffer grants ∷ calls) = peers_trace calls
+peers_trace (WriteCall peer bytes answer ∷ calls) = peers_trace calls
+peers_trace (CloseCall peer answer ∷ calls) = peers_trace calls
 
 apart_guests : (peer : ℕ) (guests : List Guest) → AllByRecursion (λ other. (peer == other) ≡ false) (map (λ guest. guest.peer) guests)
     → AllByRecursion (λ guest. (peer == guest.peer) ≡ false) guests
@@ -169,9 +169,9 @@ joined all = flat_map (λ calls. calls) all
 module _ (buses : List Bus) where
   -- in the turn, each peer that has a slot is a guest, no two are one peer, and each visit asked what it was to ask
   pub record IsTurnOfGuests (stand : Stand) (calls : List Call) : Type 0 where
-    pub known : AreGuests (begun buses stand calls).guests (seats (begun buses stand calls).slots)
-    pub apart : PeersApart (seats (begun buses stand calls).slots)
-    pub asked : AreAsked buses (begun buses stand calls).events calls (seats (begun buses stand calls).slots)
+    pub known : AreGuests (begun buses stand calls).guests (clients (begun buses stand calls).slots)
+    pub apart : PeersApart (clients (begun buses stand calls).slots)
+    pub asked : AreAsked buses (begun buses stand calls).events calls (clients (begun buses stand calls).slots)
     pub fair : AllByRecursion IsFair calls
 
   abbrev SentAfter : (all : List (List Call)) (before : ℕ → List ℕ) (stand : Stand) → Type 0
@@ -199,7 +199,7 @@ module _ (buses : List Bus) where
         known = b.sent_before_visits.known;
         apart = b.sent_before_visits.apart;
         asked =
-            visits_parted buses b.first now.events calls (seats now.slots) b.sent_before_visits.apart b.none b.asked;
+            visits_parted buses b.first now.events calls (clients now.slots) b.sent_before_visits.apart b.none b.asked;
         fair = parts.0;
       } in
       let rest = turns_taken all (λ peer. before peer ++ taken peer calls) (turned buses stand calls) asked.1 parts.1
@@ -220,15 +220,15 @@ module _ (buses : List Bus) where
           ∙ ap (λ t. before peer ++ t) (sym (flat_map-append (taken_in peer) calls others))
 
   -- the calls before the first moment, and then the turns, are all the calls
-  turns_joined : (told : List Call) → in_turn buses told ++ joined (turns told) ≡ told
+  turns_joined : (trace : List Call) → in_turn buses trace ++ joined (turns trace) ≡ trace
   turns_joined [] = refl
-  turns_joined (call ∷ told) =
-      ap (λ cs. cs ++ joined (turns (call ∷ told))) (take_while-cons (λ next. not (is_expect next)) call told)
-      ∙ by (turns_joined told) (is_expect call)
+  turns_joined (call ∷ trace) =
+      ap (λ cs. cs ++ joined (turns (call ∷ trace))) (take_while-cons (λ next. not (is_expect next)) call trace)
+      ∙ by (turns_joined trace) (is_expect call)
     where
-      by : in_turn buses told ++ joined (turns told) ≡ told → (b : Bool)
-          → cond (not b) (call ∷ in_turn buses told) [] ++ joined (if b then (call ∷ in_turn buses told) ∷ turns told else turns told)
-          ≡ call ∷ told
+      by : in_turn buses trace ++ joined (turns trace) ≡ trace → (b : Bool)
+          → cond (not b) (call ∷ in_turn buses trace) [] ++ joined (if b then (call ∷ in_turn buses trace) ∷ turns trace else turns trace)
+          ≡ call ∷ trace
       by ih true = ap (λ cs. call ∷ cs) ih
       by ih false = ap (λ cs. call ∷ cs) ih
 
@@ -239,30 +239,30 @@ module _ (buses : List Bus) where
   sent_at_first : IsSentAsTaken buses (λ peer. []) empty_stand
   sent_at_first = record { sending = record { steady = tt; sends = refl }; known = tt; apart = tt }
 
-  module _ (count : ℕ) (told : List Call) (served : IsServed buses count told) (differ : PeersDiffer buses told)
-      (fair : AllByRecursion IsFair told) where
-    whole : joined (turns told) ≡ told
-    whole = ap (λ cs. cs ++ joined (turns told))
-        (sym (no_calls (in_turn buses told) (turns_parted buses empty_stand told [] tt served.asked).0)) ∙ turns_joined told
+  module _ (count : ℕ) (trace : List Call) (served : IsServed buses count trace) (differ : PeersDiffer buses trace)
+      (fair : AllByRecursion IsFair trace) where
+    whole : joined (turns trace) ≡ trace
+    whole = ap (λ cs. cs ++ joined (turns trace))
+        (sym (no_calls (in_turn buses trace) (turns_parted buses empty_stand trace [] tt served.asked).0)) ∙ turns_joined trace
 
-    all_turns : OfEachTurn buses IsTurnOfGuests empty_stand (turns told) × SentAfter (turns told) (λ peer. []) empty_stand
+    all_turns : OfEachTurn buses IsTurnOfGuests empty_stand (turns trace) × SentAfter (turns trace) (λ peer. []) empty_stand
     all_turns =
-        let guests : List Guest = filter_map newcomer_of told in
+        let guests : List Guest = filter_map newcomer_of trace in
         let first : AreNew [] guests =
         record {
           new = all_new_first guests;
           differ =
-              differ_guests guests (subst (λ (peers : List ℕ). IsDistinct (λ a b. a == b) peers) (peers_told told) differ);
+              differ_guests guests (subst (λ (peers : List ℕ). IsDistinct (λ a b. a == b) peers) (peers_trace trace) differ);
         } in
-        turns_taken (turns told) (λ peer. []) empty_stand (turns_parted buses empty_stand told [] tt served.asked).1
+        turns_taken (turns trace) (λ peer. []) empty_stand (turns_parted buses empty_stand trace [] tt served.asked).1
         (subst (λ (cs : List Call). AllByRecursion IsFair cs) (sym whole) fair)
         (subst (λ (cs : List Call). AreNew [] (filter_map newcomer_of cs)) (sym whole) first) (λ peer h. refl) sent_at_first
 
-    pub turns_of_guests : OfEachTurn buses IsTurnOfGuests empty_stand (turns told)
+    pub turns_of_guests : OfEachTurn buses IsTurnOfGuests empty_stand (turns trace)
     turns_of_guests = all_turns.0
 
-    pub sends_taken : SendsWhatIsTaken buses told
-    sends_taken = all_turns.1 ∙ ap (λ cs. map (λ peer. taken peer cs) (stand_after buses told).guests) whole
+    pub sends_taken : SendsWhatIsTaken buses trace
+    sends_taken = all_turns.1 ∙ ap (λ cs. map (λ peer. taken peer cs) (stand_after buses trace).guests) whole
 
   pub sent_taken : SentIsTaken buses
-  sent_taken count told served differ fair = sends_taken count told served differ fair
+  sent_taken count trace served differ fair = sends_taken count trace served differ fair

@@ -23,29 +23,29 @@ module _ (buses : List Bus) where
   turns_ask-append stand (x ∷ xs) ys = rw (turns_ask-append (turned buses stand x) xs ys) (sym (append_assoc (turn_asks buses stand x) _ _))
 
   -- one turn more
-  pub served-more : (n : ℕ) (told : List Call) (due slack : Option ℕ) (calls : List Call) → IsServed buses n told
+  pub served-more : (n : ℕ) (trace : List Call) (due slack : Option ℕ) (calls : List Call) → IsServed buses n trace
       → list_all (λ call. not (is_expect call)) calls ≡ true
-      → map question (ExpectCall due slack ∷ calls) ≡ turn_asks buses (stand_after buses told) (ExpectCall due slack ∷ calls)
-      → IsServed buses (n + 1) (told ++ ExpectCall due slack ∷ calls)
-      × (stand_after buses (told ++ ExpectCall due slack ∷ calls)
-      ≡ turned buses (stand_after buses told) (ExpectCall due slack ∷ calls))
-  served-more n told due slack calls before alone asked =
+      → map question (ExpectCall due slack ∷ calls) ≡ turn_asks buses (stand_after buses trace) (ExpectCall due slack ∷ calls)
+      → IsServed buses (n + 1) (trace ++ ExpectCall due slack ∷ calls)
+      × (stand_after buses (trace ++ ExpectCall due slack ∷ calls)
+      ≡ turned buses (stand_after buses trace) (ExpectCall due slack ∷ calls))
+  served-more n trace due slack calls before alone asked =
       let own = one_part is_expect calls alone in
       let last : turns (ExpectCall due slack ∷ calls) ≡ (ExpectCall due slack ∷ calls) ∷ [] = rw (own.0, own.1) refl in
-      let all : turns (told ++ ExpectCall due slack ∷ calls) ≡ turns told ++ (ExpectCall due slack ∷ calls) ∷ [] =
-      parts-append is_expect told (ExpectCall due slack) calls refl ∙ ap (λ more. turns told ++ more) last in (
+      let all : turns (trace ++ ExpectCall due slack ∷ calls) ≡ turns trace ++ (ExpectCall due slack ∷ calls) ∷ [] =
+      parts-append is_expect trace (ExpectCall due slack) calls refl ∙ ap (λ more. turns trace ++ more) last in (
         record {
-          turns_are = rw (all, length-append (turns told) ((ExpectCall due slack ∷ calls) ∷ []), before.turns_are) refl;
+          turns_are = rw (all, length-append (turns trace) ((ExpectCall due slack ∷ calls) ∷ []), before.turns_are) refl;
           asked =
               rw (
                 all,
-                map-append question told (ExpectCall due slack ∷ calls),
-                turns_ask-append empty_stand (turns told) ((ExpectCall due slack ∷ calls) ∷ []),
+                map-append question trace (ExpectCall due slack ∷ calls),
+                turns_ask-append empty_stand (turns trace) ((ExpectCall due slack ∷ calls) ∷ []),
                 before.asked,
                 asked,
               )
-              (ap (λ more. turns_ask buses empty_stand (turns told) ++ more)
-              (sym (append-nil (turn_asks buses (stand_after buses told) (ExpectCall due slack ∷ calls)))));
+              (ap (λ more. turns_ask buses empty_stand (turns trace) ++ more)
+              (sym (append-nil (turn_asks buses (stand_after buses trace) (ExpectCall due slack ∷ calls)))));
         },
-        stand_after-append told due slack calls ∙ ap (λ more. fold (turned buses) (stand_after buses told) more) last,
+        stand_after-append trace due slack calls ∙ ap (λ more. fold (turned buses) (stand_after buses trace) more) last,
       )

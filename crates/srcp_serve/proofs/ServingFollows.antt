@@ -10,14 +10,14 @@ use Rattle.srcp_grammar.specs.declared.layout.Bus.{Bus}
 use Rattle.srcp_core.specs.Held.{Held}
 use Rattle.srcp_serve.specs.Calls.{Call as DoorCall, Tells, Adds, PeersDiffer, peer_of}
 use Rattle.srcp_serve.specs.Calls as door
-use Rattle.srcp_serve.specs.Given.{Call, ExpectCall, NowCall, AcceptCall, told_call}
+use Rattle.srcp_serve.specs.Given.{Call, ExpectCall, NowCall, AcceptCall, door_call}
 use Rattle.srcp_serve.specs.Serving.{Stand, IsFair, IsServed, question}
 use Rattle.srcp_serve.specs.Serving.{turned, turn_asks, stand_after}
 use Rattle.srcp_serve.specs.Slots.{IsHosting, IsServing, IsOneOf, IsTurnGiven, one_if, MakesTurn}
-use Rattle.srcp_serve.specs.Slots.{SeatsDiffer, ServesCourse, ServesSoFar, Sit}
+use Rattle.srcp_serve.specs.Slots.{ClientsDiffer, ServesCourse, ServesSoFar, Sit}
 use Rattle.srcp_serve.specs.Turns.{AsksTurn, AsksTurns}
 use Rattle.srcp_serve.specs.Visits.{CountsAsked}
-use Rattle.srcp_serve.specs.declared.serving.visit.Seat.{Seat as Own}
+use Rattle.srcp_serve.specs.declared.serving.visit.Client.{Client as Own}
 use Rattle.srcp_serve.proofs.ServedOneTurnMore.{served-more}
 use Rattle.srcp_serve.proofs.RefusalsWereAskedFor.{asked_then}
 use Rattle.srcp_serve.proofs.CallsAreAdded.{adds_then, refusals_then, same_calls}
@@ -32,12 +32,12 @@ known_none : (n : ℕ) → AllByRecursion (IsOneOf []) (replicate n None)
 known_none zero = tt
 known_none (suc n) = (tt, known_none n)
 
-differ_none : (n : ℕ) → SeatsDiffer (replicate n None)
+differ_none : (n : ℕ) → ClientsDiffer (replicate n None)
 differ_none zero = tt
 differ_none (suc n) = differ_none n
 
-pub serves_first : (old : Held) (told_old : Option (List DoorCall)) → ServesSoFar 0 0 old told_old old told_old (replicate 64 None)
-serves_first old told_old buses before calls layout stands was is differ =
+pub serves_first : (old : Held) (trace_old : Option (List DoorCall)) → ServesSoFar 0 0 old trace_old old trace_old (replicate 64 None)
+serves_first old trace_old buses before calls layout stands was is differ =
     let none : [] ≡ calls = append_cancel_left before [] calls (append-nil before ∙ same_Some before (before ++ calls) (sym was ∙ is)) in
     subst (λ (c : List DoorCall). IsServing buses 0 0 c old old (replicate 64 None)) none (record {
       calls = [];
@@ -52,44 +52,44 @@ serves_first old told_old buses before calls layout stands was is differ =
     })
 
 -- one turn more of what is served
-served_then : (buses : List Bus) (count : ℕ) (told later : List Call) → IsServed buses count told → IsTurnGiven later
-    → map question later ≡ turn_asks buses (stand_after buses told) later
-    → IsServed buses (count + 1) (told ++ later) × (stand_after buses (told ++ later) ≡ turned buses (stand_after buses told) later)
-served_then buses count told later so t asked =
+served_then : (buses : List Bus) (count : ℕ) (trace later : List Call) → IsServed buses count trace → IsTurnGiven later
+    → map question later ≡ turn_asks buses (stand_after buses trace) later
+    → IsServed buses (count + 1) (trace ++ later) × (stand_after buses (trace ++ later) ≡ turned buses (stand_after buses trace) later)
+served_then buses count trace later so t asked =
     let rest : List Call = NowCall t.now ∷ AcceptCall t.newcomer t.granted ∷ t.rest in
     let asked_now : map question (ExpectCall t.due t.slack ∷ rest)
-    ≡ turn_asks buses (stand_after buses told) (ExpectCall t.due t.slack ∷ rest) =
-    subst (λ (c : List Call). map question c ≡ turn_asks buses (stand_after buses told) c) t.is asked in
-    subst (λ (c : List Call). IsServed buses (count + 1) (told ++ c)
-    × (stand_after buses (told ++ c) ≡ turned buses (stand_after buses told) c))
+    ≡ turn_asks buses (stand_after buses trace) (ExpectCall t.due t.slack ∷ rest) =
+    subst (λ (c : List Call). map question c ≡ turn_asks buses (stand_after buses trace) c) t.is asked in
+    subst (λ (c : List Call). IsServed buses (count + 1) (trace ++ c)
+    × (stand_after buses (trace ++ c) ≡ turned buses (stand_after buses trace) c))
     (sym t.is)
-    (served-more buses count told t.due t.slack rest so (not_now t.rest t.peers) asked_now)
+    (served-more buses count trace t.due t.slack rest so (not_now t.rest t.peers) asked_now)
 
-pub serves_on : (count opened : ℕ) (opens : Bool) (old mid new : Held) (told_old told_mid told_new : Option (List DoorCall))
+pub serves_on : (count opened : ℕ) (opens : Bool) (old mid new : Held) (trace_old trace_mid trace_new : Option (List DoorCall))
     (owns owns_new : List (Option Own))
-    → ServesSoFar count opened old told_old mid told_mid owns → AsksTurns count told_old told_mid → AsksTurn told_mid told_new
-    → MakesTurn mid told_mid owns new told_new owns_new opens
-    → ServesSoFar (count + 1) (opened + one_if opens) old told_old new told_new owns_new
-serves_on count opened opens old mid new told_old told_mid told_new owns owns_new so asks_before asks turn buses before calls layout stands
+    → ServesSoFar count opened old trace_old mid trace_mid owns → AsksTurns count trace_old trace_mid → AsksTurn trace_mid trace_new
+    → MakesTurn mid trace_mid owns new trace_new owns_new opens
+    → ServesSoFar (count + 1) (opened + one_if opens) old trace_old new trace_new owns_new
+serves_on count opened opens old mid new trace_old trace_mid trace_new owns owns_new so asks_before asks turn buses before calls layout stands
     was is differ =
-    let told : List DoorCall = before ++ calls in
-    let later = asks told is in
+    let trace : List DoorCall = before ++ calls in
+    let later = asks trace is in
     let w = later.adds in
     let earlier = asks_before w.before w.was in
     let first : List DoorCall = earlier.calls in
     let mid_is : w.before ≡ before ++ first =
     earlier.adds.is ∙ ap (λ b. b ++ first) (same_Some earlier.adds.before before (sym earlier.adds.was ∙ was)) in
     let whole : calls ≡ first ++ later.calls =
-    same_calls told_old told calls (first ++ later.calls) (record { before = before; was = was; is = refl })
-    (adds_then told_old told_mid w.before told first later.calls w.was earlier.adds w) in
+    same_calls trace_old trace calls (first ++ later.calls) (record { before = before; was = was; is = refl })
+    (adds_then trace_old trace_mid w.before trace first later.calls w.was earlier.adds w) in
     let differ_all : PeersDiffer [] (first ++ later.calls) = subst (λ (c : List DoorCall). PeersDiffer [] c) whole differ in
     let s = so buses before first layout stands was (w.was ∙ ap (λ b. Some b) mid_is) (peers_front [] first later.calls differ_all) in
     let peers : List ℕ = filter_map peer_of first in
     let stood : Stand = stand_after buses s.calls in
     let x =
-    turn buses stood s.keys told s.hosting is peers later.calls w
+    turn buses stood s.keys trace s.hosting is peers later.calls w
     (subst (λ (ps : List ℕ). IsDistinct (λ a b. a == b) ps) (filter_map-append peer_of first later.calls) differ_all) s.known in
-    let same : later.calls ≡ map told_call x.calls = same_calls told_mid told later.calls (map told_call x.calls) w x.adds in
+    let same : later.calls ≡ map door_call x.calls = same_calls trace_mid trace later.calls (map door_call x.calls) w x.adds in
     let more = served_then buses count s.calls x.calls s.served x.turn x.asked in
     let known : AllByRecursion (IsOneOf (filter_map peer_of calls)) (turned buses stood x.calls).slots =
     subst (λ (ps : List ℕ). AllByRecursion (IsOneOf ps) (turned buses stood x.calls).slots)
@@ -98,7 +98,7 @@ serves_on count opened opens old mid new told_old told_mid told_new owns owns_ne
     record {
       calls = s.calls ++ x.calls;
       keys = x.keys;
-      are = map-append told_call s.calls x.calls ∙ ap (λ c. c ++ map told_call x.calls) s.are ∙ ap (λ c. first ++ c) (sym same) ∙ sym whole;
+      are = map-append door_call s.calls x.calls ∙ ap (λ c. c ++ map door_call x.calls) s.are ∙ ap (λ c. first ++ c) (sym same) ∙ sym whole;
       counted = refusals_then old mid new s.calls x.calls s.counted x.counted;
       asked_for = subst (λ (v : Stand). CountsAsked buses [] v.events old new) (sym more.1)
           (asked_then buses [] stood.events (turned buses stood x.calls).events old mid new s.asked_for x.asked_for);
@@ -108,14 +108,14 @@ serves_on count opened opens old mid new told_old told_mid told_new owns owns_ne
       opened = ap (λ (v : Stand). length v.guests) more.1 ∙ x.opened ∙ ap (λ n. n + one_if opens) s.opened;
     }
 
-pub serves_all : (count turns opened : ℕ) (old now : Held) (told_old told_now : Option (List DoorCall)) (owns : List (Option Own))
-    → count ≡ turns → AsksTurns turns told_old told_now → ServesSoFar count opened old told_old now told_now owns
-    → ServesCourse turns opened old told_old now told_now
-serves_all count turns opened old now told_old told_now owns e asks so buses before calls layout stands was is differ =
+pub serves_all : (count turns opened : ℕ) (old now : Held) (trace_old trace_now : Option (List DoorCall)) (owns : List (Option Own))
+    → count ≡ turns → AsksTurns turns trace_old trace_now → ServesSoFar count opened old trace_old now trace_now owns
+    → ServesCourse turns opened old trace_old now trace_now
+serves_all count turns opened old now trace_old trace_now owns e asks so buses before calls layout stands was is differ =
     let s = so buses before calls layout stands was is differ in
     let a = asks (before ++ calls) is in
-    let same : a.calls ≡ map told_call s.calls =
-    same_calls told_old (before ++ calls) a.calls calls a.adds (record { before = before; was = was; is = refl }) ∙ sym s.are in
+    let same : a.calls ≡ map door_call s.calls =
+    same_calls trace_old (before ++ calls) a.calls calls a.adds (record { before = before; was = was; is = refl }) ∙ sym s.are in
     let fair : AllByRecursion IsFair s.calls =
     fair_given s.calls (subst (λ (c : List DoorCall). AllByRecursion door.IsFair c) same a.turns_are.fair) in
     let served : IsServed buses turns s.calls = subst (λ (n : ℕ). IsServed buses n s.calls) e s.served in

@@ -4,6 +4,6 @@ pub mod OthersKeep
 pub mod OwedStays
 pub mod PanelsTakeTheirLines
 pub mod VisitsWriteUntilNothingIsLeft
-pub mod SeatsStay
+pub mod ClientsStay
 pub mod TurnsTakeFromWhatIsOwed
 pub mod PanelsSettle

@@ -10,48 +10,48 @@ use Rattle.srcp_core.specs.Under.{Open, At}
 use Rattle.srcp_core.specs.Course.{World, start, happens, course, fault}
 use Rattle.srcp_core.specs.declared.record.CoreFault.{CoreFault}
 use Rattle.srcp_serve.specs.Given.{Guest, Call}
-use Rattle.srcp_serve.specs.Serving.{Seat, Stand, seats, seated, kept, visit, is_close, with_moment, welcomed, let_in}
+use Rattle.srcp_serve.specs.Serving.{Client, Stand, clients, connected, kept, visit, is_close, with_moment, welcomed, let_in}
 use Rattle.srcp_serve.proofs.OnlyRoomSends.{IsSending, sending_moment, sending_opened, sending_refused}
 use Rattle.srcp_serve.proofs.CallsByTurnAndPeer.{IsNoneOf, PeersApart}
 use Rattle.srcp_serve.proofs.GuestsAreSentTheirVisits.{IsGuest, AreGuests, turned_round}
 
 -- ---- slots
 
-pub kept_all : (P : Seat → Type 0) (calls : List Call) (slots : List (Option Seat)) → AllByRecursion P (seats slots)
-    → AllByRecursion P (seats (map (kept calls) slots))
+pub kept_all : (P : Client → Type 0) (calls : List Call) (slots : List (Option Client)) → AllByRecursion P (clients slots)
+    → AllByRecursion P (clients (map (kept calls) slots))
 kept_all P calls [] h = tt
 kept_all P calls (None ∷ slots) h = kept_all P calls slots h
-kept_all P calls (Some seat ∷ slots) h = by (list_any is_close (visit calls seat)) (kept_all P calls slots h.1)
+kept_all P calls (Some client ∷ slots) h = by (list_any is_close (visit calls client)) (kept_all P calls slots h.1)
   where
-    by : (b : Bool) → AllByRecursion P (seats (map (kept calls) slots))
-        → AllByRecursion P (seats ((if b then None else Some seat) ∷ map (kept calls) slots))
+    by : (b : Bool) → AllByRecursion P (clients (map (kept calls) slots))
+        → AllByRecursion P (clients ((if b then None else Some client) ∷ map (kept calls) slots))
     by true more = more
     by false more = (h.0, more)
 
-pub kept_apart : (calls : List Call) (slots : List (Option Seat)) → PeersApart (seats slots)
-    → PeersApart (seats (map (kept calls) slots))
+pub kept_apart : (calls : List Call) (slots : List (Option Client)) → PeersApart (clients slots)
+    → PeersApart (clients (map (kept calls) slots))
 kept_apart calls [] h = tt
 kept_apart calls (None ∷ slots) h = kept_apart calls slots h
-kept_apart calls (Some seat ∷ slots) h = by (list_any is_close (visit calls seat)) (kept_apart calls slots h.1)
+kept_apart calls (Some client ∷ slots) h = by (list_any is_close (visit calls client)) (kept_apart calls slots h.1)
   where
-    by : (b : Bool) → PeersApart (seats (map (kept calls) slots))
-        → PeersApart (seats ((if b then None else Some seat) ∷ map (kept calls) slots))
+    by : (b : Bool) → PeersApart (clients (map (kept calls) slots))
+        → PeersApart (clients ((if b then None else Some client) ∷ map (kept calls) slots))
     by true more = more
-    by false more = (kept_all (λ other. (other.peer == seat.peer) ≡ false) calls slots h.0, more)
+    by false more = (kept_all (λ other. (other.peer == client.peer) ≡ false) calls slots h.0, more)
 
-pub seated_all : (P : Seat → Type 0) (seat : Seat) (slots : List (Option Seat)) → P seat → AllByRecursion P (seats slots)
-    → AllByRecursion P (seats (seated seat slots))
-seated_all P seat [] new h = tt
-seated_all P seat (None ∷ slots) new h = (new, h)
-seated_all P seat (Some other ∷ slots) new h = (h.0, seated_all P seat slots new h.1)
+pub connected_all : (P : Client → Type 0) (client : Client) (slots : List (Option Client)) → P client → AllByRecursion P (clients slots)
+    → AllByRecursion P (clients (connected client slots))
+connected_all P client [] new h = tt
+connected_all P client (None ∷ slots) new h = (new, h)
+connected_all P client (Some other ∷ slots) new h = (h.0, connected_all P client slots new h.1)
 
-pub seated_apart : (seat : Seat) (slots : List (Option Seat)) → IsNoneOf seat.peer (seats slots) → PeersApart (seats slots)
-    → PeersApart (seats (seated seat slots))
-seated_apart seat [] new h = tt
-seated_apart seat (None ∷ slots) new h = (new, h)
-seated_apart seat (Some other ∷ slots) new h = (
-  seated_all (λ x. (x.peer == other.peer) ≡ false) seat slots (turned_round other.peer seat.peer new.0) h.0,
-  seated_apart seat slots new.1 h.1,
+pub connected_apart : (client : Client) (slots : List (Option Client)) → IsNoneOf client.peer (clients slots) → PeersApart (clients slots)
+    → PeersApart (clients (connected client slots))
+connected_apart client [] new h = tt
+connected_apart client (None ∷ slots) new h = (new, h)
+connected_apart client (Some other ∷ slots) new h = (
+  connected_all (λ x. (x.peer == other.peer) ≡ false) client slots (turned_round other.peer client.peer new.0) h.0,
+  connected_apart client slots new.1 h.1,
 )
 
 -- ---- guests
@@ -87,15 +87,15 @@ guest_other (suc zero) peer new (guest ∷ guests) h i = subst (λ (p : ℕ). (p
 guest_other (suc (suc n)) peer new (guest ∷ guests) h i = guest_other (suc n) peer new guests h.1 i.1
 
 -- so it has no slot
-pub new_unseated : (new : ℕ) (guests : List ℕ) (all : List Seat) → IsNew new guests → AreGuests guests all → IsNoneOf new all
-new_unseated new guests [] h k = tt
-new_unseated new guests (seat ∷ all) h k = (guest_other seat.conn seat.peer new guests h k.0, new_unseated new guests all h k.1)
+pub new_unconnected : (new : ℕ) (guests : List ℕ) (all : List Client) → IsNew new guests → AreGuests guests all → IsNoneOf new all
+new_unconnected new guests [] h k = tt
+new_unconnected new guests (client ∷ all) h k = (guest_other client.conn client.peer new guests h k.0, new_unconnected new guests all h k.1)
 
-pub guests_before : (new : ℕ) (guests : List ℕ) (all : List Seat) → IsNew new guests → AreGuests guests all
+pub guests_before : (new : ℕ) (guests : List ℕ) (all : List Client) → IsNew new guests → AreGuests guests all
     → AreGuests (guests ++ new ∷ []) all
 guests_before new guests [] h k = tt
-guests_before new guests (seat ∷ all) h k = (
-  guest_before seat.conn seat.peer new guests (turned_round seat.peer new (guest_other seat.conn seat.peer new guests h k.0)) k.0,
+guests_before new guests (client ∷ all) h k = (
+  guest_before client.conn client.peer new guests (turned_round client.peer new (guest_other client.conn client.peer new guests h k.0)) k.0,
   guests_before new guests all h k.1,
 )
 
@@ -105,8 +105,8 @@ module _ (buses : List Bus) (before : ℕ → List ℕ) where
   -- each guest was sent what was taken before, and those that have a slot are guests
   pub record IsSentAsTaken (stand : Stand) : Type 0 where
     pub sending : IsSending (map before stand.guests) (course buses stand.events).connections
-    pub known : AreGuests stand.guests (seats stand.slots)
-    pub apart : PeersApart (seats stand.slots)
+    pub known : AreGuests stand.guests (clients stand.slots)
+    pub apart : PeersApart (clients stand.slots)
 
   pub sent_after_moment : (stand : Stand) (moment : ℕ) → IsSentAsTaken stand → IsSentAsTaken (with_moment buses stand moment)
   sent_after_moment stand moment h = record {
@@ -139,12 +139,12 @@ module _ (buses : List Bus) (before : ℕ → List ℕ) where
                 (subst (λ (v : World). IsSending (map before stand.guests ++ [] ∷ []) v.connections) (sym next)
                 (sending_opened buses (map before stand.guests) guest.granted (course buses stand.events) h.sending e));
             known =
-                seated_all (λ seat. IsGuest seat.conn seat.peer (stand.guests ++ guest.peer ∷ []))
+                connected_all (λ client. IsGuest client.conn client.peer (stand.guests ++ guest.peer ∷ []))
                 (record { peer = guest.peer; conn = length stand.guests + 1 }) stand.slots (guest_last guest.peer stand.guests new)
-                (guests_before guest.peer stand.guests (seats stand.slots) new h.known);
+                (guests_before guest.peer stand.guests (clients stand.slots) new h.known);
             apart =
-                seated_apart (record { peer = guest.peer; conn = length stand.guests + 1 }) stand.slots
-                (new_unseated guest.peer stand.guests (seats stand.slots) new h.known) h.apart;
+                connected_apart (record { peer = guest.peer; conn = length stand.guests + 1 }) stand.slots
+                (new_unconnected guest.peer stand.guests (clients stand.slots) new h.known) h.apart;
           })
       by (Some cause) e =
           let no : welcomed buses stand guest ≡ record stand { events = stand.events ++ Open guest.granted ∷ [] } =

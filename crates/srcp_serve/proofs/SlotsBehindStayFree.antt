@@ -6,7 +6,7 @@ use Rattle.std.specs.Prelude.{Option, None, slice_set}
 use Rattle.srcp_core.specs.Held.{Held}
 use Rattle.srcp_serve.specs.Calls.{Call as DoorCall}
 use Rattle.srcp_serve.specs.Slots.{AreFreeFrom, MayFree, VisitsSlots, VisitsSoFar}
-use Rattle.srcp_serve.specs.declared.serving.visit.Seat.{Seat as Own}
+use Rattle.srcp_serve.specs.declared.serving.visit.Client.{Client as Own}
 use Rattle.srcp_serve.proofs.SlotsFollow.{slot_free, slots_all, slots_on}
 use Rattle.srcp_serve.proofs.TurnsAskInOrder.{asks_none}
 
@@ -66,22 +66,22 @@ free_on (suc slot) [] free = free
 free_on zero (x ∷ owns) free = free.1
 free_on (suc slot) (x ∷ owns) free = free_on slot owns free
 
-module _ (old now : Held) (told_old told_now : Option (List DoorCall)) (owns_old owns : List (Option Own)) (long : length owns ≡ 64)
+module _ (old now : Held) (trace_old trace_now : Option (List DoorCall)) (owns_old owns : List (Option Own)) (long : length owns ≡ 64)
   where
-    rest_of : (left slot : ℕ) → slot + left ≡ 64 → AreFreeFrom slot owns → VisitsSoFar slot old told_old owns_old now told_now owns
-        → VisitsSlots old told_old owns_old now told_now owns
+    rest_of : (left slot : ℕ) → slot + left ≡ 64 → AreFreeFrom slot owns → VisitsSoFar slot old trace_old owns_old now trace_now owns
+        → VisitsSlots old trace_old owns_old now trace_now owns
     rest_of zero slot many free so =
         let all : slot ≡ 64 = omega (arith, many) in
-        slots_all slot old now told_old told_now owns_old owns long all so
+        slots_all slot old now trace_old trace_now owns_old owns long all so
     rest_of (suc left) slot many free so =
         let within : slot < 64 = omega (arith, many) in
         let fewer : (slot + 1) + left ≡ 64 = omega (arith, many) in
         rest_of left (slot + 1) fewer (subst (λ (n : ℕ). AreFreeFrom n owns) (sym (add-one slot)) (free_on slot owns free))
-        (slots_on slot old now now told_old told_now told_now owns_old owns owns long within (slot_free slot None now told_now owns
-        (free_here slot owns free)) so (asks_none told_now))
+        (slots_on slot old now now trace_old trace_now trace_now owns_old owns owns long within (slot_free slot None now trace_now owns
+        (free_here slot owns free)) so (asks_none trace_now))
 
     -- no peer is visited at slots that are free
-    pub slots_rest : (slot : ℕ) → slot ≤ 64 → AreFreeFrom slot owns → VisitsSoFar slot old told_old owns_old now told_now owns
-        → VisitsSlots old told_old owns_old now told_now owns
+    pub slots_rest : (slot : ℕ) → slot ≤ 64 → AreFreeFrom slot owns → VisitsSoFar slot old trace_old owns_old now trace_now owns
+        → VisitsSlots old trace_old owns_old now trace_now owns
     slots_rest slot most free so =
         rest_of (64 - slot) slot (omega (arith, most)) free so

@@ -16,26 +16,26 @@ use Rattle.srcp_core.specs.Under.{Open, denied_by}
 use Rattle.srcp_core.proofs.CourseLaws.SentLinesAreOneList.{all_front}
 use Rattle.srcp_serve.specs.Calls.{Call as DoorCall, Tells, Adds, PeersDiffer, peer_of}
 use Rattle.srcp_serve.specs.Calls as door
-use Rattle.srcp_serve.specs.Given.{Guest, Call, ExpectCall, NowCall, AcceptCall, ReadCall, WriteCall, CloseCall, answers_of, told_call}
-use Rattle.srcp_serve.specs.Serving.{Seat, Stand, Expects, Moments, expects, Newcomers, IsFair, question, is_expect, moment_of}
-use Rattle.srcp_serve.specs.Serving.{newcomer_of, seats, visits_ask, visit_events, kept, is_let_in, let_in, welcomed, with_moment, timed}
+use Rattle.srcp_serve.specs.Given.{Guest, Call, ExpectCall, NowCall, AcceptCall, ReadCall, WriteCall, CloseCall, answers_of, door_call}
+use Rattle.srcp_serve.specs.Serving.{Client, Stand, Expects, Moments, expects, Newcomers, IsFair, question, is_expect, moment_of}
+use Rattle.srcp_serve.specs.Serving.{newcomer_of, clients, visits_ask, visit_events, kept, is_let_in, let_in, welcomed, with_moment, timed}
 use Rattle.srcp_serve.specs.Serving.{begun, visited, turned, turn_asks, turns_away}
 use Rattle.srcp_serve.specs.Slots.{IsHosting, IsLeftOut, IsNotOf, IsOneOf, one_if, AcceptsOne, MakesTurn, Connects}
-use Rattle.srcp_serve.specs.Slots.{SeatsDiffer, TakesMoment, Visit, VisitsSlots, AreOwn, asked_by}
-use Rattle.srcp_serve.specs.Slots.{calls_of, left_by, made_by, seat_of, visits_of}
+use Rattle.srcp_serve.specs.Slots.{ClientsDiffer, TakesMoment, Visit, VisitsSlots, AreOwn, asked_by}
+use Rattle.srcp_serve.specs.Slots.{calls_of, left_by, made_by, client_of, visits_of}
 use Rattle.srcp_serve.specs.Turns.{AsksNewcomer, AsksPeers, AsksTurn, IsTurn, is_of_peer}
 use Rattle.srcp_serve.specs.Visits.{AddsGiven, CountsAsked}
 use Rattle.srcp_serve.specs.declared.door.DoorFault.{DoorFault}
-use Rattle.srcp_serve.specs.declared.serving.visit.Seat.{Seat as Own}
-use Rattle.srcp_serve.proofs.NewcomersAreSeated.{none_left_out}
-use Rattle.srcp_serve.proofs.SlotsAreTakenAndFreed.{all_here, all_seated, hosts_on, kept_by, known_left, round_seats, visits_apart}
+use Rattle.srcp_serve.specs.declared.serving.visit.Client.{Client as Own}
+use Rattle.srcp_serve.proofs.NewcomersAreConnected.{none_left_out}
+use Rattle.srcp_serve.proofs.SlotsAreTakenAndFreed.{all_here, all_connected, hosts_on, kept_by, known_left, round_clients, visits_apart}
 use Rattle.srcp_serve.proofs.RefusalsWereAskedFor.{asked_moment, asked_then}
 use Rattle.srcp_serve.proofs.CallsAreAdded.{adds_one, adds_then, given_then, refusals_then, same_calls}
-use Rattle.srcp_serve.proofs.SentIsTakenAfterAllTurns.{peers_told}
-use Rattle.srcp_serve.proofs.TurnsAskInOrder.{not_now as told_not_now}
+use Rattle.srcp_serve.proofs.SentIsTakenAfterAllTurns.{peers_trace}
+use Rattle.srcp_serve.proofs.TurnsAskInOrder.{not_now as trace_not_now}
 use Rattle.srcp_serve.proofs.VisitsAreSeenAgain.{AreApart, visits_asked, visits_make}
 
-no_newcomers : (calls : List Call) → list_all is_of_peer (map told_call calls) ≡ true → filter_map newcomer_of calls ≡ []
+no_newcomers : (calls : List Call) → list_all is_of_peer (map door_call calls) ≡ true → filter_map newcomer_of calls ≡ []
 no_newcomers [] h = refl
 no_newcomers (ExpectCall due slack ∷ calls) h = cc
 no_newcomers (NowCall answer ∷ calls) h = cc
@@ -44,7 +44,7 @@ no_newcomers (ReadCall peer answer buffer grants ∷ calls) h = no_newcomers cal
 no_newcomers (WriteCall peer bytes answer ∷ calls) h = no_newcomers calls h
 no_newcomers (CloseCall peer answer ∷ calls) h = no_newcomers calls h
 
-no_moments : (calls : List Call) → list_all is_of_peer (map told_call calls) ≡ true → filter_map moment_of calls ≡ []
+no_moments : (calls : List Call) → list_all is_of_peer (map door_call calls) ≡ true → filter_map moment_of calls ≡ []
 no_moments [] h = refl
 no_moments (ExpectCall due slack ∷ calls) h = cc
 no_moments (NowCall answer ∷ calls) h = cc
@@ -53,10 +53,10 @@ no_moments (ReadCall peer answer buffer grants ∷ calls) h = no_moments calls h
 no_moments (WriteCall peer bytes answer ∷ calls) h = no_moments calls h
 no_moments (CloseCall peer answer ∷ calls) h = no_moments calls h
 
-pub not_now : (calls : List Call) → list_all is_of_peer (map told_call calls) ≡ true → list_all (λ call. not (is_expect call)) calls ≡ true
-not_now calls h = sym (list_all-map (λ call. not (door.is_expect call)) told_call calls) ∙ told_not_now (map told_call calls) h
+pub not_now : (calls : List Call) → list_all is_of_peer (map door_call calls) ≡ true → list_all (λ call. not (is_expect call)) calls ≡ true
+not_now calls h = sym (list_all-map (λ call. not (door.is_expect call)) door_call calls) ∙ trace_not_now (map door_call calls) h
 
-pub fair_given : (calls : List Call) → AllByRecursion door.IsFair (map told_call calls) → AllByRecursion IsFair calls
+pub fair_given : (calls : List Call) → AllByRecursion door.IsFair (map door_call calls) → AllByRecursion IsFair calls
 fair_given [] h = tt
 fair_given (call ∷ calls) h = (h.0, fair_given calls h.1)
 
@@ -91,18 +91,18 @@ not_known (x ∷ peers) p r h k = by (x == r) refl k (λ e. not_known peers p r 
     by true e k more = no_either x p r h.0 e
     by false e k more = more k
 
-fresh : (peers : List ℕ) (p : ℕ) (slots : List (Option Seat)) → AllByRecursion (λ x. (x == p) ≡ false) peers
+fresh : (peers : List ℕ) (p : ℕ) (slots : List (Option Client)) → AllByRecursion (λ x. (x == p) ≡ false) peers
     → AllByRecursion (IsOneOf peers) slots → AllByRecursion (IsNotOf p) slots
 fresh peers p [] h k = tt
 fresh peers p (None ∷ slots) h k = (tt, fresh peers p slots h k.1)
-fresh peers p (Some seat ∷ slots) h k = (not_known peers p seat.peer h k.0, fresh peers p slots h k.1)
+fresh peers p (Some client ∷ slots) h k = (not_known peers p client.peer h k.0, fresh peers p slots h k.1)
 
-known_more : (peers more : List ℕ) (slots : List (Option Seat)) → AllByRecursion (IsOneOf peers) slots
+known_more : (peers more : List ℕ) (slots : List (Option Client)) → AllByRecursion (IsOneOf peers) slots
     → AllByRecursion (IsOneOf (peers ++ more)) slots
 known_more peers more [] h = tt
 known_more peers more (None ∷ slots) h = (tt, known_more peers more slots h.1)
-known_more peers more (Some seat ∷ slots) h = (
-  list_any-append (λ q. q == seat.peer) peers more ∙ ap (λ t. t || list_any (λ q. q == seat.peer) more) h.0,
+known_more peers more (Some client ∷ slots) h = (
+  list_any-append (λ q. q == client.peer) peers more ∙ ap (λ t. t || list_any (λ q. q == client.peer) more) h.0,
   known_more peers more slots h.1,
 )
 
@@ -126,7 +126,7 @@ module _ (buses : List Bus) where
           → AllByRecursion (IsOneOf (peers ++ guest.peer ∷ []))
           (if b then let_in buses stand guest else record stand { events = stand.events ++ Open guest.granted ∷ [] }).slots
       by true =
-          all_seated (IsOneOf (peers ++ guest.peer ∷ [])) (record { peer = guest.peer; conn = length stand.guests + 1 }) stand.slots
+          all_connected (IsOneOf (peers ++ guest.peer ∷ [])) (record { peer = guest.peer; conn = length stand.guests + 1 }) stand.slots
           (known_last peers guest.peer) more
       by false = more
 
@@ -159,13 +159,13 @@ module _ (buses : List Bus) where
 no_more : (n : ℕ) → n ≡ n + 0
 no_more n = omega arith
 
-module _ (old : Held) (told_old told_new : Option (List DoorCall)) (owns : List (Option Own)) where
-  pub lets_nobody : Tells told_old (door.AcceptCall (Ok None)) told_new → AcceptsOne old told_old owns old told_new owns false
-  lets_nobody h buses stand keys told hosting is peers calls adds differ known = record {
+module _ (old : Held) (trace_old trace_new : Option (List DoorCall)) (owns : List (Option Own)) where
+  pub lets_nobody : Tells trace_old (door.AcceptCall (Ok None)) trace_new → AcceptsOne old trace_old owns old trace_new owns false
+  lets_nobody h buses stand keys trace hosting is peers calls adds differ known = record {
     answer = Ok None;
     granted = true;
     early = [];
-    adds = adds_one (door.AcceptCall (Ok None)) told_old told_new told h is;
+    adds = adds_one (door.AcceptCall (Ok None)) trace_old trace_new trace h is;
     settled = record {
       keys = keys;
       counted = refl;
@@ -177,13 +177,13 @@ module _ (old : Held) (told_old told_new : Option (List DoorCall)) (owns : List 
     };
   }
 
-  pub lets_none : (failed : DoorFault) → Tells told_old (door.AcceptCall (Err failed)) told_new
-      → AcceptsOne old told_old owns old told_new owns false
-  lets_none failed h buses stand keys told hosting is peers calls adds differ known = record {
+  pub lets_none : (failed : DoorFault) → Tells trace_old (door.AcceptCall (Err failed)) trace_new
+      → AcceptsOne old trace_old owns old trace_new owns false
+  lets_none failed h buses stand keys trace hosting is peers calls adds differ known = record {
     answer = Err failed;
     granted = true;
     early = [];
-    adds = adds_one (door.AcceptCall (Err failed)) told_old told_new told h is;
+    adds = adds_one (door.AcceptCall (Err failed)) trace_old trace_new trace h is;
     settled = record {
       keys = keys;
       counted = refl;
@@ -195,29 +195,29 @@ module _ (old : Held) (told_old told_new : Option (List DoorCall)) (owns : List 
     };
   }
 
-pub lets_peer : (peer : ℕ) (opens : Bool) (old new : Held) (told_old told_mid told_new : Option (List DoorCall))
+pub lets_peer : (peer : ℕ) (opens : Bool) (old new : Held) (trace_old trace_mid trace_new : Option (List DoorCall))
     (owns owns_new : List (Option Own))
-    → Tells told_old (door.AcceptCall (Ok (Some peer))) told_mid → AsksPeers told_mid told_new
-    → Connects peer old told_mid owns new told_new owns_new opens → AcceptsOne old told_old owns new told_new owns_new opens
-lets_peer peer opens old new told_old told_mid told_new owns owns_new h asks sits buses stand keys told hosting is peers calls adds differ
+    → Tells trace_old (door.AcceptCall (Ok (Some peer))) trace_mid → AsksPeers trace_mid trace_new
+    → Connects peer old trace_mid owns new trace_new owns_new opens → AcceptsOne old trace_old owns new trace_new owns_new opens
+lets_peer peer opens old new trace_old trace_mid trace_new owns owns_new h asks sits buses stand keys trace hosting is peers calls adds differ
     known =
     let call : DoorCall = door.AcceptCall (Ok (Some peer)) in
-    let later = asks told is in
-    let first = adds_one call told_old told_mid later.adds.before h later.adds.was in
+    let later = asks trace is in
+    let first = adds_one call trace_old trace_mid later.adds.before h later.adds.was in
     let same : calls ≡ call ∷ later.calls =
-    same_calls told_old told calls (call ∷ later.calls) adds
-    (adds_then told_old told_mid later.adds.before told (call ∷ []) later.calls later.adds.was first later.adds) in
+    same_calls trace_old trace calls (call ∷ later.calls) adds
+    (adds_then trace_old trace_mid later.adds.before trace (call ∷ []) later.calls later.adds.was first later.adds) in
     let apart : IsDistinct (λ a b. a == b) (peers ++ peer ∷ filter_map peer_of later.calls) =
     subst (λ (cs : List DoorCall). PeersDiffer peers cs) same differ in
     let x =
-    sits buses stand keys told hosting is
+    sits buses stand keys trace hosting is
     (fresh peers peer stand.slots (differ_last peers peer (filter_map peer_of later.calls) apart) known) in
     record {
       answer = Ok (Some peer);
       granted = x.granted;
       early = x.early;
       adds =
-          given_then told_old told_mid later.adds.before told
+          given_then trace_old trace_mid later.adds.before trace
           (AcceptCall (Ok (Some peer)) x.granted ∷ []) x.early later.adds.was first x.adds;
       settled = x.settled;
     }
@@ -247,7 +247,7 @@ module _ (buses : List Bus) (stand : Stand) (due slack : Option ℕ) (now : Resu
   abbrev third : Stand
   third = record { events = second.events ++ made_by visits; guests = second.guests; slots = map left_by round ++ [] }
 
-  module _ (peers : list_all is_of_peer (map told_call tail) ≡ true) where
+  module _ (peers : list_all is_of_peer (map door_call tail) ≡ true) where
     news_are : filter_map newcomer_of calls ≡ news
     news_are =
         filter_map-append newcomer_of (AcceptCall answer granted ∷ []) tail ∙ ap (λ more. news ++ more) (no_newcomers tail peers)
@@ -263,28 +263,28 @@ module _ (buses : List Bus) (stand : Stand) (due slack : Option ℕ) (now : Resu
     begun_is : begun buses stand calls ≡ second
     begun_is = ap (λ s. fold (welcomed buses) s (filter_map newcomer_of calls)) timed_is ∙ ap (fold (welcomed buses) first) news_are
 
-    module _ (own : AreOwn visits) (slots : map seat_of round ≡ second.slots) (differ : SeatsDiffer second.slots)
+    module _ (own : AreOwn visits) (slots : map client_of round ≡ second.slots) (differ : ClientsDiffer second.slots)
         (others : AllByRecursion (IsLeftOut early) second.slots) where
       apart : AreApart (ExpectCall due slack ∷ NowCall now ∷ AcceptCall answer granted ∷ early) visits
       apart =
           visits_apart (ExpectCall due slack ∷ NowCall now ∷ AcceptCall answer granted ∷ early) round own
-          (subst (λ (ps : List (Option Seat)). SeatsDiffer ps) (sym slots) differ)
-          (left_out (map seat_of round) (subst (λ (ps : List (Option Seat)). AllByRecursion (IsLeftOut early) ps) (sym slots) others))
+          (subst (λ (ps : List (Option Client)). ClientsDiffer ps) (sym slots) differ)
+          (left_out (map client_of round) (subst (λ (ps : List (Option Client)). AllByRecursion (IsLeftOut early) ps) (sym slots) others))
         where
-          left_out : (ps : List (Option Seat)) → AllByRecursion (IsLeftOut early) ps
+          left_out : (ps : List (Option Client)) → AllByRecursion (IsLeftOut early) ps
               → AllByRecursion (IsLeftOut (ExpectCall due slack ∷ NowCall now ∷ AcceptCall answer granted ∷ early)) ps
           left_out [] h = tt
           left_out (None ∷ ps) h = (tt, left_out ps h.1)
-          left_out (Some seat ∷ ps) h = ((refl, (refl, (refl, h.0))), left_out ps h.1)
+          left_out (Some client ∷ ps) h = ((refl, (refl, (refl, h.0))), left_out ps h.1)
 
-      seats_are : seats second.slots ≡ map (λ v. v.0) visits
-      seats_are = ap seats (sym slots) ∙ round_seats round
+      clients_are : clients second.slots ≡ map (λ v. v.0) visits
+      clients_are = ap clients (sym slots) ∙ round_clients round
 
       pub turned_is : turned buses stand calls ≡ third
       turned_is =
           ap (λ s. visited buses s calls) begun_is
           ∙ ap (λ ss. record second { events = second.events ++ flat_map (visit_events calls) ss; slots = map (kept calls) second.slots })
-          seats_are
+          clients_are
           ∙ ap (λ more. record second { events = second.events ++ more; slots = map (kept calls) second.slots })
           (visits_make (ExpectCall due slack ∷ NowCall now ∷ AcceptCall answer granted ∷ early) visits apart calls refl)
           ∙ ap (λ ps. record second { events = second.events ++ made_by visits; slots = map (kept calls) ps }) (sym slots)
@@ -295,8 +295,8 @@ module _ (buses : List Bus) (stand : Stand) (due slack : Option ℕ) (now : Resu
       pub turn_asked : Expects due slack ≡ expects buses stand.events → map question early ≡ flat_map (turns_away buses first.events) news
           → map question (calls_of visits) ≡ asked_by buses second.events visits → map question calls ≡ turn_asks buses stand calls
       turn_asked first_asked away asked =
-          let asks_second : visits_ask buses second.events calls (seats second.slots) ≡ asked_by buses second.events visits =
-          ap (visits_ask buses second.events calls) seats_are
+          let asks_second : visits_ask buses second.events calls (clients second.slots) ≡ asked_by buses second.events visits =
+          ap (visits_ask buses second.events calls) clients_are
           ∙ visits_asked buses (ExpectCall due slack ∷ NowCall now ∷ AcceptCall answer granted ∷ early) visits apart calls refl
           second.events in
           let asks : turn_asks buses stand calls
@@ -304,14 +304,14 @@ module _ (buses : List Bus) (stand : Stand) (due slack : Option ℕ) (now : Resu
           ∷ (flat_map (turns_away buses first.events) news ++ asked_by buses second.events visits) =
           ap (λ s. expects buses stand.events ∷ Moments ∷ Newcomers
           ∷ (flat_map (turns_away buses s.events) (filter_map newcomer_of calls)
-          ++ visits_ask buses (begun buses stand calls).events calls (seats (begun buses stand calls).slots)))
+          ++ visits_ask buses (begun buses stand calls).events calls (clients (begun buses stand calls).slots)))
           timed_is
           ∙ ap (λ ps. expects buses stand.events ∷ Moments ∷ Newcomers
           ∷ (flat_map (turns_away buses first.events) ps
-          ++ visits_ask buses (begun buses stand calls).events calls (seats (begun buses stand calls).slots)))
+          ++ visits_ask buses (begun buses stand calls).events calls (clients (begun buses stand calls).slots)))
           news_are
           ∙ ap (λ s. expects buses stand.events ∷ Moments ∷ Newcomers
-          ∷ (flat_map (turns_away buses first.events) news ++ visits_ask buses s.events calls (seats s.slots)))
+          ∷ (flat_map (turns_away buses first.events) news ++ visits_ask buses s.events calls (clients s.slots)))
           begun_is
           ∙ ap (λ qs. expects buses stand.events ∷ Moments ∷ Newcomers ∷ (flat_map (turns_away buses first.events) news ++ qs))
           asks_second in
@@ -322,20 +322,20 @@ module _ (buses : List Bus) (stand : Stand) (due slack : Option ℕ) (now : Resu
           first_asked
           ∙ sym asks
 
-tail_of : (told : List DoorCall) (due slack : Option ℕ) (now : Result ℕ DoorFault) (answer : Result (Option ℕ) DoorFault)
+tail_of : (trace : List DoorCall) (due slack : Option ℕ) (now : Result ℕ DoorFault) (answer : Result (Option ℕ) DoorFault)
     (rest : List DoorCall)
-    → IsTurn told → told ≡ door.ExpectCall due slack ∷ door.NowCall now ∷ door.AcceptCall answer ∷ rest → list_all is_of_peer rest ≡ true
-tail_of told due slack now answer rest t e = ap (list_all is_of_peer) (sym (ap (drop 3) (sym t.is ∙ e))) ∙ t.peers
+    → IsTurn trace → trace ≡ door.ExpectCall due slack ∷ door.NowCall now ∷ door.AcceptCall answer ∷ rest → list_all is_of_peer rest ≡ true
+tail_of trace due slack now answer rest t e = ap (list_all is_of_peer) (sym (ap (drop 3) (sym t.is ∙ e))) ∙ t.peers
 
-pub makes_turn : (opens : Bool) (old mid between new : Held) (told_old told_mid told_between told_new : Option (List DoorCall))
+pub makes_turn : (opens : Bool) (old mid between new : Held) (trace_old trace_mid trace_between trace_new : Option (List DoorCall))
     (owns_old owns owns_new : List (Option Own))
-    → TakesMoment old told_old mid told_mid → mid.denied ≡ old.denied → AsksNewcomer told_mid told_between
-    → AcceptsOne mid told_mid owns_old between told_between owns opens
-    → AsksPeers told_between told_new → VisitsSlots between told_between owns new told_new owns_new → AsksTurn told_old told_new
-    → MakesTurn old told_old owns_old new told_new owns_new opens
-makes_turn opens old mid between new told_old told_mid told_between told_new owns_old owns owns_new moment same_count asks_in lets
-    asks_visits visits asks_turn buses stand keys told hosting is peers calls adds differ known =
-    let later = asks_visits told is in
+    → TakesMoment old trace_old mid trace_mid → mid.denied ≡ old.denied → AsksNewcomer trace_mid trace_between
+    → AcceptsOne mid trace_mid owns_old between trace_between owns opens
+    → AsksPeers trace_between trace_new → VisitsSlots between trace_between owns new trace_new owns_new → AsksTurn trace_old trace_new
+    → MakesTurn old trace_old owns_old new trace_new owns_new opens
+makes_turn opens old mid between new trace_old trace_mid trace_between trace_new owns_old owns owns_new moment same_count asks_in lets
+    asks_visits visits asks_turn buses stand keys trace hosting is peers calls adds differ known =
+    let later = asks_visits trace is in
     let w = later.adds in
     let one = asks_in w.before w.was in
     let v = one.adds in
@@ -344,47 +344,47 @@ makes_turn opens old mid between new told_old told_mid told_between told_new own
     let hosted = hosting_timed buses t.answer stand keys old mid owns_old hosting t.stands in
     let in_calls : List DoorCall = door.AcceptCall one.answer ∷ one.rest in
     let front : List DoorCall = door.ExpectCall t.due t.slack ∷ door.NowCall t.answer ∷ in_calls in
-    let adds_in : Adds told_old w.before front =
-    adds_then told_old told_mid v.before w.before
+    let adds_in : Adds trace_old w.before front =
+    adds_then trace_old trace_mid v.before w.before
     (door.ExpectCall t.due t.slack ∷ door.NowCall t.answer ∷ []) in_calls v.was t.adds v in
     let whole : calls ≡ front ++ later.calls =
-    same_calls told_old told calls (front ++ later.calls) adds
-    (adds_then told_old told_between w.before told front later.calls w.was adds_in w) in
+    same_calls trace_old trace calls (front ++ later.calls) adds
+    (adds_then trace_old trace_between w.before trace front later.calls w.was adds_in w) in
     let differ_in : PeersDiffer peers in_calls =
     peers_front peers front later.calls (subst (λ (c : List DoorCall). PeersDiffer peers c) whole differ) in
     let known_first : AllByRecursion (IsOneOf peers) first_stand.slots = known_timed buses t.answer peers stand known in
     let b = lets buses first_stand keys w.before hosted w.was peers in_calls v differ_in known_first in
     let news_then : List Guest = filter_map newcomer_of (AcceptCall b.answer b.granted ∷ []) in
     let second_stand : Stand = fold (welcomed buses) first_stand news_then in
-    let x = visits buses second_stand b.settled.keys told b.settled.hosting is in
+    let x = visits buses second_stand b.settled.keys trace b.settled.hosting is in
     let seen : List Call = calls_of (visits_of x.round) in
     let begins : List Call = ExpectCall t.due t.slack ∷ NowCall t.answer ∷ AcceptCall b.answer b.granted ∷ b.early in
     let all : List Call = ExpectCall t.due t.slack ∷ NowCall t.answer ∷ AcceptCall b.answer b.granted ∷ (b.early ++ seen) in
-    let adds_begun : AddsGiven told_old w.before begins =
-    given_then told_old told_mid v.before w.before (ExpectCall t.due t.slack ∷ NowCall t.answer ∷ [])
+    let adds_begun : AddsGiven trace_old w.before begins =
+    given_then trace_old trace_mid v.before w.before (ExpectCall t.due t.slack ∷ NowCall t.answer ∷ [])
     (AcceptCall b.answer b.granted ∷ b.early) v.was t.adds b.adds in
-    let adds_all : AddsGiven told_old told all = given_then told_old told_between w.before told begins seen w.was adds_begun x.adds in
-    let turned_then = asks_turn told is in
-    let same : turned_then.calls ≡ map told_call all =
-    same_calls told_old told turned_then.calls (map told_call all) turned_then.adds adds_all in
-    let of_peers : list_all is_of_peer (map told_call (b.early ++ seen)) ≡ true =
-    tail_of turned_then.calls t.due t.slack t.answer b.answer (map told_call (b.early ++ seen)) turned_then.turn same in
+    let adds_all : AddsGiven trace_old trace all = given_then trace_old trace_between w.before trace begins seen w.was adds_begun x.adds in
+    let turned_then = asks_turn trace is in
+    let same : turned_then.calls ≡ map door_call all =
+    same_calls trace_old trace turned_then.calls (map door_call all) turned_then.adds adds_all in
+    let of_peers : list_all is_of_peer (map door_call (b.early ++ seen)) ≡ true =
+    tail_of turned_then.calls t.due t.slack t.answer b.answer (map door_call (b.early ++ seen)) turned_then.turn same in
     let ends : turned buses stand all ≡ third buses stand t.due t.slack t.answer b.answer b.granted b.early x.round =
-    turned_is buses stand t.due t.slack t.answer b.answer b.granted b.early x.round of_peers x.own x.seats_are b.settled.hosting.differ
+    turned_is buses stand t.due t.slack t.answer b.answer b.granted b.early x.round of_peers x.own x.clients_are b.settled.hosting.differ
     b.settled.others in
-    let came : filter_map peer_of (map told_call all) ≡ filter_map peer_of (door.AcceptCall b.answer ∷ []) =
-    peers_told all
+    let came : filter_map peer_of (map door_call all) ≡ filter_map peer_of (door.AcceptCall b.answer ∷ []) =
+    peers_trace all
     ∙ ap (λ guests. map (λ guest. guest.peer) guests)
     (news_are buses stand t.due t.slack t.answer b.answer b.granted b.early x.round of_peers)
-    ∙ sym (peers_told (AcceptCall b.answer b.granted ∷ [])) in
-    let peers_then : List ℕ = peers ++ filter_map peer_of (map told_call all) in
+    ∙ sym (peers_trace (AcceptCall b.answer b.granted ∷ [])) in
+    let peers_then : List ℕ = peers ++ filter_map peer_of (map door_call all) in
     let known_second : AllByRecursion (IsOneOf peers_then) second_stand.slots =
     subst (λ (ps : List ℕ). AllByRecursion (IsOneOf (peers ++ ps)) second_stand.slots) (sym came)
     (known_news buses b.answer b.granted peers first_stand known_first) in
-    let known_round : AllByRecursion (IsOneOf peers_then) (map seat_of x.round) =
-    subst (λ (ps : List (Option Seat)). AllByRecursion (IsOneOf peers_then) ps) (sym x.seats_are) known_second in
+    let known_round : AllByRecursion (IsOneOf peers_then) (map client_of x.round) =
+    subst (λ (ps : List (Option Client)). AllByRecursion (IsOneOf peers_then) ps) (sym x.clients_are) known_second in
     let known_last : AllByRecursion (IsOneOf peers_then) (map left_by x.round ++ []) =
-    subst (λ (ps : List (Option Seat)). AllByRecursion (IsOneOf peers_then) ps) (sym (append-nil (map left_by x.round)))
+    subst (λ (ps : List (Option Client)). AllByRecursion (IsOneOf peers_then) ps) (sym (append-nil (map left_by x.round)))
     (known_left peers_then x.round known_round) in
     record {
       calls = all;
@@ -409,7 +409,7 @@ makes_turn opens old mid between new told_old told_mid told_between told_new own
         peers = of_peers;
       };
       asked =
-          turn_asked buses stand t.due t.slack t.answer b.answer b.granted b.early x.round of_peers x.own x.seats_are
+          turn_asked buses stand t.due t.slack t.answer b.answer b.granted b.early x.round of_peers x.own x.clients_are
           b.settled.hosting.differ b.settled.others t.asked b.settled.asked x.asked;
       known = subst (λ (s : Stand). AllByRecursion (IsOneOf peers_then) s.slots) (sym ends) known_last;
       hosting = subst (λ (s : Stand). IsHosting buses s x.keys new owns_new) (sym ends) x.hosting;

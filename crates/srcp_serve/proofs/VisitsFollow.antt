@@ -21,7 +21,7 @@ use Rattle.srcp_core.specs.Under.{Event, Piece, Bytes, Room, Shut, denied_by}
 use Rattle.srcp_core.proofs.Agreement.CallLaws.{calls_agree, calls_lead}
 use Rattle.srcp_serve.specs.Calls.{Call as DoorCall}
 use Rattle.srcp_serve.specs.Given.{Call, CountsRefusals, ReadCall, WriteCall, CloseCall, answers_of}
-use Rattle.srcp_serve.specs.Serving.{Seat, Question, Writes, Closes as ClosesQuestion, question, visit, exchange, rooms, lent_none_last}
+use Rattle.srcp_serve.specs.Serving.{Client, Question, Writes, Closes as ClosesQuestion, question, visit, exchange, rooms, lent_none_last}
 use Rattle.srcp_serve.specs.Serving.{handed, is_closing, reads_of, writes_of, closes_of, visit_events, is_about, is_close, is_write, loses}
 use Rattle.srcp_serve.specs.Serving.{loses_reading, loses_writing, falls_short, piece_of, count_of}
 use Rattle.srcp_serve.specs.Turns.{AsksPeers}
@@ -122,11 +122,11 @@ same_rooms xs ys c l s k =
     ∙ ap (λ m. filter_map count_of ys ++ last_room (not (list_any loses ys) && (not (list_any falls_short ys) && nat_lt m 300))) k
 
 module _ (buses : List Bus) (events : List Event) (keys : List (Option ℕ)) (n peer : ℕ)
-    (old : Option (List DoorCall)) (told : List DoorCall) (new : Held) where
+    (old : Option (List DoorCall)) (trace : List DoorCall) (new : Held) where
   -- the peer was read and then written to
   pub record IsExchanged (core_old : Held) (stays : Bool) : Type 0 where
     pub calls : List Call
-    pub adds : AddsGiven old told calls
+    pub adds : AddsGiven old trace calls
     pub counted : CountsRefusals core_old calls new
     pub asked_for : CountsAsked buses events (events ++ exchange n calls) core_old new
     pub own : AreAbout peer calls
@@ -138,14 +138,14 @@ module _ (buses : List Bus) (events : List Event) (keys : List (Option ℕ)) (n 
     pub stands : StandsFor buses keys new (course buses (events ++ exchange n calls))
 
 -- the peer is read and written to
-abbrev pub Exchanges : (peer key : ℕ) (old : Held) (told_old : Option (List DoorCall))
-    (new : Held) (told_new : Option (List DoorCall)) (stays : Bool) → Type 0
-Exchanges peer key old told_old new told_new stays = FromEveryCourse
-    (λ buses events keys n told. IsExchanged buses events keys n peer told_old told new old stays) key old told_new
+abbrev pub Exchanges : (peer key : ℕ) (old : Held) (trace_old : Option (List DoorCall))
+    (new : Held) (trace_new : Option (List DoorCall)) (stays : Bool) → Type 0
+Exchanges peer key old trace_old new trace_new stays = FromEveryCourse
+    (λ buses events keys n trace. IsExchanged buses events keys n peer trace_old trace new old stays) key old trace_new
 
 module _ (buses : List Bus) (events : List Event) (keys : List (Option ℕ)) (n peer : ℕ) (core_old : Held) where
-  abbrev seat : Seat
-  seat = record { peer = peer; conn = n }
+  abbrev client : Client
+  client = record { peer = peer; conn = n }
 
   -- what is written, by whether reading lost the peer, what was read and what was taken
   abbrev handed_by : Bool → List Piece → List ℕ → List Question
@@ -153,7 +153,7 @@ module _ (buses : List Bus) (events : List Event) (keys : List (Option ℕ)) (n 
 
   same_writes : (xs ys : List Call) → list_any loses_reading xs ≡ list_any loses_reading ys
       → filter_map piece_of xs ≡ filter_map piece_of ys → filter_map count_of xs ≡ filter_map count_of ys
-      → writes_of buses events xs seat ≡ writes_of buses events ys seat
+      → writes_of buses events xs client ≡ writes_of buses events ys client
   same_writes xs ys l p c =
       ap (λ t. handed_by t (filter_map piece_of xs) (filter_map count_of xs)) l
       ∙ ap (λ pieces. handed_by (list_any loses_reading ys) pieces (filter_map count_of xs)) p
@@ -166,9 +166,9 @@ module _ (buses : List Bus) (events : List Event) (keys : List (Option ℕ)) (n 
       ∙ ap (λ counts. map (Bytes n) (filter_map piece_of ys) ++ map (Room n) counts) r
 
   -- the peer was lost in reading
-  pub exchanged_lost : (old : Option (List DoorCall)) (told : List DoorCall) (new : Held)
-      → IsReadFrom buses events keys n peer old told new core_old false → IsExchanged buses events keys n peer old told new core_old false
-  exchanged_lost old told new r =
+  pub exchanged_lost : (old : Option (List DoorCall)) (trace : List DoorCall) (new : Held)
+      → IsReadFrom buses events keys n peer old trace new core_old false → IsExchanged buses events keys n peer old trace new core_old false
+  exchanged_lost old trace new r =
       let calls : List Call = read_calls peer r.read in
       let lost : list_any loses calls ≡ true = reads_loses peer r.read ∙ r.stays_is in
       let no_rooms : rooms calls ≡ [] =
@@ -185,19 +185,19 @@ module _ (buses : List Bus) (events : List Event) (keys : List (Option ℕ)) (n 
         own = reads_about peer r.read;
         quiet = reads_close peer r.read;
         asked =
-            r.asked ∙ sym (append-nil (reads_of buses events seat))
-            ∙ ap (λ t. reads_of buses events seat ++ handed_by t (filter_map piece_of calls) (filter_map count_of calls))
+            r.asked ∙ sym (append-nil (reads_of buses events client))
+            ∙ ap (λ t. reads_of buses events client ++ handed_by t (filter_map piece_of calls) (filter_map count_of calls))
             (sym r.stays_is);
         loses_is = lost;
         stands = subst (λ (more : List Event). StandsFor buses keys new (course buses (events ++ more))) (sym same) r.stands;
       }
 
   -- it was written to after the read
-  pub exchanged : (old told_mid : Option (List DoorCall)) (mid told : List DoorCall) (between new : Held) (stays : Bool)
-      → told_mid ≡ Some mid → new.denied ≡ between.denied → (r : IsReadFrom buses events keys n peer old mid between core_old true)
-      → IsWrittenTo buses (events ++ map (Bytes n) (filter_map piece_of (read_calls peer r.read))) keys n peer told_mid told new stays
-      → IsExchanged buses events keys n peer old told new core_old stays
-  exchanged old told_mid mid told between new stays is same r w =
+  pub exchanged : (old trace_mid : Option (List DoorCall)) (mid trace : List DoorCall) (between new : Held) (stays : Bool)
+      → trace_mid ≡ Some mid → new.denied ≡ between.denied → (r : IsReadFrom buses events keys n peer old mid between core_old true)
+      → IsWrittenTo buses (events ++ map (Bytes n) (filter_map piece_of (read_calls peer r.read))) keys n peer trace_mid trace new stays
+      → IsExchanged buses events keys n peer old trace new core_old stays
+  exchanged old trace_mid mid trace between new stays is same r w =
       let reads : List Call = read_calls peer r.read in
       let calls : List Call = reads ++ w.calls in
       let pieces : filter_map piece_of calls ≡ filter_map piece_of reads =
@@ -217,14 +217,14 @@ module _ (buses : List Bus) (events : List Event) (keys : List (Option ℕ)) (n 
       let read : List Event = map (Bytes n) (filter_map piece_of reads) in
       let more : exchange n calls ≡ read ++ map (Room n) (rooms w.calls) =
       ap (λ ps. map (Bytes n) ps ++ map (Room n) (rooms calls)) pieces ∙ ap (λ counts. read ++ map (Room n) counts) rooms_same in
-      let asks : writes_of buses events calls seat
+      let asks : writes_of buses events calls client
       ≡ map (Writes peer) (take 300 (handed buses n (events ++ read) (filter_map count_of w.calls))) =
       ap (λ t. handed_by t (filter_map piece_of calls) (filter_map count_of calls)) reading
       ∙ ap (λ ps. handed_by false ps (filter_map count_of calls)) pieces
       ∙ ap (λ cs. handed_by false (filter_map piece_of reads) cs) counts in
       record {
         calls = calls;
-        adds = given_then old told_mid mid told reads w.calls is r.adds w.adds;
+        adds = given_then old trace_mid mid trace reads w.calls is r.adds w.adds;
         counted =
             refusals_then core_old between new reads w.calls r.counted
             (same ∙ ap (denied_by between.denied) (sym (writes_answers peer w.calls w.own)));
@@ -236,7 +236,7 @@ module _ (buses : List Bus) (events : List Event) (keys : List (Option ℕ)) (n 
         quiet = any_second is_close reads w.calls (reads_close peer r.read) ∙ writes_close peer w.calls w.own;
         asked =
             map-append question reads w.calls ∙ ap (λ qs. qs ++ map question w.calls) r.asked
-            ∙ ap (λ qs. reads_of buses events seat ++ qs) (w.asked ∙ sym asks);
+            ∙ ap (λ qs. reads_of buses events client ++ qs) (w.asked ∙ sym asks);
         loses_is = losing ∙ writes_loses peer w.calls w.own ∙ w.stays_is;
         stands =
             subst (λ (all : List Event). StandsFor buses keys new (course buses all))
@@ -253,15 +253,15 @@ module _ (buses : List Bus) (events : List Event) (keys : List (Option ℕ)) (n 
   shutting b = if b then Shut n ∷ [] else []
 
   -- it keeps its slot
-  pub visited_stays : (old : Option (List DoorCall)) (told : List DoorCall) (new : Held)
-      → (x : IsExchanged buses events keys n peer old told new core_old true) → is_closing buses n (events ++ exchange n x.calls) ≡ false
-      → IsVisited buses events keys n peer old told new core_old true
-  visited_stays old told new x open_still =
-      let mine : visit x.calls seat ≡ x.calls = own_calls peer x.calls x.own in
-      let more : visit_events x.calls seat ≡ exchange n x.calls =
+  pub visited_stays : (old : Option (List DoorCall)) (trace : List DoorCall) (new : Held)
+      → (x : IsExchanged buses events keys n peer old trace new core_old true) → is_closing buses n (events ++ exchange n x.calls) ≡ false
+      → IsVisited buses events keys n peer old trace new core_old true
+  visited_stays old trace new x open_still =
+      let mine : visit x.calls client ≡ x.calls = own_calls peer x.calls x.own in
+      let more : visit_events x.calls client ≡ exchange n x.calls =
       ap (λ calls. exchange n calls ++ shutting (list_any is_close calls)) mine ∙ ap (λ t. exchange n x.calls ++ shutting t) x.quiet
       ∙ append-nil (exchange n x.calls) in
-      let none : closes_of buses events x.calls seat ≡ [] =
+      let none : closes_of buses events x.calls client ≡ [] =
       ap (λ t. ending (t || is_closing buses n (events ++ exchange n x.calls))) x.loses_is ∙ ap ending open_still in
       record {
         calls = x.calls;
@@ -270,19 +270,19 @@ module _ (buses : List Bus) (events : List Event) (keys : List (Option ℕ)) (n 
         asked_for = subst (λ (all : List Event). CountsAsked buses events (events ++ all) core_old new) (sym more) x.asked_for;
         own = x.own;
         asked =
-            x.asked ∙ sym (append-nil (reads_of buses events seat ++ writes_of buses events x.calls seat))
-            ∙ ap (λ qs. (reads_of buses events seat ++ writes_of buses events x.calls seat) ++ qs) (sym none);
+            x.asked ∙ sym (append-nil (reads_of buses events client ++ writes_of buses events x.calls client))
+            ∙ ap (λ qs. (reads_of buses events client ++ writes_of buses events x.calls client) ++ qs) (sym none);
         closes = x.quiet;
         stands = subst (λ (all : List Event). StandsFor buses keys new (course buses (events ++ all))) (sym more) x.stands;
       }
 
   -- it is let go
-  pub visited_goes : (old told_mid : Option (List DoorCall)) (mid told : List DoorCall) (between new : Held) (value : Bool)
-      → told_mid ≡ Some mid → new.denied ≡ between.denied → (x : IsExchanged buses events keys n peer old mid between core_old value)
+  pub visited_goes : (old trace_mid : Option (List DoorCall)) (mid trace : List DoorCall) (between new : Held) (value : Bool)
+      → trace_mid ≡ Some mid → new.denied ≡ between.denied → (x : IsExchanged buses events keys n peer old mid between core_old value)
       → list_any loses x.calls || is_closing buses n (events ++ exchange n x.calls) ≡ true
-      → IsLetGo buses (events ++ exchange n x.calls) keys n peer told_mid told new
-      → IsVisited buses events keys n peer old told new core_old false
-  visited_goes old told_mid mid told between new value is same x ends g =
+      → IsLetGo buses (events ++ exchange n x.calls) keys n peer trace_mid trace new
+      → IsVisited buses events keys n peer old trace new core_old false
+  visited_goes old trace_mid mid trace between new value is same x ends g =
       let last : Call = CloseCall peer g.closed.answer in
       let calls : List Call = x.calls ++ last ∷ [] in
       let pieces : filter_map piece_of calls ≡ filter_map piece_of x.calls =
@@ -296,20 +296,20 @@ module _ (buses : List Bus) (events : List Event) (keys : List (Option ℕ)) (n 
       count_append x.calls (last ∷ []) ∙ no_more (count_by is_write x.calls) in
       let swap : exchange n calls ≡ exchange n x.calls =
       same_exchange calls x.calls pieces (same_rooms calls x.calls counts losing short many) in
-      let writes : writes_of buses events calls seat ≡ writes_of buses events x.calls seat =
+      let writes : writes_of buses events calls client ≡ writes_of buses events x.calls client =
       same_writes calls x.calls reading pieces counts in
       let own : AreAbout peer calls = about_append peer x.calls (last ∷ []) x.own (same_peer peer, tt) in
       let closing : list_any is_close calls ≡ true = any_second is_close x.calls (last ∷ []) x.quiet in
-      let mine : visit calls seat ≡ calls = own_calls peer calls own in
-      let more : visit_events calls seat ≡ exchange n x.calls ++ Shut n ∷ [] =
+      let mine : visit calls client ≡ calls = own_calls peer calls own in
+      let more : visit_events calls client ≡ exchange n x.calls ++ Shut n ∷ [] =
       ap (λ all. exchange n all ++ shutting (list_any is_close all)) mine ∙ ap (λ t. exchange n calls ++ shutting t) closing
       ∙ ap (λ all. all ++ Shut n ∷ []) swap in
-      let asks : closes_of buses events calls seat ≡ ClosesQuestion peer ∷ [] =
+      let asks : closes_of buses events calls client ≡ ClosesQuestion peer ∷ [] =
       ap (λ t. ending (t || is_closing buses n (events ++ exchange n calls))) losing
       ∙ ap (λ all. ending (list_any loses x.calls || is_closing buses n (events ++ all))) swap ∙ ap ending ends in
       record {
         calls = calls;
-        adds = given_then old told_mid mid told x.calls (last ∷ []) is x.adds g.closed.adds;
+        adds = given_then old trace_mid mid trace x.calls (last ∷ []) is x.adds g.closed.adds;
         counted = refusals_then core_old between new x.calls (last ∷ []) x.counted same;
         asked_for = subst (λ (all : List Event). CountsAsked buses events all core_old new)
             (append_assoc events (exchange n x.calls) (Shut n ∷ []) ∙ ap (λ all. events ++ all) (sym more))
@@ -319,8 +319,8 @@ module _ (buses : List Bus) (events : List Event) (keys : List (Option ℕ)) (n 
         own = own;
         asked =
             map-append question x.calls (last ∷ [])
-            ∙ ap (λ qs. qs ++ ClosesQuestion peer ∷ []) (x.asked ∙ ap (λ qs. reads_of buses events seat ++ qs) (sym writes))
-            ∙ ap (λ qs. (reads_of buses events seat ++ writes_of buses events calls seat) ++ qs) (sym asks);
+            ∙ ap (λ qs. qs ++ ClosesQuestion peer ∷ []) (x.asked ∙ ap (λ qs. reads_of buses events client ++ qs) (sym writes))
+            ∙ ap (λ qs. (reads_of buses events client ++ writes_of buses events calls client) ++ qs) (sym asks);
         closes = closing;
         stands =
             subst (λ (all : List Event). StandsFor buses (without_key n keys) new (course buses all))
@@ -332,60 +332,60 @@ module _ (buses : List Bus) (events : List Event) (keys : List (Option ℕ)) (n 
 
 -- ---- the functions
 
-module _ (peer key : ℕ) (old mid : Held) (told_old told_mid : Option (List DoorCall)) where
+module _ (peer key : ℕ) (old mid : Held) (trace_old trace_mid : Option (List DoorCall)) where
   -- the peer is lost, or its connection is to be closed
   abbrev pub Ends : Type 0
-  Ends = Exchanges peer key old told_old mid told_mid false
-      ⊎ (Exchanges peer key old told_old mid told_mid true × (is_last (finish_at key mid) ≡ true))
+  Ends = Exchanges peer key old trace_old mid trace_mid false
+      ⊎ (Exchanges peer key old trace_old mid trace_mid true × (is_last (finish_at key mid) ≡ true))
 
-  pub exchanges_lost : ReadsIn peer key old told_old mid told_mid false → Exchanges peer key old told_old mid told_mid false
-  exchanges_lost reads buses events keys n told s is =
-      exchanged_lost buses events keys n peer old told_old told mid (reads buses events keys n told s is)
+  pub exchanges_lost : ReadsIn peer key old trace_old mid trace_mid false → Exchanges peer key old trace_old mid trace_mid false
+  exchanges_lost reads buses events keys n trace s is =
+      exchanged_lost buses events keys n peer old trace_old trace mid (reads buses events keys n trace s is)
 
-  pub visit_stays : (closing : Bool) → Exchanges peer key old told_old mid told_mid true → closing ≡ is_last (finish_at key mid)
-      → closing ≡ false → Visits peer key old told_old mid told_mid true
-  visit_stays closing exchanges says open_still buses events keys n told s is =
-      let x = exchanges buses events keys n told s is in
-      visited_stays buses events keys n peer old told_old told mid x
+  pub visit_stays : (closing : Bool) → Exchanges peer key old trace_old mid trace_mid true → closing ≡ is_last (finish_at key mid)
+      → closing ≡ false → Visits peer key old trace_old mid trace_mid true
+  visit_stays closing exchanges says open_still buses events keys n trace s is =
+      let x = exchanges buses events keys n trace s is in
+      visited_stays buses events keys n peer old trace_old trace mid x
       (sym (says ∙ calls_agree.closes key mid buses (events ++ exchange n x.calls) keys n s.layout s.named x.stands) ∙ open_still)
 
-  module _ (new : Held) (told_new : Option (List DoorCall)) (same : new.denied ≡ mid.denied) (asks : AsksPeers told_mid told_new) where
-    pub exchanges_on : (stays : Bool) → ReadsIn peer key old told_old mid told_mid true → WritesOut peer key mid told_mid new told_new stays
-        → Exchanges peer key old told_old new told_new stays
-    exchanges_on stays reads writes buses events keys n told s is =
-        let w = (asks told is).adds in
+  module _ (new : Held) (trace_new : Option (List DoorCall)) (same : new.denied ≡ mid.denied) (asks : AsksPeers trace_mid trace_new) where
+    pub exchanges_on : (stays : Bool) → ReadsIn peer key old trace_old mid trace_mid true → WritesOut peer key mid trace_mid new trace_new stays
+        → Exchanges peer key old trace_old new trace_new stays
+    exchanges_on stays reads writes buses events keys n trace s is =
+        let w = (asks trace is).adds in
         let r = reads buses events keys n w.before s w.was in
-        exchanged buses events keys n peer old told_old told_mid w.before told mid new stays w.was same r
-        (writes buses (events ++ map (Bytes n) (filter_map piece_of (read_calls peer r.read))) keys n told
+        exchanged buses events keys n peer old trace_old trace_mid w.before trace mid new stays w.was same r
+        (writes buses (events ++ map (Bytes n) (filter_map piece_of (read_calls peer r.read))) keys n trace
         (record { layout = s.layout; named = s.named; stands = r.stands }) is)
 
-    module _ (goes : Disconnects peer key mid told_mid new told_new) where
-      pub visit_lost : Exchanges peer key old told_old mid told_mid false → Visits peer key old told_old new told_new false
-      visit_lost exchanges buses events keys n told s is =
-          let w = (asks told is).adds in
+    module _ (goes : Disconnects peer key mid trace_mid new trace_new) where
+      pub visit_lost : Exchanges peer key old trace_old mid trace_mid false → Visits peer key old trace_old new trace_new false
+      visit_lost exchanges buses events keys n trace s is =
+          let w = (asks trace is).adds in
           let x = exchanges buses events keys n w.before s w.was in
-          visited_goes buses events keys n peer old told_old told_mid w.before told mid new false w.was same x
+          visited_goes buses events keys n peer old trace_old trace_mid w.before trace mid new false w.was same x
           (ap (λ t. t || is_closing buses n (events ++ exchange n x.calls)) x.loses_is)
-          (goes buses (events ++ exchange n x.calls) keys n told (record { layout = s.layout; named = s.named; stands = x.stands }) is)
+          (goes buses (events ++ exchange n x.calls) keys n trace (record { layout = s.layout; named = s.named; stands = x.stands }) is)
 
-      pub visit_closed : (closing : Bool) → Exchanges peer key old told_old mid told_mid true → closing ≡ is_last (finish_at key mid)
-          → closing ≡ true → Visits peer key old told_old new told_new false
-      visit_closed closing exchanges says ends buses events keys n told s is =
-          let w = (asks told is).adds in
+      pub visit_closed : (closing : Bool) → Exchanges peer key old trace_old mid trace_mid true → closing ≡ is_last (finish_at key mid)
+          → closing ≡ true → Visits peer key old trace_old new trace_new false
+      visit_closed closing exchanges says ends buses events keys n trace s is =
+          let w = (asks trace is).adds in
           let x = exchanges buses events keys n w.before s w.was in
-          visited_goes buses events keys n peer old told_old told_mid w.before told mid new true w.was same x
+          visited_goes buses events keys n peer old trace_old trace_mid w.before trace mid new true w.was same x
           (ap (λ t. t || is_closing buses n (events ++ exchange n x.calls)) x.loses_is
           ∙ sym (says ∙ calls_agree.closes key mid buses (events ++ exchange n x.calls) keys n s.layout s.named x.stands) ∙ ends)
-          (goes buses (events ++ exchange n x.calls) keys n told (record { layout = s.layout; named = s.named; stands = x.stands }) is)
+          (goes buses (events ++ exchange n x.calls) keys n trace (record { layout = s.layout; named = s.named; stands = x.stands }) is)
 
       -- the visit ends so
-      pub visit_ends : Ends → Visits peer key old told_old new told_new false
+      pub visit_ends : Ends → Visits peer key old trace_old new trace_new false
       visit_ends ends = ⊎_elim visit_lost (λ over. visit_closed true over.0 (sym over.1) refl) ends
 
 -- the connection is shut and the peer let go
-pub lets_go : (peer key : ℕ) (old new : Held) (told_old told_new : Option (List DoorCall)) → new ≡ hung_up key old
-    → Closes peer told_old told_new → Disconnects peer key old told_old new told_new
-lets_go peer key old new told_old told_new hung closes buses events keys n told s is = record {
-  closed = closes told is;
+pub lets_go : (peer key : ℕ) (old new : Held) (trace_old trace_new : Option (List DoorCall)) → new ≡ hung_up key old
+    → Closes peer trace_old trace_new → Disconnects peer key old trace_old new trace_new
+lets_go peer key old new trace_old trace_new hung closes buses events keys n trace s is = record {
+  closed = closes trace is;
   stands = calls_lead.shut key old new hung buses events keys n s.layout s.named s.stands;
 }

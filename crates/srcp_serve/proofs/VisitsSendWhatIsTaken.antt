@@ -12,7 +12,7 @@ use Rattle.srcp_grammar.specs.declared.layout.Bus.{Bus}
 use Rattle.srcp_core.specs.Under.{Piece, Event, Bytes, Room, Shut}
 use Rattle.srcp_core.specs.Course.{World, start, happens, course}
 use Rattle.srcp_serve.specs.Given.{Call, ExpectCall, NowCall, AcceptCall, ReadCall, WriteCall, CloseCall}
-use Rattle.srcp_serve.specs.Serving.{Question, Expects, Moments, Newcomers, Reads, Writes, Closes, Seat, question, IsFair, taken, taken_in}
+use Rattle.srcp_serve.specs.Serving.{Question, Expects, Moments, Newcomers, Reads, Writes, Closes, Client, question, IsFair, taken, taken_in}
 use Rattle.srcp_serve.specs.Serving.{piece_of, count_of, is_close, loses, loses_reading, lent_none_last, exchange, is_ready, is_closing}
 use Rattle.srcp_serve.specs.Serving.{lent, handed, unless_nil, reads_of, writes_of, closes_of, visit_asks}
 use Rattle.srcp_serve.proofs.OnlyRoomSends.{IsSending, sending_bytes, sending_shut}
@@ -207,26 +207,26 @@ module _ (buses : List Bus) (peer conn : ℕ) where
 abbrev pub made_of : ℕ → List Call → List Event
 made_of conn calls = exchange conn calls ++ (if list_any is_close calls then Shut conn ∷ [] else [])
 
-module _ (buses : List Bus) (seat : Seat) (events : List Event) (calls : List Call) where
+module _ (buses : List Bus) (client : Client) (events : List Event) (calls : List Call) where
   abbrev read_events : List Event
-  read_events = events ++ map (Bytes seat.conn) (filter_map piece_of calls)
+  read_events = events ++ map (Bytes client.conn) (filter_map piece_of calls)
 
   abbrev writes_asked : List Question
-  writes_asked = writes_of buses events calls seat
+  writes_asked = writes_of buses events calls client
 
   abbrev closes_asked : List Question
-  closes_asked = closes_of buses events calls seat
+  closes_asked = closes_of buses events calls client
 
-  reads_none : no_writes (reads_of buses events seat) ≡ true
-  reads_none = elim (is_ready buses seat.conn events) as (λ b. no_writes (if b then Reads seat.peer 256 ∷ [] else []) ≡ true) [
+  reads_none : no_writes (reads_of buses events client) ≡ true
+  reads_none = elim (is_ready buses client.conn events) as (λ b. no_writes (if b then Reads client.peer 256 ∷ [] else []) ≡ true) [
     | true ↦ refl
     | false ↦ refl
   ]
 
   closes_none : no_writes closes_asked ≡ true
   closes_none =
-      elim (list_any loses calls || is_closing buses seat.conn (events ++ exchange seat.conn calls))
-      as (λ b. no_writes (if b then Closes seat.peer ∷ [] else []) ≡ true) [ true ↦ refl | false ↦ refl ]
+      elim (list_any loses calls || is_closing buses client.conn (events ++ exchange client.conn calls))
+      as (λ b. no_writes (if b then Closes client.peer ∷ [] else []) ≡ true) [ true ↦ refl | false ↦ refl ]
 
   -- the writes among the calls
   pub record HasWrites : Type 1 where
@@ -234,16 +234,16 @@ module _ (buses : List Bus) (seat : Seat) (events : List Event) (calls : List Ca
     pub asked : map question writes ≡ writes_asked
     pub each : (P : Call → Type 0) → AllByRecursion P calls → AllByRecursion P writes
     pub counts : filter_map count_of calls ≡ filter_map count_of writes
-    pub took : taken seat.peer calls ≡ taken seat.peer writes
+    pub took : taken client.peer calls ≡ taken client.peer writes
 
-  pub has_writes : map question calls ≡ visit_asks buses events calls seat → HasWrites
+  pub has_writes : map question calls ≡ visit_asks buses events calls client → HasWrites
   has_writes e =
       let s =
-      split calls (reads_of buses events seat) (writes_asked ++ closes_asked)
-      (e ∙ append_assoc (reads_of buses events seat) writes_asked closes_asked) in
+      split calls (reads_of buses events client) (writes_asked ++ closes_asked)
+      (e ∙ append_assoc (reads_of buses events client) writes_asked closes_asked) in
       let t = split s.ys writes_asked closes_asked s.back in
-      let reads = none_taken seat.peer s.xs (ap no_writes s.front ∙ reads_none) in
-      let closes = none_taken seat.peer t.ys (ap no_writes t.back ∙ closes_none) in
+      let reads = none_taken client.peer s.xs (ap no_writes s.front ∙ reads_none) in
+      let closes = none_taken client.peer t.ys (ap no_writes t.back ∙ closes_none) in
       record {
         writes = t.xs;
         asked = t.front;
@@ -257,63 +257,63 @@ module _ (buses : List Bus) (seat : Seat) (events : List Event) (calls : List Ca
             ∙ filter_map-append count_of t.xs t.ys
             ∙ ap (λ cs. filter_map count_of t.xs ++ cs) closes.0
             ∙ append-nil (filter_map count_of t.xs);
-        took = ap (taken seat.peer) s.is
-            ∙ flat_map-append (taken_in seat.peer) s.xs s.ys
-            ∙ ap (λ cs. cs ++ taken seat.peer s.ys) reads.1
-            ∙ ap (taken seat.peer) t.is
-            ∙ flat_map-append (taken_in seat.peer) t.xs t.ys
-            ∙ ap (λ cs. taken seat.peer t.xs ++ cs) closes.1
-            ∙ append-nil (taken seat.peer t.xs);
+        took = ap (taken client.peer) s.is
+            ∙ flat_map-append (taken_in client.peer) s.xs s.ys
+            ∙ ap (λ cs. cs ++ taken client.peer s.ys) reads.1
+            ∙ ap (taken client.peer) t.is
+            ∙ flat_map-append (taken_in client.peer) t.xs t.ys
+            ∙ ap (λ cs. taken client.peer t.xs ++ cs) closes.1
+            ∙ append-nil (taken client.peer t.xs);
       }
 
   joined : (room : List ℕ) (shut : List Event)
-      → ((read_events ++ map (Room seat.conn) (filter_map count_of calls)) ++ map (Room seat.conn) room) ++ shut
-      ≡ events ++ ((map (Bytes seat.conn) (filter_map piece_of calls) ++ map (Room seat.conn) (filter_map count_of calls ++ room)) ++ shut)
+      → ((read_events ++ map (Room client.conn) (filter_map count_of calls)) ++ map (Room client.conn) room) ++ shut
+      ≡ events ++ ((map (Bytes client.conn) (filter_map piece_of calls) ++ map (Room client.conn) (filter_map count_of calls ++ room)) ++ shut)
   joined room shut =
-      let b : List Event = map (Bytes seat.conn) (filter_map piece_of calls) in
-      let r : List Event = map (Room seat.conn) (filter_map count_of calls) in
-      let l : List Event = map (Room seat.conn) room in
+      let b : List Event = map (Bytes client.conn) (filter_map piece_of calls) in
+      let r : List Event = map (Room client.conn) (filter_map count_of calls) in
+      let l : List Event = map (Room client.conn) room in
       ap (λ es. es ++ shut)
       (append_assoc (events ++ b) r l ∙ append_assoc events b (r ++ l)
-      ∙ ap (λ es. events ++ (b ++ es)) (sym (map-append (Room seat.conn) (filter_map count_of calls) room)))
-      ∙ append_assoc events (b ++ map (Room seat.conn) (filter_map count_of calls ++ room)) shut
+      ∙ ap (λ es. events ++ (b ++ es)) (sym (map-append (Room client.conn) (filter_map count_of calls) room)))
+      ∙ append_assoc events (b ++ map (Room client.conn) (filter_map count_of calls ++ room)) shut
 
   -- what the calls of a visit say was taken is sent
-  pub sending_visit : (texts : List (List ℕ)) → map question calls ≡ visit_asks buses events calls seat → AllByRecursion IsFair calls
+  pub sending_visit : (texts : List (List ℕ)) → map question calls ≡ visit_asks buses events calls client → AllByRecursion IsFair calls
       → IsSending texts (course buses events).connections
-      → IsSending (put seat.conn (taken seat.peer calls) texts) (course buses (events ++ made_of seat.conn calls)).connections
+      → IsSending (put client.conn (taken client.peer calls) texts) (course buses (events ++ made_of client.conn calls)).connections
   sending_visit texts e fair a =
       let h = has_writes e in
-      let now : List (List ℕ) = put seat.conn (taken seat.peer calls) texts in
+      let now : List (List ℕ) = put client.conn (taken client.peer calls) texts in
       let wrote = by h (list_any loses_reading calls) h.asked in
-      let wrote' : IsSending now (course buses (read_events ++ map (Room seat.conn) (filter_map count_of calls))).connections =
+      let wrote' : IsSending now (course buses (read_events ++ map (Room client.conn) (filter_map count_of calls))).connections =
       subst (λ (t : List ℕ).
-      IsSending (put seat.conn t texts)
-      (course buses (read_events ++ map (Room seat.conn) (filter_map count_of calls))).connections)
+      IsSending (put client.conn t texts)
+      (course buses (read_events ++ map (Room client.conn) (filter_map count_of calls))).connections)
       (sym h.took)
       (subst (λ (cs : List ℕ).
-      IsSending (put seat.conn (taken seat.peer h.writes) texts)
-      (course buses (read_events ++ map (Room seat.conn) cs)).connections)
+      IsSending (put client.conn (taken client.peer h.writes) texts)
+      (course buses (read_events ++ map (Room client.conn) cs)).connections)
       (sym h.counts) wrote) in
       let room : List ℕ = if lent_none_last calls then 0 ∷ [] else [] in
       let roomed =
-      last_room buses seat.peer seat.conn (read_events ++ map (Room seat.conn) (filter_map count_of calls)) now
+      last_room buses client.peer client.conn (read_events ++ map (Room client.conn) (filter_map count_of calls)) now
       (lent_none_last calls) wrote' in
       let shut =
-      last_shut buses seat.peer seat.conn
-      ((read_events ++ map (Room seat.conn) (filter_map count_of calls)) ++ map (Room seat.conn) room) now
+      last_shut buses client.peer client.conn
+      ((read_events ++ map (Room client.conn) (filter_map count_of calls)) ++ map (Room client.conn) room) now
       (list_any is_close calls) roomed in
       subst (λ (es : List Event). IsSending now (course buses es).connections)
-      (joined room (if list_any is_close calls then Shut seat.conn ∷ [] else [])) shut
+      (joined room (if list_any is_close calls then Shut client.conn ∷ [] else [])) shut
     where
       by : (h : HasWrites) (b : Bool)
           → map question h.writes
-          ≡ (if b then [] else map (Writes seat.peer) (take 300 (handed buses seat.conn read_events (filter_map count_of calls))))
-          → IsSending (put seat.conn (taken seat.peer h.writes) texts)
-          (course buses (read_events ++ map (Room seat.conn) (filter_map count_of h.writes))).connections
-      by h true q = sending_writes buses seat.peer seat.conn h.writes (h.each IsFair fair) 0 read_events texts q
-          (sends_bytes buses seat.peer seat.conn texts events (filter_map piece_of calls) a)
+          ≡ (if b then [] else map (Writes client.peer) (take 300 (handed buses client.conn read_events (filter_map count_of calls))))
+          → IsSending (put client.conn (taken client.peer h.writes) texts)
+          (course buses (read_events ++ map (Room client.conn) (filter_map count_of h.writes))).connections
+      by h true q = sending_writes buses client.peer client.conn h.writes (h.each IsFair fair) 0 read_events texts q
+          (sends_bytes buses client.peer client.conn texts events (filter_map piece_of calls) a)
       by h false q =
-          sending_writes buses seat.peer seat.conn h.writes (h.each IsFair fair) 300 read_events texts
-          (q ∙ ap (λ cs. map (Writes seat.peer) (take 300 (handed buses seat.conn read_events cs))) h.counts)
-          (sends_bytes buses seat.peer seat.conn texts events (filter_map piece_of calls) a)
+          sending_writes buses client.peer client.conn h.writes (h.each IsFair fair) 300 read_events texts
+          (q ∙ ap (λ cs. map (Writes client.peer) (take 300 (handed buses client.conn read_events cs))) h.counts)
+          (sends_bytes buses client.peer client.conn texts events (filter_map piece_of calls) a)

@@ -145,25 +145,25 @@ module _ (buses : List Bus) (peer conn : ℕ) where
 
   module _ (keys : List (Option ℕ)) (old : Option (List DoorCall)) where
     -- this many writes took all
-    pub record IsTaking (events : List Event) (told : List DoorCall) (now : Held) (times : ℕ) : Type 0 where
+    pub record IsTaking (events : List Event) (trace : List DoorCall) (now : Held) (times : ℕ) : Type 0 where
       pub counts : List ℕ
       pub many : length counts ≡ times
       pub full : AreFull buses conn events counts
-      pub adds : AddsGiven old told (written events counts [])
+      pub adds : AddsGiven old trace (written events counts [])
       pub stands : StandsFor buses keys now (course buses (after events counts))
 
     abbrev Writes_out : List Event → List DoorCall → Held → Bool → Type 0
-    Writes_out events told new stays = IsWrittenTo buses events keys conn peer old told new stays
+    Writes_out events trace new stays = IsWrittenTo buses events keys conn peer old trace new stays
 
     -- the last write, or none
-    ended_by : (events : List Event) (told : List DoorCall) (new : Held) (counts : List ℕ) (last : List Call) (end : List (List ℕ))
+    ended_by : (events : List Event) (trace : List DoorCall) (new : Held) (counts : List ℕ) (last : List Call) (end : List (List ℕ))
         (room : List ℕ) (stays : Bool)
-        → AreFull buses conn events counts → AddsGiven old told (written events counts last)
+        → AreFull buses conn events counts → AddsGiven old trace (written events counts last)
         → AreWritesTo peer last → handed buses conn (after events counts) (filter_map count_of last) ≡ end
         → map question last ≡ map (Writes peer) end → length counts + length end ≤ 300
         → list_any loses_writing last ≡ not stays → rooms (written events counts last) ≡ counts ++ room
-        → StandsFor buses keys new (course buses (after events counts ++ map (Room conn) room)) → Writes_out events told new stays
-    ended_by events told new counts last end room stays full adds own hands asks few lost are stands = record {
+        → StandsFor buses keys new (course buses (after events counts ++ map (Room conn) room)) → Writes_out events trace new stays
+    ended_by events trace new counts last end room stays full adds own hands asks few lost are stands = record {
       calls = written events counts last;
       adds = adds;
       own = written-own events counts last own;
@@ -182,15 +182,15 @@ module _ (buses : List Bus) (peer conn : ℕ) where
     }
 
     -- the peer took less, or the write failed
-    last_write : (events : List Event) (told : List DoorCall) (new : Held) (counts : List ℕ) (call : Call) (count : ℕ)
+    last_write : (events : List Event) (trace : List DoorCall) (new : Held) (counts : List ℕ) (call : Call) (count : ℕ)
         (stays lost short : Bool)
-        → AreFull buses conn events counts → AddsGiven old told (written events counts (call ∷ []))
+        → AreFull buses conn events counts → AddsGiven old trace (written events counts (call ∷ []))
         → AreWritesTo peer (call ∷ []) → count_of call ≡ Some count → question call ≡ Writes peer (lent buses conn (after events counts))
         → count < length (lent buses conn (after events counts)) → length counts < 300
         → list_any loses_writing (call ∷ []) ≡ not stays → list_any loses (call ∷ []) ≡ lost → list_any falls_short (call ∷ []) ≡ short
         → not lost && not short ≡ false
-        → StandsFor buses keys new (course buses (after events counts ++ Room conn count ∷ [])) → Writes_out events told new stays
-    last_write events told new counts call count stays lost short full adds own count_is asks short_of few stays_is lost_is short_is ends
+        → StandsFor buses keys new (course buses (after events counts ++ Room conn count ∷ [])) → Writes_out events trace new stays
+    last_write events trace new counts call count stays lost short full adds own count_is asks short_of few stays_is lost_is short_is ends
         stands =
         let bytes : List ℕ = lent buses conn (after events counts) in
         let differs : (count == length bytes) ≡ false = grind (arith, nat_tests) in
@@ -207,7 +207,7 @@ module _ (buses : List Bus) (peer conn : ℕ) where
         ∙ ap (λ xs. (counts ++ filter_map count_of (call ∷ [])) ++ xs) no_more
         ∙ append-nil (counts ++ filter_map count_of (call ∷ []))
         ∙ ap (λ xs. counts ++ xs) counted in
-        ended_by events told new counts (call ∷ []) (bytes ∷ []) (count ∷ []) stays full adds own
+        ended_by events trace new counts (call ∷ []) (bytes ∷ []) (count ∷ []) stays full adds own
         (ap (handed buses conn (after events counts)) counted ∙ hands) (ap (λ q. q ∷ []) asks) size stays_is are stands
       where
         stops : (lost short few : Bool) → not lost && not short ≡ false → last_room (not lost && (not short && few)) ≡ []
@@ -216,35 +216,35 @@ module _ (buses : List Bus) (peer conn : ℕ) where
         stops false false few e = cc
 
     -- no write yet
-    takes_none : (events : List Event) (told : List DoorCall) (now : Held) → old ≡ Some told
-        → StandsFor buses keys now (course buses events) → IsTaking events told now 0
-    takes_none events told now is stands = record {
+    takes_none : (events : List Event) (trace : List DoorCall) (now : Held) → old ≡ Some trace
+        → StandsFor buses keys now (course buses events) → IsTaking events trace now 0
+    takes_none events trace now is stands = record {
       counts = [];
       many = refl;
       full = tt;
-      adds = adds_none old told is;
+      adds = adds_none old trace is;
       stands = subst (λ (all : List Event). StandsFor buses keys now (course buses all)) (sym (append-nil events)) stands;
     }
 
     -- more calls after these writes
-    adds_last : (events : List Event) (counts : List ℕ) (mid told : List DoorCall) (calls : List Call) (told_mid : Option (List DoorCall))
-        → told_mid ≡ Some mid → AddsGiven old mid (written events counts []) → AddsGiven told_mid told calls
-        → AddsGiven old told (written events counts calls)
-    adds_last events counts mid told calls told_mid is first second =
-        subst (λ (all : List Call). AddsGiven old told all) (written-append events counts calls)
-        (given_then old told_mid mid told (written events counts []) calls is first second)
+    adds_last : (events : List Event) (counts : List ℕ) (mid trace : List DoorCall) (calls : List Call) (trace_mid : Option (List DoorCall))
+        → trace_mid ≡ Some mid → AddsGiven old mid (written events counts []) → AddsGiven trace_mid trace calls
+        → AddsGiven old trace (written events counts calls)
+    adds_last events counts mid trace calls trace_mid is first second =
+        subst (λ (all : List Call). AddsGiven old trace all) (written-append events counts calls)
+        (given_then old trace_mid mid trace (written events counts []) calls is first second)
 
-    takes_more : (events : List Event) (mid told : List DoorCall) (before new : Held) (times : ℕ) (told_mid : Option (List DoorCall))
-        → told_mid ≡ Some mid → (t : IsTaking events mid before times)
-        → TookAll buses (after events t.counts) keys conn peer told_mid told new → IsTaking events told new (times + 1)
-    takes_more events mid told before new times told_mid is t took = record {
+    takes_more : (events : List Event) (mid trace : List DoorCall) (before new : Held) (times : ℕ) (trace_mid : Option (List DoorCall))
+        → trace_mid ≡ Some mid → (t : IsTaking events mid before times)
+        → TookAll buses (after events t.counts) keys conn peer trace_mid trace new → IsTaking events trace new (times + 1)
+    takes_more events mid trace before new times trace_mid is t took = record {
       counts = t.counts ++ took.count ∷ [];
       many = length-append t.counts (took.count ∷ []) ∙ ap (λ k. k + 1) t.many;
       full = full-more buses conn events t.counts took.count t.full took.all took.some;
       adds =
-          subst (λ (all : List Call). AddsGiven old told all) (sym (written-more events t.counts took.count))
-          (adds_last events t.counts mid told
-          (WriteCall peer (lent buses conn (after events t.counts)) (Ok took.count) ∷ []) told_mid is t.adds took.adds);
+          subst (λ (all : List Call). AddsGiven old trace all) (sym (written-more events t.counts took.count))
+          (adds_last events t.counts mid trace
+          (WriteCall peer (lent buses conn (after events t.counts)) (Ok took.count) ∷ []) trace_mid is t.adds took.adds);
       stands = subst (λ (all : List Event). StandsFor buses keys new (course buses all))
           (append_assoc events (map (Room conn) t.counts) (Room conn took.count ∷ [])
           ∙ ap (λ more. events ++ more) (sym (map-append (Room conn) t.counts (took.count ∷ []))))
@@ -252,8 +252,8 @@ module _ (buses : List Bus) (peer conn : ℕ) where
     }
 
     -- the most writes there may be took all
-    out_full : (events : List Event) (told : List DoorCall) (now : Held) → IsTaking events told now 300 → Writes_out events told now true
-    out_full events told now t =
+    out_full : (events : List Event) (trace : List DoorCall) (now : Held) → IsTaking events trace now 300 → Writes_out events trace now true
+    out_full events trace now t =
         let counts : List ℕ = t.counts in
         let front : List (List ℕ) = texts buses conn events counts in
         let many : length counts ≡ 300 = t.many in
@@ -284,10 +284,10 @@ module _ (buses : List Bus) (peer conn : ℕ) where
         over k e = grind (arith, nat_tests)
 
     -- nothing was lent
-    out_none : (events : List Event) (mid told : List DoorCall) (before new : Held) (times : ℕ) (told_mid : Option (List DoorCall))
-        → told_mid ≡ Some mid → times < 300 → (t : IsTaking events mid before times)
-        → WasLentNone buses (after events t.counts) keys conn peer told_mid told new → Writes_out events told new true
-    out_none events mid told before new times told_mid is few t was =
+    out_none : (events : List Event) (mid trace : List DoorCall) (before new : Held) (times : ℕ) (trace_mid : Option (List DoorCall))
+        → trace_mid ≡ Some mid → times < 300 → (t : IsTaking events mid before times)
+        → WasLentNone buses (after events t.counts) keys conn peer trace_mid trace new → Writes_out events trace new true
+    out_none events mid trace before new times trace_mid is few t was =
         let counts : List ℕ = t.counts in
         let many : length counts ≡ times = t.many in
         let size : length counts + 0 ≤ 300 = omega (arith, many, few) in
@@ -296,79 +296,79 @@ module _ (buses : List Bus) (peer conn : ℕ) where
         let are : rooms (written events counts []) ≡ counts ++ 0 ∷ [] =
         rooms_are events counts [] false false t.full refl refl ∙ ap (λ xs. (counts ++ []) ++ xs) more
         ∙ ap (λ xs. xs ++ 0 ∷ []) (append-nil counts) in
-        ended_by events told new counts [] [] (0 ∷ []) true t.full (adds_last events counts mid told [] told_mid is t.adds was.adds) tt
+        ended_by events trace new counts [] [] (0 ∷ []) true t.full (adds_last events counts mid trace [] trace_mid is t.adds was.adds) tt
         (ap (λ l. unless_nil l []) was.none) refl size refl are was.stands
       where
         below : (k : ℕ) → k < 300 → nat_lt (k + 0) 300 ≡ true
         below k h = grind (arith, nat_tests)
 
-    out_less : (events : List Event) (mid told : List DoorCall) (before new : Held) (times : ℕ) (told_mid : Option (List DoorCall))
-        → told_mid ≡ Some mid → times < 300 → (t : IsTaking events mid before times)
-        → TookLess buses (after events t.counts) keys conn peer told_mid told new → Writes_out events told new true
-    out_less events mid told before new times told_mid is few t took =
+    out_less : (events : List Event) (mid trace : List DoorCall) (before new : Held) (times : ℕ) (trace_mid : Option (List DoorCall))
+        → trace_mid ≡ Some mid → times < 300 → (t : IsTaking events mid before times)
+        → TookLess buses (after events t.counts) keys conn peer trace_mid trace new → Writes_out events trace new true
+    out_less events mid trace before new times trace_mid is few t took =
         let bytes : List ℕ = lent buses conn (after events t.counts) in
         let many : length t.counts ≡ times = t.many in
         let call : Call = WriteCall peer bytes (Ok took.count) in
         let size : length t.counts < 300 = omega (arith, many, few) in
         let short : nat_lt took.count (length bytes) ≡ true = let less = took.short in grind (arith, nat_tests) in
-        last_write events told new t.counts call took.count true false true t.full
-        (adds_last events t.counts mid told (call ∷ []) told_mid is t.adds took.adds)
+        last_write events trace new t.counts call took.count true false true t.full
+        (adds_last events t.counts mid trace (call ∷ []) trace_mid is t.adds took.adds)
         (record { bytes = bytes; answer = Ok took.count; is = refl }, tt) refl refl took.short size refl refl
         (ap (λ b. b || false) short) refl took.stands
 
-    out_failed : (events : List Event) (mid told : List DoorCall) (before new : Held) (times : ℕ) (told_mid : Option (List DoorCall))
-        → told_mid ≡ Some mid → times < 300 → (t : IsTaking events mid before times)
-        → TookNone buses (after events t.counts) keys conn peer told_mid told new → Writes_out events told new false
-    out_failed events mid told before new times told_mid is few t took =
+    out_failed : (events : List Event) (mid trace : List DoorCall) (before new : Held) (times : ℕ) (trace_mid : Option (List DoorCall))
+        → trace_mid ≡ Some mid → times < 300 → (t : IsTaking events mid before times)
+        → TookNone buses (after events t.counts) keys conn peer trace_mid trace new → Writes_out events trace new false
+    out_failed events mid trace before new times trace_mid is few t took =
         let bytes : List ℕ = lent buses conn (after events t.counts) in
         let many : length t.counts ≡ times = t.many in
         let call : Call = WriteCall peer bytes (Err took.fault) in
         let size : length t.counts < 300 = omega (arith, many, few) in
-        last_write events told new t.counts call 0 false true false t.full
-        (adds_last events t.counts mid told (call ∷ []) told_mid is t.adds took.adds)
+        last_write events trace new t.counts call 0 false true false t.full
+        (adds_last events t.counts mid trace (call ∷ []) trace_mid is t.adds took.adds)
         (record { bytes = bytes; answer = Err took.fault; is = refl }, tt) refl refl took.some size refl refl refl refl took.stands
 
 -- ---- the loop of the writes
 
 -- this many writes took all
-abbrev pub TakesSoFar : (peer key : ℕ) (old : Held) (told_old : Option (List DoorCall)) (now : Held) (told_now : Option (List DoorCall))
+abbrev pub TakesSoFar : (peer key : ℕ) (old : Held) (trace_old : Option (List DoorCall)) (now : Held) (trace_now : Option (List DoorCall))
     (times : ℕ)
     → Type 0
-TakesSoFar peer key old told_old now told_now times =
-    FromEveryCourse (λ buses events keys n told. IsTaking buses peer n keys told_old events told now times) key old told_now
+TakesSoFar peer key old trace_old now trace_now times =
+    FromEveryCourse (λ buses events keys n trace. IsTaking buses peer n keys trace_old events trace now times) key old trace_now
 
-pub takes_first : (peer key : ℕ) (old : Held) (told_old : Option (List DoorCall)) → TakesSoFar peer key old told_old old told_old 0
-takes_first peer key old told_old buses events keys n told s is = takes_none buses peer n keys told_old events told old is s.stands
+pub takes_first : (peer key : ℕ) (old : Held) (trace_old : Option (List DoorCall)) → TakesSoFar peer key old trace_old old trace_old 0
+takes_first peer key old trace_old buses events keys n trace s is = takes_none buses peer n keys trace_old events trace old is s.stands
 
-module _ (peer key : ℕ) (old mid new : Held) (told_old told_mid told_new : Option (List DoorCall)) (times : ℕ)
-    (so : TakesSoFar peer key old told_old mid told_mid times) (asks : AsksPeers told_mid told_new) where
-  pub takes_on : WritesOnce peer key mid told_mid new told_new All → TakesSoFar peer key old told_old new told_new (times + 1)
-  takes_on once buses events keys n told s is =
-      let w = (asks told is).adds in
+module _ (peer key : ℕ) (old mid new : Held) (trace_old trace_mid trace_new : Option (List DoorCall)) (times : ℕ)
+    (so : TakesSoFar peer key old trace_old mid trace_mid times) (asks : AsksPeers trace_mid trace_new) where
+  pub takes_on : WritesOnce peer key mid trace_mid new trace_new All → TakesSoFar peer key old trace_old new trace_new (times + 1)
+  takes_on once buses events keys n trace s is =
+      let w = (asks trace is).adds in
       let t = so buses events keys n w.before s w.was in
-      takes_more buses peer n keys told_old events w.before told mid new times told_mid w.was t
-      (once buses (after buses peer n events t.counts) keys n told
+      takes_more buses peer n keys trace_old events w.before trace mid new times trace_mid w.was t
+      (once buses (after buses peer n events t.counts) keys n trace
       (record { layout = s.layout; named = s.named; stands = t.stands }) is)
 
-  pub ends_less : times < 300 → WritesOnce peer key mid told_mid new told_new Less → WritesOut peer key old told_old new told_new true
-  ends_less few once buses events keys n told s is =
-      let w = (asks told is).adds in
+  pub ends_less : times < 300 → WritesOnce peer key mid trace_mid new trace_new Less → WritesOut peer key old trace_old new trace_new true
+  ends_less few once buses events keys n trace s is =
+      let w = (asks trace is).adds in
       let t = so buses events keys n w.before s w.was in
       ⊎_elim
-      (λ was. out_none buses peer n keys told_old events w.before told mid new times told_mid w.was few t was)
-      (λ took. out_less buses peer n keys told_old events w.before told mid new times told_mid w.was few t took)
-      (once buses (after buses peer n events t.counts) keys n told (record { layout = s.layout; named = s.named; stands = t.stands }) is)
+      (λ was. out_none buses peer n keys trace_old events w.before trace mid new times trace_mid w.was few t was)
+      (λ took. out_less buses peer n keys trace_old events w.before trace mid new times trace_mid w.was few t took)
+      (once buses (after buses peer n events t.counts) keys n trace (record { layout = s.layout; named = s.named; stands = t.stands }) is)
 
-  pub ends_failed : times < 300 → WritesOnce peer key mid told_mid new told_new Failed → WritesOut peer key old told_old new told_new false
-  ends_failed few once buses events keys n told s is =
-      let w = (asks told is).adds in
+  pub ends_failed : times < 300 → WritesOnce peer key mid trace_mid new trace_new Failed → WritesOut peer key old trace_old new trace_new false
+  ends_failed few once buses events keys n trace s is =
+      let w = (asks trace is).adds in
       let t = so buses events keys n w.before s w.was in
-      out_failed buses peer n keys told_old events w.before told mid new times told_mid w.was few t
-      (once buses (after buses peer n events t.counts) keys n told
+      out_failed buses peer n keys trace_old events w.before trace mid new times trace_mid w.was few t
+      (once buses (after buses peer n events t.counts) keys n trace
       (record { layout = s.layout; named = s.named; stands = t.stands }) is)
 
-pub ends_full : (peer key : ℕ) (old now : Held) (told_old told_now : Option (List DoorCall)) (times : ℕ) → times ≡ 300
-    → TakesSoFar peer key old told_old now told_now times → WritesOut peer key old told_old now told_now true
-ends_full peer key old now told_old told_now times e so buses events keys n told s is =
-    out_full buses peer n keys told_old events told now
-    (subst (λ (k : ℕ). IsTaking buses peer n keys told_old events told now k) e (so buses events keys n told s is))
+pub ends_full : (peer key : ℕ) (old now : Held) (trace_old trace_now : Option (List DoorCall)) (times : ℕ) → times ≡ 300
+    → TakesSoFar peer key old trace_old now trace_now times → WritesOut peer key old trace_old now trace_now true
+ends_full peer key old now trace_old trace_now times e so buses events keys n trace s is =
+    out_full buses peer n keys trace_old events trace now
+    (subst (λ (k : ℕ). IsTaking buses peer n keys trace_old events trace now k) e (so buses events keys n trace s is))

@@ -22,13 +22,13 @@ one_more n = min (n + 1) 18446744073709551615
 -- the door keeps this call behind those that it kept, or keeps none from now on
 abbrev pub Tells : Option (List Call) → Call → Option (List Call) → Type 0
 Tells None call new = new ≡ None
-Tells (Some calls) call new = IfSome new (λ told. told ≡ calls ++ call ∷ [])
+Tells (Some calls) call new = IfSome new (λ trace. trace ≡ calls ++ call ∷ [])
 
 -- the door had kept some calls, and has added these
-pub record Adds (old : Option (List Call)) (told calls : List Call) : Type 0 where
+pub record Adds (old : Option (List Call)) (trace calls : List Call) : Type 0 where
   pub before : List Call
   pub was : old ≡ Some before
-  pub is : told ≡ before ++ calls
+  pub is : trace ≡ before ++ calls
 
 -- a read returned at least one byte and no more than the buffer holds; a write took no more than it was handed
 abbrev pub IsFair : Call → Type 0

@@ -19,13 +19,13 @@ pub data Call : Type 0 where
   CloseCall : (peer : ℕ) (answer : Result Unit DoorFault) → Call
 
 -- the call as the door keeps it
-abbrev pub told_call : Call → DoorCall
-told_call (ExpectCall due slack) = door.ExpectCall due slack
-told_call (NowCall answer) = door.NowCall answer
-told_call (AcceptCall answer granted) = door.AcceptCall answer
-told_call (ReadCall peer answer buffer grants) = door.ReadCall peer answer buffer
-told_call (WriteCall peer bytes answer) = door.WriteCall peer bytes answer
-told_call (CloseCall peer answer) = door.CloseCall peer answer
+abbrev pub door_call : Call → DoorCall
+door_call (ExpectCall due slack) = door.ExpectCall due slack
+door_call (NowCall answer) = door.NowCall answer
+door_call (AcceptCall answer granted) = door.AcceptCall answer
+door_call (ReadCall peer answer buffer grants) = door.ReadCall peer answer buffer
+door_call (WriteCall peer bytes answer) = door.WriteCall peer bytes answer
+door_call (CloseCall peer answer) = door.CloseCall peer answer
 
 -- the answers of memory in the call, in order
 abbrev pub answers_in : Call → List Bool

@@ -11,10 +11,10 @@ use Rattle.srcp_serve.specs.Serving.{Stand, IsServed, OfEachTurn, empty_stand, e
 
 -- how many changes the turn may bring, by the slack that the door was told: 256 if there was no panel, since one may
 -- begin
-abbrev pub told_room : List Call → ℕ
-told_room [] = 256
-told_room (ExpectCall due slack ∷ calls) = option_or_256 slack
-told_room (other ∷ calls) = 256
+abbrev pub trace_room : List Call → ℕ
+trace_room [] = 256
+trace_room (ExpectCall due slack ∷ calls) = option_or_256 slack
+trace_room (other ∷ calls) = 256
 
 module _ (buses : List Bus) where
   -- how many changes the turn brought
@@ -30,18 +30,18 @@ module _ (buses : List Bus) where
 
   -- the turn brings no more changes than the door was told
   abbrev pub IsPaced : Stand → List Call → Type 0
-  IsPaced stand calls = brought_in stand calls ≤ told_room calls
+  IsPaced stand calls = brought_in stand calls ≤ trace_room calls
 
   -- such a turn makes no panel overrun
   abbrev pub PacedTurnsSpare : Type 0
-  PacedTurnsSpare = (count : ℕ) (told : List Call) → IsServed buses count told
-      → OfEachTurn buses (λ stand calls. IsPaced stand calls → SparesPanels stand calls) empty_stand (turns told)
+  PacedTurnsSpare = (count : ℕ) (trace : List Call) → IsServed buses count trace
+      → OfEachTurn buses (λ stand calls. IsPaced stand calls → SparesPanels stand calls) empty_stand (turns trace)
 
   -- if each turn is so, no panel ever overran
   abbrev pub PacedServingSparesAll : Type 0
-  PacedServingSparesAll = (count : ℕ) (told : List Call) → IsServed buses count told
-      → OfEachTurn buses IsPaced empty_stand (turns told)
-      → (number : ℕ) (later : Connection) → IsOverrun buses (course buses (events_of buses told)) number later → ⊥
+  PacedServingSparesAll = (count : ℕ) (trace : List Call) → IsServed buses count trace
+      → OfEachTurn buses IsPaced empty_stand (turns trace)
+      → (number : ℕ) (later : Connection) → IsOverrun buses (course buses (events_of buses trace)) number later → ⊥
 
   -- ---- by the lines that the door handed out
 
@@ -60,15 +60,15 @@ module _ (buses : List Bus) where
 
   -- the two together are no more than the door was told
   abbrev pub IsLight : Stand → List Call → Type 0
-  IsLight stand calls = weighs_in stand calls + besides_in stand calls ≤ told_room calls
+  IsLight stand calls = weighs_in stand calls + besides_in stand calls ≤ trace_room calls
 
   -- over any layout, such a turn makes no panel overrun
   abbrev pub LightTurnsSpare : Type 0
-  LightTurnsSpare = IsLayout buses → (count : ℕ) (told : List Call) → IsServed buses count told
-      → OfEachTurn buses (λ stand calls. IsLight stand calls → SparesPanels stand calls) empty_stand (turns told)
+  LightTurnsSpare = IsLayout buses → (count : ℕ) (trace : List Call) → IsServed buses count trace
+      → OfEachTurn buses (λ stand calls. IsLight stand calls → SparesPanels stand calls) empty_stand (turns trace)
 
   -- if each turn is so, no panel ever overran
   abbrev pub LightServingSparesAll : Type 0
-  LightServingSparesAll = IsLayout buses → (count : ℕ) (told : List Call) → IsServed buses count told
-      → OfEachTurn buses IsLight empty_stand (turns told)
-      → (number : ℕ) (later : Connection) → IsOverrun buses (course buses (events_of buses told)) number later → ⊥
+  LightServingSparesAll = IsLayout buses → (count : ℕ) (trace : List Call) → IsServed buses count trace
+      → OfEachTurn buses IsLight empty_stand (turns trace)
+      → (number : ℕ) (later : Connection) → IsOverrun buses (course buses (events_of buses trace)) number later → ⊥

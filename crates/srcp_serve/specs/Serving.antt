@@ -13,7 +13,7 @@ use Rattle.srcp_core.specs.Course.{course, fault}
 use Rattle.srcp_core.specs.Under.{Event, Piece, Open, Bytes, Room, At, Shut, giving}
 use Rattle.srcp_core.specs.Waits.{due_next, slack}
 use Rattle.srcp_serve.specs.Calls as door
-use Rattle.srcp_serve.specs.Given.{Guest, Call, told_call, ExpectCall, NowCall, AcceptCall, ReadCall, WriteCall}
+use Rattle.srcp_serve.specs.Given.{Guest, Call, door_call, ExpectCall, NowCall, AcceptCall, ReadCall, WriteCall}
 use Rattle.srcp_serve.specs.Given.{CloseCall}
 use Rattle.srcp_serve.specs.declared.door.Got.TheVariants as got
 
@@ -43,7 +43,7 @@ count_of other = None
 
 -- the call tells the door what to expect
 abbrev pub is_expect : Call → Bool
-is_expect call = door.is_expect (told_call call)
+is_expect call = door.is_expect (door_call call)
 
 -- the call is a write
 abbrev pub is_write : Call → Bool
@@ -104,7 +104,7 @@ question (CloseCall peer answer) = Closes peer
 
 -- the answer is one that the door may give
 abbrev pub IsFair : Call → Type 0
-IsFair call = door.IsFair (told_call call)
+IsFair call = door.IsFair (door_call call)
 
 -- the bytes that a peer took in a call
 abbrev pub taken_in : ℕ → Call → List ℕ
@@ -113,12 +113,12 @@ taken_in peer other = []
 
 -- and in all these calls
 abbrev pub taken : ℕ → List Call → List ℕ
-taken peer told = flat_map (taken_in peer) told
+taken peer trace = flat_map (taken_in peer) trace
 
 -- ---- peers and slots
 
 -- a peer that has a connection, and the number of that connection
-pub record Seat : Type 0 where
+pub record Client : Type 0 where
   pub peer : ℕ
   pub conn : ℕ
 
@@ -126,30 +126,30 @@ pub record Seat : Type 0 where
 pub record Stand : Type 0 where
   pub events : List Event  -- the events so far
   pub guests : List ℕ  -- the peers that were let in: the first has connection 1, the next 2, and so on
-  pub slots : List (Option Seat)  -- who has which slot
+  pub slots : List (Option Client)  -- who has which slot
 
 -- the state before the first turn: no event, no guest, all 64 slots free
 abbrev pub empty_stand : Stand
 empty_stand = record { events = []; guests = []; slots = replicate 64 None }
 
 -- those that have a slot, in the order of the slots
-abbrev pub seats : List (Option Seat) → List Seat
-seats slots = filter_map (λ slot. slot) slots
+abbrev pub clients : List (Option Client) → List Client
+clients slots = filter_map (λ slot. slot) slots
 
 -- a newcomer takes the first free slot
-abbrev pub seated : Seat → List (Option Seat) → List (Option Seat)
-seated seat [] = []
-seated seat (None ∷ slots) = Some seat ∷ slots
-seated seat (Some other ∷ slots) = Some other ∷ seated seat slots
+abbrev pub connected : Client → List (Option Client) → List (Option Client)
+connected client [] = []
+connected client (None ∷ slots) = Some client ∷ slots
+connected client (Some other ∷ slots) = Some other ∷ connected client slots
 
 -- the calls of a turn about a peer that has a slot: its visit
-abbrev pub visit : List Call → Seat → List Call
-visit calls seat = filter (is_about seat.peer) calls
+abbrev pub visit : List Call → Client → List Call
+visit calls client = filter (is_about client.peer) calls
 
 -- a slot is free after a visit that closes its peer
-abbrev pub kept : List Call → Option Seat → Option Seat
+abbrev pub kept : List Call → Option Client → Option Client
 kept calls None = None
-kept calls (Some seat) = if list_any is_close (visit calls seat) then None else Some seat
+kept calls (Some client) = if list_any is_close (visit calls client) then None else Some client
 
 -- ---- what a visit makes happen
 
@@ -167,9 +167,9 @@ abbrev pub exchange : ℕ → List Call → List Event
 exchange conn calls = map (Bytes conn) (filter_map piece_of calls) ++ map (Room conn) (rooms calls)
 
 -- the events of the whole visit; if the peer is closed, its connection is shut
-abbrev pub visit_events : List Call → Seat → List Event
-visit_events calls seat = exchange seat.conn (visit calls seat)
-    ++ (if list_any is_close (visit calls seat) then Shut seat.conn ∷ [] else [])
+abbrev pub visit_events : List Call → Client → List Event
+visit_events calls client = exchange client.conn (visit calls client)
+    ++ (if list_any is_close (visit calls client) then Shut client.conn ∷ [] else [])
 
 -- ---- turns
 
@@ -194,7 +194,7 @@ module _ (buses : List Bus) where
   let_in stand guest = record {
     events = stand.events ++ Open guest.granted ∷ [];
     guests = stand.guests ++ guest.peer ∷ [];
-    slots = seated (record { peer = guest.peer; conn = length stand.guests + 1 }) stand.slots;
+    slots = connected (record { peer = guest.peer; conn = length stand.guests + 1 }) stand.slots;
   }
 
   -- the state after a newcomer, let in or not
@@ -222,7 +222,7 @@ module _ (buses : List Bus) where
   -- the state after the visits of a turn
   abbrev pub visited : Stand → List Call → Stand
   visited stand calls = record stand {
-    events = stand.events ++ flat_map (visit_events calls) (seats stand.slots);
+    events = stand.events ++ flat_map (visit_events calls) (clients stand.slots);
     slots = map (kept calls) stand.slots;
   }
 
@@ -232,11 +232,11 @@ module _ (buses : List Bus) where
 
   -- the state after all calls
   abbrev pub stand_after : List Call → Stand
-  stand_after told = fold turned empty_stand (turns told)
+  stand_after trace = fold turned empty_stand (turns trace)
 
   -- the events that all calls make
   abbrev pub events_of : List Call → List Event
-  events_of told = (stand_after told).events
+  events_of trace = (stand_after trace).events
 
   -- ---- what is asked, by what was answered before
 
@@ -259,30 +259,30 @@ module _ (buses : List Bus) where
       (if count == length (lent conn events) then handed conn (events ++ Room conn count ∷ []) counts else [])
 
   -- a visit begins with one read of at most 256 bytes, if the connection accepts bytes
-  abbrev pub reads_of : List Event → Seat → List Question
-  reads_of events seat = if is_ready seat.conn events then Reads seat.peer 256 ∷ [] else []
+  abbrev pub reads_of : List Event → Client → List Question
+  reads_of events client = if is_ready client.conn events then Reads client.peer 256 ∷ [] else []
 
   -- then it writes, at most 300 times; not at all if the read lost the peer
-  abbrev pub writes_of : List Event → List Call → Seat → List Question
-  writes_of events calls seat = if list_any loses_reading calls then [] else map (Writes seat.peer)
+  abbrev pub writes_of : List Event → List Call → Client → List Question
+  writes_of events calls client = if list_any loses_reading calls then [] else map (Writes client.peer)
       (take 300
-      (handed seat.conn (events ++ map (Bytes seat.conn) (filter_map piece_of calls)) (filter_map count_of calls)))
+      (handed client.conn (events ++ map (Bytes client.conn) (filter_map piece_of calls)) (filter_map count_of calls)))
 
   -- then it closes the peer, if that is lost or its connection is to be closed
-  abbrev pub closes_of : List Event → List Call → Seat → List Question
-  closes_of events calls seat =
-      if list_any loses calls || is_closing seat.conn (events ++ exchange seat.conn calls) then Closes seat.peer ∷ []
+  abbrev pub closes_of : List Event → List Call → Client → List Question
+  closes_of events calls client =
+      if list_any loses calls || is_closing client.conn (events ++ exchange client.conn calls) then Closes client.peer ∷ []
       else []
 
   -- what the whole visit asks
-  abbrev pub visit_asks : List Event → List Call → Seat → List Question
-  visit_asks events calls seat = reads_of events seat ++ writes_of events calls seat ++ closes_of events calls seat
+  abbrev pub visit_asks : List Event → List Call → Client → List Question
+  visit_asks events calls client = reads_of events client ++ writes_of events calls client ++ closes_of events calls client
 
   -- what the visits of a turn ask, one after another
-  abbrev pub visits_ask : List Event → List Call → List Seat → List Question
+  abbrev pub visits_ask : List Event → List Call → List Client → List Question
   visits_ask events calls [] = []
-  visits_ask events calls (seat ∷ more) =
-      visit_asks events (visit calls seat) seat ++ visits_ask (events ++ visit_events calls seat) calls more
+  visits_ask events calls (client ∷ more) =
+      visit_asks events (visit calls client) client ++ visits_ask (events ++ visit_events calls client) calls more
 
   -- a newcomer that is not let in is closed
   abbrev pub turns_away : List Event → Guest → List Question
@@ -296,7 +296,7 @@ module _ (buses : List Bus) where
   abbrev pub turn_asks : Stand → List Call → List Question
   turn_asks stand calls = expects stand.events ∷ Moments ∷ Newcomers
       ∷ (flat_map (turns_away (timed stand calls).events) (filter_map newcomer_of calls)
-      ++ visits_ask (begun stand calls).events calls (seats (begun stand calls).slots))
+      ++ visits_ask (begun stand calls).events calls (clients (begun stand calls).slots))
 
   -- what the turns ask, one after another
   abbrev pub turns_ask : Stand → List (List Call) → List Question
@@ -309,28 +309,28 @@ module _ (buses : List Bus) where
   OfEachTurn Law stand (calls ∷ more) = Law stand calls × OfEachTurn Law (turned stand calls) more
 
   -- the law holds of each visit of a turn, by the events before it
-  abbrev pub OfEachVisit : (List Event → List Call → Seat → Type 0) → List Event → List Call → List Seat → Type 0
+  abbrev pub OfEachVisit : (List Event → List Call → Client → Type 0) → List Event → List Call → List Client → Type 0
   OfEachVisit Law events calls [] = ⊤
-  OfEachVisit Law events calls (seat ∷ more) = Law events calls seat
-      × OfEachVisit Law (events ++ visit_events calls seat) calls more
+  OfEachVisit Law events calls (client ∷ more) = Law events calls client
+      × OfEachVisit Law (events ++ visit_events calls client) calls more
 
   -- the calls are exactly those that this many turns ask
-  pub record IsServed (count : ℕ) (told : List Call) : Type 0 where
-    pub turns_are : length (turns told) ≡ count
-    pub asked : map question told ≡ turns_ask empty_stand (turns told)
+  pub record IsServed (count : ℕ) (trace : List Call) : Type 0 where
+    pub turns_are : length (turns trace) ≡ count
+    pub asked : map question trace ≡ turns_ask empty_stand (turns trace)
 
   -- ---- what the peers took
 
   -- the door accepted no peer twice
   abbrev pub PeersDiffer : List Call → Type 0
-  PeersDiffer told = door.PeersDiffer [] (map told_call told)
+  PeersDiffer trace = door.PeersDiffer [] (map door_call trace)
 
   -- each connection was sent exactly what its peer took
   abbrev pub SendsWhatIsTaken : List Call → Type 0
-  SendsWhatIsTaken told = map sent (course buses (events_of told)).connections
-      ≡ map (λ peer. taken peer told) (stand_after told).guests
+  SendsWhatIsTaken trace = map sent (course buses (events_of trace)).connections
+      ≡ map (λ peer. taken peer trace) (stand_after trace).guests
 
   -- so it is in every list of calls that is served
   abbrev pub SentIsTaken : Type 0
-  SentIsTaken = (count : ℕ) (told : List Call) → IsServed count told → PeersDiffer told → AllByRecursion IsFair told
-      → SendsWhatIsTaken told
+  SentIsTaken = (count : ℕ) (trace : List Call) → IsServed count trace → PeersDiffer trace → AllByRecursion IsFair trace
+      → SendsWhatIsTaken trace

@@ -10,39 +10,39 @@ use Rattle.srcp_core.specs.Under.{Event}
 use Rattle.srcp_core.specs.Waits.{IsPanel}
 use Rattle.srcp_serve.specs.Given.{Call}
 use Rattle.srcp_serve.specs.Pacing.{brought_in}
-use Rattle.srcp_serve.specs.Serving.{Seat, Stand, IsFair, IsServed, OfEachTurn, OfEachVisit, PeersDiffer, begun}
-use Rattle.srcp_serve.specs.Serving.{empty_stand, events_of, falls_short, loses, seats, turned, turns, visit}
+use Rattle.srcp_serve.specs.Serving.{Client, Stand, IsFair, IsServed, OfEachTurn, OfEachVisit, PeersDiffer, begun}
+use Rattle.srcp_serve.specs.Serving.{empty_stand, events_of, falls_short, loses, clients, turned, turns, visit}
 use Rattle.srcp_serve.specs.Serving.{visit_events}
 
 -- the peer took all that it was handed in its visit of the turn, and was not lost
-pub record TakesAll (calls : List Call) (seat : Seat) : Type 0 where
-  pub keeps : list_any loses (visit calls seat) ≡ false
-  pub whole : list_any falls_short (visit calls seat) ≡ false
+pub record TakesAll (calls : List Call) (client : Client) : Type 0 where
+  pub keeps : list_any loses (visit calls client) ≡ false
+  pub whole : list_any falls_short (visit calls client) ≡ false
 
 module _ (buses : List Bus) where
   -- ---- the changes that wait
 
   -- no change waits for the session right after a visit in which the peer took all
-  abbrev pub TakesWaits : List Event → List Call → Seat → Type 0
-  TakesWaits events calls seat = (conn later : Connection) → IsPanel buses (course buses events) seat.conn conn
-      → TakesAll calls seat
-      → numbered seat.conn (course buses (events ++ visit_events calls seat)).connections ≡ Some later
-      → waiting later (history buses (course buses (events ++ visit_events calls seat))) ≡ []
+  abbrev pub TakesWaits : List Event → List Call → Client → Type 0
+  TakesWaits events calls client = (conn later : Connection) → IsPanel buses (course buses events) client.conn conn
+      → TakesAll calls client
+      → numbered client.conn (course buses (events ++ visit_events calls client)).connections ≡ Some later
+      → waiting later (history buses (course buses (events ++ visit_events calls client))) ≡ []
 
   -- in each visit of each turn, over any layout
   abbrev pub WaitsAreGoneAfterAVisit : Type 0
-  WaitsAreGoneAfterAVisit = IsLayout buses → (count : ℕ) (told : List Call) → IsServed buses count told
-      → PeersDiffer buses told
-      → AllByRecursion IsFair told
+  WaitsAreGoneAfterAVisit = IsLayout buses → (count : ℕ) (trace : List Call) → IsServed buses count trace
+      → PeersDiffer buses trace
+      → AllByRecursion IsFair trace
       → OfEachTurn buses (λ stand calls. OfEachVisit buses TakesWaits (begun buses stand calls).events calls
-      (seats (begun buses stand calls).slots)) empty_stand (turns told)
+      (clients (begun buses stand calls).slots)) empty_stand (turns trace)
 
   -- ---- all that is owed
 
   -- the turn brought no change, and the peer took all
-  pub record IsStill (seat : Seat) (stand : Stand) (calls : List Call) : Type 0 where
+  pub record IsStill (client : Client) (stand : Stand) (calls : List Call) : Type 0 where
     pub nothing : brought_in buses stand calls ≡ 0
-    pub takes : TakesAll calls seat
+    pub takes : TakesAll calls client
 
   -- how many writes are left: one for each line that the session is owed, and one more if bytes of others are unsent
   abbrev pub writes_left : World → Connection → ℕ
@@ -55,13 +55,13 @@ module _ (buses : List Bus) where
   -- over any layout, the session of a peer that has a slot is settled after turns without a change, in each of which
   -- its peer took all, if 300 times their number is at least what was left
   abbrev pub SettlesSoon : Type 0
-  SettlesSoon = IsLayout buses → (count : ℕ) (told : List Call) → IsServed buses count told → PeersDiffer buses told
-      → AllByRecursion IsFair told → (before after : List (List Call)) → turns told ≡ before ++ after
-      → (slot : ℕ) (seat : Seat) → slice_get (after_turns before).slots slot ≡ Some (Some seat)
-      → (conn : Connection) → IsPanel buses (course buses (after_turns before).events) seat.conn conn
-      → OfEachTurn buses (IsStill seat) (after_turns before) after
+  SettlesSoon = IsLayout buses → (count : ℕ) (trace : List Call) → IsServed buses count trace → PeersDiffer buses trace
+      → AllByRecursion IsFair trace → (before after : List (List Call)) → turns trace ≡ before ++ after
+      → (slot : ℕ) (client : Client) → slice_get (after_turns before).slots slot ≡ Some (Some client)
+      → (conn : Connection) → IsPanel buses (course buses (after_turns before).events) client.conn conn
+      → OfEachTurn buses (IsStill client) (after_turns before) after
       → writes_left (course buses (after_turns before).events) conn ≤ 300 * length after
-      → (later : Connection) → numbered seat.conn (course buses (events_of buses told)).connections ≡ Some later
-      → is_settled later (history buses (course buses (events_of buses told)))
-      (rows buses (course buses (events_of buses told)))
+      → (later : Connection) → numbered client.conn (course buses (events_of buses trace)).connections ≡ Some later
+      → is_settled later (history buses (course buses (events_of buses trace)))
+      (rows buses (course buses (events_of buses trace)))
       ≡ true

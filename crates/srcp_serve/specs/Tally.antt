@@ -10,8 +10,8 @@ pub record CountsFaults (tally count tally_later count_later : ℕ) : Type 0 whe
   pub exact : count_later < 18446744073709551615 → tally_later + count ≡ tally + count_later
 
 -- the server has the same door, made calls of it that `Asks` allows, and counted each that failed
-pub record CallsDoor {D : Type 0} (faults : D → ℕ) (told : D → Option (List Call))
+pub record CallsDoor {D : Type 0} (faults : D → ℕ) (trace : D → Option (List Call))
     (Asks : (old new : Option (List Call)) → Type 0) (old new : Server D) : Type 0 where
   pub same_door : new.door.ghost_name ≡ old.door.ghost_name
   pub counted : CountsFaults old.tally.faults (faults old.door.now) new.tally.faults (faults new.door.now)
-  pub asks : Asks (told old.door.now) (told new.door.now)
+  pub asks : Asks (trace old.door.now) (trace new.door.now)

@@ -16,38 +16,38 @@ is_of_peer (WriteCall peer bytes answer) = true
 is_of_peer (CloseCall peer answer) = true
 
 -- the calls that the door added are about peers, and each answer is one that the door may give
-pub record AsksOfPeers (old : Option (List Call)) (told : List Call) : Type 0 where
+pub record AsksOfPeers (old : Option (List Call)) (trace : List Call) : Type 0 where
   pub calls : List Call
-  pub adds : Adds old told calls
+  pub adds : Adds old trace calls
   pub peers : list_all is_of_peer calls ≡ true
   pub fair : AllByRecursion IsFair calls
 
 -- so it is if the door keeps its calls
 abbrev pub AsksPeers : (old new : Option (List Call)) → Type 0
-AsksPeers old new = (told : List Call) → new ≡ Some told → AsksOfPeers old told
+AsksPeers old new = (trace : List Call) → new ≡ Some trace → AsksOfPeers old trace
 
 -- the door was told what to expect and asked for the time
-pub record AsksNow (old : Option (List Call)) (told : List Call) : Type 0 where
+pub record AsksNow (old : Option (List Call)) (trace : List Call) : Type 0 where
   pub due : Option ℕ
   pub slack : Option ℕ
   pub answer : Result ℕ DoorFault
-  pub adds : Adds old told (ExpectCall due slack ∷ NowCall answer ∷ [])
+  pub adds : Adds old trace (ExpectCall due slack ∷ NowCall answer ∷ [])
 
 -- so it is if the door keeps its calls
 abbrev pub AsksMoment : (old new : Option (List Call)) → Type 0
-AsksMoment old new = (told : List Call) → new ≡ Some told → AsksNow old told
+AsksMoment old new = (trace : List Call) → new ≡ Some trace → AsksNow old trace
 
 -- the door was asked for one newcomer, and after that at most about peers
-pub record AsksOneIn (old : Option (List Call)) (told : List Call) : Type 0 where
+pub record AsksOneIn (old : Option (List Call)) (trace : List Call) : Type 0 where
   pub answer : Result (Option ℕ) DoorFault
   pub rest : List Call
-  pub adds : Adds old told (AcceptCall answer ∷ rest)
+  pub adds : Adds old trace (AcceptCall answer ∷ rest)
   pub peers : list_all is_of_peer rest ≡ true
   pub fair : AllByRecursion IsFair rest
 
 -- so it is if the door keeps its calls
 abbrev pub AsksNewcomer : (old new : Option (List Call)) → Type 0
-AsksNewcomer old new = (told : List Call) → new ≡ Some told → AsksOneIn old told
+AsksNewcomer old new = (trace : List Call) → new ≡ Some trace → AsksOneIn old trace
 
 -- the calls of a turn, each with an answer that the door may give
 pub record IsTurn (calls : List Call) : Type 0 where
@@ -61,28 +61,28 @@ pub record IsTurn (calls : List Call) : Type 0 where
   pub fair : AllByRecursion IsFair rest
 
 -- the calls that were added are a turn
-pub record IsTurned (old : Option (List Call)) (told : List Call) : Type 0 where
+pub record IsTurned (old : Option (List Call)) (trace : List Call) : Type 0 where
   pub calls : List Call
-  pub adds : Adds old told calls
+  pub adds : Adds old trace calls
   pub turn : IsTurn calls
 
 -- so it is if the door keeps its calls
 abbrev pub AsksTurn : (old new : Option (List Call)) → Type 0
-AsksTurn old new = (told : List Call) → new ≡ Some told → IsTurned old told
+AsksTurn old new = (trace : List Call) → new ≡ Some trace → IsTurned old trace
 
 -- the calls are those of exactly this many turns, each with an answer that the door may give
-pub record AreTurns (count : ℕ) (told : List Call) : Type 0 where
-  pub many : length (turns told) ≡ count
-  pub each : AllByRecursion IsTurn (turns told)
-  pub all : flat_map (λ calls. calls) (turns told) ≡ told
-  pub fair : AllByRecursion IsFair told
+pub record AreTurns (count : ℕ) (trace : List Call) : Type 0 where
+  pub many : length (turns trace) ≡ count
+  pub each : AllByRecursion IsTurn (turns trace)
+  pub all : flat_map (λ calls. calls) (turns trace) ≡ trace
+  pub fair : AllByRecursion IsFair trace
 
 -- the door added the calls of this many turns
-pub record AddsTurns (count : ℕ) (old : Option (List Call)) (told : List Call) : Type 0 where
+pub record AddsTurns (count : ℕ) (old : Option (List Call)) (trace : List Call) : Type 0 where
   pub calls : List Call
-  pub adds : Adds old told calls
+  pub adds : Adds old trace calls
   pub turns_are : AreTurns count calls
 
 -- so it is if the door keeps its calls
 abbrev pub AsksTurns : (count : ℕ) (old new : Option (List Call)) → Type 0
-AsksTurns count old new = (told : List Call) → new ≡ Some told → AddsTurns count old told
+AsksTurns count old new = (trace : List Call) → new ≡ Some trace → AddsTurns count old trace

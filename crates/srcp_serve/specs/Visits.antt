@@ -11,7 +11,7 @@ use Rattle.srcp_core.specs.Stands.{StandsFor}
 use Rattle.srcp_core.specs.Under.{Event, Bytes, Room, Shut}
 use Rattle.srcp_serve.specs.Calls.{Call as DoorCall, Adds}
 use Rattle.srcp_serve.specs.Calls as door
-use Rattle.srcp_serve.specs.Given.{Call, ReadCall, WriteCall, CountsRefusals, told_call}
+use Rattle.srcp_serve.specs.Given.{Call, ReadCall, WriteCall, CountsRefusals, door_call}
 use Rattle.srcp_serve.specs.Serving.{Writes, question, piece_of, count_of, is_about, is_close, loses_reading}
 use Rattle.srcp_serve.specs.Serving.{loses_writing, rooms, lent, handed, reads_of, visit_asks}
 use Rattle.srcp_serve.specs.Serving.{visit_events}
@@ -21,24 +21,24 @@ use Rattle.srcp_serve.specs.declared.serving.visit.Wrote.{Wrote}
 use Rattle.srcp_serve.specs.declared.serving.visit.Wrote.TheVariants.{All, Less, Failed}
 
 -- the door added these calls, leaving out the answers of memory
-abbrev pub AddsGiven : (old : Option (List DoorCall)) (told : List DoorCall) (calls : List Call) → Type 0
-AddsGiven old told calls = Adds old told (map told_call calls)
+abbrev pub AddsGiven : (old : Option (List DoorCall)) (trace : List DoorCall) (calls : List Call) → Type 0
+AddsGiven old trace calls = Adds old trace (map door_call calls)
 
 -- ---- a peer is closed
 
 -- the door was asked to close it
-pub record IsClosed (peer : ℕ) (old : Option (List DoorCall)) (told : List DoorCall) : Type 0 where
+pub record IsClosed (peer : ℕ) (old : Option (List DoorCall)) (trace : List DoorCall) : Type 0 where
   pub answer : Result Unit DoorFault
-  pub adds : Adds old told (door.CloseCall peer answer ∷ [])
+  pub adds : Adds old trace (door.CloseCall peer answer ∷ [])
 
 -- so it is if the door keeps its calls
 abbrev pub Closes : (peer : ℕ) (old new : Option (List DoorCall)) → Type 0
-Closes peer old new = (told : List DoorCall) → new ≡ Some told → IsClosed peer old told
+Closes peer old new = (trace : List DoorCall) → new ≡ Some trace → IsClosed peer old trace
 
 -- ---- a peer that has a slot
 
 -- the core stands for the course of the events, and has connection `n` at this key
-pub record IsSeated (buses : List Bus) (events : List Event) (keys : List (Option ℕ)) (n key : ℕ)
+pub record IsConnected (buses : List Bus) (events : List Event) (keys : List (Option ℕ)) (n key : ℕ)
     (held : Held) : Type 0 where
   pub layout : IsLayout buses
   pub named : key_of n keys ≡ Some key
@@ -75,11 +75,11 @@ CountsAsked buses before after old new = (first : ℕ) → old.denied ≡ denied
     → new.denied ≡ denied_over buses first start after
 
 module _ (buses : List Bus) (events : List Event) (keys : List (Option ℕ)) (n peer : ℕ)
-    (old : Option (List DoorCall)) (told : List DoorCall) (new : Held) where
+    (old : Option (List DoorCall)) (trace : List DoorCall) (new : Held) where
   -- the peer was read, if its connection accepts bytes
   pub record IsReadFrom (core_old : Held) (stays : Bool) : Type 0 where
     pub read : Option OneRead
-    pub adds : AddsGiven old told (read_calls peer read)
+    pub adds : AddsGiven old trace (read_calls peer read)
     pub counted : CountsRefusals core_old (read_calls peer read) new
     pub asked_for : CountsAsked buses events
         (events ++ map (Bytes n) (filter_map piece_of (read_calls peer read))) core_old new
@@ -91,7 +91,7 @@ module _ (buses : List Bus) (events : List Event) (keys : List (Option ℕ)) (n 
   -- the peer took all that was lent, and that was something
   pub record TookAll : Type 0 where
     pub count : ℕ
-    pub adds : AddsGiven old told (WriteCall peer (lent buses n events) (Ok count) ∷ [])
+    pub adds : AddsGiven old trace (WriteCall peer (lent buses n events) (Ok count) ∷ [])
     pub all : count ≡ length (lent buses n events)
     pub some : 0 < count
     pub stands : StandsFor buses keys new (course buses (events ++ Room n count ∷ []))
@@ -99,20 +99,20 @@ module _ (buses : List Bus) (events : List Event) (keys : List (Option ℕ)) (n 
   -- nothing was lent, and the door was not called
   pub record WasLentNone : Type 0 where
     pub none : lent buses n events ≡ []
-    pub adds : AddsGiven old told []
+    pub adds : AddsGiven old trace []
     pub stands : StandsFor buses keys new (course buses (events ++ Room n 0 ∷ []))
 
   -- the peer took less than was lent
   pub record TookLess : Type 0 where
     pub count : ℕ
-    pub adds : AddsGiven old told (WriteCall peer (lent buses n events) (Ok count) ∷ [])
+    pub adds : AddsGiven old trace (WriteCall peer (lent buses n events) (Ok count) ∷ [])
     pub short : count < length (lent buses n events)
     pub stands : StandsFor buses keys new (course buses (events ++ Room n count ∷ []))
 
   -- the write of what was lent failed
   pub record TookNone : Type 0 where
     pub fault : DoorFault
-    pub adds : AddsGiven old told (WriteCall peer (lent buses n events) (Err fault) ∷ [])
+    pub adds : AddsGiven old trace (WriteCall peer (lent buses n events) (Err fault) ∷ [])
     pub some : 0 < length (lent buses n events)
     pub stands : StandsFor buses keys new (course buses (events ++ Room n 0 ∷ []))
 
@@ -125,7 +125,7 @@ module _ (buses : List Bus) (events : List Event) (keys : List (Option ℕ)) (n 
   -- the peer was written to as long as it took all, at most 300 times
   pub record IsWrittenTo (stays : Bool) : Type 0 where
     pub calls : List Call
-    pub adds : AddsGiven old told calls
+    pub adds : AddsGiven old trace calls
     pub own : AreWritesTo peer calls
     pub asked : map question calls ≡ map (Writes peer) (take 300 (handed buses n events (filter_map count_of calls)))
     pub stays_is : list_any loses_writing calls ≡ not stays
@@ -133,13 +133,13 @@ module _ (buses : List Bus) (events : List Event) (keys : List (Option ℕ)) (n 
 
   -- its connection was shut, and the peer was closed
   pub record IsLetGo : Type 0 where
-    pub closed : IsClosed peer old told
+    pub closed : IsClosed peer old trace
     pub stands : StandsFor buses (without_key n keys) new (course buses (events ++ Shut n ∷ []))
 
   -- the peer was visited, and has its slot still or was closed
   pub record IsVisited (core_old : Held) (stays : Bool) : Type 0 where
     pub calls : List Call
-    pub adds : AddsGiven old told calls
+    pub adds : AddsGiven old trace calls
     pub counted : CountsRefusals core_old calls new
     pub asked_for : CountsAsked buses events
         (events ++ visit_events calls (record { peer = peer; conn = n })) core_old new
@@ -153,37 +153,37 @@ module _ (buses : List Bus) (events : List Event) (keys : List (Option ℕ)) (n 
 
 -- if the door keeps its calls, `After` holds for every course that the core stood for before
 abbrev pub FromEveryCourse : (List Bus → List Event → List (Option ℕ) → ℕ → List DoorCall → Type 0)
-    → (key : ℕ) (old : Held) (told_new : Option (List DoorCall)) → Type 0
-FromEveryCourse After key old told_new =
-    (buses : List Bus) (events : List Event) (keys : List (Option ℕ)) (n : ℕ) (told : List DoorCall)
-    → IsSeated buses events keys n key old → told_new ≡ Some told → After buses events keys n told
+    → (key : ℕ) (old : Held) (trace_new : Option (List DoorCall)) → Type 0
+FromEveryCourse After key old trace_new =
+    (buses : List Bus) (events : List Event) (keys : List (Option ℕ)) (n : ℕ) (trace : List DoorCall)
+    → IsConnected buses events keys n key old → trace_new ≡ Some trace → After buses events keys n trace
 
 -- the peer is read at most once
-abbrev pub ReadsIn : (peer key : ℕ) (old : Held) (told_old : Option (List DoorCall))
-    (new : Held) (told_new : Option (List DoorCall)) (stays : Bool) → Type 0
-ReadsIn peer key old told_old new told_new stays = FromEveryCourse
-    (λ buses events keys n told. IsReadFrom buses events keys n peer told_old told new old stays) key old told_new
+abbrev pub ReadsIn : (peer key : ℕ) (old : Held) (trace_old : Option (List DoorCall))
+    (new : Held) (trace_new : Option (List DoorCall)) (stays : Bool) → Type 0
+ReadsIn peer key old trace_old new trace_new stays = FromEveryCourse
+    (λ buses events keys n trace. IsReadFrom buses events keys n peer trace_old trace new old stays) key old trace_new
 
 -- the peer is written to at most once
-abbrev pub WritesOnce : (peer key : ℕ) (old : Held) (told_old : Option (List DoorCall))
-    (new : Held) (told_new : Option (List DoorCall)) (wrote : Wrote) → Type 0
-WritesOnce peer key old told_old new told_new wrote = FromEveryCourse
-    (λ buses events keys n told. HasWritten buses events keys n peer told_old told new wrote) key old told_new
+abbrev pub WritesOnce : (peer key : ℕ) (old : Held) (trace_old : Option (List DoorCall))
+    (new : Held) (trace_new : Option (List DoorCall)) (wrote : Wrote) → Type 0
+WritesOnce peer key old trace_old new trace_new wrote = FromEveryCourse
+    (λ buses events keys n trace. HasWritten buses events keys n peer trace_old trace new wrote) key old trace_new
 
 -- the peer is written to as long as it takes all
-abbrev pub WritesOut : (peer key : ℕ) (old : Held) (told_old : Option (List DoorCall))
-    (new : Held) (told_new : Option (List DoorCall)) (stays : Bool) → Type 0
-WritesOut peer key old told_old new told_new stays = FromEveryCourse
-    (λ buses events keys n told. IsWrittenTo buses events keys n peer told_old told new stays) key old told_new
+abbrev pub WritesOut : (peer key : ℕ) (old : Held) (trace_old : Option (List DoorCall))
+    (new : Held) (trace_new : Option (List DoorCall)) (stays : Bool) → Type 0
+WritesOut peer key old trace_old new trace_new stays = FromEveryCourse
+    (λ buses events keys n trace. IsWrittenTo buses events keys n peer trace_old trace new stays) key old trace_new
 
 -- its connection is shut, and the peer is closed
-abbrev pub Disconnects : (peer key : ℕ) (old : Held) (told_old : Option (List DoorCall))
-    (new : Held) (told_new : Option (List DoorCall)) → Type 0
-Disconnects peer key old told_old new told_new = FromEveryCourse
-    (λ buses events keys n told. IsLetGo buses events keys n peer told_old told new) key old told_new
+abbrev pub Disconnects : (peer key : ℕ) (old : Held) (trace_old : Option (List DoorCall))
+    (new : Held) (trace_new : Option (List DoorCall)) → Type 0
+Disconnects peer key old trace_old new trace_new = FromEveryCourse
+    (λ buses events keys n trace. IsLetGo buses events keys n peer trace_old trace new) key old trace_new
 
 -- the peer is visited
-abbrev pub Visits : (peer key : ℕ) (old : Held) (told_old : Option (List DoorCall))
-    (new : Held) (told_new : Option (List DoorCall)) (stays : Bool) → Type 0
-Visits peer key old told_old new told_new stays = FromEveryCourse
-    (λ buses events keys n told. IsVisited buses events keys n peer told_old told new old stays) key old told_new
+abbrev pub Visits : (peer key : ℕ) (old : Held) (trace_old : Option (List DoorCall))
+    (new : Held) (trace_new : Option (List DoorCall)) (stays : Bool) → Type 0
+Visits peer key old trace_old new trace_new stays = FromEveryCourse
+    (λ buses events keys n trace. IsVisited buses events keys n peer trace_old trace new old stays) key old trace_new

@@ -48,14 +48,14 @@ pub trait Door {
     ghost faults: { Self → ℕ };
 
     /// The calls with their answers, if the door keeps them.
-    ghost told: { Self → Option (List Call) } = { λ _. None };
+    ghost trace: { Self → Option (List Call) } = { λ _. None };
 
     /// Tells the door when the next row falls due, and how many more changes each information session can take. Each
     /// is `None` if there is none. `serve` calls it right before `now`, so that a door knows how long it may wait. The
     /// door also knows how much input it may then hand out.
     fn expect(&mut self, due: Option<u64>, slack: Option<usize>)
         ensures faults { faults self.new ≡ faults self.old }
-        ensures told { Tells (told self.old) (ExpectCall due slack) (told self.new) };
+        ensures trace { Tells (trace self.old) (ExpectCall due slack) (trace self.new) };
 
     /// Returns the time, in milliseconds since 1970. A door over sockets waits here for input, for room, and for the
     /// next row that falls due.
@@ -66,7 +66,7 @@ pub trait Door {
         ensures ok { OnOk result (faults self.new ≡ faults self.old) }
         ensures err { OnErr result (faults self.new ≡ one_more (faults self.old)) }
         ensures fault { IfErr result (λ fault. fault ≡ DoorFault.Now) }
-        ensures told { Tells (told self.old) (NowCall result) (told self.new) };
+        ensures trace { Tells (trace self.old) (NowCall result) (trace self.new) };
 
     /// Accepts a pending peer, if there is one, and returns its number. All later calls name the peer by that number,
     /// and no later peer gets it.
@@ -77,7 +77,7 @@ pub trait Door {
         ensures ok { OnOk result (faults self.new ≡ faults self.old) }
         ensures err { OnErr result (faults self.new ≡ one_more (faults self.old)) }
         ensures fault { IfErr result (λ fault. fault ≡ DoorFault.Accept) }
-        ensures told { Tells (told self.old) (AcceptCall result) (told self.new) };
+        ensures trace { Tells (trace self.old) (AcceptCall result) (trace self.new) };
 
     /// Reads the bytes that came from a peer, at most as many as the buffer holds.
     ///
@@ -89,7 +89,7 @@ pub trait Door {
         ensures err { OnErr result (faults self.new ≡ one_more (faults self.old)) }
         ensures fault { IfErr result (λ fault. fault ≡ DoorFault.Read) }
         ensures count { (n : ℕ) → result ≡ Ok (Got.Bytes n) → (0 < n) × (n ≤ length buf.old) }
-        ensures told { Tells (told self.old) (ReadCall peer result buf.new) (told self.new) };
+        ensures trace { Tells (trace self.old) (ReadCall peer result buf.new) (trace self.new) };
 
     /// Writes to a peer as many bytes as it takes, from the first on. Returns how many these were. The others have to
     /// be written again.
@@ -101,7 +101,7 @@ pub trait Door {
         ensures err { OnErr result (faults self.new ≡ one_more (faults self.old)) }
         ensures fault { IfErr result (λ fault. fault ≡ DoorFault.Write) }
         ensures count { IfOk result (λ n. n ≤ length bytes.now) }
-        ensures told { Tells (told self.old) (WriteCall peer bytes.now result) (told self.new) };
+        ensures trace { Tells (trace self.old) (WriteCall peer bytes.now result) (trace self.new) };
 
     /// Closes a peer. No later call names it.
     ///
@@ -111,5 +111,5 @@ pub trait Door {
         ensures ok { OnOk result (faults self.new ≡ faults self.old) }
         ensures err { OnErr result (faults self.new ≡ one_more (faults self.old)) }
         ensures fault { IfErr result (λ fault. fault ≡ DoorFault.Close) }
-        ensures told { Tells (told self.old) (CloseCall peer result) (told self.new) };
+        ensures trace { Tells (trace self.old) (CloseCall peer result) (trace self.new) };
 }

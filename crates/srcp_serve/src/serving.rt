@@ -16,7 +16,7 @@ use slots::Slots;
 use srcp_core::{Core, MOST_IN_PIECE};
 use srcp_rules::Rows;
 pub use visit::MOST_WRITES;
-use visit::Seat;
+use visit::Client;
 
 /// A server over a door, with the slots of its peers.
 #[derive(Drop)]
@@ -38,8 +38,8 @@ struct Server<'d, D: Door> {
 pub fn serve<R: Rows, D: Door>(core: &mut Core<'_, R>, door: &mut D, turns: u64) -> Served
     ensures turns { result.turns ≡ turns }
     ensures faults { D.faults door.new < 18446744073709551615 → D.faults door.old + result.faults ≡ D.faults door.new }
-    ensures told { AsksTurns turns (D.told door.old) (D.told door.new) }
-    ensures course { ServesCourse turns result.opened core.old (D.told door.old) core.new (D.told door.new) }
+    ensures trace { AsksTurns turns (D.trace door.old) (D.trace door.new) }
+    ensures course { ServesCourse turns result.opened core.old (D.trace door.old) core.new (D.trace door.new) }
 {
     let mut server = Server::new(door);
     let mut opened = 0;
@@ -81,9 +81,9 @@ impl<'d, D: Door> Server<'d, D> {
     /// Makes a turn. Returns whether a peer was let in.
     fn turn<R: Rows>(&mut self, core: &mut Core<'_, R>) -> bool
         requires { self.old.tally.faults ≤ D.faults self.old.door.now }
-        ensures calls { CallsDoor D.faults D.told AsksTurn self.old self.new }
-        ensures course { MakesTurn core.old (D.told self.old.door.now) self.old.slots
-            core.new (D.told self.new.door.now) self.new.slots result }
+        ensures calls { CallsDoor D.faults D.trace AsksTurn self.old self.new }
+        ensures course { MakesTurn core.old (D.trace self.old.door.now) self.old.slots
+            core.new (D.trace self.new.door.now) self.new.slots result }
     {
         self.take_moment(core);
         let opens = self.accept_one(core);
@@ -94,9 +94,9 @@ impl<'d, D: Door> Server<'d, D> {
     /// Visits the peers that have slots, in the order of the slots.
     fn visit_slots<R: Rows>(&mut self, core: &mut Core<'_, R>)
         requires { self.old.tally.faults ≤ D.faults self.old.door.now }
-        ensures calls { CallsDoor D.faults D.told AsksPeers self.old self.new }
-        ensures course { VisitsSlots core.old (D.told self.old.door.now) self.old.slots
-            core.new (D.told self.new.door.now) self.new.slots }
+        ensures calls { CallsDoor D.faults D.trace AsksPeers self.old self.new }
+        ensures course { VisitsSlots core.old (D.trace self.old.door.now) self.old.slots
+            core.new (D.trace self.new.door.now) self.new.slots }
     {
         let end = self.slots.end();
         for slot in 0..end {
@@ -108,15 +108,15 @@ impl<'d, D: Door> Server<'d, D> {
     fn visit_slot<R: Rows>(&mut self, core: &mut Core<'_, R>, slot: usize)
         requires counted { self.old.tally.faults ≤ D.faults self.old.door.now }
         requires within { slot < MOST_CONNECTIONS }
-        ensures calls { CallsDoor D.faults D.told AsksPeers self.old self.new }
-        ensures course { VisitsSlot slot core.old (D.told self.old.door.now) self.old.slots
-            core.new (D.told self.new.door.now) self.new.slots }
+        ensures calls { CallsDoor D.faults D.trace AsksPeers self.old self.new }
+        ensures course { VisitsSlot slot core.old (D.trace self.old.door.now) self.old.slots
+            core.new (D.trace self.new.door.now) self.new.slots }
         ensures slots { MayFree slot self.old.slots self.new.slots }
     {
-        let Some(seat) = self.slots.seat(slot) else {
+        let Some(client) = self.slots.client(slot) else {
             return;
         };
-        if !self.visit(core, seat) {
+        if !self.visit(core, client) {
             self.slots.free(slot);
         }
     }
@@ -126,10 +126,10 @@ impl<'d, D: Door> Server<'d, D> {
     fn take_moment<R: Rows>(&mut self, core: &mut Core<'_, R>)
         requires { self.old.tally.faults ≤ D.faults self.old.door.now }
         ensures slots { self.new.slots ≡ self.old.slots }
-        ensures calls { CallsDoor D.faults D.told AsksMoment self.old self.new }
+        ensures calls { CallsDoor D.faults D.trace AsksMoment self.old self.new }
         ensures denied { core.new.denied ≡ core.old.denied }
-        ensures course { TakesMoment core.old (D.told self.old.door.now)
-            core.new (D.told self.new.door.now) }
+        ensures course { TakesMoment core.old (D.trace self.old.door.now)
+            core.new (D.trace self.new.door.now) }
     {
         self.door.expect(core.earliest_due(), core.slack());
         match self.door.now() {
@@ -141,9 +141,9 @@ impl<'d, D: Door> Server<'d, D> {
     /// Accepts one peer, if one is pending. Returns whether it got a slot.
     fn accept_one<R: Rows>(&mut self, core: &mut Core<'_, R>) -> bool
         requires { self.old.tally.faults ≤ D.faults self.old.door.now }
-        ensures calls { CallsDoor D.faults D.told AsksNewcomer self.old self.new }
-        ensures course { AcceptsOne core.old (D.told self.old.door.now) self.old.slots
-            core.new (D.told self.new.door.now) self.new.slots result }
+        ensures calls { CallsDoor D.faults D.trace AsksNewcomer self.old self.new }
+        ensures course { AcceptsOne core.old (D.trace self.old.door.now) self.old.slots
+            core.new (D.trace self.new.door.now) self.new.slots result }
     {
         match self.door.accept() {
             Ok(None) => false,
@@ -159,21 +159,21 @@ impl<'d, D: Door> Server<'d, D> {
     /// whether the peer got a slot.
     fn connect<R: Rows>(&mut self, core: &mut Core<'_, R>, peer: u32) -> bool
         requires { self.old.tally.faults ≤ D.faults self.old.door.now }
-        ensures calls { CallsDoor D.faults D.told AsksPeers self.old self.new }
-        ensures course { Connects peer core.old (D.told self.old.door.now) self.old.slots
-            core.new (D.told self.new.door.now) self.new.slots result }
+        ensures calls { CallsDoor D.faults D.trace AsksPeers self.old self.new }
+        ensures course { Connects peer core.old (D.trace self.old.door.now) self.old.slots
+            core.new (D.trace self.new.door.now) self.new.slots result }
     {
         let Ok(key) = core.connect() else {
             self.close(peer);
             return false;
         };
-        let seat = Seat { peer, key };
+        let client = Client { peer, key };
         // The core had fewer connections than there are slots, so one is free.
         let Some(free) = self.slots.first_free() else {
-            self.disconnect(core, seat);
+            self.disconnect(core, client);
             return false;
         };
-        self.slots.give(free, seat);
+        self.slots.give(free, client);
         true
     }
 }

@@ -1,1 +1,1 @@
-pub mod ToldCallsAreKept
+pub mod TraceIsKept

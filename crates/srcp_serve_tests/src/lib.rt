@@ -6,4 +6,4 @@ mod script_door;
 #[cfg(test)]
 mod serving;
 #[cfg(test)]
-mod told_turns;
+mod trace_turns;

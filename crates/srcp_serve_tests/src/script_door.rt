@@ -5,7 +5,7 @@ ghost use Rattle.std.specs.Prelude.{OnOk, OnErr, length};
 ghost use Rattle.srcp_serve.specs.declared.door.Got.{Got};
 ghost use Rattle.srcp_serve.specs.Calls.{one_more};
 
-use crate::told_turns::{Asked, events_of};
+use crate::trace_turns::{Asked, events_of};
 use srcp_core::Event;
 use srcp_serve::{Door, DoorFault, Got};
 use std::alloc::{AllocError, Global};
@@ -79,12 +79,12 @@ pub(crate) struct ScriptDoor<'a> {
     pub calls: u32,
     faults: u64,
     /// The calls with their answers, unless memory for one was refused.
-    told: Option<Vec<Asked>>,
+    trace: Option<Vec<Asked>>,
 }
 
 impl<'a> ScriptDoor<'a> {
     pub(crate) fn new(alloc: Global, moments: &'a [u64], failing: u32) -> ScriptDoor<'a>
-        ensures { IfSome result.told (λ told. told.items ≡ []) }
+        ensures { IfSome result.trace (λ trace. trace.items ≡ []) }
     {
         ScriptDoor {
             alloc,
@@ -94,12 +94,12 @@ impl<'a> ScriptDoor<'a> {
             arrived: 0,
             calls: 0,
             faults: 0,
-            told: Some(Vec::new(alloc)),
+            trace: Some(Vec::new(alloc)),
         }
     }
 
     pub(crate) fn add(&mut self, peer: ScriptPeer<'a>) -> Result<(), AllocError>
-        ensures { self.new.told ≡ self.old.told }
+        ensures { self.new.trace ≡ self.old.trace }
     {
         self.peers.push(peer)?;
         Ok(())
@@ -126,7 +126,7 @@ impl<'a> ScriptDoor<'a> {
     /// # Errors
     /// Fails if memory is refused, or was refused to a call.
     pub(crate) fn events(&self) -> Result<Vec<Event>, AllocError> {
-        match &self.told {
+        match &self.trace {
             Some(calls) => events_of(self.alloc, calls),
             None => Err(AllocError),
         }
@@ -136,8 +136,8 @@ impl<'a> ScriptDoor<'a> {
     fn call(&mut self, fault: DoorFault) -> Result<(), DoorFault>
         ensures ok { OnOk result (self.new.faults ≡ self.old.faults) }
         ensures err { OnErr result (self.new.faults ≡ one_more self.old.faults) }
-        ensures fault { IfErr result (λ told. told ≡ fault) }
-        ensures same { self.new.told ≡ self.old.told }
+        ensures fault { IfErr result (λ trace. trace ≡ fault) }
+        ensures same { self.new.trace ≡ self.old.trace }
     {
         self.calls = self.calls.saturating_add(1);
         if self.calls == self.failing {
@@ -151,21 +151,21 @@ impl<'a> ScriptDoor<'a> {
     /// Keeps a call with its answer.
     fn tell(&mut self, asked: Asked)
         ensures faults { self.new.faults ≡ self.old.faults }
-        ensures told { MatchOption self.old.told (self.new.told ≡ None) (λ old.
-            IfSome self.new.told (λ new. new.items ≡ old.items ++ asked ∷ [])) }
+        ensures trace { MatchOption self.old.trace (self.new.trace ≡ None) (λ old.
+            IfSome self.new.trace (λ new. new.items ≡ old.items ++ asked ∷ [])) }
     {
-        if let Some(mut told) = self.told.take()
-            && told.push(asked).is_ok()
+        if let Some(mut trace) = self.trace.take()
+            && trace.push(asked).is_ok()
         {
-            self.told = Some(told);
+            self.trace = Some(trace);
         }
     }
 
     fn moment(&mut self) -> Result<u64, DoorFault>
         ensures ok { OnOk result (self.new.faults ≡ self.old.faults) }
         ensures err { OnErr result (self.new.faults ≡ one_more self.old.faults) }
-        ensures fault { IfErr result (λ told. told ≡ DoorFault.Now) }
-        ensures same { self.new.told ≡ self.old.told }
+        ensures fault { IfErr result (λ trace. trace ≡ DoorFault.Now) }
+        ensures same { self.new.trace ≡ self.old.trace }
     {
         let moment = match self.moments.split_first() {
             Some((moment, later)) => {
@@ -183,8 +183,8 @@ impl<'a> ScriptDoor<'a> {
     fn next_peer(&mut self) -> Result<Option<u32>, DoorFault>
         ensures ok { OnOk result (self.new.faults ≡ self.old.faults) }
         ensures err { OnErr result (self.new.faults ≡ one_more self.old.faults) }
-        ensures fault { IfErr result (λ told. told ≡ DoorFault.Accept) }
-        ensures same { self.new.told ≡ self.old.told }
+        ensures fault { IfErr result (λ trace. trace ≡ DoorFault.Accept) }
+        ensures same { self.new.trace ≡ self.old.trace }
     {
         self.call(DoorFault::Accept)?;
         let next = self.arrived;
@@ -199,9 +199,9 @@ impl<'a> ScriptDoor<'a> {
         requires { 0 < length buf.old }
         ensures ok { OnOk result (self.new.faults ≡ self.old.faults) }
         ensures err { OnErr result (self.new.faults ≡ one_more self.old.faults) }
-        ensures fault { IfErr result (λ told. told ≡ DoorFault.Read) }
+        ensures fault { IfErr result (λ trace. trace ≡ DoorFault.Read) }
         ensures count { (n : ℕ) → result ≡ Ok (Got.Bytes n) → (0 < n) × (n ≤ length buf.old) }
-        ensures same { self.new.told ≡ self.old.told }
+        ensures same { self.new.trace ≡ self.old.trace }
     {
         self.call(DoorFault::Read)?;
         match self.peers.get_mut(peer as usize) {
@@ -213,9 +213,9 @@ impl<'a> ScriptDoor<'a> {
     fn write_to(&mut self, peer: u32, bytes: &[u8]) -> Result<usize, DoorFault>
         ensures ok { OnOk result (self.new.faults ≡ self.old.faults) }
         ensures err { OnErr result (self.new.faults ≡ one_more self.old.faults) }
-        ensures fault { IfErr result (λ told. told ≡ DoorFault.Write) }
+        ensures fault { IfErr result (λ trace. trace ≡ DoorFault.Write) }
         ensures count { IfOk result (λ n. n ≤ length bytes.now) }
-        ensures same { self.new.told ≡ self.old.told }
+        ensures same { self.new.trace ≡ self.old.trace }
     {
         self.call(DoorFault::Write)?;
         match self.peers.get_mut(peer as usize) {
@@ -224,11 +224,11 @@ impl<'a> ScriptDoor<'a> {
         }
     }
 
-    fn let_go(&mut self, peer: u32) -> Result<(), DoorFault>
+    fn close_one(&mut self, peer: u32) -> Result<(), DoorFault>
         ensures ok { OnOk result (self.new.faults ≡ self.old.faults) }
         ensures err { OnErr result (self.new.faults ≡ one_more self.old.faults) }
-        ensures fault { IfErr result (λ told. told ≡ DoorFault.Close) }
-        ensures same { self.new.told ≡ self.old.told }
+        ensures fault { IfErr result (λ trace. trace ≡ DoorFault.Close) }
+        ensures same { self.new.trace ≡ self.old.trace }
     {
         if let Some(peer) = self.peers.get_mut(peer as usize) {
             peer.closes = peer.closes.saturating_add(1);
@@ -240,18 +240,18 @@ impl<'a> ScriptDoor<'a> {
 impl Door for ScriptDoor<'_> {
     ghost use Rattle.std.specs.Prelude.{map, option_map};
     ghost use Rattle.srcp_serve.specs.Calls.{Call, ExpectCall, NowCall, AcceptCall, ReadCall, WriteCall, CloseCall};
-    ghost use Rattle.srcp_serve_tests.specs.declared.told_turns.Asked.TheVariants as asked;
+    ghost use Rattle.srcp_serve_tests.specs.declared.trace_turns.Asked.TheVariants as asked;
 
     ghost faults = { λ d. d.faults };
 
-    ghost told = { λ d. option_map (λ calls. map (λ call. elim call as (λ _. Call) [
+    ghost trace = { λ d. option_map (λ calls. map (λ call. elim call as (λ _. Call) [
       | asked.Expect due slack ↦ ExpectCall due slack
       | asked.Now answer ↦ NowCall answer
       | asked.Accept answer ↦ AcceptCall answer
       | asked.Read peer answer buffer ↦ ReadCall peer answer buffer.items
       | asked.Write peer bytes answer ↦ WriteCall peer bytes.items answer
       | asked.Close peer answer ↦ CloseCall peer answer
-    ]) calls.items) d.told };
+    ]) calls.items) d.trace };
 
     fn expect(&mut self, due: Option<u64>, slack: Option<usize>) {
         self.tell(Asked::Expect { due, slack });
@@ -277,7 +277,7 @@ impl Door for ScriptDoor<'_> {
                 answer,
                 buffer,
             }),
-            Err(_) => self.told = None,
+            Err(_) => self.trace = None,
         }
         answer
     }
@@ -290,13 +290,13 @@ impl Door for ScriptDoor<'_> {
                 bytes,
                 answer,
             }),
-            Err(_) => self.told = None,
+            Err(_) => self.trace = None,
         }
         answer
     }
 
     fn close(&mut self, peer: u32) -> Result<(), DoorFault> {
-        let answer = self.let_go(peer);
+        let answer = self.close_one(peer);
         self.tell(Asked::Close { peer, answer });
         answer
     }

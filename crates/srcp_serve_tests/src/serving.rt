@@ -41,13 +41,13 @@ fn serve_and_run(
     let mut core = Core::<Flat>::new(alloc, layout, 0, 0)?;
     let served = serve(&mut core, door, turns);
     let events = door.events()?;
-    let told = run::<Flat>(alloc, layout, &events)?;
-    Ok((served, told))
+    let trace = run::<Flat>(alloc, layout, &events)?;
+    Ok((served, trace))
 }
 
 /// Returns what a connection of a run was sent, or no bytes if there is no such connection.
-fn sent(told: &Record, index: usize) -> &[u8] {
-    match told.connections.as_slice().get(index) {
+fn sent(trace: &Record, index: usize) -> &[u8] {
+    match trace.connections.as_slice().get(index) {
         Some(conn) => conn.sent.as_slice(),
         None => NOTHING,
     }
@@ -58,7 +58,7 @@ fn serves_a_peer(rt: HostRuntime) -> Result<(), Fail> {
     let layout = Layout::new(rt.alloc());
     let mut door = ScriptDoor::new(rt.alloc(), &[0, 0, 0], 0);
     door.add(ScriptPeer::new(rt.alloc(), &[b"GO\n", b""], 1000))?;
-    let (served, told) = serve_and_run(rt.alloc(), &layout, &mut door, 3)?;
+    let (served, trace) = serve_and_run(rt.alloc(), &layout, &mut door, 3)?;
     let wanted = Served {
         turns: 3,
         opened: 1,
@@ -66,7 +66,7 @@ fn serves_a_peer(rt: HostRuntime) -> Result<(), Fail> {
     };
     assert_eq!(rt; served, wanted);
     assert_eq!(rt; door.written(0), AT_0);
-    assert_eq!(rt; sent(&told, 0), AT_0);
+    assert_eq!(rt; sent(&trace, 0), AT_0);
     assert_eq!(rt; door.closes(0), 1);
     assert_eq!(rt; door.calls, 11);
     Ok(())
@@ -97,10 +97,10 @@ fn goes_on_after_a_call_that_fails(rt: HostRuntime) -> Result<(), Fail> {
         let layout = Layout::new(rt.alloc());
         let mut door = ScriptDoor::new(rt.alloc(), &[1000, 2000, 3000, 4000], failing);
         door.add(ScriptPeer::new(rt.alloc(), &[b"GO\n", b""], 1000))?;
-        let (served, told) = serve_and_run(rt.alloc(), &layout, &mut door, 4)?;
+        let (served, trace) = serve_and_run(rt.alloc(), &layout, &mut door, 4)?;
         assert_eq!(rt; served, wanted);
         assert_eq!(rt; door.written(0), lines);
-        assert_eq!(rt; sent(&told, 0), lines);
+        assert_eq!(rt; sent(&trace, 0), lines);
         assert_eq!(rt; door.closes(0), 1);
     }
     Ok(())
@@ -112,7 +112,7 @@ fn writes_a_byte_each_turn(rt: HostRuntime) -> Result<(), Fail> {
         let layout = Layout::new(rt.alloc());
         let mut door = ScriptDoor::new(rt.alloc(), &[], 0);
         door.add(ScriptPeer::new(rt.alloc(), &[b"GO\n"], 1))?;
-        let (served, told) = serve_and_run(rt.alloc(), &layout, &mut door, turns)?;
+        let (served, trace) = serve_and_run(rt.alloc(), &layout, &mut door, turns)?;
         let wanted = Served {
             turns,
             opened: 1,
@@ -120,7 +120,7 @@ fn writes_a_byte_each_turn(rt: HostRuntime) -> Result<(), Fail> {
         };
         assert_eq!(rt; served, wanted);
         assert_eq!(rt; door.written(0), written);
-        assert_eq!(rt; sent(&told, 0), written);
+        assert_eq!(rt; sent(&trace, 0), written);
     }
     Ok(())
 }
@@ -132,7 +132,7 @@ fn lets_64_peers_in(rt: HostRuntime) -> Result<(), Fail> {
     for _ in 0..65 {
         door.add(ScriptPeer::new(rt.alloc(), &[], 1000))?;
     }
-    let (served, told) = serve_and_run(rt.alloc(), &layout, &mut door, 66)?;
+    let (served, trace) = serve_and_run(rt.alloc(), &layout, &mut door, 66)?;
     let wanted = Served {
         turns: 66,
         opened: 64,
@@ -141,15 +141,15 @@ fn lets_64_peers_in(rt: HostRuntime) -> Result<(), Fail> {
     assert_eq!(rt; served, wanted);
     for index in 0..64 {
         assert_eq!(rt; door.written(index), WELCOME);
-        assert_eq!(rt; sent(&told, index), WELCOME);
+        assert_eq!(rt; sent(&trace, index), WELCOME);
         assert_eq!(rt; door.closes(index), 0);
     }
     assert_eq!(rt; door.written(64), NOTHING);
     assert_eq!(rt; door.closes(64), 1);
-    assert_eq!(rt; told.connections.as_slice().len(), 64);
+    assert_eq!(rt; trace.connections.as_slice().len(), 64);
     assert!(rt;
         matches!(
-            told.refused.as_slice(),
+            trace.refused.as_slice(),
             [Refusal {
                 fault: CoreFault::Full,
                 ..
@@ -167,7 +167,7 @@ fn gives_a_slot_to_the_next(rt: HostRuntime) -> Result<(), Fail> {
     door.add(ScriptPeer::new(rt.alloc(), &[b""], 1000))?;
     door.add(ScriptPeer::new(rt.alloc(), &[b"GO\n"], 7))?;
     door.add(ScriptPeer::new(rt.alloc(), &[b"GO\n"], 1000))?;
-    let (served, told) = serve_and_run(rt.alloc(), &layout, &mut door, 20)?;
+    let (served, trace) = serve_and_run(rt.alloc(), &layout, &mut door, 20)?;
     let wanted = Served {
         turns: 20,
         opened: 3,
@@ -175,7 +175,7 @@ fn gives_a_slot_to_the_next(rt: HostRuntime) -> Result<(), Fail> {
     };
     assert_eq!(rt; served, wanted);
     for index in 0..3 {
-        assert_eq!(rt; sent(&told, index), door.written(index));
+        assert_eq!(rt; sent(&trace, index), door.written(index));
     }
     assert_eq!(rt; door.written(0), WELCOME);
     assert!(rt; door.written(1).ends_with(b"0.000 200 OK GO 2\n"));
@@ -191,8 +191,8 @@ fn writes_300_lines_a_turn(rt: HostRuntime) -> Result<(), Fail> {
     for (turns, count) in [2u64, 3].into_iter().zip(&mut lines) {
         let mut door = ScriptDoor::new(rt.alloc(), &[], 0);
         door.add(ScriptPeer::new(rt.alloc(), &PANEL, 1000))?;
-        let (_, told) = serve_and_run(rt.alloc(), &layout, &mut door, turns)?;
-        assert_eq!(rt; sent(&told, 0), door.written(0));
+        let (_, trace) = serve_and_run(rt.alloc(), &layout, &mut door, turns)?;
+        assert_eq!(rt; sent(&trace, 0), door.written(0));
         *count = door
             .written(0)
             .iter()

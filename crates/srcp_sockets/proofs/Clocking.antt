@@ -7,12 +7,13 @@ use Rattle.srcp_serve.specs.declared.door.Got.TheVariants as got
 use Rattle.srcp_peers.specs.declared.system.Ready.{Ready}
 use Rattle.srcp_peers.specs.declared.turn.Turn.{Turn}
 use Rattle.srcp_serve.specs.Calls.{ExpectCall, NowCall, AcceptCall, ReadCall, WriteCall, CloseCall}
-use Rattle.srcp_peers.specs.Steps.{Accepts, Clocks, Closes, Reads, Shuts, Step, Told, Waits, Writes}
-use Rattle.srcp_peers.specs.Accounts.{Account, accepted, account, account_step, clock_after, closed, heard, let_go, shut_down, untouched}
+use Rattle.srcp_peers.specs.Steps.{Accepts, Clocks, Closes, Reads, Shuts, Step, Answers, Waits, Writes}
+use Rattle.srcp_peers.specs.Accounts.{Account, accepted, account, account_step, clock_after, closed, heard, left_by_core, shut_down}
+use Rattle.srcp_peers.specs.Accounts.{untouched}
 use Rattle.srcp_peers.specs.Accounts.{waited, woken, woken_came, woken_sent, wrote, read_of}
 use Rattle.srcp_sockets.specs.KeptTimes.{IsTimed}
 use Rattle.srcp_peers.specs.Times.{Times, first_times, times_step}
-use Rattle.srcp_peers.proofs.Tellings.{if_same}
+use Rattle.srcp_peers.proofs.AccountStreams.{if_same}
 
 -- what the clock showed last, after a step
 abbrev clock_step : ℕ → Step → ℕ
@@ -48,16 +49,16 @@ account_clock socket a (Shuts who) = if_same shown (who == socket) (shut_down a)
 account_clock socket a (Closes who) = if_same shown (who == socket) (closed a) a refl
 account_clock socket a (Waits most count ready) = woken_clock socket (waited socket a most) (take count ready)
 account_clock socket a (Clocks answer) = refl
-account_clock socket a (Told (ExpectCall due slack)) = refl
-account_clock socket a (Told (NowCall answer)) = refl
-account_clock socket a (Told (AcceptCall answer)) = refl
-account_clock socket a (Told (ReadCall who (Ok (got.Bytes count)) buffer)) = if_same shown (who == socket) _ a refl
-account_clock socket a (Told (ReadCall who (Ok got.Ended) buffer)) = if_same shown (who == socket) _ a refl
-account_clock socket a (Told (ReadCall who (Ok got.Nothing) buffer)) = refl
-account_clock socket a (Told (ReadCall who (Err fault) buffer)) = if_same shown (who == socket) _ a refl
-account_clock socket a (Told (WriteCall who bytes (Ok count))) = if_same shown (who == socket) _ a refl
-account_clock socket a (Told (WriteCall who bytes (Err fault))) = if_same shown (who == socket) _ a refl
-account_clock socket a (Told (CloseCall who answer)) = if_same shown (who == socket) (let_go a) a refl
+account_clock socket a (Answers (ExpectCall due slack)) = refl
+account_clock socket a (Answers (NowCall answer)) = refl
+account_clock socket a (Answers (AcceptCall answer)) = refl
+account_clock socket a (Answers (ReadCall who (Ok (got.Bytes count)) buffer)) = if_same shown (who == socket) _ a refl
+account_clock socket a (Answers (ReadCall who (Ok got.Ended) buffer)) = if_same shown (who == socket) _ a refl
+account_clock socket a (Answers (ReadCall who (Ok got.Nothing) buffer)) = refl
+account_clock socket a (Answers (ReadCall who (Err fault) buffer)) = if_same shown (who == socket) _ a refl
+account_clock socket a (Answers (WriteCall who bytes (Ok count))) = if_same shown (who == socket) _ a refl
+account_clock socket a (Answers (WriteCall who bytes (Err fault))) = if_same shown (who == socket) _ a refl
+account_clock socket a (Answers (CloseCall who answer)) = if_same shown (who == socket) (left_by_core a) a refl
 
 times_clock : (t : Times) (step : Step) → (times_step t step).clock ≡ clock_step t.clock step
 times_clock t (Accepts number answer) = refl
@@ -68,13 +69,13 @@ times_clock t (Closes who) = refl
 times_clock t (Waits most count ready) = refl
 times_clock t (Clocks (Some time)) = refl
 times_clock t (Clocks None) = refl
-times_clock t (Told (ExpectCall due slack)) = refl
-times_clock t (Told (NowCall (Ok moment))) = refl
-times_clock t (Told (NowCall (Err fault))) = refl
-times_clock t (Told (AcceptCall answer)) = refl
-times_clock t (Told (ReadCall who answer buffer)) = refl
-times_clock t (Told (WriteCall who bytes answer)) = refl
-times_clock t (Told (CloseCall who answer)) = refl
+times_clock t (Answers (ExpectCall due slack)) = refl
+times_clock t (Answers (NowCall (Ok moment))) = refl
+times_clock t (Answers (NowCall (Err fault))) = refl
+times_clock t (Answers (AcceptCall answer)) = refl
+times_clock t (Answers (ReadCall who answer buffer)) = refl
+times_clock t (Answers (WriteCall who bytes answer)) = refl
+times_clock t (Answers (CloseCall who answer)) = refl
 
 both_clocks : (socket : ℕ) (a : Account) (t : Times) (log : List Step) → shown a ≡ t.clock
     → shown (fold (account_step socket) a log) ≡ (fold times_step t log).clock
@@ -83,7 +84,7 @@ both_clocks socket a t (step ∷ log) same = both_clocks socket (account_step so
     (account_clock socket a step ∙ ap (λ c. clock_step c step) same ∙ sym (times_clock t step))
 
 -- the account of each socket has the clock of the turn
-pub clock_is : (told : Option (List Step)) (turn : Turn) (socket : ℕ) → IsTimed told turn → (log : List Step) → told ≡ Some log
+pub clock_is : (trace : Option (List Step)) (turn : Turn) (socket : ℕ) → IsTimed trace turn → (log : List Step) → trace ≡ Some log
     → (account socket log).lingering.clock ≡ turn.clock
-clock_is told turn socket timed log is =
+clock_is trace turn socket timed log is =
     both_clocks socket untouched (first_times turn.timekeeper.wall turn.timekeeper.start) log refl ∙ (timed log is).clock

@@ -13,7 +13,7 @@ use Rattle.srcp_peers.specs.declared.readiness.Input.TheVariants as input
 use Rattle.srcp_peers.specs.declared.readiness.Output.TheVariants as output
 use Rattle.srcp_peers.specs.declared.stay.Stay.TheVariants as stay
 use Rattle.srcp_peers.specs.declared.waiting.Listening.{Listening}
-use Rattle.srcp_peers.specs.Steps.{Accepts, Step, Tells, refusal_told}
+use Rattle.srcp_peers.specs.Steps.{Accepts, Step, Tells, refusal_of}
 use Rattle.srcp_peers.specs.Accounts.{Account, accepted, account, account_step, heard, heard_refusal}
 use Rattle.srcp_peers.specs.Peers.{Agrees, IsKept, Spares}
 use Rattle.srcp_door.specs.Pacing.{line_after}
@@ -62,7 +62,7 @@ spares_come old new number done other differ tells =
     (λ (ne : other ≡ 0 → ⊥). accept_other other number a (Ok done) ne differ)
     (cases_eq other 0))
 
--- a newcomer is what its account says
+-- a new peer is what its account says
 fresh_agrees : (number : ℕ) (a : Account) (done : Unit {0}) → Fresh a → Sound a → Agrees (accepted a (Ok done)) (newcomer number)
 fresh_agrees number a done f s = record {
   reads = (f.gave ∙ sym (ap (λ h. h ++ []) f.handed), refl, refl, refl);
@@ -197,7 +197,7 @@ spares_refused old new number fault other ne tells =
 
 pub stands_refused : (old new : Option (List Step)) (peers : List Peer) (l : Listening) (last number : ℕ) (fault : ErrorKind)
     → Tells old (Accepts number (Err fault)) new → Stands old peers l last
-    → Stands new peers (refused_listening (refusal_told fault)) last
+    → Stands new peers (refused_listening (refusal_of fault)) last
 stands_refused old new peers l last number fault tells stands = record {
   kept = λ k d lt.
       let some : 0 < (slice_index_or peers k d).number = (stands.within k d lt).0 in
@@ -207,7 +207,7 @@ stands_refused old new peers l last number fault tells stands = record {
   within = stands.within;
   sound = λ log is socket. ⊎_elim
       (λ (e : socket ≡ 0). subst (λ (n : ℕ). Sound (account n log)) (sym e)
-      (subst Sound (sym (more log is)) (refused_sound (account 0 (tells log is).0) (refusal_told fault)
+      (subst Sound (sym (more log is)) (refused_sound (account 0 (tells log is).0) (refusal_of fault)
       (stands.sound (tells log is).0 (tells log is).1 0))))
       (λ (ne : socket ≡ 0 → ⊥). spared Sound socket old new (spares_refused old new number fault socket ne tells)
       (λ lg e. stands.sound lg e socket) log is)
@@ -217,30 +217,30 @@ stands_refused old new peers l last number fault tells stands = record {
       (λ lg e. stands.fresh lg e socket above) log is;
   closed = λ log is socket absent. ⊎_elim
       (λ (e : socket ≡ 0). subst (λ (n : ℕ). Closed (account n log)) (sym e)
-      (subst Closed (sym (more log is)) (refused_closed (account 0 (tells log is).0) (refusal_told fault)
+      (subst Closed (sym (more log is)) (refused_closed (account 0 (tells log is).0) (refusal_of fault)
       (stands.closed (tells log is).0 (tells log is).1 0 (subst (λ (n : ℕ). IsAbsent n peers) e absent)))))
       (λ (ne : socket ≡ 0 → ⊥). spared Closed socket old new
       (spares_refused old new number fault socket ne tells)
       (λ lg e. stands.closed lg e socket absent) log is)
       (cases_eq socket 0);
-  heard = λ log is. subst (λ (a : Account). Hears a (refused_listening (refusal_told fault))) (sym (more log is))
-      (refused_hears (account 0 (tells log is).0) l (refusal_told fault) (stands.heard (tells log is).0 (tells log is).1));
+  heard = λ log is. subst (λ (a : Account). Hears a (refused_listening (refusal_of fault))) (sym (more log is))
+      (refused_hears (account 0 (tells log is).0) l (refusal_of fault) (stands.heard (tells log is).0 (tells log is).1));
 }
   where
     more : (log : List Step) (is : new ≡ Some log)
         → account 0 log ≡ record (account 0 (tells log is).0) {
           received = heard_refusal (account 0 (tells log is).0).received
-              (refusal_told fault);
+              (refusal_of fault);
         }
     more log is = ap (account 0) (tells log is).2 ∙ account_more 0 (tells log is).0 (Accepts number (Err fault))
 
--- a newcomer, by the names that the function gives
+-- a new peer, by the names that the function gives
 pub stands_came : (old new : Option (List Step)) (peers items : List Peer) (peer : Peer) (l : Listening) (last number : ℕ) (done : Unit {0})
     → number ≡ last + 1 → items ≡ peers ++ peer ∷ [] → peer ≡ newcomer number
     → Tells old (Accepts number (Ok done)) new → Stands old peers l last → Stands new items l number
 stands_came old new peers items peer l last number done next pushed is tells stands =
-    let told : Tells old (Accepts (last + 1) (Ok done)) new = subst (λ (n : ℕ). Tells old (Accepts n (Ok done)) new) next tells in
-    let received = stands_come old new peers l last done told stands in
+    let accepts : Tells old (Accepts (last + 1) (Ok done)) new = subst (λ (n : ℕ). Tells old (Accepts n (Ok done)) new) next tells in
+    let received = stands_come old new peers l last done accepts stands in
     let one : newcomer (last + 1) ≡ peer = ap newcomer (sym next) ∙ sym is in
     subst (λ (n : ℕ). Stands new items l n) (sym next)
     (subst (λ (ps : List Peer). Stands new ps l (last + 1)) (ap (λ (p : Peer). peers ++ p ∷ []) one ∙ sym pushed) received)

@@ -32,16 +32,16 @@ delivered_as sent outgoing output.Full e h = inl (owed_is sent outgoing h.0 ∙ 
     alone false f = refl
 delivered_as sent outgoing output.Lost e h = inr h.1
 
-pub are_delivered : (told : Option (List Step)) (peers : List Peer) → AreKept told peers → All (λ peer. is_waiting peer ≡ false) peers
-    → AreDelivered told peers
-are_delivered told peers kept none log is k d lt =
+pub are_delivered : (trace : Option (List Step)) (peers : List Peer) → AreKept trace peers → All (λ peer. is_waiting peer ≡ false) peers
+    → AreDelivered trace peers
+are_delivered trace peers kept none log is k d lt =
     let p : Peer = get_or peers k d in
     delivered_as (account p.number log).sent p.outgoing p.output (none k d lt) (kept k d lt log is).writes
 
 -- every socket that is not closed has a peer
-is_all_delivered : (told : Option (List Step)) (peers : List Peer) → AreStanding told peers → AreDelivered told peers
-    → IsAllDelivered told
-is_all_delivered told peers standing delivered log is socket kept = ⊎_elim
+is_all_delivered : (trace : Option (List Step)) (peers : List Peer) → AreStanding trace peers → AreDelivered trace peers
+    → IsAllDelivered trace
+is_all_delivered trace peers standing delivered log is socket kept = ⊎_elim
     (λ (there : IsThere socket peers).
     subst (λ (n : ℕ). (is_owed (account n log).sent ≡ false) ⊎ ((account n log).sent.lost ≡ true)) (there.same nobody)
     (delivered log is there.index nobody there.within))
@@ -57,8 +57,8 @@ has_ended until old new peers standing ended = ⊎_elim
 
 -- ---- how often it waited
 
-pub waited_none : (told : Option (List Step)) → HasWaited 0 told told
-waited_none told later is = (later, is, λ wall start. omega arith)
+pub waited_none : (trace : Option (List Step)) → HasWaited 0 trace trace
+waited_none trace later is = (later, is, λ wall start. omega arith)
 
 pub waited_keeps : (count : ℕ) (old mid new : Option (List Step)) → HasWaited count old mid → KeepsTimes mid new
     → HasWaited count old new

@@ -9,7 +9,7 @@ use Rattle.srcp_core.specs.Connection.{sent}
 use Rattle.srcp_core.specs.Course.{course}
 use Rattle.srcp_core.specs.Held.{Held}
 use Rattle.srcp_sockets.specs.Names.{IsNamed}
-use Rattle.srcp_serve.specs.Given.{Call, told_call, ExpectCall, NowCall, AcceptCall, ReadCall, WriteCall, CloseCall}
+use Rattle.srcp_serve.specs.Given.{Call, door_call, ExpectCall, NowCall, AcceptCall, ReadCall, WriteCall, CloseCall}
 use Rattle.srcp_serve.specs.Serving.{events_of, stand_after, taken as given_taken}
 use Rattle.srcp_serve.specs.Slots.{IsOfGiven, ServesCourse}
 use Rattle.srcp_peers.specs.Accounts.{account}
@@ -17,19 +17,19 @@ use Rattle.srcp_sockets.specs.Doors.{AreSound}
 use Rattle.srcp_sockets.specs.Follows.{Follows}
 use Rattle.srcp_peers.specs.Streams.{taken, taken_in, took}
 use Rattle.srcp_peers.specs.Steps.{Step, calls}
-use Rattle.srcp_peers.proofs.Tellings.{taken_is, took_is}
+use Rattle.srcp_peers.proofs.AccountStreams.{taken_is, took_is}
 
 -- what a peer took by the calls with what memory answered is what it took by the calls
-taken_told : (peer : ℕ) (told : List Call) → given_taken peer told ≡ flat_map (taken_in peer) (map told_call told)
-taken_told peer [] = refl
-taken_told peer (ExpectCall due slack ∷ told) = taken_told peer told
-taken_told peer (NowCall answer ∷ told) = taken_told peer told
-taken_told peer (AcceptCall answer granted ∷ told) = taken_told peer told
-taken_told peer (ReadCall who answer buffer grants ∷ told) = taken_told peer told
-taken_told peer (WriteCall who bytes (Ok count) ∷ told) = ap (λ xs. (if who == peer then take count bytes else []) ++ xs)
-    (taken_told peer told)
-taken_told peer (WriteCall who bytes (Err fault) ∷ told) = taken_told peer told
-taken_told peer (CloseCall who answer ∷ told) = taken_told peer told
+taken_trace : (peer : ℕ) (trace : List Call) → given_taken peer trace ≡ flat_map (taken_in peer) (map door_call trace)
+taken_trace peer [] = refl
+taken_trace peer (ExpectCall due slack ∷ trace) = taken_trace peer trace
+taken_trace peer (NowCall answer ∷ trace) = taken_trace peer trace
+taken_trace peer (AcceptCall answer granted ∷ trace) = taken_trace peer trace
+taken_trace peer (ReadCall who answer buffer grants ∷ trace) = taken_trace peer trace
+taken_trace peer (WriteCall who bytes (Ok count) ∷ trace) = ap (λ xs. (if who == peer then take count bytes else []) ++ xs)
+    (taken_trace peer trace)
+taken_trace peer (WriteCall who bytes (Err fault) ∷ trace) = taken_trace peer trace
+taken_trace peer (CloseCall who answer ∷ trace) = taken_trace peer trace
 
 -- the elements of two lists that are mapped to one
 at_index : {X Y : Type 0} (f : X → List ℕ) (g : Y → List ℕ) (xs : List X) (ys : List Y) → map f xs ≡ map g ys
@@ -39,14 +39,15 @@ at_index f g xs ys same k x y within =
     sym (get_or-map f xs k x) ∙ ap (λ zs. get_or zs k (f x)) same
     ∙ get_or_default (map g ys) k (f x) (g y) (omega (arith, within, long, length-map ys g)) ∙ get_or-map g ys k y
 
-pub follows : (count opens last : ℕ) (old : Held) (told_old : Option (List Step)) (new : Held) (told_new : Option (List Step))
-    → ServesCourse count opens old (option_map calls told_old) new (option_map calls told_new) → AreSound told_new → IsNamed told_new last
-    → Follows count opens old told_old new told_new
-follows count opens last old told_old new told_new serves sound named buses log layout stands none is =
+pub follows : (count opens last : ℕ) (old : Held) (trace_old : Option (List Step)) (new : Held) (trace_new : Option (List Step))
+    → ServesCourse count opens old (option_map calls trace_old) new (option_map calls trace_new)
+    → AreSound trace_new → IsNamed trace_new last
+    → Follows count opens old trace_old new trace_new
+follows count opens last old trace_old new trace_new serves sound named buses log layout stands none is =
     let given : IsOfGiven buses count opens (calls log) old new =
     serves buses [] (calls log) layout stands (ap (option_map calls) none) (ap (option_map calls) is) (named log is).differ in
     record {
-      told = given.calls;
+      trace = given.calls;
       are = given.are;
       served = given.course;
       sockets = λ k conn guest within.
@@ -55,7 +56,7 @@ follows count opens last old told_old new told_new serves sound named buses log 
           at_index sent (λ p. given_taken p given.calls) (course buses (events_of buses given.calls)).connections
           (stand_after buses given.calls).guests given.course.taken k conn guest within in
           let all : sent (slice_index_or (course buses (events_of buses given.calls)).connections k conn) ≡ taken peer log =
-          here ∙ taken_told peer given.calls ∙ ap (flat_map (taken_in peer)) given.are in
+          here ∙ taken_trace peer given.calls ∙ ap (flat_map (taken_in peer)) given.are in
           subst (λ (xs : List ℕ). StartsWith xs (took peer log)) (taken_is peer log ∙ sym all)
           (subst (λ (xs : List ℕ). StartsWith (account peer log).sent.written xs) (took_is peer log) (sound log is peer).took);
     }

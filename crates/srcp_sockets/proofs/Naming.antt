@@ -73,12 +73,12 @@ named_nobody : (last : ℕ) → Named [] last
 unfolding IsDistinct
 named_nobody last = record { differ = tt; within = λ k lt. absurd (omega (arith, lt)) }
 
-pub named_first : (told : Option (List Step)) (last : ℕ) → (told ≡ Some [] ⊎ told ≡ None) → IsNamed told last
-named_first told last begins log is = ⊎_elim
-    (λ (e : told ≡ Some []).
+pub named_first : (trace : Option (List Step)) (last : ℕ) → (trace ≡ Some [] ⊎ trace ≡ None) → IsNamed trace last
+named_first trace last begins log is = ⊎_elim
+    (λ (e : trace ≡ Some []).
     let same : log ≡ [] = cc in
     subst (λ (l : List Step). Named (filter_map peer_of (calls l)) last) (sym same) (named_nobody last))
-    (λ (e : told ≡ None). absurd (nothing (sym e ∙ is)))
+    (λ (e : trace ≡ None). absurd (nothing (sym e ∙ is)))
     begins
   where
     nothing : None ≡ Some log → ⊥

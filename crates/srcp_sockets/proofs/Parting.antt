@@ -11,18 +11,18 @@ use Rattle.std.proofs.lemmas.Bool.Decides.{nat_tests}
 use Rattle.srcp_peers.specs.declared.peer.Peer.{Peer}
 use Rattle.srcp_peers.specs.declared.stay.Stay.TheVariants as stay
 use Rattle.srcp_peers.specs.declared.waiting.Listening.{Listening}
-use Rattle.srcp_peers.specs.Steps.{Clocks, Closes, Step, Tells, Told}
+use Rattle.srcp_peers.specs.Steps.{Clocks, Closes, Step, Tells, Answers}
 use Rattle.srcp_serve.specs.Calls.{Call, CloseCall, ReadCall, WriteCall}
 use Rattle.srcp_serve.specs.declared.door.Got.{Got}
 use Rattle.srcp_serve.specs.declared.door.Got.TheVariants as got
-use Rattle.srcp_peers.specs.Accounts.{Account, account, account_step, closed, let_go, may_close, may_fail, told_step}
+use Rattle.srcp_peers.specs.Accounts.{Account, account, account_step, closed, left_by_core, may_close, may_fail, answered_step}
 use Rattle.srcp_peers.specs.Peers.{Agrees, IsKept, is_closable}
 use Rattle.srcp_peers.specs.AllPeers.{AreApart, IsAbsent}
 use Rattle.srcp_sockets.specs.Doors.{Closed, Fresh, Hears, IsMissing, IsThere, Sound, Stands}
-use Rattle.srcp_peers.proofs.Staying.{gone_agrees, gone_unwatched, let_go_agrees, may_close_then}
+use Rattle.srcp_peers.proofs.Staying.{gone_agrees, gone_unwatched, left_agrees, may_close_then}
 use Rattle.srcp_peers.proofs.Keeping.{account_more, alien, kept_after, own, picks, skips, spares_after}
 use Rattle.srcp_peers.proofs.Lists.{clocked_all, kept_spared}
-use Rattle.srcp_sockets.proofs.Standing.{find, nobody, stands_one, stands_told}
+use Rattle.srcp_sockets.proofs.Standing.{find, nobody, stands_one, stands_answered}
 
 -- ---- a step that every account goes on with
 
@@ -87,15 +87,15 @@ stands_clocked old new peers l last answer tells stands =
 
 -- ---- one that the core closes
 
-let_go_goes : (number : ℕ) (answer : Result Unit DoorFault) (l : Listening) → Goes (λ socket a. ⊤) (Told (CloseCall number answer)) l
-let_go_goes number answer l = record {
+left_goes : (number : ℕ) (answer : Result Unit DoorFault) (l : Listening) → Goes (λ socket a. ⊤) (Answers (CloseCall number answer)) l
+left_goes number answer l = record {
   sound = λ socket a holds h. sound (number == socket) a h;
   fresh = λ socket a h. fresh (number == socket) a h;
   closed = λ socket a h. shut (number == socket) a h;
   heard = λ a h. heard (number == 0) a h;
 }
   where
-    sound : (b : Bool) (a : Account) → Sound a → Sound (if b then let_go a else a)
+    sound : (b : Bool) (a : Account) → Sound a → Sound (if b then left_by_core a else a)
     sound true a h = record {
       took = h.took;
       handed = h.handed;
@@ -106,15 +106,15 @@ let_go_goes number answer l = record {
     }
     sound false a h = h
 
-    fresh : (b : Bool) (a : Account) → Fresh a → Fresh (if b then let_go a else a)
+    fresh : (b : Bool) (a : Account) → Fresh a → Fresh (if b then left_by_core a else a)
     fresh true a h = record { written = h.written; took = h.took; gave = h.gave; handed = h.handed }
     fresh false a h = h
 
-    shut : (b : Bool) (a : Account) → Closed a → Closed (if b then let_go a else a)
+    shut : (b : Bool) (a : Account) → Closed a → Closed (if b then left_by_core a else a)
     shut true a h = record { watched = refl; kept = h.kept }
     shut false a h = h
 
-    heard : (b : Bool) (a : Account) → Hears a l → Hears (if b then let_go a else a) l
+    heard : (b : Bool) (a : Account) → Hears a l → Hears (if b then left_by_core a else a) l
     heard true a h = record {
       fresh = record { written = h.fresh.written; took = h.fresh.took; gave = h.fresh.gave; handed = h.fresh.handed };
       lost = h.lost;
@@ -127,14 +127,14 @@ let_go_goes number answer l = record {
 
 -- nobody was there to be closed
 pub stands_missing : (old new : Option (List Step)) (peers : List Peer) (l : Listening) (last number : ℕ) (answer : Result Unit DoorFault)
-    → IsMissing number peers → Tells old (Told (CloseCall number answer)) new → Stands old peers l last → Stands new peers l last
+    → IsMissing number peers → Tells old (Answers (CloseCall number answer)) new → Stands old peers l last → Stands new peers l last
 stands_missing old new peers l last number answer missing tells stands =
-    stands_goes (λ socket a. ⊤) old new peers l last (Told (CloseCall number answer)) (let_go_goes number answer l) (λ log is socket. tt)
-    (λ k d lt. kept_after old new (Told (CloseCall number answer)) (slice_index_or peers k d) (slice_index_or peers k d) tells refl
+    stands_goes (λ socket a. ⊤) old new peers l last (Answers (CloseCall number answer)) (left_goes number answer l) (λ log is socket. tt)
+    (λ k d lt. kept_after old new (Answers (CloseCall number answer)) (slice_index_or peers k d) (slice_index_or peers k d) tells refl
     (λ a h. by k d lt a (number == (slice_index_or peers k d).number) (λ e. grind (arith, nat_tests)) h) (stands.kept k d lt)) tells stands
   where
     by : (k : ℕ) (d : Peer) → k < length peers → (a : Account) (b : Bool) → (b ≡ true → (slice_index_or peers k d).number ≡ number)
-        → Agrees a (slice_index_or peers k d) → Agrees (if b then let_go a else a) (slice_index_or peers k d)
+        → Agrees a (slice_index_or peers k d) → Agrees (if b then left_by_core a else a) (slice_index_or peers k d)
     by k d lt a true same h = gone_agrees a (slice_index_or peers k d) (missing k d lt (same refl)) h
     by k d lt a false same h = h
 
@@ -193,9 +193,9 @@ same_number : (n m : ℕ) → (n == m) ≡ true → n ≡ m
 same_number n m e = grind (arith, nat_tests)
 
 -- nobody with that number is there by its account
-unwatched_is : (told : Option (List Step)) (peers : List Peer) (l : Listening) (last number : ℕ) (log : List Step) → told ≡ Some log
-    → IsMissing number peers → Stands told peers l last → (account number log).watched ≡ false
-unwatched_is told peers l last number log is missing stands = ⊎_elim
+unwatched_is : (trace : Option (List Step)) (peers : List Peer) (l : Listening) (last number : ℕ) (log : List Step) → trace ≡ Some log
+    → IsMissing number peers → Stands trace peers l last → (account number log).watched ≡ false
+unwatched_is trace peers l last number log is missing stands = ⊎_elim
     (λ (there : IsThere number peers).
     let p : Peer = slice_index_or peers there.index nobody in
     let h : Agrees (account p.number log) p = stands.kept there.index nobody there.within log is in
@@ -205,17 +205,17 @@ unwatched_is told peers l last number log is missing stands = ⊎_elim
     (find number peers)
 
 pub stands_judged : (old new : Option (List Step)) (peers : List Peer) (l : Listening) (last number : ℕ) (call : Call)
-    (may : Account → Bool) → ((socket : ℕ) (a : Account) → account_step socket a (Told call) ≡ judged may (number == socket) a)
-    → ((a : Account) → a.watched ≡ false → may a ≡ true) → IsMissing number peers → Tells old (Told call) new
+    (may : Account → Bool) → ((socket : ℕ) (a : Account) → account_step socket a (Answers call) ≡ judged may (number == socket) a)
+    → ((a : Account) → a.watched ≡ false → may a ≡ true) → IsMissing number peers → Tells old (Answers call) new
     → Stands old peers l last → Stands new peers l last
 stands_judged old new peers l last number call may is right missing tells stands =
-    stands_goes (λ socket a. (number == socket) ≡ true → may a ≡ true) old new peers l last (Told call) goes
-    (λ log told socket e. right (account socket log) (subst (λ (n : ℕ). (account n log).watched ≡ false) (same_number number socket e)
-    (unwatched_is old peers l last number log told missing stands)))
-    (λ k d lt. kept_after old new (Told call) (slice_index_or peers k d) (slice_index_or peers k d) tells refl
+    stands_goes (λ socket a. (number == socket) ≡ true → may a ≡ true) old new peers l last (Answers call) goes
+    (λ log logged socket e. right (account socket log) (subst (λ (n : ℕ). (account n log).watched ≡ false) (same_number number socket e)
+    (unwatched_is old peers l last number log logged missing stands)))
+    (λ k d lt. kept_after old new (Answers call) (slice_index_or peers k d) (slice_index_or peers k d) tells refl
     (λ a h. one k d lt a h) (stands.kept k d lt)) tells stands
   where
-    goes : Goes (λ socket a. (number == socket) ≡ true → may a ≡ true) (Told call) l
+    goes : Goes (λ socket a. (number == socket) ≡ true → may a ≡ true) (Answers call) l
     goes = record {
       sound = λ socket a holds h. subst Sound (sym (is socket a)) (judged_sound may (number == socket) a holds h);
       fresh = λ socket a h. subst Fresh (sym (is socket a)) (judged_fresh may (number == socket) a h);
@@ -224,7 +224,7 @@ stands_judged old new peers l last number call may is right missing tells stands
     }
 
     one : (k : ℕ) (d : Peer) → k < length peers → (a : Account) → Agrees a (slice_index_or peers k d)
-        → Agrees (account_step (slice_index_or peers k d).number a (Told call)) (slice_index_or peers k d)
+        → Agrees (account_step (slice_index_or peers k d).number a (Answers call)) (slice_index_or peers k d)
     one k d lt a h =
         let p : Peer = slice_index_or peers k d in
         subst (λ (x : Account). Agrees x p) (sym (is p.number a))
@@ -234,32 +234,32 @@ stands_judged old new peers l last number call may is right missing tells stands
 -- a read of a peer that is not there
 pub stands_missed : (old new : Option (List Step)) (peers : List Peer) (l : Listening) (last number : ℕ) (answer : Result Got DoorFault)
     (buffer : List ℕ) → (answer ≡ Ok got.Nothing ⊎ answer ≡ Err DoorFault.Read) → IsMissing number peers
-    → Tells old (Told (ReadCall number answer buffer)) new → Stands old peers l last → Stands new peers l last
-stands_missed old new peers l last number answer buffer told missing tells stands = ⊎_elim
-    (λ e. stands_told old new peers l last (ReadCall number answer buffer)
-    (λ socket a. ap (λ x. told_step socket a (ReadCall number x buffer)) e) tells stands)
+    → Tells old (Answers (ReadCall number answer buffer)) new → Stands old peers l last → Stands new peers l last
+stands_missed old new peers l last number answer buffer reported missing tells stands = ⊎_elim
+    (λ e. stands_answered old new peers l last (ReadCall number answer buffer)
+    (λ socket a. ap (λ x. answered_step socket a (ReadCall number x buffer)) e) tells stands)
     (λ e. stands_judged old new peers l last number (ReadCall number answer buffer) may_fail
-    (λ socket a. ap (λ x. told_step socket a (ReadCall number x buffer)) e)
+    (λ socket a. ap (λ x. answered_step socket a (ReadCall number x buffer)) e)
     (λ a w. ap (λ x. not x || (a.received.failed || a.sent.lost)) w) missing tells stands)
-    told
+    reported
 
 -- a write to a peer that is not there
 pub stands_unwritten : (old new : Option (List Step)) (peers : List Peer) (l : Listening) (last number : ℕ) (bytes : List ℕ)
-    (fault : DoorFault) → IsMissing number peers → Tells old (Told (WriteCall number bytes (Err fault))) new
+    (fault : DoorFault) → IsMissing number peers → Tells old (Answers (WriteCall number bytes (Err fault))) new
     → Stands old peers l last → Stands new peers l last
 stands_unwritten old new peers l last number bytes fault missing tells stands =
     stands_judged old new peers l last number (WriteCall number bytes (Err fault)) (λ a. not a.watched) (λ socket a. refl)
     (λ a w. ap not w) missing tells stands
 
 -- one that was there was closed by the core
-pub stands_let_go : (old new : Option (List Step)) (peers : List Peer) (i : ℕ) (p q : Peer) (l : Listening) (last number since : ℕ)
+pub stands_left : (old new : Option (List Step)) (peers : List Peer) (i : ℕ) (p q : Peer) (l : Listening) (last number since : ℕ)
     (answer : Result Unit DoorFault) → i < length peers → get_or peers i p ≡ p → p.number ≡ number → p.stay ≡ stay.Here
     → q ≡ record p { stay = stay.Draining since } → ((log : List Step) → old ≡ Some log → (account number log).lingering.clock ≡ since)
-    → Tells old (Told (CloseCall number answer)) new → Stands old peers l last → Stands new (set peers i q) l last
-stands_let_go old new peers i p q l last number since answer within at same here is clock tells stands =
+    → Tells old (Answers (CloseCall number answer)) new → Stands old peers l last → Stands new (set peers i q) l last
+stands_left old new peers i p q l last number since answer within at same here is clock tells stands =
     let there : (get_or peers i p).number ≡ number = ap (λ (x : Peer). x.number) at ∙ same in
     stands_one old new peers i p q l last within kept (ap (λ (x : Peer). x.number) is ∙ same ∙ sym there)
-    (λ other differ. spares_after other old new (Told (CloseCall number answer)) tells
+    (λ other differ. spares_after other old new (Answers (CloseCall number answer)) tells
     (λ a. skips (number == other) _ a (alien number other (λ e. differ (e ∙ sym there))))) stands
   where
     before : IsKept old p
@@ -269,15 +269,15 @@ stands_let_go old new peers i p q l last number since answer within at same here
     kept later e =
         let t = tells later e in
         let a : Account = account p.number t.0 in
-        let after : Agrees (let_go a) (record p { stay = stay.Draining since }) =
-        let_go_agrees a p since here (ap (λ n. (account n t.0).lingering.clock) same ∙ clock t.0 t.1) (before t.0 t.1) in
-        let more : account number later ≡ account_step number (account number t.0) (Told (CloseCall number answer)) =
-        ap (account number) t.2 ∙ account_more number t.0 (Told (CloseCall number answer)) in
-        let own_is : account number later ≡ let_go (account number t.0) =
-        more ∙ picks (number == number) (let_go (account number t.0)) (account number t.0) (own number) in
+        let after : Agrees (left_by_core a) (record p { stay = stay.Draining since }) =
+        left_agrees a p since here (ap (λ n. (account n t.0).lingering.clock) same ∙ clock t.0 t.1) (before t.0 t.1) in
+        let more : account number later ≡ account_step number (account number t.0) (Answers (CloseCall number answer)) =
+        ap (account number) t.2 ∙ account_more number t.0 (Answers (CloseCall number answer)) in
+        let own_is : account number later ≡ left_by_core (account number t.0) =
+        more ∙ picks (number == number) (left_by_core (account number t.0)) (account number t.0) (own number) in
         subst (λ (x : Peer). Agrees (account x.number later) x) (sym is)
         (subst (λ (x : Account). Agrees x (record p { stay = stay.Draining since }))
-        (sym (ap (λ n. account n later) same ∙ own_is ∙ ap (λ n. let_go (account n t.0)) (sym same))) after)
+        (sym (ap (λ n. account n later) same ∙ own_is ∙ ap (λ n. left_by_core (account n t.0)) (sym same))) after)
 
 -- ---- one that is closed
 
@@ -320,7 +320,7 @@ pub record Leaves (number : ℕ) (before after : List Peer) : Type 0 where
 
 -- it may be closed
 abbrev pub IsClosable : Option (List Step) → ℕ → Type 0
-IsClosable told socket = (log : List Step) → told ≡ Some log → (may_close (account socket log) ≡ true)
+IsClosable trace socket = (log : List Step) → trace ≡ Some log → (may_close (account socket log) ≡ true)
     × ((account socket log).watched ≡ false)
 
 pub stands_closed : (old new : Option (List Step)) (before after : List Peer) (l : Listening) (last number : ℕ)
@@ -425,7 +425,7 @@ leaves_one number peers i within same apart = record {
         (cases_lt k i))
         (cases_lt j i)
 
--- the peer at an index was closed, where it may be at that time of the monotonic clock
+-- the peer at an index was closed, if it may be at that time of the monotonic clock
 pub stands_closed_at : (old new : Option (List Step)) (peers : List Peer) (i : ℕ) (p : Peer) (l : Listening) (last clock : ℕ)
     → i < length peers → get_or peers i p ≡ p → is_closable clock (get_or peers i p) ≡ true
     → ((log : List Step) → old ≡ Some log → (account p.number log).lingering.clock ≡ clock) → Tells old (Closes p.number) new

@@ -1,4 +1,4 @@
--- What holds of all that was told holds of each step when it was made.
+-- What holds of a whole trace holds of each step when it was made.
 use Rattle.std.proofs.Common.{◌≡◌, ◌∙◌, ℕ, Bool, true, false, not, List, [], ◌∷◌, ◌++◌, take, refl, ap, sym, ◌==◌, if◌then◌else◌}
 use Rattle.std.proofs.Common.{Option, Ok, Err, true≢false}
 use Rattle.std.specs.Prelude.{Result, ◌&&◌, ◌||◌, fold}
@@ -8,12 +8,12 @@ use Rattle.srcp_serve.specs.declared.door.DoorFault.{DoorFault}
 use Rattle.srcp_serve.specs.declared.door.Got.TheVariants as got
 use Rattle.srcp_peers.specs.declared.system.Ready.{Ready}
 use Rattle.srcp_serve.specs.Calls.{Call, ExpectCall, NowCall, AcceptCall, ReadCall, WriteCall, CloseCall}
-use Rattle.srcp_peers.specs.Steps.{Accepts, Clocks, Closes, Reads, Shuts, Step, Told, Waits, Writes}
+use Rattle.srcp_peers.specs.Steps.{Accepts, Clocks, Closes, Reads, Shuts, Step, Answers, Waits, Writes}
 use Rattle.srcp_peers.specs.Accounts.{Account, accepted, account, account_step, closed, heard, is_at_rest, is_short, may_close, may_end}
 use Rattle.srcp_peers.specs.Accounts.{may_fail, may_shut, shut_down, untouched, waited, woken, woken_came, woken_sent, wrote, read_of}
 use Rattle.srcp_peers.proofs.Keeping.{own}
 use Rattle.srcp_peers.proofs.Resting.{and_left, and_right}
-use Rattle.srcp_peers.proofs.Tellings.{if_same}
+use Rattle.srcp_peers.proofs.AccountStreams.{if_same}
 
 -- what is judged
 abbrev marks : Account → Bool × Bool × Bool × Bool
@@ -58,17 +58,17 @@ honest_before socket a (Waits most count ready) h = sym (ap (λ m. m.0) (woken_m
 honest_before socket a (Shuts who) h = sym (if_same (λ (x : Account). x.honest) (who == socket) (shut_down a) a refl) ∙ h
 honest_before socket a (Closes who) h = sym (if_same (λ (x : Account). x.honest) (who == socket) (closed a) a refl) ∙ h
 honest_before socket a (Clocks answer) h = h
-honest_before socket a (Told (ExpectCall due slack)) h = h
-honest_before socket a (Told (NowCall answer)) h = h
-honest_before socket a (Told (AcceptCall answer)) h = h
-honest_before socket a (Told (ReadCall who (Ok (got.Bytes count)) buffer)) h = sym
+honest_before socket a (Answers (ExpectCall due slack)) h = h
+honest_before socket a (Answers (NowCall answer)) h = h
+honest_before socket a (Answers (AcceptCall answer)) h = h
+honest_before socket a (Answers (ReadCall who (Ok (got.Bytes count)) buffer)) h = sym
     (if_same (λ (x : Account). x.honest) (who == socket) _ a refl) ∙ h
-honest_before socket a (Told (ReadCall who (Ok got.Ended) buffer)) h = was_honest (who == socket) a (may_end a) h
-honest_before socket a (Told (ReadCall who (Ok got.Nothing) buffer)) h = h
-honest_before socket a (Told (ReadCall who (Err fault) buffer)) h = was_honest (who == socket) a (may_fail a) h
-honest_before socket a (Told (WriteCall who bytes (Ok count))) h = sym (if_same (λ (x : Account). x.honest) (who == socket) _ a refl) ∙ h
-honest_before socket a (Told (WriteCall who bytes (Err fault))) h = was_honest (who == socket) a (not a.watched) h
-honest_before socket a (Told (CloseCall who answer)) h = sym (if_same (λ (x : Account). x.honest) (who == socket) _ a refl) ∙ h
+honest_before socket a (Answers (ReadCall who (Ok got.Ended) buffer)) h = was_honest (who == socket) a (may_end a) h
+honest_before socket a (Answers (ReadCall who (Ok got.Nothing) buffer)) h = h
+honest_before socket a (Answers (ReadCall who (Err fault) buffer)) h = was_honest (who == socket) a (may_fail a) h
+honest_before socket a (Answers (WriteCall who bytes (Ok count))) h = sym (if_same (λ (x : Account). x.honest) (who == socket) _ a refl) ∙ h
+honest_before socket a (Answers (WriteCall who bytes (Err fault))) h = was_honest (who == socket) a (not a.watched) h
+honest_before socket a (Answers (CloseCall who answer)) h = sym (if_same (λ (x : Account). x.honest) (who == socket) _ a refl) ∙ h
 
 rested_before : (socket : ℕ) (a : Account) (step : Step) → (account_step socket a step).rested ≡ true → a.rested ≡ true
 rested_before socket a (Accepts number answer) h = sym (ap (λ m. m.1) (accept_marks socket number a answer)) ∙ h
@@ -82,20 +82,20 @@ rested_before socket a (Waits most count ready) h = and_left a.rested
 rested_before socket a (Shuts who) h = sym (if_same (λ (x : Account). x.rested) (who == socket) (shut_down a) a refl) ∙ h
 rested_before socket a (Closes who) h = sym (if_same (λ (x : Account). x.rested) (who == socket) (closed a) a refl) ∙ h
 rested_before socket a (Clocks answer) h = h
-rested_before socket a (Told (ExpectCall due slack)) h = h
-rested_before socket a (Told (NowCall answer)) h = h
-rested_before socket a (Told (AcceptCall answer)) h = h
-rested_before socket a (Told (ReadCall who (Ok (got.Bytes count)) buffer)) h = sym
+rested_before socket a (Answers (ExpectCall due slack)) h = h
+rested_before socket a (Answers (NowCall answer)) h = h
+rested_before socket a (Answers (AcceptCall answer)) h = h
+rested_before socket a (Answers (ReadCall who (Ok (got.Bytes count)) buffer)) h = sym
     (if_same (λ (x : Account). x.rested) (who == socket) _ a refl) ∙ h
-rested_before socket a (Told (ReadCall who (Ok got.Ended) buffer)) h = sym (if_same (λ (x : Account). x.rested) (who == socket) _ a refl)
+rested_before socket a (Answers (ReadCall who (Ok got.Ended) buffer)) h = sym (if_same (λ (x : Account). x.rested) (who == socket) _ a refl)
     ∙ h
-rested_before socket a (Told (ReadCall who (Ok got.Nothing) buffer)) h = h
-rested_before socket a (Told (ReadCall who (Err fault) buffer)) h = sym
+rested_before socket a (Answers (ReadCall who (Ok got.Nothing) buffer)) h = h
+rested_before socket a (Answers (ReadCall who (Err fault) buffer)) h = sym
     (if_same (λ (x : Account). x.rested) (who == socket) _ a refl) ∙ h
-rested_before socket a (Told (WriteCall who bytes (Ok count))) h = sym (if_same (λ (x : Account). x.rested) (who == socket) _ a refl) ∙ h
-rested_before socket a (Told (WriteCall who bytes (Err fault))) h = sym
+rested_before socket a (Answers (WriteCall who bytes (Ok count))) h = sym (if_same (λ (x : Account). x.rested) (who == socket) _ a refl) ∙ h
+rested_before socket a (Answers (WriteCall who bytes (Err fault))) h = sym
     (if_same (λ (x : Account). x.rested) (who == socket) _ a refl) ∙ h
-rested_before socket a (Told (CloseCall who answer)) h = sym (if_same (λ (x : Account). x.rested) (who == socket) _ a refl) ∙ h
+rested_before socket a (Answers (CloseCall who answer)) h = sym (if_same (λ (x : Account). x.rested) (who == socket) _ a refl) ∙ h
 
 rightly_before : (socket : ℕ) (a : Account) (step : Step) → (account_step socket a step).lingering.rightly ≡ true
     → a.lingering.rightly ≡ true
@@ -117,22 +117,23 @@ rightly_before socket a (Closes who) h = by (who == socket) h
     by true e = and_left a.lingering.rightly (may_close a) e
     by false e = e
 rightly_before socket a (Clocks answer) h = h
-rightly_before socket a (Told (ExpectCall due slack)) h = h
-rightly_before socket a (Told (NowCall answer)) h = h
-rightly_before socket a (Told (AcceptCall answer)) h = h
-rightly_before socket a (Told (ReadCall who (Ok (got.Bytes count)) buffer)) h = sym
+rightly_before socket a (Answers (ExpectCall due slack)) h = h
+rightly_before socket a (Answers (NowCall answer)) h = h
+rightly_before socket a (Answers (AcceptCall answer)) h = h
+rightly_before socket a (Answers (ReadCall who (Ok (got.Bytes count)) buffer)) h = sym
     (if_same (λ (x : Account). x.lingering.rightly) (who == socket) _ a refl) ∙ h
-rightly_before socket a (Told (ReadCall who (Ok got.Ended) buffer)) h = sym
+rightly_before socket a (Answers (ReadCall who (Ok got.Ended) buffer)) h = sym
     (if_same (λ (x : Account). x.lingering.rightly) (who == socket) _ a refl)
     ∙ h
-rightly_before socket a (Told (ReadCall who (Ok got.Nothing) buffer)) h = h
-rightly_before socket a (Told (ReadCall who (Err fault) buffer)) h = sym
+rightly_before socket a (Answers (ReadCall who (Ok got.Nothing) buffer)) h = h
+rightly_before socket a (Answers (ReadCall who (Err fault) buffer)) h = sym
     (if_same (λ (x : Account). x.lingering.rightly) (who == socket) _ a refl) ∙ h
-rightly_before socket a (Told (WriteCall who bytes (Ok count))) h = sym
+rightly_before socket a (Answers (WriteCall who bytes (Ok count))) h = sym
     (if_same (λ (x : Account). x.lingering.rightly) (who == socket) _ a refl) ∙ h
-rightly_before socket a (Told (WriteCall who bytes (Err fault))) h = sym
+rightly_before socket a (Answers (WriteCall who bytes (Err fault))) h = sym
     (if_same (λ (x : Account). x.lingering.rightly) (who == socket) _ a refl) ∙ h
-rightly_before socket a (Told (CloseCall who answer)) h = sym (if_same (λ (x : Account). x.lingering.rightly) (who == socket) _ a refl) ∙ h
+rightly_before socket a (Answers (CloseCall who answer)) h = sym
+    (if_same (λ (x : Account). x.lingering.rightly) (who == socket) _ a refl) ∙ h
 
 served_before : (socket : ℕ) (a : Account) (step : Step) → (account_step socket a step).served ≡ true → a.served ≡ true
 served_before socket a (Accepts number answer) h = sym (ap (λ m. m.3) (accept_marks socket number a answer)) ∙ h
@@ -145,20 +146,20 @@ served_before socket a (Waits most count ready) h = sym
 served_before socket a (Shuts who) h = sym (if_same (λ (x : Account). x.served) (who == socket) (shut_down a) a refl) ∙ h
 served_before socket a (Closes who) h = sym (if_same (λ (x : Account). x.served) (who == socket) (closed a) a refl) ∙ h
 served_before socket a (Clocks answer) h = h
-served_before socket a (Told (ExpectCall due slack)) h = h
-served_before socket a (Told (NowCall answer)) h = and_left a.served (not (a.watched && a.unread)) h
-served_before socket a (Told (AcceptCall answer)) h = h
-served_before socket a (Told (ReadCall who (Ok (got.Bytes count)) buffer)) h = sym
+served_before socket a (Answers (ExpectCall due slack)) h = h
+served_before socket a (Answers (NowCall answer)) h = and_left a.served (not (a.watched && a.unread)) h
+served_before socket a (Answers (AcceptCall answer)) h = h
+served_before socket a (Answers (ReadCall who (Ok (got.Bytes count)) buffer)) h = sym
     (if_same (λ (x : Account). x.served) (who == socket) _ a refl) ∙ h
-served_before socket a (Told (ReadCall who (Ok got.Ended) buffer)) h = sym (if_same (λ (x : Account). x.served) (who == socket) _ a refl)
+served_before socket a (Answers (ReadCall who (Ok got.Ended) buffer)) h = sym (if_same (λ (x : Account). x.served) (who == socket) _ a refl)
     ∙ h
-served_before socket a (Told (ReadCall who (Ok got.Nothing) buffer)) h = h
-served_before socket a (Told (ReadCall who (Err fault) buffer)) h = sym
+served_before socket a (Answers (ReadCall who (Ok got.Nothing) buffer)) h = h
+served_before socket a (Answers (ReadCall who (Err fault) buffer)) h = sym
     (if_same (λ (x : Account). x.served) (who == socket) _ a refl) ∙ h
-served_before socket a (Told (WriteCall who bytes (Ok count))) h = sym (if_same (λ (x : Account). x.served) (who == socket) _ a refl) ∙ h
-served_before socket a (Told (WriteCall who bytes (Err fault))) h = sym
+served_before socket a (Answers (WriteCall who bytes (Ok count))) h = sym (if_same (λ (x : Account). x.served) (who == socket) _ a refl) ∙ h
+served_before socket a (Answers (WriteCall who bytes (Err fault))) h = sym
     (if_same (λ (x : Account). x.served) (who == socket) _ a refl) ∙ h
-served_before socket a (Told (CloseCall who answer)) h = sym (if_same (λ (x : Account). x.served) (who == socket) _ a refl) ∙ h
+served_before socket a (Answers (CloseCall who answer)) h = sym (if_same (λ (x : Account). x.served) (who == socket) _ a refl) ∙ h
 
 at_first : (pr : Account → Bool) (socket : ℕ) → ((a : Account) (step : Step) → pr (account_step socket a step) ≡ true → pr a ≡ true)
     → (a : Account) (log : List Step) → pr (fold (account_step socket) a log) ≡ true → pr a ≡ true
@@ -175,37 +176,37 @@ not_so : (b : Bool) → not b ≡ true → b ≡ false
 not_so true e = absurd (true≢false (sym e))
 not_so false e = refl
 
--- what was told of it was told when it might be
-told_rightly : (b : Bool) (a : Account) (may : Bool) → b ≡ true
+-- what was reported of it was reported when it might be
+reported_rightly : (b : Bool) (a : Account) (may : Bool) → b ≡ true
     → (if b then record a { honest = a.honest && may } else a).honest ≡ true → may ≡ true
-told_rightly true a may e h = and_right a.honest may h
-told_rightly false a may e h = absurd (true≢false (sym e))
+reported_rightly true a may e h = and_right a.honest may h
+reported_rightly false a may e h = absurd (true≢false (sym e))
 
-honest_then : (socket : ℕ) (before after : List Step) (call : Call) → (account socket (before ++ Told call ∷ after)).honest ≡ true
-    → (account_step socket (account socket before) (Told call)).honest ≡ true
+honest_then : (socket : ℕ) (before after : List Step) (call : Call) → (account socket (before ++ Answers call ∷ after)).honest ≡ true
+    → (account_step socket (account socket before) (Answers call)).honest ≡ true
 honest_then socket before after call h =
-    at_step (λ (a : Account). a.honest) socket (honest_before socket) before after (Told call) h
+    at_step (λ (a : Account). a.honest) socket (honest_before socket) before after (Answers call) h
 
 pub ended_before : (socket : ℕ) (before after : List Step) (buffer : List ℕ)
-    → (account socket (before ++ Told (ReadCall socket (Ok got.Ended) buffer) ∷ after)).honest ≡ true
+    → (account socket (before ++ Answers (ReadCall socket (Ok got.Ended) buffer) ∷ after)).honest ≡ true
     → may_end (account socket before) ≡ true
 ended_before socket before after buffer h =
-    told_rightly (socket == socket) (account socket before) (may_end (account socket before)) (own socket)
+    reported_rightly (socket == socket) (account socket before) (may_end (account socket before)) (own socket)
     (honest_then socket before after (ReadCall socket (Ok got.Ended) buffer) h)
 
 pub failed_before : (socket : ℕ) (before after : List Step) (fault : DoorFault) (buffer : List ℕ)
-    → (account socket (before ++ Told (ReadCall socket (Err fault) buffer) ∷ after)).honest ≡ true
+    → (account socket (before ++ Answers (ReadCall socket (Err fault) buffer) ∷ after)).honest ≡ true
     → may_fail (account socket before) ≡ true
 failed_before socket before after fault buffer h =
-    told_rightly (socket == socket) (account socket before) (may_fail (account socket before)) (own socket)
+    reported_rightly (socket == socket) (account socket before) (may_fail (account socket before)) (own socket)
     (honest_then socket before after (ReadCall socket (Err fault) buffer) h)
 
 pub unwritten_before : (socket : ℕ) (before after : List Step) (bytes : List ℕ) (fault : DoorFault)
-    → (account socket (before ++ Told (WriteCall socket bytes (Err fault)) ∷ after)).honest ≡ true
+    → (account socket (before ++ Answers (WriteCall socket bytes (Err fault)) ∷ after)).honest ≡ true
     → (account socket before).watched ≡ false
 unwritten_before socket before after bytes fault h =
     not_so (account socket before).watched
-    (told_rightly (socket == socket) (account socket before) (not (account socket before).watched) (own socket)
+    (reported_rightly (socket == socket) (account socket before) (not (account socket before).watched) (own socket)
     (honest_then socket before after (WriteCall socket bytes (Err fault)) h))
 
 -- a long wait found at rest whom it was to find so
@@ -255,12 +256,12 @@ might_close socket before after h =
     (sym (rightly_if (socket == socket) (closed a) a)
     ∙ at_step (λ (x : Account). x.lingering.rightly) socket (rightly_before socket) before after (Closes socket) h)
 
--- ---- no moment was told while one was unread
+-- ---- no moment was reported while one was unread
 
 pub read_then : (socket : ℕ) (before after : List Step) (answer : Result ℕ DoorFault)
-    → (account socket (before ++ Told (NowCall answer) ∷ after)).served ≡ true
+    → (account socket (before ++ Answers (NowCall answer) ∷ after)).served ≡ true
     → ((account socket before).watched && (account socket before).unread) ≡ false
 read_then socket before after answer h =
     let a = account socket before in
     not_so (a.watched && a.unread) (and_right a.served (not (a.watched && a.unread))
-    (at_step (λ (x : Account). x.served) socket (served_before socket) before after (Told (NowCall answer)) h))
+    (at_step (λ (x : Account). x.served) socket (served_before socket) before after (Answers (NowCall answer)) h))

@@ -12,9 +12,9 @@ use Rattle.srcp_peers.specs.declared.readiness.Output.{Output}
 use Rattle.srcp_peers.specs.declared.readiness.Output.TheVariants as output
 use Rattle.srcp_peers.specs.declared.stay.Stay.TheVariants as stay
 use Rattle.srcp_peers.specs.declared.waiting.Listening.{Listening}
-use Rattle.srcp_peers.specs.Steps.{Step, Tells, Told}
+use Rattle.srcp_peers.specs.Steps.{Step, Tells, Answers}
 use Rattle.srcp_serve.specs.Calls.{Call}
-use Rattle.srcp_peers.specs.Accounts.{Account, account, account_step, told_step}
+use Rattle.srcp_peers.specs.Accounts.{Account, account, account_step, answered_step}
 use Rattle.srcp_peers.specs.Peers.{Agrees, IsKept, Spares, WritesAs}
 use Rattle.srcp_peers.specs.declared.ending.Ending.TheVariants as ending
 use Rattle.srcp_door.specs.declared.pacing.Line.TheVariants as line
@@ -78,10 +78,10 @@ sound_of a p h = record {
     took output.Full w = starts a.sent.written a.sent.took p.outgoing w.0
     took output.Lost w = w.0
 
--- all sockets are sound where the peers are kept and the others are
-pub all_sound : (told : Option (List Step)) (peers : List Peer) (log : List Step) → told ≡ Some log → AreKept told peers
+-- all sockets are sound if the peers are kept and the others are
+pub all_sound : (trace : Option (List Step)) (peers : List Peer) (log : List Step) → trace ≡ Some log → AreKept trace peers
     → ((socket : ℕ) → IsAbsent socket peers → Sound (account socket log)) → (socket : ℕ) → Sound (account socket log)
-all_sound told peers log is kept others socket = ⊎_elim
+all_sound trace peers log is kept others socket = ⊎_elim
     (λ (there : IsThere socket peers).
     let h : Agrees (account (slice_index_or peers there.index nobody).number log) (slice_index_or peers there.index nobody) =
     kept there.index nobody there.within log is in
@@ -148,11 +148,11 @@ stands_spared old new peers l last spares stands =
     (λ k d lt. kept_spared old new (slice_index_or peers k d) (spares (slice_index_or peers k d).number) (stands.kept k d lt))
     (λ k d lt. refl) (λ other absent. spares other) stands
 
-pub stands_told : (old new : Option (List Step)) (peers : List Peer) (l : Listening) (last : ℕ) (call : Call)
-    → ((socket : ℕ) (a : Account) → told_step socket a call ≡ a) → Tells old (Told call) new
+pub stands_answered : (old new : Option (List Step)) (peers : List Peer) (l : Listening) (last : ℕ) (call : Call)
+    → ((socket : ℕ) (a : Account) → answered_step socket a call ≡ a) → Tells old (Answers call) new
     → Stands old peers l last → Stands new peers l last
-stands_told old new peers l last call nothing tells stands =
-    stands_spared old new peers l last (λ other. spares_after other old new (Told call) tells (λ a. nothing other a)) stands
+stands_answered old new peers l last call nothing tells stands =
+    stands_spared old new peers l last (λ other. spares_after other old new (Answers call) tells (λ a. nothing other a)) stands
 
 -- a step that says nothing of any socket
 pub stands_step : (old new : Option (List Step)) (peers : List Peer) (l : Listening) (last : ℕ) (step : Step)

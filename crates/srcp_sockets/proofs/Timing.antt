@@ -21,12 +21,12 @@ use Rattle.srcp_peers.specs.declared.system.Ready.{Ready}
 use Rattle.srcp_peers.specs.declared.turn.Turn.{Turn}
 use Rattle.srcp_serve.specs.Calls.{Call, ExpectCall, NowCall, AcceptCall, ReadCall, WriteCall, CloseCall}
 use Rattle.srcp_peers.specs.Accounts.{is_short}
-use Rattle.srcp_peers.specs.Steps.{Accepts, Clocks, Step, Tells, Told, Waits}
+use Rattle.srcp_peers.specs.Steps.{Accepts, Clocks, Step, Tells, Answers, Waits}
 use Rattle.srcp_sockets.specs.KeptTimes.{IsTimed, IsTimedFrom, Timed}
 use Rattle.srcp_peers.specs.Times.{KeepsTimes, Times, clocked, ends_by}
-use Rattle.srcp_peers.specs.Times.{in_time, is_told, newcomer_of, times, times_step, told_accept, told_moment, told_read}
+use Rattle.srcp_peers.specs.Times.{in_time, is_as_heard, newcomer_of, times, times_step, answered_accept, answered_moment, answered_read}
 use Rattle.srcp_peers.specs.Turns.{after_call, after_read, after_wait, begun, first_turn, got_bytes, hands_out, is_pending, moment_at}
-use Rattle.srcp_peers.specs.Turns.{tells_end, time_left, told_at}
+use Rattle.srcp_peers.specs.Turns.{reports_end, time_left, reported_at}
 use Rattle.srcp_peers.specs.Waiting.{IsWithin}
 use Rattle.srcp_peers.proofs.Saying.{times_more}
 
@@ -88,18 +88,18 @@ called t before call h = record {
 
 pub timed_expect : (old new : Option (List Step)) (before after : Turn) (due slack : Option ℕ) → after ≡ after_call before
     (ExpectCall due slack)
-    → Tells old (Told (ExpectCall due slack)) new → IsTimed old before → IsTimed new after
+    → Tells old (Answers (ExpectCall due slack)) new → IsTimed old before → IsTimed new after
 timed_expect old new before after due slack is tells timed =
     let call : Call = ExpectCall due slack in
-    subst (IsTimed new) (sym is) (timed_step before.timekeeper.wall before.timekeeper.start old new (Told call) before
+    subst (IsTimed new) (sym is) (timed_step before.timekeeper.wall before.timekeeper.start old new (Answers call) before
     (after_call before call) tells
     (λ t h. called t before call h) timed)
 
--- what was told of a newcomer
+-- what `accept` answered
 accepted : (t : Times) (before : Turn) (answer : Result (Option ℕ) DoorFault) (heard : Option (Result (Option ℕ) DoorFault))
-    → is_told heard answer ≡ true → Timed t before
-    → Timed (told_accept (record t { heard = heard }) answer) (after_call before (AcceptCall answer))
-accepted t before answer heard told h = record {
+    → is_as_heard heard answer ≡ true → Timed t before
+    → Timed (answered_accept (record t { heard = heard }) answer) (after_call before (AcceptCall answer))
+accepted t before answer heard as_heard h = record {
   same = ap (λ (u : Turn). after_call u (AcceptCall answer)) h.same;
   clock = h.clock ∙ called_clock before (AcceptCall answer);
   kept = record {
@@ -110,44 +110,44 @@ accepted t before answer heard told h = record {
   };
   paced = record { light = h.paced.light; once = h.paced.once };
   heard = refl;
-  honest = both t.honest (is_told heard answer) h.honest told;
+  honest = both t.honest (is_as_heard heard answer) h.honest as_heard;
 }
 
 -- the system was not asked
 pub timed_unasked : (old new : Option (List Step)) (before after : Turn) (answer : Result (Option ℕ) DoorFault)
-    → after ≡ after_call before (AcceptCall answer) → is_told None answer ≡ true
-    → Tells old (Told (AcceptCall answer)) new → IsTimed old before → IsTimed new after
-timed_unasked old new before after answer is told tells timed =
-    subst (IsTimed new) (sym is) (timed_step before.timekeeper.wall before.timekeeper.start old new (Told (AcceptCall answer)) before
+    → after ≡ after_call before (AcceptCall answer) → is_as_heard None answer ≡ true
+    → Tells old (Answers (AcceptCall answer)) new → IsTimed old before → IsTimed new after
+timed_unasked old new before after answer is as_heard tells timed =
+    subst (IsTimed new) (sym is) (timed_step before.timekeeper.wall before.timekeeper.start old new (Answers (AcceptCall answer)) before
     (after_call before (AcceptCall answer)) tells
-    (λ t h. subst (λ (x : Option (Result (Option ℕ) DoorFault)). Timed (told_accept (record t { heard = x }) answer)
-    (after_call before (AcceptCall answer))) (sym h.heard) (accepted t before answer None told h)) timed)
+    (λ t h. subst (λ (x : Option (Result (Option ℕ) DoorFault)). Timed (answered_accept (record t { heard = x }) answer)
+    (after_call before (AcceptCall answer))) (sym h.heard) (accepted t before answer None as_heard h)) timed)
 
 -- the system was asked
 pub timed_asked : (old mid new : Option (List Step)) (before after : Turn) (number : ℕ) (said : Result Unit ErrorKind)
     (answer : Result (Option ℕ) DoorFault) → after ≡ after_call before (AcceptCall answer)
-    → is_told (Some (newcomer_of number said)) answer ≡ true → Tells old (Accepts number said) mid
-    → Tells mid (Told (AcceptCall answer)) new → IsTimed old before → IsTimed new after
-timed_asked old mid new before after number said answer is told asks tells timed =
+    → is_as_heard (Some (newcomer_of number said)) answer ≡ true → Tells old (Accepts number said) mid
+    → Tells mid (Answers (AcceptCall answer)) new → IsTimed old before → IsTimed new after
+timed_asked old mid new before after number said answer is as_heard asks tells timed =
     subst (IsTimed new) (sym is) (timed_two before.timekeeper.wall before.timekeeper.start old mid new (Accepts number said)
-    (Told (AcceptCall answer)) before (after_call before (AcceptCall answer))
-    (λ t h. accepted t before answer (Some (newcomer_of number said)) told h) asks tells timed)
+    (Answers (AcceptCall answer)) before (after_call before (AcceptCall answer))
+    (λ t h. accepted t before answer (Some (newcomer_of number said)) as_heard h) asks tells timed)
 
 pub timed_write : (old new : Option (List Step)) (before after : Turn) (peer : ℕ) (bytes : List ℕ) (answer : Result ℕ DoorFault)
     → ((p : ℕ) (xs : List ℕ) → after ≡ after_call before (WriteCall p xs answer))
-    → Tells old (Told (WriteCall peer bytes answer)) new → IsTimed old before → IsTimed new after
+    → Tells old (Answers (WriteCall peer bytes answer)) new → IsTimed old before → IsTimed new after
 timed_write old new before after peer bytes answer is tells timed =
     let call : Call = WriteCall peer bytes answer in
-    subst (IsTimed new) (sym (is peer bytes)) (timed_step before.timekeeper.wall before.timekeeper.start old new (Told call) before
+    subst (IsTimed new) (sym (is peer bytes)) (timed_step before.timekeeper.wall before.timekeeper.start old new (Answers call) before
     (after_call before call) tells
     (λ t h. called t before call h) timed)
 
 pub timed_close : (old new : Option (List Step)) (before after : Turn) (peer : ℕ) (answer : Result Unit DoorFault)
     → ((p : ℕ) → after ≡ after_call before (CloseCall p answer))
-    → Tells old (Told (CloseCall peer answer)) new → IsTimed old before → IsTimed new after
+    → Tells old (Answers (CloseCall peer answer)) new → IsTimed old before → IsTimed new after
 timed_close old new before after peer answer is tells timed =
     let call : Call = CloseCall peer answer in
-    subst (IsTimed new) (sym (is peer)) (timed_step before.timekeeper.wall before.timekeeper.start old new (Told call) before
+    subst (IsTimed new) (sym (is peer)) (timed_step before.timekeeper.wall before.timekeeper.start old new (Answers call) before
     (after_call before call) tells
     (λ t h. called t before call h) timed)
 
@@ -158,8 +158,8 @@ unless_late : (late hands : Bool) → (late ≡ true → hands ≡ false) → no
 unless_late true hands f = ap not (f refl)
 unless_late false hands f = refl
 
--- an end is told where one may be
-unless_ended : (tells ends : Bool) → (tells ≡ true → ends ≡ true) → (not tells || ends) ≡ true
+-- an end is reported if one may be
+unless_ended : (reports ends : Bool) → (reports ≡ true → ends ≡ true) → (not reports || ends) ≡ true
 unless_ended true ends f = f refl
 unless_ended false ends f = refl
 
@@ -174,11 +174,11 @@ read_clock turn line (Err fault) buffer = refl
 pub record IsAllowed (turn : Turn) (line : Line) (answer : Result Got DoorFault) (buffer : List ℕ) : Type 0 where
   pub prompt : turn.late ≡ true → hands_out answer ≡ false
   pub light : fits turn.pace (weight_of line (got_bytes answer buffer)) ≡ true
-  pub single : tells_end answer ≡ true → turn.ends ≡ true
+  pub single : reports_end answer ≡ true → turn.ends ≡ true
 
 read_rightly : (t : Times) (before : Turn) (line : Line) (who : ℕ) (answer : Result Got DoorFault) (buffer : List ℕ)
     → t.lines who ≡ line → IsAllowed before line answer buffer → Timed t before
-    → Timed (told_read t who answer buffer) (after_read before line answer buffer)
+    → Timed (answered_read t who answer buffer) (after_read before line answer buffer)
 read_rightly t before line who answer buffer lined allowed h = record {
   same = ap (λ (u : Turn). after_read u (t.lines who) answer buffer) h.same ∙ ap (λ l. after_read before l answer buffer) lined;
   clock = h.clock ∙ read_clock before line answer buffer;
@@ -193,8 +193,8 @@ read_rightly t before line who answer buffer lined allowed h = record {
     light = both t.paced (fits t.turn.pace (weight_of (t.lines who) (got_bytes answer buffer))) h.paced.light
         (ap (λ (u : Turn). fits u.pace (weight_of (t.lines who) (got_bytes answer buffer))) h.same
         ∙ ap (λ l. fits before.pace (weight_of l (got_bytes answer buffer))) lined ∙ allowed.light);
-    once = both t.single (not (tells_end answer) || t.turn.ends) h.paced.once
-        (unless_ended (tells_end answer) t.turn.ends (λ e. ap (λ (u : Turn). u.ends) h.same ∙ allowed.single e));
+    once = both t.single (not (reports_end answer) || t.turn.ends) h.paced.once
+        (unless_ended (reports_end answer) t.turn.ends (λ e. ap (λ (u : Turn). u.ends) h.same ∙ allowed.single e));
   };
   heard = h.heard;
   honest = h.honest;
@@ -203,12 +203,12 @@ read_rightly t before line who answer buffer lined allowed h = record {
 read_from : (wall start : ℕ) (old new : Option (List Step)) (before : Turn) (line : Line) (who : ℕ) (answer : Result Got DoorFault)
     (buffer : List ℕ)
     → ((log : List Step) → old ≡ Some log → (times wall start log).lines who ≡ line) → IsAllowed before line answer buffer
-    → Tells old (Told (ReadCall who answer buffer)) new → IsTimedFrom wall start old before
+    → Tells old (Answers (ReadCall who answer buffer)) new → IsTimedFrom wall start old before
     → IsTimedFrom wall start new (after_read before line answer buffer)
 read_from wall start old new before line who answer buffer lined allowed tells timed later is =
     let t = tells later is in
     subst (λ (x : Times). Timed x (after_read before line answer buffer))
-    (sym (ap (times wall start) t.2 ∙ times_more wall start t.0 (Told (ReadCall who answer buffer))))
+    (sym (ap (times wall start) t.2 ∙ times_more wall start t.0 (Answers (ReadCall who answer buffer))))
     (read_rightly (times wall start t.0) before line who answer buffer (lined t.0 t.1) allowed (timed t.0 t.1))
 
 read_time : (turn : Turn) (line : Line) (answer : Result Got DoorFault) (buffer : List ℕ)
@@ -227,7 +227,7 @@ pub timed_read : (old new : Option (List Step)) (before after : Turn) (line : Li
     → after ≡ after_read before line answer buffer
     → ((wall start : ℕ) (log : List Step) → old ≡ Some log → (times wall start log).lines who ≡ line)
     → IsAllowed before line answer buffer
-    → Tells old (Told (ReadCall who answer buffer)) new → IsTimed old before → IsTimed new after
+    → Tells old (Answers (ReadCall who answer buffer)) new → IsTimed old before → IsTimed new after
 timed_read old new before after line who answer buffer is lined allowed tells timed =
     subst (IsTimed new) (sym is)
     (timed_by new before (after_read before line answer buffer) (read_time before line answer buffer)
@@ -235,9 +235,9 @@ timed_read old new before after line who answer buffer is lined allowed tells ti
     (lined before.timekeeper.wall before.timekeeper.start) allowed tells timed))
 
 -- the line of a socket's peer is the one that the times say
-pub line_kept : (told : Option (List Step)) (wall start : ℕ) (p : Peer) (log : List Step) → IsKept told p → told ≡ Some log
+pub line_kept : (trace : Option (List Step)) (wall start : ℕ) (p : Peer) (log : List Step) → IsKept trace p → trace ≡ Some log
     → (times wall start log).lines p.number ≡ p.share.line
-line_kept told wall start p log kept is = line_is wall start p.number log ∙ sym (kept log is).line
+line_kept trace wall start p log kept is = line_is wall start p.number log ∙ sym (kept log is).line
 
 -- a read that handed out nothing, of whatever line
 fits_none : (pace : Pace) → fits pace 0 ≡ true
@@ -245,7 +245,7 @@ fits_none (Paced left) = grind (arith, nat_tests)
 fits_none OneLine = refl
 
 none_allowed : (turn : Turn) (line : Line) (answer : Result Got DoorFault) (buffer : List ℕ) → got_bytes answer buffer ≡ []
-    → hands_out answer ≡ false → (tells_end answer ≡ true → turn.ends ≡ true) → IsAllowed turn line answer buffer
+    → hands_out answer ≡ false → (reports_end answer ≡ true → turn.ends ≡ true) → IsAllowed turn line answer buffer
 none_allowed turn line answer buffer none kept_back ends = record {
   prompt = λ e. kept_back;
   light = ap (λ xs. fits turn.pace (weight_of line xs)) none ∙ fits_none turn.pace;
@@ -254,35 +254,35 @@ none_allowed turn line answer buffer none kept_back ends = record {
 
 none_from : (wall start : ℕ) (old new : Option (List Step)) (before after : Turn) (who : ℕ) (answer : Result Got DoorFault)
     (buffer : List ℕ) → ((line : Line) → after ≡ after_read before line answer buffer)
-    → ((line : Line) → IsAllowed before line answer buffer) → Tells old (Told (ReadCall who answer buffer)) new
+    → ((line : Line) → IsAllowed before line answer buffer) → Tells old (Answers (ReadCall who answer buffer)) new
     → IsTimedFrom wall start old before → IsTimedFrom wall start new after
 none_from wall start old new before after who answer buffer is allowed tells timed =
-    timed_step wall start old new (Told (ReadCall who answer buffer)) before after tells
-    (λ t h. subst (λ (u : Turn). Timed (told_read t who answer buffer) u) (sym (is (t.lines who)))
+    timed_step wall start old new (Answers (ReadCall who answer buffer)) before after tells
+    (λ t h. subst (λ (u : Turn). Timed (answered_read t who answer buffer) u) (sym (is (t.lines who)))
     (read_rightly t before (t.lines who) who answer buffer refl (allowed (t.lines who)) h)) timed
 
 pub timed_nothing : (old new : Option (List Step)) (turn : Turn) (who : ℕ) (buffer : List ℕ)
-    → Tells old (Told (ReadCall who (Ok got.Nothing) buffer)) new → IsTimed old turn → IsTimed new turn
+    → Tells old (Answers (ReadCall who (Ok got.Nothing) buffer)) new → IsTimed old turn → IsTimed new turn
 timed_nothing old new turn who buffer tells timed =
     none_from turn.timekeeper.wall turn.timekeeper.start old new turn turn who (Ok got.Nothing) buffer (λ line. refl)
     (λ line. none_allowed turn line (Ok got.Nothing) buffer refl refl (λ e. absurd (true≢false (sym e)))) tells timed
 
--- nobody was there: that was told, or nothing
+-- nobody was there: that was reported, or nothing
 pub timed_missed : (old new : Option (List Step)) (before after : Turn) (who : ℕ) (answer : Result Got DoorFault) (buffer : List ℕ)
     → (answer ≡ Ok got.Nothing ⊎ answer ≡ Err DoorFault.Read)
     → ((line : Line) (bytes : List ℕ) → after ≡ after_read before line answer bytes)
-    → (tells_end answer ≡ true → before.ends ≡ true)
-    → Tells old (Told (ReadCall who answer buffer)) new → IsTimed old before → IsTimed new after
-timed_missed old new before after who answer buffer told is ends tells timed =
+    → (reports_end answer ≡ true → before.ends ≡ true)
+    → Tells old (Answers (ReadCall who answer buffer)) new → IsTimed old before → IsTimed new after
+timed_missed old new before after who answer buffer reported is ends tells timed =
     timed_by new before after (ap (λ (u : Turn). u.timekeeper) (is line.Ended buffer) ∙ read_time before line.Ended answer buffer)
     (none_from before.timekeeper.wall before.timekeeper.start old new before after who answer buffer (λ line. is line buffer)
     (λ line. none_allowed before line answer buffer none kept_back ends) tells timed)
   where
     none : got_bytes answer buffer ≡ []
-    none = ⊎_elim (λ e. ap (λ a. got_bytes a buffer) e) (λ e. ap (λ a. got_bytes a buffer) e) told
+    none = ⊎_elim (λ e. ap (λ a. got_bytes a buffer) e) (λ e. ap (λ a. got_bytes a buffer) e) reported
 
     kept_back : hands_out answer ≡ false
-    kept_back = ⊎_elim (λ e. ap hands_out e) (λ e. ap hands_out e) told
+    kept_back = ⊎_elim (λ e. ap hands_out e) (λ e. ap hands_out e) reported
 
 -- ---- a wait
 
@@ -328,8 +328,8 @@ same_number : (n m : ℕ) → n ≡ m → (n == m) ≡ true
 same_number n m e = grind (arith, nat_tests)
 
 -- the clock showed nothing
-untold : (t : Times) (turn : Turn) → Timed t turn → Timed (told_moment (clocked t None) (Err DoorFault.Now)) (begun turn false)
-untold t turn h = record {
+unreported : (t : Times) (turn : Turn) → Timed t turn → Timed (answered_moment (clocked t None) (Err DoorFault.Now)) (begun turn false)
+unreported t turn h = record {
   same = ap (λ (u : Turn). begun u false) h.same;
   clock = h.clock;
   kept = record {
@@ -343,11 +343,11 @@ untold t turn h = record {
   honest = h.honest;
 }
 
--- the clock showed a time, and the moment that is to be told then was told
-told_rightly : (t : Times) (turn : Turn) (time : ℕ) → Timed t turn
-    → Timed (told_moment (clocked t (Some time)) (Ok (moment_at turn time))) (told_at turn time (moment_at turn time))
-told_rightly t turn time h = record {
-  same = ap (λ (u : Turn). told_at u time (moment_at turn time)) h.same;
+-- the clock showed a time, and the moment that is to be reported then was reported
+reported_rightly : (t : Times) (turn : Turn) (time : ℕ) → Timed t turn
+    → Timed (answered_moment (clocked t (Some time)) (Ok (moment_at turn time))) (reported_at turn time (moment_at turn time))
+reported_rightly t turn time h = record {
+  same = ap (λ (u : Turn). reported_at u time (moment_at turn time)) h.same;
   clock = refl;
   kept = record {
     exact = both t.exact (moment_at turn time == moment_at t.turn time) h.kept.exact
@@ -363,30 +363,32 @@ told_rightly t turn time h = record {
 
 pub timed_moment : (old mid new : Option (List Step)) (before after : Turn) (shown : Option ℕ) (answer : Result ℕ DoorFault)
     → (shown ≡ None → (answer ≡ Err DoorFault.Now) × (after ≡ begun before false))
-    → ((time : ℕ) → shown ≡ Some time → (answer ≡ Ok (moment_at before time)) × (after ≡ told_at before time (moment_at before time)))
-    → Tells old (Clocks shown) mid → Tells mid (Told (NowCall answer)) new → IsTimed old before → IsTimed new after
+    → ((time : ℕ) → shown ≡ Some time → (answer ≡ Ok (moment_at before time)) × (after ≡ reported_at before time (moment_at before time)))
+    → Tells old (Clocks shown) mid → Tells mid (Answers (NowCall answer)) new → IsTimed old before → IsTimed new after
 timed_moment old mid new before after None answer none some clocks tells timed =
     let n = none refl in
     subst (IsTimed new) (sym n.1)
-    (timed_two before.timekeeper.wall before.timekeeper.start old mid new (Clocks None) (Told (NowCall answer)) before
+    (timed_two before.timekeeper.wall before.timekeeper.start old mid new (Clocks None) (Answers (NowCall answer)) before
     (begun before false)
-    (λ t h. subst (λ (a : Result ℕ DoorFault). Timed (told_moment (clocked t None) a) (begun before false)) (sym n.0) (untold t before h))
+    (λ t h. subst (λ (a : Result ℕ DoorFault). Timed (answered_moment (clocked t None) a) (begun before false)) (sym n.0)
+    (unreported t before h))
     clocks tells timed)
 timed_moment old mid new before after (Some time) answer none some clocks tells timed =
     let s = some time refl in
     subst (IsTimed new) (sym s.1)
-    (timed_two before.timekeeper.wall before.timekeeper.start old mid new (Clocks (Some time)) (Told (NowCall answer)) before
-    (told_at before time (moment_at before time))
-    (λ t h. subst (λ (a : Result ℕ DoorFault). Timed (told_moment (clocked t (Some time)) a) (told_at before time (moment_at before time)))
+    (timed_two before.timekeeper.wall before.timekeeper.start old mid new (Clocks (Some time)) (Answers (NowCall answer)) before
+    (reported_at before time (moment_at before time))
+    (λ t h. subst
+    (λ (a : Result ℕ DoorFault). Timed (answered_moment (clocked t (Some time)) a) (reported_at before time (moment_at before time)))
     (sym s.0)
-    (told_rightly t before time h)) clocks tells timed)
+    (reported_rightly t before time h)) clocks tells timed)
 
--- ---- nothing was told yet
+-- ---- the trace is empty
 
-pub timed_first : (told : Option (List Step)) (turn : Turn) → turn ≡ first_turn turn.timekeeper.wall turn.timekeeper.start
-    → (told ≡ Some [] ⊎ told ≡ None) → IsTimed told turn
-timed_first told turn is begins log e = ⊎_elim
-    (λ (f : told ≡ Some []).
+pub timed_first : (trace : Option (List Step)) (turn : Turn) → turn ≡ first_turn turn.timekeeper.wall turn.timekeeper.start
+    → (trace ≡ Some [] ⊎ trace ≡ None) → IsTimed trace turn
+timed_first trace turn is begins log e = ⊎_elim
+    (λ (f : trace ≡ Some []).
     let same : log ≡ [] = cc in
     subst (λ (l : List Step). Timed (times turn.timekeeper.wall turn.timekeeper.start l) turn) (sym same)
     (record {
@@ -397,7 +399,7 @@ timed_first told turn is begins log e = ⊎_elim
       heard = refl;
       honest = refl;
     }))
-    (λ (f : told ≡ None). absurd (nothing (sym f ∙ e)))
+    (λ (f : trace ≡ None). absurd (nothing (sym f ∙ e)))
     begins
   where
     nothing : None ≡ Some log → ⊥

@@ -8,12 +8,12 @@ use Rattle.srcp_peers.specs.Times.{times}
 
 -- the socket of each of these peers took all that was taken for it, or a write found that it takes no more
 abbrev pub AreDelivered : Option (List Step) → List Peer → Type 0
-AreDelivered told peers = (log : List Step) → told ≡ Some log → (k : ℕ) (d : Peer) → k < length peers
+AreDelivered trace peers = (log : List Step) → trace ≡ Some log → (k : ℕ) (d : Peer) → k < length peers
     → (let a = account (slice_index_or peers k d).number log in (is_owed a.sent ≡ false) ⊎ (a.sent.lost ≡ true))
 
 -- so did each socket that was accepted and is not closed
 abbrev pub IsAllDelivered : Option (List Step) → Type 0
-IsAllDelivered told = (log : List Step) → told ≡ Some log → (socket : ℕ) → (account socket log).lingering.kept ≡ true
+IsAllDelivered trace = (log : List Step) → trace ≡ Some log → (socket : ℕ) → (account socket log).lingering.kept ≡ true
     → (is_owed (account socket log).sent ≡ false) ⊎ ((account socket log).sent.lost ≡ true)
 
 -- the time of the clock until which is delivered at most, if it showed this: 10 seconds later
@@ -27,7 +27,7 @@ is_over until None = true
 
 -- the step that came last found it so
 abbrev pub IsOver : (until : ℕ) → Option (List Step) → Type 0
-IsOver until told = (log : List Step) → told ≡ Some log
+IsOver until trace = (log : List Step) → trace ≡ Some log
     → (before : List Step) × (answer : Option ℕ) × (log ≡ before ++ Clocks answer ∷ []) × (is_over until answer ≡ true)
 
 -- `count` waits were made

@@ -34,9 +34,9 @@ IsMissing socket peers = (k : ℕ) (d : Peer) → k < length peers → (slice_in
 
 -- ---- each socket that ever was
 
--- what is to hold of a socket: it took a prefix of what the door told to have taken for it; what the door handed out
--- is a prefix of what it gave; its end was told only after a read had found it; each long wait found it at rest; and it
--- was shut down and closed only when it might be
+-- what is to hold of a socket: it took a prefix of what the door said it took for its peer; what the door handed out
+-- is a prefix of what it gave; its end was reported only after a read had found it; each long wait found it at rest;
+-- and it was shut down and closed only when it might be
 pub record Sound (a : Account) : Type 0 where
   pub took : StartsWith a.sent.written a.sent.took
   pub handed : StartsWith a.received.gave a.received.handed
@@ -46,7 +46,7 @@ pub record Sound (a : Account) : Type 0 where
   pub served : a.served ≡ true
 
 abbrev pub AreSound : Option (List Step) → Type 0
-AreSound told = (log : List Step) → told ≡ Some log → (socket : ℕ) → Sound (account socket log)
+AreSound trace = (log : List Step) → trace ≡ Some log → (socket : ℕ) → Sound (account socket log)
 
 -- nothing was given to it or came of it
 pub record Fresh (a : Account) : Type 0 where
@@ -57,7 +57,7 @@ pub record Fresh (a : Account) : Type 0 where
 
 -- so it is for all numbers that no socket had
 abbrev pub AreFresh : Option (List Step) → ℕ → Type 0
-AreFresh told last = (log : List Step) → told ≡ Some log → (socket : ℕ) → last < socket → Fresh (account socket log)
+AreFresh trace last = (log : List Step) → trace ≡ Some log → (socket : ℕ) → last < socket → Fresh (account socket log)
 
 -- it is neither there nor kept
 pub record Closed (a : Account) : Type 0 where
@@ -66,13 +66,13 @@ pub record Closed (a : Account) : Type 0 where
 
 -- so it is for all of which no peer is kept
 abbrev pub AreClosed : Option (List Step) → List Peer → Type 0
-AreClosed told peers = (log : List Step) → told ≡ Some log → (socket : ℕ) → IsAbsent socket peers
+AreClosed trace peers = (log : List Step) → trace ≡ Some log → (socket : ℕ) → IsAbsent socket peers
     → Closed (account socket log)
 
 -- ---- who is read
 
 abbrev pub AreRead : Option (List Step) → Type 0
-AreRead told = (socket : ℕ) → IsRead told socket
+AreRead trace = (socket : ℕ) → IsRead trace socket
 
 -- ---- what a turn flushes
 
@@ -97,19 +97,19 @@ pub record Hears (a : Account) (listening : Listening) : Type 0 where
   pub heard : HeardAs a.received.quiet listening
 
 abbrev pub IsHeard : Option (List Step) → Listening → Type 0
-IsHeard told listening = (log : List Step) → told ≡ Some log → Hears (account 0 log) listening
+IsHeard trace listening = (log : List Step) → trace ≡ Some log → Hears (account 0 log) listening
 
 -- ---- a door
 
-pub record Stands (told : Option (List Step)) (peers : List Peer) (listening : Listening) (last : ℕ) : Type 0 where
-  pub kept : AreKept told peers
+pub record Stands (trace : Option (List Step)) (peers : List Peer) (listening : Listening) (last : ℕ) : Type 0 where
+  pub kept : AreKept trace peers
   pub apart : AreApart peers
   pub within : AreWithin last peers
-  pub sound : AreSound told
-  pub fresh : AreFresh told last
-  pub closed : AreClosed told peers
-  pub heard : IsHeard told listening
+  pub sound : AreSound trace
+  pub fresh : AreFresh trace last
+  pub closed : AreClosed trace peers
+  pub heard : IsHeard trace listening
 
 -- so it is whatever the listener said, and however many peers came
 abbrev pub AreStanding : Option (List Step) → List Peer → Type 0
-AreStanding told peers = (listening : Listening) × (last : ℕ) × Stands told peers listening last
+AreStanding trace peers = (listening : Listening) × (last : ℕ) × Stands trace peers listening last

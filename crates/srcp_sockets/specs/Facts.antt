@@ -44,6 +44,6 @@ HeardAs-prop quiet listening.Ready = hlevel props
 HeardAs-prop quiet listening.Refused = hlevel props
 HeardAs-prop quiet listening.Quiet = hlevel props
 
-pub Stands-prop : (told : Option (List Step)) (peers : List Peer) (l : Listening) (last : ℕ) → IsProp
-    (Stands told peers l last)
-Stands-prop told peers l last = hlevel (props, ComesAs-prop, StaysAs-prop, WritesAs-prop, HeardAs-prop)
+pub Stands-prop : (trace : Option (List Step)) (peers : List Peer) (l : Listening) (last : ℕ) → IsProp
+    (Stands trace peers l last)
+Stands-prop trace peers l last = hlevel (props, ComesAs-prop, StaysAs-prop, WritesAs-prop, HeardAs-prop)

@@ -10,12 +10,12 @@ use Rattle.std.specs.Net.Socket.{socket_ip, socket_port}
 use Rattle.srcp_sockets.specs.declared.fault.ListenFault.{ListenFault}
 use Rattle.srcp_sockets.specs.declared.fault.ListenFault.TheVariants as fault
 
--- why, if the system's error is of this kind: refused memory is told as such, and any other error is the port's
+-- why, if the system's error is of this kind: refused memory is reported as such, and any other error is the port's
 abbrev pub listen_fault : ErrorKind → ListenFault
 listen_fault kind.OutOfMemory = fault.Memory
 listen_fault _ = fault.Port
 
--- what is told of it
+-- the text that reports it
 abbrev pub listen_text : ListenFault → List ℕ
 listen_text fault.Port = codes "cannot listen"
 listen_text fault.Memory = codes "out of memory"

@@ -7,7 +7,7 @@ use Rattle.srcp_core.specs.Connection.{Connection, sent}
 use Rattle.srcp_core.specs.Course.{course}
 use Rattle.srcp_core.specs.Held.{Held}
 use Rattle.srcp_core.specs.Stands.{StandsFor}
-use Rattle.srcp_serve.specs.Given.{Call, told_call}
+use Rattle.srcp_serve.specs.Given.{Call, door_call}
 use Rattle.srcp_serve.specs.Serving.{events_of, stand_after}
 use Rattle.srcp_serve.specs.Slots.{IsOfCourse}
 use Rattle.srcp_peers.specs.Streams.{took}
@@ -15,16 +15,16 @@ use Rattle.srcp_peers.specs.Steps.{Step, calls}
 
 -- the door's calls are those of the course, and the socket of each peer took a prefix of what the course sends it
 pub record IsFollowed (buses : List Bus) (count opens : ℕ) (log : List Step) (new : Held) : Type 0 where
-  pub told : List Call
-  pub are : map told_call told ≡ calls log
-  pub served : IsOfCourse buses count opens told new
-  pub sockets : (k : ℕ) (conn : Connection) (guest : ℕ) → k < length (course buses (events_of buses told)).connections
-      → StartsWith (sent (slice_index_or (course buses (events_of buses told)).connections k conn))
-      (took (slice_index_or (stand_after buses told).guests k guest) log)
+  pub trace : List Call
+  pub are : map door_call trace ≡ calls log
+  pub served : IsOfCourse buses count opens trace new
+  pub sockets : (k : ℕ) (conn : Connection) (guest : ℕ) → k < length (course buses (events_of buses trace)).connections
+      → StartsWith (sent (slice_index_or (course buses (events_of buses trace)).connections k conn))
+      (took (slice_index_or (stand_after buses trace).guests k guest) log)
 
--- so it is for a core that stands for no events, over system that told nothing before
-abbrev pub Follows : (count opens : ℕ) (old : Held) (told_old : Option (List Step)) (new : Held)
-    (told_new : Option (List Step)) → Type 0
-Follows count opens old told_old new told_new = (buses : List Bus) (log : List Step) → IsLayout buses
-    → StandsFor buses [] old (course buses []) → told_old ≡ Some [] → told_new ≡ Some log
+-- so it is for a core that stands for no events, over a system with an empty trace
+abbrev pub Follows : (count opens : ℕ) (old : Held) (trace_old : Option (List Step)) (new : Held)
+    (trace_new : Option (List Step)) → Type 0
+Follows count opens old trace_old new trace_new = (buses : List Bus) (log : List Step) → IsLayout buses
+    → StandsFor buses [] old (course buses []) → trace_old ≡ Some [] → trace_new ≡ Some log
     → IsFollowed buses count opens log new

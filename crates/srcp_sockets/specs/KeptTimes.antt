@@ -28,10 +28,10 @@ pub record Timed (t : Times) (turn : Turn) : Type 0 where
 
 -- so it is after all steps
 abbrev pub IsTimedFrom : (wall start : ℕ) → Option (List Step) → Turn → Type 0
-IsTimedFrom wall start told turn = (log : List Step) → told ≡ Some log → Timed (times wall start log) turn
+IsTimedFrom wall start trace turn = (log : List Step) → trace ≡ Some log → Timed (times wall start log) turn
 
 abbrev pub IsTimed : Option (List Step) → Turn → Type 0
-IsTimed told turn = IsTimedFrom turn.timekeeper.wall turn.timekeeper.start told turn
+IsTimed trace turn = IsTimedFrom turn.timekeeper.wall turn.timekeeper.start trace turn
 
-pub IsTimed-prop : (told : Option (List Step)) (turn : Turn) → IsProp (IsTimed told turn)
-IsTimed-prop told turn = hlevel props
+pub IsTimed-prop : (trace : Option (List Step)) (turn : Turn) → IsProp (IsTimed trace turn)
+IsTimed-prop trace turn = hlevel props

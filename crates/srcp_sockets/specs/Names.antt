@@ -12,7 +12,7 @@ pub record Named (numbers : List ℕ) (last : ℕ) : Type 0 where
   pub within : (k : ℕ) → k < length numbers → slice_index numbers k ≤ last
 
 abbrev pub IsNamed : Option (List Step) → ℕ → Type 0
-IsNamed told last = (log : List Step) → told ≡ Some log → Named (filter_map peer_of (calls log)) last
+IsNamed trace last = (log : List Step) → trace ≡ Some log → Named (filter_map peer_of (calls log)) last
 
-pub IsNamed-prop : (told : Option (List Step)) (last : ℕ) → IsProp (IsNamed told last)
-IsNamed-prop told last = hlevel (props, IsDistinct-prop)
+pub IsNamed-prop : (trace : Option (List Step)) (last : ℕ) → IsProp (IsNamed trace last)
+IsNamed-prop trace last = hlevel (props, IsDistinct-prop)

@@ -16,8 +16,8 @@ pub fn serve_sockets<R: Rows, S: System + Drop>(
     door: &mut SocketDoor<S>,
     turns: u64,
 ) -> Served
-    ensures { Follows turns result.opened core.old (S.told door.old.sockets.system)
-        core.new (S.told door.new.sockets.system) }
+    ensures { Follows turns result.opened core.old (S.trace door.old.sockets.system)
+        core.new (S.trace door.new.sockets.system) }
 {
     serve(core, door, turns)
 }

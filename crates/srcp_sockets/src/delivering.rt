@@ -7,7 +7,7 @@ ghost use Rattle.srcp_peers.specs.AllPeers.{AreApart, AreKept, AreOffered};
 ghost use Rattle.srcp_peers.specs.Peers.{is_waiting};
 
 use srcp_peers::peers::{flush, wake};
-use srcp_peers::{Flush, PAUSE, Peer, Ready, System};
+use srcp_peers::{Flush, Peer, RETRY_DELAY, Ready, System};
 
 /// How often the door waits for the sockets at its end, at most.
 const MOST_LAST_WAITS: u32 = 1_000_000;
@@ -19,13 +19,14 @@ pub(crate) fn deliver<S: System>(
     until: u64,
     ready: &mut [Ready],
 )
-    requires kept { AreKept (S.told system.old) peers.old }
+    requires kept { AreKept (S.trace system.old) peers.old }
     requires apart { AreApart peers.old }
-    ensures kept { AreKept (S.told system.new) peers.new }
-    ensures ended { HaveEnded until (S.told system.old) (S.told system.new) peers.new }
-    ensures standing { AreStanding (S.told system.old) peers.old → AreStanding (S.told system.new) peers.new }
-    ensures all { AreStanding (S.told system.old) peers.old → HasEnded until (S.told system.old) (S.told system.new) }
-    ensures offered { AreOffered Flush.All peers.old (S.told system.old) (S.told system.new) }
+    ensures kept { AreKept (S.trace system.new) peers.new }
+    ensures ended { HaveEnded until (S.trace system.old) (S.trace system.new) peers.new }
+    ensures standing { AreStanding (S.trace system.old) peers.old → AreStanding (S.trace system.new) peers.new }
+    ensures all { AreStanding (S.trace system.old) peers.old
+        → HasEnded until (S.trace system.old) (S.trace system.new) }
+    ensures offered { AreOffered Flush.All peers.old (S.trace system.old) (S.trace system.new) }
 {
     for _look in 0..MOST_LAST_WAITS {
         flush(system, peers, Flush::All);
@@ -36,7 +37,7 @@ pub(crate) fn deliver<S: System>(
         if is_over(until, clock) {
             return;
         }
-        let count = system.wait(Some(PAUSE), ready);
+        let count = system.wait(Some(RETRY_DELAY), ready);
         wake(peers, &ready[..count]);
     }
 }

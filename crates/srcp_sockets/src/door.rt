@@ -11,7 +11,7 @@ use srcp_serve::{Door, DoorFault, Got};
 use std::alloc::{AllocError, Global};
 use std::vec::Vec;
 
-/// How many peers there are at most: the 64 that the core seats, one that it turns away, and 64 that linger.
+/// How many peers there are at most: the 64 that are connected, one that is turned away, and 64 that linger.
 const MOST_PEERS: usize = MOST_CONNECTIONS + 1 + MOST_LINGERING;
 
 /// How many sockets may be found ready at once.
@@ -26,8 +26,8 @@ pub struct SocketDoor<S: System + Drop> {
 }
 
 impl<S: System + Drop> SocketDoor<S> {
-    /// Opens a door over a system that told nothing. Its moments begin with the wall clock at the start, and go on with
-    /// the monotonic clock, which showed `start` then; both in milliseconds.
+    /// Opens a door over a system with an empty trace. Its moments begin with the wall clock at the start, and go on
+    /// with the monotonic clock, which showed `start` then; both in milliseconds.
     ///
     /// # Errors
     /// If memory is refused.
@@ -37,7 +37,7 @@ impl<S: System + Drop> SocketDoor<S> {
         wall: u64,
         start: u64,
     ) -> Result<SocketDoor<S>, AllocError>
-        requires { S.told system ≡ Some [] ⊎ S.told system ≡ None }
+        requires { S.trace system ≡ Some [] ⊎ S.trace system ≡ None }
         ensures faults { IfOk result (λ door. door.faults ≡ 0) }
         ensures system { IfOk result (λ door. door.sockets.system ≡ system) }
         ensures turn { IfOk result (λ door. door.sockets.turn ≡ first_turn wall start) }
@@ -67,7 +67,7 @@ impl<S: System + Drop> SocketDoor<S> {
         self.sockets.wait_at_most(milliseconds);
     }
 
-    /// Returns the system below, which tells what it was asked if it keeps that.
+    /// Returns the system below, which has the trace if it keeps one.
     pub fn system(&self) -> &S
         ensures { result.now ≡ self.now.sockets.system }
     {
@@ -102,7 +102,7 @@ impl<S: System + Drop> Door for SocketDoor<S> {
 
     ghost faults = { λ d. d.faults };
 
-    ghost told = { λ d. option_map calls (S.told d.sockets.system) };
+    ghost trace = { λ d. option_map calls (S.trace d.sockets.system) };
 
     fn expect(&mut self, due: Option<u64>, slack: Option<usize>) {
         self.sockets.expect(due, slack);

@@ -1,4 +1,4 @@
-//! The system as it is: mio's sockets and a clock. It tells nothing, and only makes the calls.
+//! The system as it is: mio's sockets and a clock. It keeps no trace, and only makes the calls.
 
 ghost use Rattle.std.specs.Prelude.{◌≡◌, IfOk, ◌<◌, IfSome, length};
 
@@ -194,15 +194,15 @@ impl<C: Clock + Drop> System for MioSystem<C> {
         Some(self.shown)
     }
 
-    fn told_expect(&mut self, _due: Option<u64>, _slack: Option<usize>) {}
+    fn note_expect(&mut self, _due: Option<u64>, _slack: Option<usize>) {}
 
-    fn told_now(&mut self, _answer: Result<u64, DoorFault>) {}
+    fn note_now(&mut self, _answer: Result<u64, DoorFault>) {}
 
-    fn told_accept(&mut self, _answer: Result<Option<u32>, DoorFault>) {}
+    fn note_accept(&mut self, _answer: Result<Option<u32>, DoorFault>) {}
 
-    fn told_read(&mut self, _peer: u32, _answer: Result<Got, DoorFault>, _buffer: &[u8]) {}
+    fn note_read(&mut self, _peer: u32, _answer: Result<Got, DoorFault>, _buffer: &[u8]) {}
 
-    fn told_write(&mut self, _peer: u32, _bytes: &[u8], _answer: Result<usize, DoorFault>) {}
+    fn note_write(&mut self, _peer: u32, _bytes: &[u8], _answer: Result<usize, DoorFault>) {}
 
-    fn told_close(&mut self, _peer: u32, _answer: Result<(), DoorFault>) {}
+    fn note_close(&mut self, _peer: u32, _answer: Result<(), DoorFault>) {}
 }

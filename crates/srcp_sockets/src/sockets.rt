@@ -45,19 +45,19 @@ pub(crate) struct Sockets<S: System + Drop> {
     flushed: u64,
     // Whether a peer was refused its first line since the turn began: the marks stay then.
     refused: bool,
-    // The queues that were taken for a newcomer who did not come: the next one has them.
+    // The queues that were made for a connection that was not accepted: the next one has them.
     spare: Option<Queues>,
-    ghost stands: { Stands (S.told system) peers.items listening last } by { Stands-prop _ _ _ _ },
-    ghost named: { IsNamed (S.told system) last } by { IsNamed-prop (S.told system) last },
-    ghost timed: { IsTimed (S.told system) turn } by { IsTimed-prop (S.told system) turn },
+    ghost stands: { Stands (S.trace system) peers.items listening last } by { Stands-prop _ _ _ _ },
+    ghost named: { IsNamed (S.trace system) last } by { IsNamed-prop (S.trace system) last },
+    ghost timed: { IsTimed (S.trace system) turn } by { IsTimed-prop (S.trace system) turn },
 }
 
 impl<S: System + Drop> Sockets<S> {
     /// Notes what falls due next, and how much the panels can still take.
     pub(crate) fn expect(&mut self, due: Option<u64>, slack: Option<usize>)
-        ensures { SaysOne (S.told self.old.system) (ExpectCall due slack) (S.told self.new.system) }
+        ensures { SaysOne (S.trace self.old.system) (ExpectCall due slack) (S.trace self.new.system) }
     {
-        self.system.told_expect(due, slack);
+        self.system.note_expect(due, slack);
         self.turn.expect(due, slack);
     }
 
@@ -72,10 +72,10 @@ impl<S: System + Drop> Sockets<S> {
     /// is queued is flushed once the clock went on, or before a wait. Until then the system is not asked who is ready
     /// while input is held.
     pub(crate) fn begin_turn(&mut self, ready: &mut [Ready])
-        ensures calls { SaysNothing (S.told self.old.system) (S.told self.new.system) }
-        ensures read { AreRead (S.told self.new.system) }
+        ensures calls { SaysNothing (S.trace self.old.system) (S.trace self.new.system) }
+        ensures read { AreRead (S.trace self.new.system) }
         ensures offered { AreOffered (flushed_in self.old.turn self.old.flushed self.old.peers.items)
-            self.old.peers.items (S.told self.old.system) (S.told self.new.system) }
+            self.old.peers.items (S.trace self.old.system) (S.trace self.new.system) }
     {
         let holds = self.holds_input();
         let held = self.goes_on(holds);
@@ -135,7 +135,7 @@ impl<S: System + Drop> Sockets<S> {
 
     /// Waits, but not while input is held.
     fn look(&mut self, held: bool, ready: &mut [Ready])
-        ensures { SaysNothing (S.told self.old.system) (S.told self.new.system) }
+        ensures { SaysNothing (S.trace self.old.system) (S.trace self.new.system) }
     {
         if held {
             return;
@@ -145,16 +145,16 @@ impl<S: System + Drop> Sockets<S> {
 
     /// Flushes each peer that is there, and goes on with those that linger.
     fn flush(&mut self, what: Flush)
-        ensures calls { SaysNothing (S.told self.old.system) (S.told self.new.system) }
-        ensures offered { AreOffered what self.old.peers.items (S.told self.old.system) (S.told self.new.system) }
+        ensures calls { SaysNothing (S.trace self.old.system) (S.trace self.new.system) }
+        ensures offered { AreOffered what self.old.peers.items (S.trace self.old.system) (S.trace self.new.system) }
     {
         self.flushed = self.turn.clock;
         flush(&mut self.system, self.peers.as_mut_slice(), what);
     }
 
-    /// Waits as long as nothing happens without a word of a socket, and notes which are ready.
+    /// Waits until a socket is ready, but no longer than until something else is to be done. Notes which are ready.
     fn wait(&mut self, ready: &mut [Ready])
-        ensures { SaysNothing (S.told self.old.system) (S.told self.new.system) }
+        ensures { SaysNothing (S.trace self.old.system) (S.trace self.new.system) }
     {
         let most = self.longest_wait();
         let count = self.system.wait(most, ready);
@@ -166,8 +166,8 @@ impl<S: System + Drop> Sockets<S> {
     /// Begins the visit of each peer; `holds` says whether input was held as the turn began. The marks are cleared if
     /// no peer was refused its first line in the turn before.
     fn begin_visits(&mut self, holds: bool)
-        ensures calls { SaysNothing (S.told self.old.system) (S.told self.new.system) }
-        ensures read { AreRead (S.told self.new.system) }
+        ensures calls { SaysNothing (S.trace self.old.system) (S.trace self.new.system) }
+        ensures read { AreRead (S.trace self.new.system) }
         ensures marks { AreMarked (not self.old.refused) self.old.peers.items self.new.peers.items }
         ensures rooms { All (λ peer. peer.room ≡ room_of holds self.old.turn.slack) self.new.peers.items }
     {
@@ -187,8 +187,8 @@ impl<S: System + Drop> Sockets<S> {
 
     /// Delivers what was taken, for 10 seconds at most, and returns the system.
     pub(crate) fn deliver(self, ready: &mut [Ready]) -> S
-        ensures ended { HasEnded (linger_end self.turn.clock) (S.told self.system) (S.told result) }
-        ensures offered { AreOffered Flush.All self.peers.items (S.told self.system) (S.told result) }
+        ensures ended { HasEnded (linger_end self.turn.clock) (S.trace self.system) (S.trace result) }
+        ensures offered { AreOffered Flush.All self.peers.items (S.trace self.system) (S.trace result) }
     {
         let Sockets {
             mut system,
@@ -207,7 +207,7 @@ impl<S: System + Drop> Sockets<S> {
         system
     }
 
-    /// Returns sockets with nobody in it, over a system that told nothing.
+    /// Returns sockets with nobody in it, over a system with an empty trace.
     ///
     /// # Errors
     /// If memory is refused.
@@ -217,7 +217,7 @@ impl<S: System + Drop> Sockets<S> {
         most: usize,
         turn: Turn,
     ) -> Result<Sockets<S>, AllocError>
-        requires told { S.told system ≡ Some [] ⊎ S.told system ≡ None }
+        requires trace { S.trace system ≡ Some [] ⊎ S.trace system ≡ None }
         requires turn { turn ≡ first_turn turn.timekeeper.wall turn.timekeeper.start }
         ensures { IfOk result (λ sockets. (sockets.system ≡ system) × (sockets.turn ≡ turn)) }
     {
@@ -237,23 +237,23 @@ impl<S: System + Drop> Sockets<S> {
 
     /// Closes a peer. It lingers until its socket took what is queued and its input ended, 10 seconds at most.
     pub(crate) fn close(&mut self, number: u32) -> Result<(), DoorFault>
-        ensures told { SaysOne (S.told self.old.system) (CloseCall number result) (S.told self.new.system) }
+        ensures trace { SaysOne (S.trace self.old.system) (CloseCall number result) (S.trace self.new.system) }
         ensures fault { IfErr result (λ fault. fault ≡ DoorFault.Close) }
     {
         let Some(index) = self.index_of(number) else {
-            self.system.told_close(number, Err(DoorFault::Close));
+            self.system.note_close(number, Err(DoorFault::Close));
             self.turn.note_close();
             return Err(DoorFault::Close);
         };
         self.peers[index].linger(self.turn.clock);
-        self.system.told_close(number, Ok(()));
+        self.system.note_close(number, Ok(()));
         self.turn.note_close();
         Ok(())
     }
 
     /// Closes the sockets of the lingering peers for which nothing is left to do.
     fn close_gone(&mut self)
-        ensures calls { SaysNothing (S.told self.old.system) (S.told self.new.system) }
+        ensures calls { SaysNothing (S.trace self.old.system) (S.trace self.new.system) }
         ensures last { self.new.last ≡ self.old.last }
     {
         for _ in 0..MOST_LINGERING {
@@ -269,7 +269,7 @@ impl<S: System + Drop> Sockets<S> {
         requires within { index < length self.old.peers.items }
         requires closable { (d : Peer) → is_closable self.old.turn.clock
             (slice_index_or self.old.peers.items index d) ≡ true }
-        ensures calls { SaysNothing (S.told self.old.system) (S.told self.new.system) }
+        ensures calls { SaysNothing (S.trace self.old.system) (S.trace self.new.system) }
         ensures last { self.new.last ≡ self.old.last }
     {
         let number = self.peers[index].number;
@@ -277,18 +277,18 @@ impl<S: System + Drop> Sockets<S> {
         self.system.close(number);
     }
 
-    /// Returns the moment that is to be told.
+    /// Returns the moment that is to be reported.
     ///
     /// # Errors
     /// `Now` if the clock cannot be read.
     pub(crate) fn now(&mut self) -> Result<u64, DoorFault>
-        requires { AreRead (S.told self.old.system) }
-        ensures told { SaysOne (S.told self.old.system) (NowCall result) (S.told self.new.system) }
+        requires { AreRead (S.trace self.old.system) }
+        ensures trace { SaysOne (S.trace self.old.system) (NowCall result) (S.trace self.new.system) }
         ensures fault { IfErr result (λ fault. fault ≡ DoorFault.Now) }
     {
         let shown = self.system.clock();
-        let answer = self.turn.tell(shown);
-        self.system.told_now(answer);
+        let answer = self.turn.report_moment(shown);
+        self.system.note_now(answer);
         answer
     }
 
@@ -346,21 +346,23 @@ impl<S: System + Drop> Sockets<S> {
 
     /// Hands out nothing of a peer.
     pub(crate) fn hold_back(&mut self, number: u32, buffer: &[u8]) -> Result<Got, DoorFault>
-        ensures told { SaysOne (S.told self.old.system) (ReadCall number result buffer.now) (S.told self.new.system) }
+        ensures trace { SaysOne (S.trace self.old.system) (ReadCall number result buffer.now)
+            (S.trace self.new.system) }
         ensures nothing { result ≡ Ok Got.Nothing }
     {
         let answer = Ok(Got::Nothing);
-        self.system.told_read(number, answer, buffer);
+        self.system.note_read(number, answer, buffer);
         answer
     }
 
     /// Reads what has come from a peer.
     ///
     /// # Errors
-    /// `Read` if the peer is lost, or is not there, and the turn told no other end.
+    /// `Read` if the peer is lost, or is not there, and the turn reported no other end.
     pub(crate) fn read(&mut self, number: u32, buffer: &mut [u8]) -> Result<Got, DoorFault>
         requires { self.old.turn.late ≡ false }
-        ensures told { SaysOne (S.told self.old.system) (ReadCall number result buffer.new) (S.told self.new.system) }
+        ensures trace { SaysOne (S.trace self.old.system) (ReadCall number result buffer.new)
+            (S.trace self.new.system) }
         ensures count { (n : ℕ) → result ≡ Ok (Got.Bytes n) → (0 < n) × (n ≤ length buffer.old) }
         ensures fault { IfErr result (λ fault. fault ≡ DoorFault.Read) }
     {
@@ -373,28 +375,30 @@ impl<S: System + Drop> Sockets<S> {
         handed.got
     }
 
-    /// Tells of a peer that is not there that it is lost, if the turn told no other end.
+    /// Reports that a peer that is not there is lost, if the turn reported no other end.
     ///
     /// # Errors
     /// `Read` if it did not.
     fn read_nobody(&mut self, number: u32, buffer: &[u8]) -> Result<Got, DoorFault>
         requires { IsMissing number self.old.peers.items }
-        ensures told { SaysOne (S.told self.old.system) (ReadCall number result buffer.now) (S.told self.new.system) }
+        ensures trace { SaysOne (S.trace self.old.system) (ReadCall number result buffer.now)
+            (S.trace self.new.system) }
         ensures nothing { (result ≡ Ok Got.Nothing) ⊎ (result ≡ Err DoorFault.Read) }
     {
-        let answer = self.turn.tell_fault();
-        self.system.told_read(number, answer, buffer);
+        let answer = self.turn.report_fault();
+        self.system.note_read(number, answer, buffer);
         answer
     }
 
     /// Takes bytes for a peer.
     pub(crate) fn write(&mut self, number: u32, bytes: &[u8]) -> Result<usize, DoorFault>
-        ensures told { SaysOne (S.told self.old.system) (WriteCall number bytes.now result) (S.told self.new.system) }
+        ensures trace { SaysOne (S.trace self.old.system) (WriteCall number bytes.now result)
+            (S.trace self.new.system) }
         ensures count { IfOk result (λ n. n ≤ length bytes.now) }
         ensures fault { IfErr result (λ fault. fault ≡ DoorFault.Write) }
     {
         let Some(index) = self.index_of(number) else {
-            self.system.told_write(number, bytes, Err(DoorFault::Write));
+            self.system.note_write(number, bytes, Err(DoorFault::Write));
             self.turn.note_write(Err(DoorFault::Write));
             return Err(DoorFault::Write);
         };

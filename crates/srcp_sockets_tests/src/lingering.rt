@@ -11,7 +11,7 @@ use std::vec::Vec;
 const ALL: usize = 76;
 
 #[test]
-fn keeps_who_was_let_go_for_its_time(rt: HostRuntime) -> Result<(), Fail> {
+fn keeps_who_was_closed_for_its_time(rt: HostRuntime) -> Result<(), Fail> {
     for (later, last, taken, shut, closed) in [
         (
             at(3_000, 1, Happens::Receives(AMPLE)),

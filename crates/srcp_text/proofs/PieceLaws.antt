@@ -5,7 +5,7 @@ use Rattle.std.proofs.Common.{refl, ap, sym, ◌∙◌, subst, arith, suc, zero,
 use Rattle.std.proofs.lemmas.List.{append_assoc, append-nil, take-append-drop}
 use Rattle.srcp_text.specs.Marks.{Mark, Line, TooLong, marks, rest}
 use Rattle.srcp_text.specs.Reading.{Reading, StandsAt, known, nothing_read}
-use Rattle.srcp_text.specs.Feeding.{feed_of, new_marks, stop_of, taken}
+use Rattle.srcp_text.specs.Feeding.{feed_of, new_marks, stop_of, consumed}
 use Rattle.srcp_text.specs.Pieces.{Step, FeedsPiece, FeedsPieces, found, FindsMarks}
 use Rattle.srcp_text.specs.declared.reader.Fed.{Fed}
 use Rattle.srcp_text.specs.declared.reader.Fed.TheVariants.{Line as FoundLine, TooLong as FoundTooLong, More}
@@ -35,9 +35,9 @@ front piece start stop le =
 finds_next : (piece fed : List ℕ) (start : ℕ) (reading new : Reading) (steps : List Step) (result : Fed)
     → IfSome (stop_of result) (λ stop. (start < stop) × (stop ≤ length piece))
     → MatchOption (stop_of result) ((steps ≡ []) × (reading ≡ new)) (λ stop. FeedsPiece piece stop reading steps new)
-    → Finds fed (taken piece start result) (new_marks result reading.line) reading
-    → ((stop : ℕ) → FeedsPiece piece stop reading steps new → StandsAt (fed ++ taken piece start result) reading
-    → Finds (fed ++ taken piece start result) (drop stop piece) (found steps) new)
+    → Finds fed (consumed piece start result) (new_marks result reading.line) reading
+    → ((stop : ℕ) → FeedsPiece piece stop reading steps new → StandsAt (fed ++ consumed piece start result) reading
+    → Finds (fed ++ consumed piece start result) (drop stop piece) (found steps) new)
     → Finds fed (drop start piece) (new_marks result reading.line ++ found steps) new
 finds_next piece fed start reading new steps (FoundLine stop) within h one later =
     subst (λ (bytes : List ℕ). Finds fed bytes (Line reading.line ∷ found steps) new) (front piece start stop (omega (arith, within.0)))
@@ -58,7 +58,7 @@ finds_piece piece fed start old (step ∷ steps) new h stands =
     finds_next piece fed start step.reading new steps step.result
     (subst (λ (o : Option ℕ). IfSome o (λ stop. (start < stop) × (stop ≤ length piece))) (sym stop) (within-next_stop piece start)) h.1
     (marks-fed fed old step.reading piece start step.result h.0 stands, stands-fed fed old step.reading piece start step.result h.0 stands)
-    (λ stop. finds_piece piece (fed ++ taken piece start step.result) stop step.reading steps new)
+    (λ stop. finds_piece piece (fed ++ consumed piece start step.result) stop step.reading steps new)
 
 -- and those of piece after piece the marks of them all
 finds_pieces : (pieces : List (List ℕ)) (fed : List ℕ) (old : Reading) (steps : List (List Step)) (new : Reading)

@@ -10,7 +10,7 @@ use Rattle.std.proofs.lemmas.List.Folds.{list_any-append}
 use Rattle.std.proofs.lemmas.List.Sums.{passes_at_first}
 use Rattle.srcp_text.specs.Marks.{Mark, is_lf, marks, mark_of, rest, without_cr}
 use Rattle.srcp_text.specs.Reading.{Reading, known, extended, after_lf, StandsAt}
-use Rattle.srcp_text.specs.Feeding.{new_marks, fed_at, feed_at, feed_of, taken, stop_of, place_after, next_stop}
+use Rattle.srcp_text.specs.Feeding.{new_marks, fed_at, feed_at, feed_of, consumed, stop_of, place_after, next_stop}
 use Rattle.srcp_text.specs.declared.reader.Fed.{Fed}
 use Rattle.srcp_text.specs.declared.reader.Fed.TheVariants.{More}
 use Rattle.srcp_text.proofs.MarkLaws.{marks-append, rest-append, marks_line, marks_none, rest_line, rest_none, rest_within}
@@ -139,30 +139,30 @@ within-next_stop piece start = go (position is_lf (drop start piece)) refl
         (omega arith, omega (arith, found.1, length-drop start piece))
 
 -- if it stops after an LF, that is the part of the line and its LF
-taken-fed_at : (piece : List ℕ) (start len : ℕ) (whole : Option (List ℕ)) → position is_lf (drop start piece) ≡ Some len
-    → taken piece start (fed_at whole (start + len + 1)) ≡ take len (drop start piece) ++ 10 ∷ []
-taken-fed_at piece start len None e =
+consumed-fed_at : (piece : List ℕ) (start len : ℕ) (whole : Option (List ℕ)) → position is_lf (drop start piece) ≡ Some len
+    → consumed piece start (fed_at whole (start + len + 1)) ≡ take len (drop start piece) ++ 10 ∷ []
+consumed-fed_at piece start len None e =
     let n : start + len + 1 - start ≡ len + 1 = omega arith in
     ap (λ k. take k (drop start piece)) n ∙ (lf_found (drop start piece) len e).1
-taken-fed_at piece start len (Some bytes) e =
+consumed-fed_at piece start len (Some bytes) e =
     let n : start + len + 1 - start ≡ len + 1 = omega arith in
     ap (λ k. take k (drop start piece)) n ∙ (lf_found (drop start piece) len e).1
 
 -- a feed finds the next mark, or none if no LF is left
 pub marks-feed_of : (fed : List ℕ) (reading : Reading) (piece : List ℕ) (start : ℕ) → StandsAt fed reading
-    → marks (fed ++ taken piece start (feed_of reading piece start).0)
+    → marks (fed ++ consumed piece start (feed_of reading piece start).0)
     ≡ marks fed ++ new_marks (feed_of reading piece start).0 (feed_of reading piece start).1.line
 marks-feed_of fed reading piece start stands = go (position is_lf (drop start piece)) refl
   where
     go : (o : Option ℕ) → position is_lf (drop start piece) ≡ o
-        → marks (fed ++ taken piece start (feed_at reading.begun start (drop start piece) o).0)
+        → marks (fed ++ consumed piece start (feed_at reading.begun start (drop start piece) o).0)
         ≡ marks fed
         ++ new_marks (feed_at reading.begun start (drop start piece) o).0 (feed_at reading.begun start (drop start piece) o).1.line
     go None e = marks-more fed (drop start piece) (lf_absent (drop start piece) e) ∙ sym (append-nil (marks fed))
     go (Some len) e =
         let left = drop start piece in
         let whole = ap (λ b. extended b (take len left)) stands ∙ extended-known (rest fed) (take len left) in
-        ap (λ ts. marks (fed ++ ts)) (taken-fed_at piece start len (extended reading.begun (take len left)) e)
+        ap (λ ts. marks (fed ++ ts)) (consumed-fed_at piece start len (extended reading.begun (take len left)) e)
         ∙ marks-ended fed (take len left) (lf_found left len e).0
         ∙ ap (λ ms. marks fed ++ ms)
         (sym
@@ -171,12 +171,12 @@ marks-feed_of fed reading piece start stands = go (position is_lf (drop start pi
 
 -- and then the reader stands at what has been fed
 pub stands-feed_of : (fed : List ℕ) (reading : Reading) (piece : List ℕ) (start : ℕ) → StandsAt fed reading
-    → StandsAt (fed ++ taken piece start (feed_of reading piece start).0) (feed_of reading piece start).1
+    → StandsAt (fed ++ consumed piece start (feed_of reading piece start).0) (feed_of reading piece start).1
 stands-feed_of fed reading piece start stands = go (position is_lf (drop start piece)) refl
   where
     go : (o : Option ℕ) → position is_lf (drop start piece) ≡ o
         → (feed_at reading.begun start (drop start piece) o).1.begun
-        ≡ known (rest (fed ++ taken piece start (feed_at reading.begun start (drop start piece) o).0))
+        ≡ known (rest (fed ++ consumed piece start (feed_at reading.begun start (drop start piece) o).0))
     go None e =
         ap (λ b. extended b (drop start piece)) stands ∙ extended-known (rest fed) (drop start piece)
         ∙ ap known (sym (rest-more fed (drop start piece) (lf_absent (drop start piece) e)))
@@ -184,20 +184,20 @@ stands-feed_of fed reading piece start stands = go (position is_lf (drop start p
         let left = drop start piece in
         let whole = extended reading.begun (take len left) in
         after_lf-begun whole
-        ∙ sym (ap (λ ts. known (rest (fed ++ ts))) (taken-fed_at piece start len whole e)
+        ∙ sym (ap (λ ts. known (rest (fed ++ ts))) (consumed-fed_at piece start len whole e)
         ∙ ap known (rest-ended fed (take len left) (lf_found left len e).0))
 
 -- the same of what a feed answered and left
 pub marks-fed : (fed : List ℕ) (old new : Reading) (piece : List ℕ) (start : ℕ) (result : Fed) → (result, new) ≡ feed_of old piece start
-    → StandsAt fed old → marks (fed ++ taken piece start result) ≡ marks fed ++ new_marks result new.line
+    → StandsAt fed old → marks (fed ++ consumed piece start result) ≡ marks fed ++ new_marks result new.line
 marks-fed fed old new piece start result e stands =
-    ap (λ r. marks (fed ++ taken piece start r.0)) e ∙ marks-feed_of fed old piece start stands
+    ap (λ r. marks (fed ++ consumed piece start r.0)) e ∙ marks-feed_of fed old piece start stands
     ∙ sym (ap (λ r. marks fed ++ new_marks r.0 r.1.line) e)
 
 pub stands-fed : (fed : List ℕ) (old new : Reading) (piece : List ℕ) (start : ℕ) (result : Fed) → (result, new) ≡ feed_of old piece start
-    → StandsAt fed old → StandsAt (fed ++ taken piece start result) new
+    → StandsAt fed old → StandsAt (fed ++ consumed piece start result) new
 stands-fed fed old new piece start result e stands =
-    ap (λ r. r.1.begun) e ∙ stands-feed_of fed old piece start stands ∙ sym (ap (λ r. known (rest (fed ++ taken piece start r.0))) e)
+    ap (λ r. r.1.begun) e ∙ stands-feed_of fed old piece start stands ∙ sym (ap (λ r. known (rest (fed ++ consumed piece start r.0))) e)
 
 -- a feed of what is left, if that has no LF
 pub feed_of-more : (old new : Reading) (piece left : List ℕ) (start : ℕ) → left ≡ drop start piece → None ≡ position is_lf left

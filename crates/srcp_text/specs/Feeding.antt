@@ -28,10 +28,10 @@ abbrev pub next_stop : List ℕ → ℕ → Option ℕ
 next_stop piece start = place_after start (position is_lf (drop start piece))
 
 -- the bytes of the piece that the feed took
-abbrev pub taken : List ℕ → ℕ → Fed → List ℕ
-taken piece start (FoundLine stop) = slice_range piece start stop
-taken piece start (FoundTooLong stop) = slice_range piece start stop
-taken piece start More = drop start piece
+abbrev pub consumed : List ℕ → ℕ → Fed → List ℕ
+consumed piece start (FoundLine stop) = slice_range piece start stop
+consumed piece start (FoundTooLong stop) = slice_range piece start stop
+consumed piece start More = drop start piece
 
 -- the marks that it found, the line being the one that the reader then lends
 abbrev pub new_marks : Fed → List ℕ → List Mark

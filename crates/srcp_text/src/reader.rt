@@ -3,7 +3,7 @@
 ghost use Rattle.std.specs.Prelude.{◌≡◌, ◌<◌, ◌≤◌, IsTrue, IfSome, List, ℕ, [], ◌++◌, length, position};
 ghost use Rattle.srcp_text.specs.Marks.{is_lf, marks, without_cr};
 ghost use Rattle.srcp_text.specs.Reading.{StandsAt, after_lf, extended, nothing_read};
-ghost use Rattle.srcp_text.specs.Feeding.{feed_of, fed_at, is_line, new_marks, next_stop, stop_of, taken};
+ghost use Rattle.srcp_text.specs.Feeding.{feed_of, fed_at, is_line, new_marks, next_stop, stop_of, consumed};
 
 use memchr::memchr;
 use std::marker::Model;
@@ -85,11 +85,11 @@ impl LineReader {
         ensures no_line { ¬ IsTrue (is_line result) → self.new.line ≡ [] }
         // It adds this mark to those of the bytes fed earlier, or none.
         ensures marks { (fed : List ℕ) → StandsAt fed self.old
-            → marks (fed ++ taken piece.now start result)
+            → marks (fed ++ consumed piece.now start result)
             ≡ marks fed ++ new_marks result self.new.line }
         // It then stands at the bytes that have been fed.
         ensures stands { (fed : List ℕ) → StandsAt fed self.old
-            → StandsAt (fed ++ taken piece.now start result) self.new }
+            → StandsAt (fed ++ consumed piece.now start result) self.new }
         // The same as one equation.
         ensures value { (result, self.new) ≡ feed_of self.old piece.now start }
     {

@@ -6,7 +6,7 @@ use Rattle.srcp_grammar.specs.declared.layout.Bus.{Bus}
 use Rattle.srcp_core.specs.Connection.{recorded}
 use Rattle.srcp_core.specs.Course.{World, course, history, state}
 use Rattle.srcp_core.specs.Promised.{IsPromised, IsPromisedOutline, outline, connection_outline}
-use Rattle.srcp_core.specs.Under.{all_under, step_told}
+use Rattle.srcp_core.specs.Under.{all_under, recorded_step}
 use Rattle.srcp_core.specs.declared.event.Event.{Event}
 use Rattle.srcp_core.specs.declared.record.ConnRecord.{ConnRecord}
 use Rattle.srcp_core.specs.declared.record.Record.{Record}
@@ -20,13 +20,13 @@ pub run_is : (buses : List Bus) (events : List Event) (told : Record) → IsProm
 run_is buses events told p d =
     let w : World = course buses (all_under p.grants events) in
     ap (λ steps. record told { steps = steps }) p.is.steps
-    ∙ ap (λ connections. record told { steps = map step_told w.steps; connections = connections }) p.is.connections
+    ∙ ap (λ connections. record told { steps = map recorded_step w.steps; connections = connections }) p.is.connections
     ∙ ap (λ refused.
-    record told { steps = map step_told w.steps; connections = map (recorded (history buses w)) w.connections; refused = refused })
+    record told { steps = map recorded_step w.steps; connections = map (recorded (history buses w)) w.connections; refused = refused })
     p.is.refused
     ∙ ap (λ rows.
     record told {
-      steps = map step_told w.steps;
+      steps = map recorded_step w.steps;
       connections = map (recorded (history buses w)) w.connections;
       refused = w.refused;
       rows = rows;
@@ -34,7 +34,7 @@ run_is buses events told p d =
     p.is.rows
     ∙ ap (λ denied.
     record {
-      steps = map step_told w.steps;
+      steps = map recorded_step w.steps;
       connections = map (recorded (history buses w)) w.connections;
       refused = w.refused;
       rows = state buses w;
@@ -43,7 +43,7 @@ run_is buses events told p d =
     d
     ∙ ap (λ v.
     record {
-      steps = map step_told v.steps;
+      steps = map recorded_step v.steps;
       connections = map (recorded (history buses v)) v.connections;
       refused = v.refused;
       rows = state buses v;

@@ -13,7 +13,7 @@ use Rattle.srcp_info.specs.declared.change.Shown.{Shown}
 use Rattle.srcp_grammar.specs.declared.layout.Bus.{Bus}
 use Rattle.srcp_core.specs.Connection.{recorded}
 use Rattle.srcp_core.specs.Course.{course, history, state}
-use Rattle.srcp_core.specs.Under.{all_under, step_told}
+use Rattle.srcp_core.specs.Under.{all_under, recorded_step}
 use Rattle.srcp_core.specs.declared.event.Event.{Event}
 use Rattle.srcp_core.specs.declared.record.Record.{Record}
 use Rattle.srcp_layout_file.specs.Document.{config_of}
@@ -32,7 +32,7 @@ use Rattle.srcp_script.specs.declared.script.ScriptFault.{ScriptFault}
 -- what a run of these events gives if memory gives all
 abbrev pub run_of : List Bus → List Event → Record
 run_of buses events = let w = course buses (all_under [] events) in record {
-  steps = map step_told w.steps;
+  steps = map recorded_step w.steps;
   connections = map (recorded (history buses w)) w.connections;
   refused = w.refused;
   rows = state buses w;

@@ -4,8 +4,8 @@ use Rattle.std.proofs.Common.{true, false}
 use Rattle.std.specs.Prelude.{Option, Some, None}
 use Rattle.srcp_grammar.specs.declared.layout.Bus.{Bus}
 use Rattle.srcp_grammar.specs.Layout.{IsLayout}
-use Rattle.srcp_core.specs.Under.{Event, Open, Room, At, Shut, step_told}
-use Rattle.srcp_core.specs.declared.record.Step.TheVariants as told
+use Rattle.srcp_core.specs.Under.{Event, Open, Room, At, Shut, recorded_step}
+use Rattle.srcp_core.specs.declared.record.Step.TheVariants as recorded
 use Rattle.srcp_core.specs.Course.{World, counted, fault, absent_fault, accepted, course}
 use Rattle.srcp_core.specs.Held.{Place, Held, at, open_count}
 use Rattle.srcp_core.specs.Machine.{IsAdmitted, IsNotAdmitted, opening_held, one_denied, advanced, hung_up, let_out, unsent_at, changed_at}
@@ -26,7 +26,7 @@ use Rattle.srcp_core.proofs.Agreement.RoomsAgree.{filled_kept, taken_kept, Kept}
 
 -- what a run would have told of the course
 abbrev pub telling : List (Option ℕ) → World → Recording
-telling keys w = record { keys = keys; steps = map step_told w.steps; connections = map record_of w.connections; refused = w.refused }
+telling keys w = record { keys = keys; steps = map recorded_step w.steps; connections = map record_of w.connections; refused = w.refused }
 
 pub runs_telling : (buses : List Bus) (keys : List (Option ℕ)) (held : Held) (w : World) → StandsFor buses keys held w
     → Runs buses (telling keys w) held w
@@ -36,7 +36,8 @@ pub at_leads : (moment : ℕ) (old new : Held) → new ≡ advanced moment old �
 at_leads moment old new is buses events keys layout s =
     let w = course buses events in
     let h = (at_happens moment (telling keys w) old new new.moment is refl).happens buses events layout (runs_telling buses keys old w s) in
-    (runs_on buses events (At moment) None (length events + 1) (stepped (told.Moment new.moment ∷ []) (telling keys w)) new refl h).stands
+    let r = stepped (recorded.Moment new.moment ∷ []) (telling keys w) in
+    (runs_on buses events (At moment) None (length events + 1) r new refl h).stands
 
 pub open_leads : (key : ℕ) (old new : Held) → IsAdmitted key old new → LeadsToOpen key old new
 open_leads key old new a buses events keys layout s =

@@ -17,9 +17,9 @@ use Rattle.srcp_info.specs.Client.{IsRisingBy}
 use Rattle.srcp_text.specs.Marks.{Mark}
 use Rattle.srcp_grammar.specs.declared.command.Command.{Command}
 use Rattle.srcp_rules.specs.Effect.{effect as effect_of, refused}
-use Rattle.srcp_core.specs.Under.{Step, Obeyed, Began, Ended, Order, greeting_under, step_told, wants_memory}
+use Rattle.srcp_core.specs.Under.{Step, Obeyed, Began, Ended, Order, greeting_under, recorded_step, wants_memory}
 use Rattle.srcp_core.specs.declared.record.Step.{Step as PlainStep}
-use Rattle.srcp_core.specs.declared.record.Step.TheVariants as told
+use Rattle.srcp_core.specs.declared.record.Step.TheVariants as recorded
 use Rattle.srcp_core.specs.Connection.{Connection, given, sent}
 use Rattle.srcp_core.specs.Course.{World, numbered, with_numbered, at_connection, did, is_info, state, history, command_of, ordered}
 use Rattle.srcp_core.specs.Course.{replied, entered, goes, greeted, ended, obeyed, commanded, answered_as, answered}
@@ -79,9 +79,9 @@ pub tells_same : (r : Recording) (w : World) (n : ℕ) (f : Connection → Conne
     → Tells r (at_connection n f w)
 tells_same r w n f h t = record { steps = t.steps; refused = t.refused; connections = t.connections ∙ sym (told_same n f w.connections h) }
 
-pub tells_did : (r : Recording) (w : World) (step : Step) → Tells r w → Tells (stepped (step_told step ∷ []) r) (did step w)
+pub tells_did : (r : Recording) (w : World) (step : Step) → Tells r w → Tells (stepped (recorded_step step ∷ []) r) (did step w)
 tells_did r w step t = record {
-  steps = ap (λ steps. steps ++ step_told step ∷ []) t.steps ∙ sym (map-append step_told w.steps (step ∷ []));
+  steps = ap (λ steps. steps ++ recorded_step step ∷ []) t.steps ∙ sym (map-append recorded_step w.steps (step ∷ []));
   refused = t.refused;
   connections = t.connections;
 }
@@ -117,33 +117,34 @@ module _ (buses : List Bus) (n : ℕ) (r : Recording) where
       subst (λ (c : Connection). (c.items ≡ []) × (c.taken ≤ length (given c))) same p.1
 
   tells_begun : (w : World) (conn : Connection) (id moment : ℕ) → IsPlain w conn → Tells r w
-      → Tells (noted n (told.Began id moment conn.mode ∷ []) r) (replied n (Go id) (entered buses n id (did (Began id moment conn.mode) w)))
+      → Tells (noted n (recorded.Began id moment conn.mode ∷ []) r)
+          (replied n (Go id) (entered buses n id (did (Began id moment conn.mode) w)))
   tells_begun w conn id moment p t =
       let step = Began id moment conn.mode in
       let d = tells_did r w step t in
       let f : Connection → Connection = λ c. record c { session = id; info = is_info c.mode; go_step = length (w.steps ++ step ∷ []) } in
       let there_after = numbered_with n f w.connections ∙ ap (option_map f) p.0 in
-      tells_replied (noted n (step_told step ∷ []) r) (entered buses n id (did step w)) (Go id)
+      tells_replied (noted n (recorded_step step ∷ []) r) (entered buses n id (did step w)) (Go id)
       (plain_at (entered buses n id (did step w)) (f conn) (there_after, p.1))
-      (tells_changed (stepped (step_told step ∷ []) r) (did step w) n conn f
-      (λ told. record told { session = id; info = is_info conn.mode; go_step = length (r.steps ++ step_told step ∷ []) }) p.0
+      (tells_changed (stepped (recorded_step step ∷ []) r) (did step w) n conn f
+      (λ told. record told { session = id; info = is_info conn.mode; go_step = length (r.steps ++ recorded_step step ∷ []) }) p.0
       (ap (λ k. record (record_of conn) { session = id; info = is_info conn.mode; go_step = k })
-      (sym (length-map (w.steps ++ step ∷ []) step_told) ∙ sym (ap length d.steps)))
+      (sym (length-map (w.steps ++ step ∷ []) recorded_step) ∙ sym (ap length d.steps)))
       d)
 
   tells_goes : (w : World) (conn : Connection) (held : Held) → held.moment ≡ w.moment → held.last_id ≡ w.last_id → IsPlain w conn
       → Tells r w → Tells (noted n (steps_gone true conn.mode held) r) (goes buses n conn.mode w)
   tells_goes w conn held m l p t =
       subst (λ k.
-      Tells (noted n (if nat_lt k 4294967295 && true then told.Began (k + 1) held.moment conn.mode ∷ [] else []) r)
+      Tells (noted n (if nat_lt k 4294967295 && true then recorded.Began (k + 1) held.moment conn.mode ∷ [] else []) r)
       (goes buses n conn.mode w))
       (sym l)
       (subst (λ k.
-      Tells (noted n (if nat_lt w.last_id 4294967295 && true then told.Began (w.last_id + 1) k conn.mode ∷ [] else []) r)
+      Tells (noted n (if nat_lt w.last_id 4294967295 && true then recorded.Began (w.last_id + 1) k conn.mode ∷ [] else []) r)
       (goes buses n conn.mode w))
       (sym m)
       (elim (nat_lt w.last_id 4294967295)
-      as (λ b. Tells (noted n (if b && true then told.Began (w.last_id + 1) w.moment conn.mode ∷ [] else []) r)
+      as (λ b. Tells (noted n (if b && true then recorded.Began (w.last_id + 1) w.moment conn.mode ∷ [] else []) r)
       (if b
       then replied n (Go (w.last_id + 1))
       (entered buses n (w.last_id + 1) (did (Began (w.last_id + 1) w.moment conn.mode) (record w { last_id = w.last_id + 1 })))
@@ -175,7 +176,7 @@ module _ (buses : List Bus) (n : ℕ) (r : Recording) where
   tells_greeted_under false w conn held Goes m l p t =
       elim (nat_lt held.last_id 4294967295)
       as (λ b.
-      Tells (noted n (if b && false then told.Began (held.last_id + 1) held.moment conn.mode ∷ [] else []) r)
+      Tells (noted n (if b && false then recorded.Began (held.last_id + 1) held.moment conn.mode ∷ [] else []) r)
       (replied n (Refused C500) w)) [
         | true ↦ tells_replied r w (Refused C500) (plain_at w conn p) t
         | false ↦ tells_replied r w (Refused C500) (plain_at w conn p) t
@@ -195,34 +196,34 @@ module _ (buses : List Bus) (n : ℕ) (r : Recording) where
 
       steps_by : State → ℕ → List PlainStep
       steps_by k moment =
-          told.Obeyed session moment command
+          recorded.Obeyed session moment command
           ∷ (if (granted || not (wants_memory k session moment command)) && (effect_of k session moment command).ends
-          then told.Ended session moment ∷ [] else [])
+          then recorded.Ended session moment ∷ [] else [])
 
       one : (result : Effect)
-          → Tells (stepped (told.Obeyed session w.moment command ∷ []) r)
+          → Tells (stepped (recorded.Obeyed session w.moment command ∷ []) r)
           (replied n result.reply (did (Obeyed session w.moment ordering) w))
       one result =
-          tells_replied (stepped (told.Obeyed session w.moment command ∷ []) r) (did (Obeyed session w.moment ordering) w) result.reply
+          tells_replied (stepped (recorded.Obeyed session w.moment command ∷ []) r) (did (Obeyed session w.moment ordering) w) result.reply
           (plain_at (did (Obeyed session w.moment ordering) w) conn p) (tells_did r w (Obeyed session w.moment ordering) t)
 
       by : (result : Effect) (b : Bool)
-          → Tells (noted n (told.Obeyed session w.moment command ∷ (if b then told.Ended session w.moment ∷ [] else [])) r)
+          → Tells (noted n (recorded.Obeyed session w.moment command ∷ (if b then recorded.Ended session w.moment ∷ [] else [])) r)
           (if b then ended buses n session (replied n result.reply (did (Obeyed session w.moment ordering) w))
           else replied n result.reply (did (Obeyed session w.moment ordering) w))
       by result false = one result
       by result true =
-          tells_did (stepped (told.Obeyed session w.moment command ∷ []) r)
+          tells_did (stepped (recorded.Obeyed session w.moment command ∷ []) r)
           (at_connection n (λ c. record c { ended = true }) (replied n result.reply (did (Obeyed session w.moment ordering) w)))
           (Ended session w.moment)
-          (tells_same (stepped (told.Obeyed session w.moment command ∷ []) r)
+          (tells_same (stepped (recorded.Obeyed session w.moment command ∷ []) r)
           (replied n result.reply (did (Obeyed session w.moment ordering) w)) n (λ c. record c { ended = true }) (λ c e. refl)
           (one result))
 
       split : (g : Bool)
           → Tells (noted n
-          (told.Obeyed session w.moment command
-          ∷ (if g && (effect_of (state buses w) session w.moment command).ends then told.Ended session w.moment ∷ [] else []))
+          (recorded.Obeyed session w.moment command
+          ∷ (if g && (effect_of (state buses w) session w.moment command).ends then recorded.Ended session w.moment ∷ [] else []))
           r)
           (obeyed buses n session ordering (if g then effect_of (state buses w) session w.moment command else refused C500) w)
       split true = by (effect_of (state buses w) session w.moment command) (effect_of (state buses w) session w.moment command).ends

@@ -11,13 +11,13 @@ use Rattle.srcp_core.specs.Held.{Held}
 use Rattle.srcp_core.specs.Promised.{connection_outline, IsPromised, IsPromisedOutline}
 use Rattle.srcp_core.specs.Recording.{Recording, Keeps, Becomes, recording_outline, kept, changed_in, changed_record, shut, began, gave}
 use Rattle.srcp_core.specs.Recording.{took, finished, finished_by, nothing_recorded}
-use Rattle.srcp_core.specs.Run.{RunsTold, PlainMoments, told_in}
+use Rattle.srcp_core.specs.Run.{RunsTold, PlainMoments, recorded_in}
 use Rattle.srcp_core.specs.declared.event.Event.{Event as PlainEvent}
 use Rattle.srcp_core.specs.declared.record.ConnRecord.{ConnRecord}
 use Rattle.srcp_core.specs.declared.record.Finish.TheVariants.{Shut as ShutFinish}
 use Rattle.srcp_core.specs.declared.record.Record.{Record}
 use Rattle.srcp_core.specs.declared.record.Step.{Step}
-use Rattle.srcp_core.specs.declared.record.Step.TheVariants as told
+use Rattle.srcp_core.specs.declared.record.Step.TheVariants as recorded
 use Rattle.srcp_core.proofs.Agreement.RunPromises.{promised}
 
 -- ---- what a recorder keeps
@@ -129,10 +129,10 @@ took_kept n bytes false r = ap (with_connections r) (changed_kept n (λ one. rec
     r.connections)
 
 pub began_aside : (n : ℕ) (step : Step) (r : Recording) → recording_outline (began n step r) ≡ recording_outline r
-began_aside n (told.Obeyed session moment command) r = refl
-began_aside n (told.Began session moment mode) r = ap (with_connections r) (changed_aside n _ (λ one. refl) r.connections)
-began_aside n (told.Moment moment) r = refl
-began_aside n (told.Ended session moment) r = refl
+began_aside n (recorded.Obeyed session moment command) r = refl
+began_aside n (recorded.Began session moment mode) r = ap (with_connections r) (changed_aside n _ (λ one. refl) r.connections)
+began_aside n (recorded.Moment moment) r = refl
+began_aside n (recorded.Ended session moment) r = refl
 
 pub gave_aside : (n : ℕ) (item : Option Next) (r : Recording) → recording_outline (gave n item r) ≡ recording_outline r
 gave_aside n None r = refl
@@ -190,7 +190,7 @@ pub nothing_kept : (in_full : Bool) → nothing_recorded ≡ kept in_full nothin
 nothing_kept true = refl
 nothing_kept false = refl
 
-pub record_kept : (in_full : Bool) (r : Recording) (held : Held) → record_at (kept in_full r) held ≡ told_in in_full (record_at r held)
+pub record_kept : (in_full : Bool) (r : Recording) (held : Held) → record_at (kept in_full r) held ≡ recorded_in in_full (record_at r held)
 record_kept true r held = refl
 record_kept false r held = ap (λ tolds. record {
   steps = [];

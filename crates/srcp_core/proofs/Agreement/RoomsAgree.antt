@@ -15,7 +15,7 @@ use Rattle.srcp_feed.specs.declared.next.Next.{Next}
 use Rattle.srcp_feed.specs.declared.next.Next.TheVariants.{Told, Listed, Settled}
 use Rattle.srcp_info.proofs.ClientLaws.{key_at}
 use Rattle.srcp_info.specs.Client.{IsRisingBy}
-use Rattle.srcp_core.specs.Under.{step_told}
+use Rattle.srcp_core.specs.Under.{recorded_step}
 use Rattle.srcp_core.specs.Connection.{Connection, History, unsent, sent, given, line_of, is_nil, is_open, owed, front, available, items_of}
 use Rattle.srcp_core.specs.Connection.{took as took_room, given_room, overran}
 use Rattle.srcp_core.specs.Course.{World, numbered, with_numbered, at_connection, history, rows}
@@ -191,7 +191,7 @@ module _ (buses : List Bus) (layout : IsLayout buses) (order : IsRisingBy key_at
       ∙ ap (λ (o : Option Place). with_given (length (history buses w)) (item_of (shown_rows held.rows) o) (record_of h.conn))
       (sym h.place) in
       let steps : length (history buses w) ≡ length r.steps =
-      length_history (opening buses 0) w.steps ∙ sym (length-map w.steps step_told) ∙ ap length (sym k.tells.steps) in
+      length_history (opening buses 0) w.steps ∙ sym (length-map w.steps recorded_step) ∙ ap length (sym k.tells.steps) in
       record {
         fine = fine_roomed 0 w h.conn k.fine h.there h.shut;
         stands =

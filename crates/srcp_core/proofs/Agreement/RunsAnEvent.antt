@@ -10,10 +10,10 @@ use Rattle.srcp_grammar.specs.Layout.{IsLayout}
 use Rattle.srcp_rules.specs.State.{opening, shown_rows}
 use Rattle.srcp_feed.specs.declared.next.Next.{Next}
 use Rattle.srcp_feed.specs.declared.next.Next.TheVariants.{Told, Listed, Settled}
-use Rattle.srcp_core.specs.Under.{Event, Open, Room, At, Shut, Moment, Ended, step_told, under}
+use Rattle.srcp_core.specs.Under.{Event, Open, Room, At, Shut, Moment, Ended, recorded_step, under}
 use Rattle.srcp_core.specs.declared.event.Event.{Event as PlainEvent}
 use Rattle.srcp_core.specs.declared.event.Event.TheVariants as plain
-use Rattle.srcp_core.specs.declared.record.Step.TheVariants as told
+use Rattle.srcp_core.specs.declared.record.Step.TheVariants as recorded
 use Rattle.srcp_core.specs.Connection.{Connection}
 use Rattle.srcp_core.specs.Course.{World, numbered, at_connection, open_connection, did, history, fresh, counted, fault, absent_fault}
 use Rattle.srcp_core.specs.Course.{bytes_fault as course_fault, accepted, shut_as, course}
@@ -154,7 +154,7 @@ open_refused r old new other is = absurd is
 -- ---- a moment
 
 pub at_happens : (moment : ℕ) (r : Recording) (old new : Held) (now : ℕ) → new ≡ advanced moment old → now ≡ new.moment
-    → HappensAs (plain.At moment) None r old (stepped (told.Moment now ∷ []) r) new
+    → HappensAs (plain.At moment) None r old (stepped (recorded.Moment now ∷ []) r) new
 at_happens moment r old new now is now_is = record {
   grants = [];
   counted = ap (λ (x : Held). x.denied) is;
@@ -172,8 +172,9 @@ at_happens moment r old new now is now_is = record {
               (stands_advanced buses r.keys old w moment fine c.stands);
           tells = record {
             steps =
-                ap (λ m. r.steps ++ told.Moment m ∷ []) same ∙ ap (λ steps. steps ++ told.Moment (max w.moment moment) ∷ []) c.tells.steps
-                ∙ sym (map-append step_told w.steps (Moment (max w.moment moment) ∷ []));
+                ap (λ m. r.steps ++ recorded.Moment m ∷ []) same
+                ∙ ap (λ steps. steps ++ recorded.Moment (max w.moment moment) ∷ []) c.tells.steps
+                ∙ sym (map-append recorded_step w.steps (Moment (max w.moment moment) ∷ []));
             refused = c.tells.refused;
             connections = c.tells.connections;
           };
@@ -208,7 +209,7 @@ no_shut_happens n r held none = refused_happens (plain.Shut n) NoSuch r held
 -- what is noted of a session that a hang-up ends
 abbrev pub with_end : Option ℕ → ℕ → Recording → Recording
 with_end None moment r = r
-with_end (Some session) moment r = stepped (told.Ended session moment ∷ []) r
+with_end (Some session) moment r = stepped (recorded.Ended session moment ∷ []) r
 
 hung_up_moment : (key : ℕ) (held : Held) (o : Option Place) → (hung_up_from key held o).moment ≡ held.moment
 hung_up_moment key held None = refl
@@ -301,7 +302,8 @@ shut_happens n key r old new now named is now_is = record {
         (if b then closed else did (Ended conn.session w.moment) closed)) [
           | true ↦ all
           | false ↦
-              subst (λ k. Tells (stepped (told.Ended conn.session k ∷ []) (shut n r)) (did (Ended conn.session w.moment) closed)) (sym m)
+              subst (λ k. Tells (stepped (recorded.Ended conn.session k ∷ []) (shut n r)) (did (Ended conn.session w.moment) closed))
+              (sym m)
               (tells_did (shut n r) closed (Ended conn.session w.moment) all)
         ]
       where

@@ -8,7 +8,7 @@ use Rattle.srcp_grammar.specs.Layout.{IsLayout}
 use Rattle.srcp_core.specs.Under.{Event, Bytes, Piece, lines_under, denied_by}
 use Rattle.srcp_core.specs.declared.event.Event.TheVariants as plain
 use Rattle.srcp_core.specs.declared.record.Step.{Step as PlainStep}
-use Rattle.srcp_core.specs.declared.record.Step.TheVariants as told
+use Rattle.srcp_core.specs.declared.record.Step.TheVariants as recorded
 use Rattle.srcp_core.specs.Connection.{Connection, is_nil}
 use Rattle.srcp_core.specs.Course.{World, open_connection, counted, bytes_fault as course_fault, accepted, fed_to}
 use Rattle.srcp_core.specs.Course.{answered as course_answered, new_marks, course, denied_fed}
@@ -114,10 +114,10 @@ reads_first n key piece r held named free = record { grants = []; counted = refl
 
 pub noted_keys : (n : ℕ) (steps : List PlainStep) (r : Recording) → (noted n steps r).keys ≡ r.keys
 noted_keys n [] r = refl
-noted_keys n (told.Obeyed session moment command ∷ steps) r = noted_keys n steps _
-noted_keys n (told.Began session moment mode ∷ steps) r = noted_keys n steps _
-noted_keys n (told.Moment moment ∷ steps) r = noted_keys n steps _
-noted_keys n (told.Ended session moment ∷ steps) r = noted_keys n steps _
+noted_keys n (recorded.Obeyed session moment command ∷ steps) r = noted_keys n steps _
+noted_keys n (recorded.Began session moment mode ∷ steps) r = noted_keys n steps _
+noted_keys n (recorded.Moment moment ∷ steps) r = noted_keys n steps _
+noted_keys n (recorded.Ended session moment ∷ steps) r = noted_keys n steps _
 
 pub reads_with_more : (grants : List Bool) (n key : ℕ) (piece : List ℕ) (first_r : Recording) (first : Held) (start stop : ℕ)
     (granted : Bool) (steps : List PlainStep) (r : Recording) (held new : Held)

@@ -15,7 +15,7 @@ use Rattle.srcp_grammar.specs.Layout.{IsLayout}
 use Rattle.srcp_core.specs.Under.{Event}
 use Rattle.srcp_core.specs.Connection.{Connection, History, heard, is_open, overran, waiting}
 use Rattle.srcp_core.specs.Course.{course, history}
-use Rattle.srcp_core.specs.Laws.{FindsFull, IsSession, OverrunsWhereFull}
+use Rattle.srcp_core.specs.Laws.{FindsFull, IsSession, OverrunsIfFull}
 use Rattle.srcp_core.proofs.CourseLaws.Histories.{concerning_by, concerning_push, cursor_by}
 use Rattle.srcp_core.proofs.CourseLaws.ShownRegistry.{length_history}
 use Rattle.srcp_core.proofs.CourseLaws.SessionsOfACourse.{stands, anything, fits_open, open_shut, untold_open}
@@ -93,7 +93,7 @@ overran_open history conn shut =
 
 pub meets_overruns : (buses : List Bus) → IsLayout buses → (events : List Event) (number : ℕ) (conn : Connection)
     → IsSession buses events number conn → is_open conn ≡ true → overran conn (history buses (course buses events)) ≡ false
-    → (changes : List Change) → OverrunsWhereFull buses (course buses events) conn changes
+    → (changes : List Change) → OverrunsIfFull buses (course buses events) conn changes
 meets_overruns buses layout events number conn s up fine changes =
     let w = course buses events in
     let h = history buses w in

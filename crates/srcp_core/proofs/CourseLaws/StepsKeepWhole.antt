@@ -87,13 +87,13 @@ module _ (buses : List Bus) where
     value = (refl, refl);
   }
 
-  step_told : (state : State) (step : Step) → IsWhole buses state → IsStepOf buses state step → CanBeTold (updates_of state step)
-  step_told state (Obeyed session moment command) whole h =
+  recorded_step : (state : State) (step : Step) → IsWhole buses state → IsStepOf buses state step → CanBeTold (updates_of state step)
+  recorded_step state (Obeyed session moment command) whole h =
       effect_law (λ e. CanBeTold e.updates) state session moment command
       (effect_told buses state whole session moment h.0 h.1 command.command h.2) tt
-  step_told state (Began session moment mode) whole h = (began_told whole.laid_out session moment mode h.0 h.1, tt)
-  step_told state (Moment moment) whole h = due_told buses state whole moment h
-  step_told state (Ended session moment) whole h = freed_told buses state whole moment h session
+  recorded_step state (Began session moment mode) whole h = (began_told whole.laid_out session moment mode h.0 h.1, tt)
+  recorded_step state (Moment moment) whole h = due_told buses state whole moment h
+  recorded_step state (Ended session moment) whole h = freed_told buses state whole moment h session
 
   told_changes : (updates : List Update) → CanBeTold updates → AllByRecursion IsWellFormed (map (λ update. update.change) updates)
   told_changes [] a = tt
@@ -104,7 +104,7 @@ module _ (buses : List Bus) where
       → AllByRecursion (AllByRecursion IsWellFormed) (history_from state steps)
   history_told state [] whole a = tt
   history_told state (step ∷ steps) whole a = (
-    told_changes (updates_of state step) (step_told state step whole a.0),
+    told_changes (updates_of state step) (recorded_step state step whole a.0),
     history_told (stepped state step) steps (step_whole state step whole a.0) a.1,
   )
 

@@ -413,9 +413,9 @@ few_close_none buses events more enough number later o = by (numbered number w.c
         (ap (λ (cs : List Change). nat_lt 256 (length cs)) (waiting_is conn h shut) ∙ sym (overran_open h conn shut) ∙ fine) in
         omega arith
 
-    calm : ((conn : Connection) → numbered number w.connections ≡ Some conn → conn.info ≡ true → conn.shut ≡ None → overran conn h ≡ false)
-        → ⊥
-    calm fine =
+    one_overruns : ((conn : Connection) → numbered number w.connections ≡ Some conn → conn.info ≡ true → conn.shut ≡ None
+        → overran conn h ≡ false) → ⊥
+    one_overruns fine =
         let shut = open_shut later.shut o.open_now in
         let s = (there buses events more (λ k. k ≡ number) (256 - r) few).1 number later refl o.there in
         let f = s.few o.info shut in
@@ -433,7 +433,7 @@ few_close_none buses events more enough number later o = by (numbered number w.c
         few k conn same e info shut = waits k conn e info shut (fine conn (ap (λ m. numbered m w.connections) (sym same) ∙ e) info shut)
 
     by : (o : Option Connection) → numbered number w.connections ≡ o → (conn : Connection) × IsOverrun buses w number conn
-    by None e = absurd (calm (λ conn there info shut. let bad : None ≡ Some conn = sym e ∙ there in cc))
+    by None e = absurd (one_overruns (λ conn there info shut. let bad : None ≡ Some conn = sym e ∙ there in cc))
     by (Some conn) e = over (overran conn h) refl conn.info refl conn.shut refl
       where
         same : (other : Connection) → numbered number w.connections ≡ Some other → other ≡ conn
@@ -442,10 +442,10 @@ few_close_none buses events more enough number later o = by (numbered number w.c
         over : (t : Bool) → overran conn h ≡ t → (i : Bool) → conn.info ≡ i → (s : Option ℕ) → conn.shut ≡ s
             → (conn : Connection) × IsOverrun buses w number conn
         over true t true i None s = (conn, record { there = e; info = i; open_now = ap (λ (s : Option ℕ). is_none s) s; over = t })
-        over false t i k s l = absurd (calm (λ other there info shut. ap (λ (c : Connection). overran c h) (same other there) ∙ t))
+        over false t i k s l = absurd (one_overruns (λ other there info shut. ap (λ (c : Connection). overran c h) (same other there) ∙ t))
         over true t false i s l =
-            absurd (calm
+            absurd (one_overruns
             (λ other there info shut. let no : other.info ≡ false = ap (λ (c : Connection). c.info) (same other there) ∙ i in cc))
         over true t true i (Some n) s =
-            absurd (calm
+            absurd (one_overruns
             (λ other there info shut. let no : other.shut ≡ Some n = ap (λ (c : Connection). c.shut) (same other there) ∙ s in cc))

@@ -16,19 +16,8 @@ use crate::obeyed::Memory;
 use crate::rows::MOST_ROWS;
 use crate::sorted_rows::{add_all, drop_in, row_after_in, row_in, set_in};
 use srcp_grammar::Bus;
-use srcp_info::{Cursor, Device, Group, Key, Row};
+use srcp_info::{Cursor, Device, GROUPS, Group, Key, Row};
 use std::alloc::Global;
-
-/// Lists the groups of a bus in the order of a listing.
-const GROUPS: [Group; 7] = [
-    Group::Session,
-    Group::Power,
-    Group::Gl,
-    Group::Ga,
-    Group::Fb,
-    Group::LockGl,
-    Group::LockGa,
-];
 
 /// Keeps the rows of one bus.
 #[derive(Drop)]

@@ -35,10 +35,10 @@ module _ (conn : Connection) where
   module _ (shut : conn.shut ≡ None) where
     untold_same : (past more : History) → AreNone more → untold conn (past ++ more) ≡ untold conn past
     untold_same past more none =
-        let told : ℕ = length (filter_map (λ item. told_change item.what) conn.items) in
-        ap (λ s. drop told (concerning conn (heard s (past ++ more)))) shut
-        ∙ ap (drop told) (concerning_same past more none)
-        ∙ ap (λ s. drop told (concerning conn (heard s past))) (sym shut)
+        let given : ℕ = length (filter_map (λ item. told_change item.what) conn.items) in
+        ap (λ s. drop given (concerning conn (heard s (past ++ more)))) shut
+        ∙ ap (drop given) (concerning_same past more none)
+        ∙ ap (λ s. drop given (concerning conn (heard s past))) (sym shut)
 
     pub overran_same : (past more : History) → AreNone more → overran conn (past ++ more) ≡ overran conn past
     overran_same past more none = ap (λ (cs : List Change). nat_lt 256 (length cs)) (untold_same past more none)

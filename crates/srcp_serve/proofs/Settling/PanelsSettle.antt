@@ -17,7 +17,7 @@ use Rattle.srcp_core.specs.Course.{World, course, history, numbered, rows}
 use Rattle.srcp_core.specs.Under.{Event}
 use Rattle.srcp_core.proofs.CourseLaws.RoomGivesWhatIsOwed.{no_lists}
 use Rattle.srcp_serve.specs.Given.{Call}
-use Rattle.srcp_serve.specs.Serving.{IsFair, OfEachTurn, OfEachVisit, Seat, Stand, begun, empty_stand, question, seats, turned, turns}
+use Rattle.srcp_serve.specs.Serving.{IsFair, OfEachTurn, OfEachVisit, Client, Stand, begun, empty_stand, question, clients, turned, turns}
 use Rattle.srcp_serve.specs.Serving.{visit, visit_asks, visit_events}
 use Rattle.srcp_serve.specs.Settling.{SettlesSoon, TakesWaits, WaitsAreGoneAfterAVisit}
 use Rattle.srcp_serve.proofs.GuestsAreSentTheirVisits.{fair_visit}
@@ -53,21 +53,21 @@ module _ (buses : List Bus) where
       ∙ ap is_nil p.owes)
 
   pub settles_soon : SettlesSoon buses
-  settles_soon layout count told served differ fair before after parts slot seat has conn is still enough later there =
+  settles_soon layout count trace served differ fair before after parts slot client has conn is still enough later there =
       let now : Stand = fold (turned buses) empty_stand before in
       let w : World = course buses now.events in
       let due : List Next = owed conn (history buses w) (rows buses w) in
       let runs = later_turns (IsTurnOfGuests buses) before after empty_stand
       (subst (λ (all : List (List Call)). OfEachTurn buses (IsTurnOfGuests buses) empty_stand all) parts
-      (turns_of_guests buses count told served differ fair)) in
-      let p : Panel buses seat.conn now.events (unsent conn) due = record { conn = conn; is = is; left = refl; owes = refl } in
-      let end : (fold (turned buses) now after).events ≡ (fold (turned buses) empty_stand (turns told)).events =
+      (turns_of_guests buses count trace served differ fair)) in
+      let p : Panel buses client.conn now.events (unsent conn) due = record { conn = conn; is = is; left = refl; owes = refl } in
+      let end : (fold (turned buses) now after).events ≡ (fold (turned buses) empty_stand (turns trace)).events =
       ap (λ (s : Stand). s.events) (sym (fold-append (turned buses) empty_stand before after)
       ∙ ap (fold (turned buses) empty_stand) (sym parts)) in
-      let done = turns_settle buses layout slot seat after now (unsent conn) due runs still has p
+      let done = turns_settle buses layout slot client after now (unsent conn) due runs still has p
       (subst (λ k. length due + k ≤ 300 * length after) (sym (one_write (unsent conn))) enough) in
-      settled_is (fold (turned buses) empty_stand (turns told)).events seat.conn later
-      (subst (λ (es : List Event). Panel buses seat.conn es [] []) end done) there
+      settled_is (fold (turned buses) empty_stand (turns trace)).events client.conn later
+      (subst (λ (es : List Event). Panel buses client.conn es [] []) end done) there
 
   -- ---- the changes that wait
 
@@ -94,18 +94,18 @@ module _ (buses : List Bus) where
       ap (λ t. if t && conn.info then map Told (untold conn h) ++ map Listed (beyond (cursor_at conn (length h)) shown) else []) up
       ∙ ap (λ t. if t then map Told (untold conn h) ++ map Listed (beyond (cursor_at conn (length h)) shown) else []) info
 
-  takes_waits : (layout : IsLayout buses) (events : List Event) (calls : List Call) (seat : Seat) → map question (visit calls seat)
-      ≡ visit_asks buses events (visit calls seat) seat → AllByRecursion IsFair calls → TakesWaits buses events calls seat
-  takes_waits layout events calls seat asked fair conn later is takes there =
+  takes_waits : (layout : IsLayout buses) (events : List Event) (calls : List Call) (client : Client) → map question (visit calls client)
+      ≡ visit_asks buses events (visit calls client) client → AllByRecursion IsFair calls → TakesWaits buses events calls client
+  takes_waits layout events calls client asked fair conn later is takes there =
       let w : World = course buses events in
       let h : History = history buses w in
       let shown : List Shown = rows buses w in
-      let p : Panel buses seat.conn events (unsent conn) (owed conn h shown) = record { conn = conn; is = is; left = refl; owes = refl } in
-      let v = visited_whole buses layout seat events (visit calls seat) (unsent conn) (owed conn h shown) p asked
-      (fair_visit seat.peer calls fair) takes.keeps takes.whole in
-      let q : Panel buses seat.conn (events ++ visit_events calls seat) [] v.rest =
-      subst (λ (es : List Event). Panel buses seat.conn (events ++ es) [] v.rest) (sym (stays_exchange calls seat v.stays)) v.panel in
-      let u : World = course buses (events ++ visit_events calls seat) in
+      let p : Panel buses client.conn events (unsent conn) (owed conn h shown) = record { conn = conn; is = is; left = refl; owes = refl } in
+      let v = visited_whole buses layout client events (visit calls client) (unsent conn) (owed conn h shown) p asked
+      (fair_visit client.peer calls fair) takes.keeps takes.whole in
+      let q : Panel buses client.conn (events ++ visit_events calls client) [] v.rest =
+      subst (λ (es : List Event). Panel buses client.conn (events ++ es) [] v.rest) (sym (stays_exchange calls client v.stays)) v.panel in
+      let u : World = course buses (events ++ visit_events calls client) in
       let past : History = history buses u in
       let found : Some q.conn ≡ Some later = sym q.is.there ∙ there in
       let same : q.conn ≡ later = cc in
@@ -130,21 +130,21 @@ module _ (buses : List Bus) where
       gone changes listed lines rest more others one e few low r (inr many) =
           none_waits changes listed lines rest more others e (omega (arith, few, low, many)) r
 
-  visits_take : (layout : IsLayout buses) (events : List Event) (calls : List Call) (all : List Seat) → AllByRecursion IsFair calls
+  visits_take : (layout : IsLayout buses) (events : List Event) (calls : List Call) (all : List Client) → AllByRecursion IsFair calls
       → AreAsked buses events calls all → OfEachVisit buses (TakesWaits buses) events calls all
   visits_take layout events calls [] fair asked = tt
-  visits_take layout events calls (seat ∷ all) fair asked =
-      (takes_waits layout events calls seat asked.0 fair, visits_take layout (events ++ visit_events calls seat) calls all fair asked.1)
+  visits_take layout events calls (client ∷ all) fair asked =
+      (takes_waits layout events calls client asked.0 fair, visits_take layout (events ++ visit_events calls client) calls all fair asked.1)
 
   turns_take : (layout : IsLayout buses) (all : List (List Call)) (stand : Stand) → OfEachTurn buses (IsTurnOfGuests buses) stand all
       → OfEachTurn buses (λ stand calls. OfEachVisit buses (TakesWaits buses) (begun buses stand calls).events calls
-      (seats (begun buses stand calls).slots)) stand all
+      (clients (begun buses stand calls).slots)) stand all
   turns_take layout [] stand h = tt
   turns_take layout (calls ∷ all) stand h = (
-    visits_take layout (begun buses stand calls).events calls (seats (begun buses stand calls).slots) h.0.fair h.0.asked,
+    visits_take layout (begun buses stand calls).events calls (clients (begun buses stand calls).slots) h.0.fair h.0.asked,
     turns_take layout all (turned buses stand calls) h.1,
   )
 
   pub waits_are_gone : WaitsAreGoneAfterAVisit buses
-  waits_are_gone layout count told served differ fair =
-      turns_take layout (turns told) empty_stand (turns_of_guests buses count told served differ fair)
+  waits_are_gone layout count trace served differ fair =
+      turns_take layout (turns trace) empty_stand (turns_of_guests buses count trace served differ fair)

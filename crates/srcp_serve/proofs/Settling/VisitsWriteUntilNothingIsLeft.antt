@@ -18,7 +18,7 @@ use Rattle.srcp_core.specs.Course.{World, course, history}
 use Rattle.srcp_core.specs.Under.{Event, Bytes, Room, Piece}
 use Rattle.srcp_core.specs.declared.record.Finish.TheVariants.{Closing, Live, Overrun, Shut as ShutFinish}
 use Rattle.srcp_serve.specs.Given.{Call, ExpectCall, NowCall, AcceptCall, ReadCall, WriteCall, CloseCall}
-use Rattle.srcp_serve.specs.Serving.{Question, Expects, Moments, Newcomers, Reads, Writes, Closes, Seat, IsFair, question, piece_of}
+use Rattle.srcp_serve.specs.Serving.{Question, Expects, Moments, Newcomers, Reads, Writes, Closes, Client, IsFair, question, piece_of}
 use Rattle.srcp_serve.specs.Serving.{count_of, is_close, is_write, loses, loses_reading, loses_writing, falls_short, lent_none_last, rooms}
 use Rattle.srcp_serve.specs.Serving.{exchange, is_ready, is_closing, lent, handed, unless_nil, reads_of, writes_of, closes_of, visit_asks}
 use Rattle.srcp_serve.proofs.VisitsSendWhatIsTaken.{first_of_writes, has_writes, no_write}
@@ -249,33 +249,33 @@ writes_close : (peer : ℕ) (texts : List (List ℕ)) → list_any asks_close (m
 writes_close peer [] = refl
 writes_close peer (text ∷ texts) = writes_close peer texts
 
-module _ (buses : List Bus) (layout : IsLayout buses) (seat : Seat) (events : List Event) (calls : List Call) (bytes : List ℕ)
-    (nexts : List Next) (p : Panel buses seat.conn events bytes nexts)
-    (asked : map question calls ≡ visit_asks buses events calls seat) (fair : AllByRecursion IsFair calls)
+module _ (buses : List Bus) (layout : IsLayout buses) (client : Client) (events : List Event) (calls : List Call) (bytes : List ℕ)
+    (nexts : List Next) (p : Panel buses client.conn events bytes nexts)
+    (asked : map question calls ≡ visit_asks buses events calls client) (fair : AllByRecursion IsFair calls)
     (keeps : list_any loses calls ≡ false) (takes : list_any falls_short calls ≡ false) where
   abbrev read_events : List Event
-  read_events = events ++ map (Bytes seat.conn) (filter_map piece_of calls)
+  read_events = events ++ map (Bytes client.conn) (filter_map piece_of calls)
 
-  after_pieces : (events : List Event) (pieces : List Piece) → Panel buses seat.conn events bytes nexts
-      → Panel buses seat.conn (events ++ map (Bytes seat.conn) pieces) bytes nexts
-  after_pieces events [] q = subst (λ (es : List Event). Panel buses seat.conn es bytes nexts) (sym (append-nil events)) q
+  after_pieces : (events : List Event) (pieces : List Piece) → Panel buses client.conn events bytes nexts
+      → Panel buses client.conn (events ++ map (Bytes client.conn) pieces) bytes nexts
+  after_pieces events [] q = subst (λ (es : List Event). Panel buses client.conn es bytes nexts) (sym (append-nil events)) q
   after_pieces events (piece ∷ pieces) q =
-      subst (λ (es : List Event). Panel buses seat.conn es bytes nexts)
-      (append_assoc events (Bytes seat.conn piece ∷ []) (map (Bytes seat.conn) pieces))
-      (after_pieces (events ++ Bytes seat.conn piece ∷ []) pieces (panel_bytes buses seat.conn events bytes nexts q piece))
+      subst (λ (es : List Event). Panel buses client.conn es bytes nexts)
+      (append_assoc events (Bytes client.conn piece ∷ []) (map (Bytes client.conn) pieces))
+      (after_pieces (events ++ Bytes client.conn piece ∷ []) pieces (panel_bytes buses client.conn events bytes nexts q piece))
 
   -- the writes of the visit
-  wrote : IsHanded buses layout seat.peer seat.conn 300 (one_unless_nil bytes) nexts read_events (filter_map count_of calls)
+  wrote : IsHanded buses layout client.peer client.conn 300 (one_unless_nil bytes) nexts read_events (filter_map count_of calls)
   wrote =
-      let h = has_writes buses seat events calls asked in
+      let h = has_writes buses client events calls asked in
       let losing : AllByRecursion (λ call. loses call ≡ false) calls = not_any loses calls keeps in
       let whole : AllByRecursion IsWhole h.writes = h.each IsWhole (each_whole calls fair losing (not_any falls_short calls takes)) in
       let reading : list_any loses_reading calls ≡ false = any_not loses_reading calls (each_read calls losing) in
-      let texts : List ℕ → List Question = λ cs. map (Writes seat.peer) (take 300 (handed buses seat.conn read_events cs)) in
+      let texts : List ℕ → List Question = λ cs. map (Writes client.peer) (take 300 (handed buses client.conn read_events cs)) in
       let asks : map question h.writes ≡ texts (filter_map count_of h.writes) = h.asked
       ∙ ap (λ b. if b then [] else texts (filter_map count_of calls)) reading ∙ ap texts h.counts in
-      subst (λ (cs : List ℕ). IsHanded buses layout seat.peer seat.conn 300 (one_unless_nil bytes) nexts read_events cs) (sym h.counts)
-      (hands_all buses layout seat.peer seat.conn h.writes 300 read_events bytes nexts (omega arith) whole asks
+      subst (λ (cs : List ℕ). IsHanded buses layout client.peer client.conn 300 (one_unless_nil bytes) nexts read_events cs) (sym h.counts)
+      (hands_all buses layout client.peer client.conn h.writes 300 read_events bytes nexts (omega arith) whole asks
       (after_pieces events (filter_map piece_of calls) p))
 
   -- after a visit nothing is unsent, and these lines are left to it: none, or it was handed 300
@@ -283,34 +283,34 @@ module _ (buses : List Bus) (layout : IsLayout buses) (seat : Seat) (events : Li
     pub lines : List Next
     pub rest : List Next
     pub whole : nexts ≡ lines ++ rest
-    pub panel : Panel buses seat.conn (events ++ exchange seat.conn calls) [] rest
+    pub panel : Panel buses client.conn (events ++ exchange client.conn calls) [] rest
     pub ends : (rest ≡ []) ⊎ (length lines + one_unless_nil bytes ≡ 300)
     pub stays : list_any is_close calls ≡ false
 
-  last_room : (now : List Event) (rest : List Next) (b : Bool) → (b ≡ true → rest ≡ []) → Panel buses seat.conn now [] rest
-      → Panel buses seat.conn (now ++ map (Room seat.conn) (if b then 0 ∷ [] else [])) [] rest
-  last_room now rest false none q = subst (λ (es : List Event). Panel buses seat.conn es [] rest) (sym (append-nil now)) q
+  last_room : (now : List Event) (rest : List Next) (b : Bool) → (b ≡ true → rest ≡ []) → Panel buses client.conn now [] rest
+      → Panel buses client.conn (now ++ map (Room client.conn) (if b then 0 ∷ [] else [])) [] rest
+  last_room now rest false none q = subst (λ (es : List Event). Panel buses client.conn es [] rest) (sym (append-nil now)) q
   last_room now rest true none q =
       let empty : rest ≡ [] = none refl in
-      subst (λ (ns : List Next). Panel buses seat.conn (now ++ Room seat.conn 0 ∷ []) [] ns) (sym empty)
-      (panel_room buses seat.conn now [] [] (subst (λ (ns : List Next). Panel buses seat.conn now [] ns) empty q) layout)
+      subst (λ (ns : List Next). Panel buses client.conn (now ++ Room client.conn 0 ∷ []) [] ns) (sym empty)
+      (panel_room buses client.conn now [] [] (subst (λ (ns : List Next). Panel buses client.conn now [] ns) empty q) layout)
 
   -- of a session that goes on
-  not_closing : (now : List Event) (left : List ℕ) (rest : List Next) → Panel buses seat.conn now left rest
-      → is_closing buses seat.conn now ≡ false
+  not_closing : (now : List Event) (left : List ℕ) (rest : List Next) → Panel buses client.conn now left rest
+      → is_closing buses client.conn now ≡ false
   not_closing now left rest q =
       let w : World = course buses now in
-      ap (λ o. option_map_or (λ conn. is_last (finish conn (history buses w))) o false) (panel_open buses seat.conn now left rest q)
+      ap (λ o. option_map_or (λ conn. is_last (finish conn (history buses w))) o false) (panel_open buses client.conn now left rest q)
       ∙ ap (λ t. is_last (if t then
       (if overran q.conn (history buses w) then Overrun else
       (if q.conn.ended && is_nil (unsent q.conn) then Closing else Live)) else ShutFinish)) q.is.open_now
       ∙ ap (λ t. is_last (if t then Overrun else (if q.conn.ended && is_nil (unsent q.conn) then Closing else Live))) q.is.fine
-      ∙ ap (λ t. is_last (if t && is_nil (unsent q.conn) then Closing else Live)) (panel_goes_on buses seat.conn now left rest q)
+      ∙ ap (λ t. is_last (if t && is_nil (unsent q.conn) then Closing else Live)) (panel_goes_on buses client.conn now left rest q)
 
   pub visited_whole : IsVisitedWhole
   visited_whole =
       let r = wrote in
-      let n : ℕ = seat.conn in
+      let n : ℕ = client.conn in
       let counts : List ℕ = filter_map count_of calls in
       let asks_last : Bool = lent_none_last calls in
       let none_then : asks_last ≡ true → r.rest ≡ [] = λ e. nothing r.rest r.ends (few e) in
@@ -322,9 +322,9 @@ module _ (buses : List Bus) (layout : IsLayout buses) (seat : Seat) (events : Li
       let panel : Panel buses n (events ++ exchange n calls) [] r.rest =
       subst (λ (es : List Event). Panel buses n es [] r.rest) whole last in
       let open_still = not_closing (events ++ exchange n calls) [] r.rest panel in
-      let none_closed : closes_of buses events calls seat ≡ [] =
-      ap (λ b. if b || is_closing buses n (events ++ exchange n calls) then Closes seat.peer ∷ [] else []) keeps
-      ∙ ap (λ b. if b then Closes seat.peer ∷ [] else []) open_still in
+      let none_closed : closes_of buses events calls client ≡ [] =
+      ap (λ b. if b || is_closing buses n (events ++ exchange n calls) then Closes client.peer ∷ [] else []) keeps
+      ∙ ap (λ b. if b then Closes client.peer ∷ [] else []) open_still in
       record {
         lines = r.lines;
         rest = r.rest;
@@ -333,12 +333,12 @@ module _ (buses : List Bus) (layout : IsLayout buses) (seat : Seat) (events : Li
         ends = by r.rest r.ends r.many;
         stays = closes_asked calls
             ∙ ap (list_any asks_close) asked
-            ∙ list_any-append asks_close (reads_of buses events seat ++ writes_of buses events calls seat)
-            (closes_of buses events calls seat)
+            ∙ list_any-append asks_close (reads_of buses events client ++ writes_of buses events calls client)
+            (closes_of buses events calls client)
             ∙ ap (λ qs. list_any asks_close
-            (reads_of buses events seat ++ writes_of buses events calls seat) || list_any asks_close qs) none_closed
-            ∙ ap (λ b. b || false) (list_any-append asks_close (reads_of buses events seat) (writes_of buses events calls seat))
-            ∙ ap (λ b. (b || list_any asks_close (writes_of buses events calls seat)) || false) (reads (is_ready buses seat.conn events))
+            (reads_of buses events client ++ writes_of buses events calls client) || list_any asks_close qs) none_closed
+            ∙ ap (λ b. b || false) (list_any-append asks_close (reads_of buses events client) (writes_of buses events calls client))
+            ∙ ap (λ b. (b || list_any asks_close (writes_of buses events calls client)) || false) (reads (is_ready buses client.conn events))
             ∙ ap (λ b. b || false) (writes (list_any loses_reading calls));
       }
     where
@@ -361,11 +361,11 @@ module _ (buses : List Bus) (layout : IsLayout buses) (seat : Seat) (events : Li
       by rest (inl none) many = inl none
       by rest (inr all) many = inr (many ∙ all)
 
-      reads : (b : Bool) → list_any asks_close (if b then Reads seat.peer 256 ∷ [] else []) ≡ false
+      reads : (b : Bool) → list_any asks_close (if b then Reads client.peer 256 ∷ [] else []) ≡ false
       reads true = refl
       reads false = refl
 
       writes : (b : Bool) → list_any asks_close
-          (if b then [] else map (Writes seat.peer) (take 300 (handed buses seat.conn read_events (filter_map count_of calls)))) ≡ false
+          (if b then [] else map (Writes client.peer) (take 300 (handed buses client.conn read_events (filter_map count_of calls)))) ≡ false
       writes true = refl
-      writes false = writes_close seat.peer (take 300 (handed buses seat.conn read_events (filter_map count_of calls)))
+      writes false = writes_close client.peer (take 300 (handed buses client.conn read_events (filter_map count_of calls)))

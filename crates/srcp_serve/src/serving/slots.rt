@@ -5,14 +5,14 @@ ghost use Rattle.std.specs.Prelude.{slice_set};
 ghost use Rattle.std.specs.List.{slice_index_or};
 ghost use Rattle.srcp_serve.specs.Slots.{AreFreeFrom};
 
-use super::visit::Seat;
+use super::visit::Client;
 use srcp_core::MOST_CONNECTIONS;
 use std::marker::Model;
 
 /// Holds the slots, each with the peer that has it. Contracts see them as a list.
 #[derive(Drop)]
 pub(super) struct Slots {
-    seats: [Option<Seat>; MOST_CONNECTIONS],
+    clients: [Option<Client>; MOST_CONNECTIONS],
     // All slots from here on are free, so a turn skips them.
     end: usize,
 }
@@ -21,14 +21,14 @@ impl Model for Slots {
     ghost use Rattle.std.specs.Prelude.{◌≡◌, ◌≤◌, Option, List, length};
     ghost use Rattle.srcp_core.specs.declared.limits.TheConstants.{MOST_CONNECTIONS};
     ghost use Rattle.srcp_serve.specs.Slots.{AreFreeFrom};
-    ghost use Rattle.srcp_serve.specs.declared.serving.visit.Seat.{Seat};
+    ghost use Rattle.srcp_serve.specs.declared.serving.visit.Client.{Client};
 
-    ghost Value = { List (Option Seat) };
+    ghost Value = { List (Option Client) };
 
-    ghost view = { λ p. p.seats };
+    ghost view = { λ p. p.clients };
 
     ghost invariant = { λ p.
-        (length p.seats ≡ MOST_CONNECTIONS) × (p.end ≤ MOST_CONNECTIONS) × AreFreeFrom p.end p.seats };
+        (length p.clients ≡ MOST_CONNECTIONS) × (p.end ≤ MOST_CONNECTIONS) × AreFreeFrom p.end p.clients };
 }
 
 impl Slots {
@@ -37,7 +37,7 @@ impl Slots {
         ensures { result ≡ replicate MOST_CONNECTIONS None }
     {
         Slots {
-            seats: [None; MOST_CONNECTIONS],
+            clients: [None; MOST_CONNECTIONS],
             end: 0,
         }
     }
@@ -52,11 +52,11 @@ impl Slots {
     }
 
     /// Returns the peer of the slot, if it has one.
-    pub(super) fn seat(&self, slot: usize) -> Option<Seat>
+    pub(super) fn client(&self, slot: usize) -> Option<Client>
         requires { slot < MOST_CONNECTIONS }
         ensures { result ≡ slice_index_or self.now slot None }
     {
-        self.seats[slot]
+        self.clients[slot]
     }
 
     /// Returns the first free slot, if there is one.
@@ -64,15 +64,15 @@ impl Slots {
         ensures first { result ≡ position is_none self.now }
         ensures all { length self.now ≡ MOST_CONNECTIONS }
     {
-        self.seats.iter().position(|slot| slot.is_none())
+        self.clients.iter().position(|slot| slot.is_none())
     }
 
     /// Gives the slot to a peer.
-    pub(super) fn give(&mut self, slot: usize, seat: Seat)
+    pub(super) fn give(&mut self, slot: usize, client: Client)
         requires { slot < MOST_CONNECTIONS }
-        ensures { self.new ≡ slice_set self.old slot (Some seat) }
+        ensures { self.new ≡ slice_set self.old slot (Some client) }
     {
-        self.seats[slot] = Some(seat);
+        self.clients[slot] = Some(client);
         self.end = self.end.max(slot + 1);
     }
 
@@ -81,6 +81,6 @@ impl Slots {
         requires { slot < MOST_CONNECTIONS }
         ensures { self.new ≡ slice_set self.old slot None }
     {
-        self.seats[slot] = None;
+        self.clients[slot] = None;
     }
 }

@@ -15,7 +15,7 @@ pub const MOST_WRITES: u32 = 300;
 
 /// A peer that has a connection, and the key of that connection.
 #[derive(Clone, Copy)]
-pub(super) struct Seat {
+pub(super) struct Client {
     pub peer: u32,
     pub key: usize,
 }
@@ -34,39 +34,39 @@ enum Wrote {
 impl<'d, D: Door> Server<'d, D> {
     /// Reads from the peer and writes to it. Closes it if it is lost or its connection is to be closed. Returns
     /// whether it keeps its slot.
-    pub(super) fn visit<R: Rows>(&mut self, core: &mut Core<'_, R>, seat: Seat) -> bool
+    pub(super) fn visit<R: Rows>(&mut self, core: &mut Core<'_, R>, client: Client) -> bool
         requires { self.old.tally.faults ≤ D.faults self.old.door.now }
         ensures slots { self.new.slots ≡ self.old.slots }
-        ensures calls { CallsDoor D.faults D.told AsksPeers self.old self.new }
-        ensures course { Visits seat.peer seat.key core.old (D.told self.old.door.now)
-            core.new (D.told self.new.door.now) result }
+        ensures calls { CallsDoor D.faults D.trace AsksPeers self.old self.new }
+        ensures course { Visits client.peer client.key core.old (D.trace self.old.door.now)
+            core.new (D.trace self.new.door.now) result }
     {
-        if self.read_in(core, seat) && self.write_out(core, seat) && !core.closing(seat.key) {
+        if self.read_in(core, client) && self.write_out(core, client) && !core.closing(client.key) {
             return true;
         }
-        self.disconnect(core, seat);
+        self.disconnect(core, client);
         false
     }
 
     /// Hangs up the connection of a peer and closes the peer.
-    pub(super) fn disconnect<R: Rows>(&mut self, core: &mut Core<'_, R>, seat: Seat)
+    pub(super) fn disconnect<R: Rows>(&mut self, core: &mut Core<'_, R>, client: Client)
         requires { self.old.tally.faults ≤ D.faults self.old.door.now }
         ensures slots { self.new.slots ≡ self.old.slots }
-        ensures calls { CallsDoor D.faults D.told AsksPeers self.old self.new }
+        ensures calls { CallsDoor D.faults D.trace AsksPeers self.old self.new }
         ensures denied { core.new.denied ≡ core.old.denied }
-        ensures course { Disconnects seat.peer seat.key core.old (D.told self.old.door.now)
-            core.new (D.told self.new.door.now) }
+        ensures course { Disconnects client.peer client.key core.old (D.trace self.old.door.now)
+            core.new (D.trace self.new.door.now) }
     {
-        let _ = core.hangup(seat.key);
-        self.close(seat.peer);
+        let _ = core.hangup(client.key);
+        self.close(client.peer);
     }
 
     /// Closes a peer. A failure is counted, and the peer is closed all the same.
     pub(super) fn close(&mut self, peer: u32)
         requires { self.old.tally.faults ≤ D.faults self.old.door.now }
         ensures slots { self.new.slots ≡ self.old.slots }
-        ensures calls { CallsDoor D.faults D.told AsksPeers self.old self.new }
-        ensures course { Closes peer (D.told self.old.door.now) (D.told self.new.door.now) }
+        ensures calls { CallsDoor D.faults D.trace AsksPeers self.old self.new }
+        ensures course { Closes peer (D.trace self.old.door.now) (D.trace self.new.door.now) }
     {
         match self.door.close(peer) {
             Ok(()) => (),
@@ -75,18 +75,18 @@ impl<'d, D: Door> Server<'d, D> {
     }
 
     /// Reads once, if the connection accepts bytes. Returns false if the peer is lost.
-    fn read_in<R: Rows>(&mut self, core: &mut Core<'_, R>, seat: Seat) -> bool
+    fn read_in<R: Rows>(&mut self, core: &mut Core<'_, R>, client: Client) -> bool
         requires { self.old.tally.faults ≤ D.faults self.old.door.now }
         ensures slots { self.new.slots ≡ self.old.slots }
-        ensures calls { CallsDoor D.faults D.told AsksPeers self.old self.new }
-        ensures course { ReadsIn seat.peer seat.key core.old (D.told self.old.door.now)
-            core.new (D.told self.new.door.now) result }
+        ensures calls { CallsDoor D.faults D.trace AsksPeers self.old self.new }
+        ensures course { ReadsIn client.peer client.key core.old (D.trace self.old.door.now)
+            core.new (D.trace self.new.door.now) result }
     {
-        if !core.ready(seat.key) {
+        if !core.ready(client.key) {
             return true;
         }
-        match self.door.read(seat.peer, &mut self.buffer) {
-            Ok(Got::Bytes(count)) => core.receive(seat.key, &self.buffer[..count]).is_ok(),
+        match self.door.read(client.peer, &mut self.buffer) {
+            Ok(Got::Bytes(count)) => core.receive(client.key, &self.buffer[..count]).is_ok(),
             Ok(Got::Nothing) => true,
             Ok(Got::Ended) => false,
             Err(_) => {
@@ -97,16 +97,16 @@ impl<'d, D: Door> Server<'d, D> {
     }
 
     /// Writes what the core lends, as long as the peer takes all of it. Returns false if the peer is lost.
-    fn write_out<R: Rows>(&mut self, core: &mut Core<'_, R>, seat: Seat) -> bool
+    fn write_out<R: Rows>(&mut self, core: &mut Core<'_, R>, client: Client) -> bool
         requires { self.old.tally.faults ≤ D.faults self.old.door.now }
         ensures slots { self.new.slots ≡ self.old.slots }
-        ensures calls { CallsDoor D.faults D.told AsksPeers self.old self.new }
+        ensures calls { CallsDoor D.faults D.trace AsksPeers self.old self.new }
         ensures denied { core.new.denied ≡ core.old.denied }
-        ensures course { WritesOut seat.peer seat.key core.old (D.told self.old.door.now)
-            core.new (D.told self.new.door.now) result }
+        ensures course { WritesOut client.peer client.key core.old (D.trace self.old.door.now)
+            core.new (D.trace self.new.door.now) result }
     {
         for _ in 0..MOST_WRITES {
-            match self.write_once(core, seat) {
+            match self.write_once(core, client) {
                 Wrote::All => (),
                 Wrote::Less => return true,
                 Wrote::Failed => return false,
@@ -116,26 +116,26 @@ impl<'d, D: Door> Server<'d, D> {
     }
 
     /// Writes what the core lends, once, and drops of it what the peer took.
-    fn write_once<R: Rows>(&mut self, core: &mut Core<'_, R>, seat: Seat) -> Wrote
+    fn write_once<R: Rows>(&mut self, core: &mut Core<'_, R>, client: Client) -> Wrote
         requires { self.old.tally.faults ≤ D.faults self.old.door.now }
         ensures slots { self.new.slots ≡ self.old.slots }
-        ensures calls { CallsDoor D.faults D.told AsksPeers self.old self.new }
+        ensures calls { CallsDoor D.faults D.trace AsksPeers self.old self.new }
         ensures denied { core.new.denied ≡ core.old.denied }
-        ensures course { WritesOnce seat.peer seat.key core.old (D.told self.old.door.now)
-            core.new (D.told self.new.door.now) result }
+        ensures course { WritesOnce client.peer client.key core.old (D.trace self.old.door.now)
+            core.new (D.trace self.new.door.now) result }
     {
-        let Ok(lent) = core.outgoing(seat.key) else {
+        let Ok(lent) = core.outgoing(client.key) else {
             return Wrote::Less;
         };
         if lent.is_empty() {
             return Wrote::Less;
         }
         let handed = lent.len();
-        let Ok(count) = self.door.write(seat.peer, lent) else {
+        let Ok(count) = self.door.write(client.peer, lent) else {
             self.tally.fault();
             return Wrote::Failed;
         };
-        core.sent(seat.key, count);
+        core.sent(client.key, count);
         if count < handed {
             Wrote::Less
         } else {

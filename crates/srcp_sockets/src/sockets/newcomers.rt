@@ -1,4 +1,4 @@
-//! How a newcomer is accepted.
+//! How a pending connection is accepted.
 
 ghost use Rattle.std.specs.Prelude.{false, true, ◌≡◌, ◌<◌, ◌+◌, ◌⊎◌, None, Ok, Err, IfErr, length, vec_capacity};
 ghost use Rattle.std.specs.Prelude.{◌||◌, filter, nat_le, not};
@@ -16,29 +16,30 @@ use srcp_serve::DoorFault;
 use std::alloc::{AllocError, Global};
 
 impl<S: System + Drop> Sockets<S> {
-    /// Accepts the next newcomer, if there is one. Its number is above those of all peers before it.
+    /// Accepts the next pending connection, if there is one. Its number is above those of all peers before it.
     ///
     /// # Errors
     /// `Accept` if the system failed to accept it, or if memory or the numbers ran out.
     pub(crate) fn accept(&mut self, alloc: Global) -> Result<Option<u32>, DoorFault>
-        ensures told { SaysOne (S.told self.old.system) (AcceptCall result) (S.told self.new.system) }
+        ensures trace { SaysOne (S.trace self.old.system) (AcceptCall result) (S.trace self.new.system) }
         ensures fault { IfErr result (λ fault. fault ≡ DoorFault.Accept) }
     {
         if !self.may_accept() {
-            return self.tell_nobody(Ok(None));
+            return self.note_nobody(Ok(None));
         }
         let Some(number) = self.last.checked_add(1) else {
-            return self.tell_nobody(Err(DoorFault::Accept));
+            return self.note_nobody(Err(DoorFault::Accept));
         };
         let Ok(queues) = spare_or_new(&mut self.spare, alloc) else {
-            return self.tell_nobody(Err(DoorFault::Accept));
+            return self.note_nobody(Err(DoorFault::Accept));
         };
         self.accept_next(number, queues)
     }
 
-    /// Returns whether the next newcomer may be accepted now. If too many linger, one of them is closed first.
+    /// Returns whether the next pending connection may be accepted now. If too many linger, one of them is closed
+    /// first.
     fn may_accept(&mut self) -> bool
-        ensures calls { SaysNothing (S.told self.old.system) (S.told self.new.system) }
+        ensures calls { SaysNothing (S.trace self.old.system) (S.trace self.new.system) }
         ensures room { result ≡ true → length self.new.peers.items < vec_capacity self.new.peers }
     {
         if self.listening.is_quiet() {
@@ -51,32 +52,32 @@ impl<S: System + Drop> Sockets<S> {
         true
     }
 
-    /// Tells that nobody came, or a fault, if the system was not asked.
-    fn tell_nobody(
+    /// Notes that nobody came, or a fault, if the system was not asked.
+    fn note_nobody(
         &mut self,
         answer: Result<Option<u32>, DoorFault>,
     ) -> Result<Option<u32>, DoorFault>
         requires { (answer ≡ Ok None) ⊎ (answer ≡ Err DoorFault.Accept) }
-        ensures told { SaysOne (S.told self.old.system) (AcceptCall result) (S.told self.new.system) }
+        ensures trace { SaysOne (S.trace self.old.system) (AcceptCall result) (S.trace self.new.system) }
         ensures same { result ≡ answer }
     {
-        self.system.told_accept(answer);
+        self.system.note_accept(answer);
         self.turn.note_accept(answer);
         answer
     }
 
-    /// Accepts the next newcomer under that number, if there is one.
+    /// Accepts the next pending connection under that number, if there is one.
     fn accept_next(&mut self, number: u32, queues: Queues) -> Result<Option<u32>, DoorFault>
         requires next { number ≡ self.old.last + 1 }
         requires room { length self.old.peers.items < vec_capacity self.old.peers }
-        ensures told { SaysOne (S.told self.old.system) (AcceptCall result) (S.told self.new.system) }
+        ensures trace { SaysOne (S.trace self.old.system) (AcceptCall result) (S.trace self.new.system) }
         ensures fault { IfErr result (λ fault. fault ≡ DoorFault.Accept) }
     {
         match self.system.accept(number) {
             Ok(()) => {
                 self.peers.push(Peer::new(number, queues)).unwrap();
                 self.last = number;
-                self.system.told_accept(Ok(Some(number)));
+                self.system.note_accept(Ok(Some(number)));
                 self.turn.note_accept(Ok(Some(number)));
                 Ok(Some(number))
             }
@@ -85,14 +86,14 @@ impl<S: System + Drop> Sockets<S> {
                 let said = refusal_of(fault);
                 self.listening = Listening::refused(said);
                 let answer = nobody(said);
-                self.system.told_accept(answer);
+                self.system.note_accept(answer);
                 self.turn.note_accept(answer);
                 answer
             }
         }
     }
 
-    /// Returns whether one that lingers has to be closed before a newcomer is accepted.
+    /// Returns whether one that lingers has to be closed before a connection is accepted.
     fn is_crowded(&self) -> bool
         ensures is { result ≡ (nat_le (vec_capacity self.now.peers) (length self.now.peers.items)
             || nat_le MOST_LINGERING (length (filter (λ peer. not (is_here peer.stay)) self.now.peers.items))) }
@@ -102,10 +103,10 @@ impl<S: System + Drop> Sockets<S> {
             || count_lingering(self.peers.as_slice()) >= MOST_LINGERING
     }
 
-    /// Closes the first peer that lingers and is owed nothing. If there is none, no newcomer is accepted until one is
+    /// Closes the first peer that lingers and is owed nothing. If there is none, no connection is accepted until one is
     /// closed.
     fn make_room(&mut self)
-        ensures calls { SaysNothing (S.told self.old.system) (S.told self.new.system) }
+        ensures calls { SaysNothing (S.trace self.old.system) (S.trace self.new.system) }
         ensures last { self.new.last ≡ self.old.last }
     {
         match first_shut(self.peers.as_slice()) {
@@ -125,7 +126,7 @@ fn spare_or_new(spare: &mut Option<Queues>, alloc: Global) -> Result<Queues, All
 
 /// Answers for an accept that failed.
 fn nobody(said: Refusal) -> Result<Option<u32>, DoorFault>
-    ensures told { result ≡ refused_newcomer said }
+    ensures answer { result ≡ refused_newcomer said }
     ensures fault { IfErr result (λ fault. fault ≡ DoorFault.Accept) }
 {
     match said {

@@ -11,9 +11,9 @@ loop-peer-init g c = record {
   kept = c.requires.kept;
   apart = c.requires.apart;
   those = λ k d lt. refl;
-  others = λ other absent. spares_none other (g.S.System.told c.args.system.now);
-  calls = says_none (g.S.System.told c.args.system.now);
-  times = keeps_none (g.S.System.told c.args.system.now);
+  others = λ other absent. spares_none other (g.S.System.trace c.args.system.now);
+  calls = says_none (g.S.System.trace c.args.system.now);
+  times = keeps_none (g.S.System.trace c.args.system.now);
   read = λ k d lt. absurd (omega (arith, lt));
   marked = λ k d lt. absurd (omega (arith, lt));
   rooms = λ k d lt. absurd (omega (arith, lt));
@@ -22,24 +22,24 @@ loop-peer-init g c = record {
 
 pub loop-peer-preserved : goal.loop-peer-preserved
 loop-peer-preserved g c = record {
-  kept = set_kept (g.S.System.told c.loop-peer.system) (g.S.System.told c.begin_visit.new.system) c.loop-peer.peers c.loop-peer.peer-index
+  kept = set_kept (g.S.System.trace c.loop-peer.system) (g.S.System.trace c.begin_visit.new.system) c.loop-peer.peers c.loop-peer.peer-index
       c.peer-item.result c.begin_visit.new.self (omega arith) c.loop-peer.invariant.apart c.loop-peer.invariant.kept
       c.begin_visit.ensures.kept c.begin_visit.ensures.others;
   apart = set_apart c.loop-peer.peers c.loop-peer.peer-index c.peer-item.result c.begin_visit.new.self (omega arith)
       c.begin_visit.ensures.number c.loop-peer.invariant.apart;
   those = set_those c.args.peers.now c.loop-peer.peers c.loop-peer.peer-index c.peer-item.result c.begin_visit.new.self (omega arith)
       c.loop-peer.auto.peers c.begin_visit.ensures.number c.loop-peer.invariant.those;
-  others = λ other absent. spares_then other (g.S.System.told c.args.system.now) (g.S.System.told c.loop-peer.system)
-      (g.S.System.told c.begin_visit.new.system)
+  others = λ other absent. spares_then other (g.S.System.trace c.args.system.now) (g.S.System.trace c.loop-peer.system)
+      (g.S.System.trace c.begin_visit.new.system)
       (c.loop-peer.invariant.others other absent)
       (c.begin_visit.ensures.others other (absent_there other c.args.peers.now c.loop-peer.peers c.loop-peer.peer-index c.peer-item.result
       (omega arith)
       c.loop-peer.auto.peers c.loop-peer.invariant.those absent));
-  calls = says_then (g.S.System.told c.args.system.now) (g.S.System.told c.loop-peer.system) (g.S.System.told c.begin_visit.new.system)
+  calls = says_then (g.S.System.trace c.args.system.now) (g.S.System.trace c.loop-peer.system) (g.S.System.trace c.begin_visit.new.system)
       c.loop-peer.invariant.calls c.begin_visit.ensures.calls;
-  times = keeps_then (g.S.System.told c.args.system.now) (g.S.System.told c.loop-peer.system) (g.S.System.told c.begin_visit.new.system)
+  times = keeps_then (g.S.System.trace c.args.system.now) (g.S.System.trace c.loop-peer.system) (g.S.System.trace c.begin_visit.new.system)
       c.loop-peer.invariant.times c.begin_visit.ensures.times;
-  read = set_read (g.S.System.told c.loop-peer.system) (g.S.System.told c.begin_visit.new.system) c.loop-peer.peers
+  read = set_read (g.S.System.trace c.loop-peer.system) (g.S.System.trace c.begin_visit.new.system) c.loop-peer.peers
       c.loop-peer.peer-index c.peer-item.result c.begin_visit.new.self (omega arith) c.loop-peer.invariant.apart
       c.begin_visit.ensures.number c.begin_visit.ensures.others c.begin_visit.ensures.read c.loop-peer.invariant.read;
   marked = set_marked c.args.peers.now c.loop-peer.peers c.loop-peer.peer-index c.peer-item.result c.begin_visit.new.self c.args.clear

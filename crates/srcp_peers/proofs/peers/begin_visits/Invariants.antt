@@ -8,13 +8,13 @@ use Rattle.srcp_peers.proofs.peers.begin_visits.Given as goal
 
 abbrev pub invariant-loop-peer : goal.invariant-loop-peer
 invariant-loop-peer g l = record {
-  kept : AreKept (g.S.System.told l.system) l.peers;
+  kept : AreKept (g.S.System.trace l.system) l.peers;
   apart : AreApart l.peers;
   those : AreThose l.fn.peers l.peers;
-  others : (other : ℕ) → IsAbsent other l.fn.peers → Spares other (g.S.System.told l.fn.system) (g.S.System.told l.system);
-  calls : SaysNothing (g.S.System.told l.fn.system) (g.S.System.told l.system);
-  times : KeepsTimes (g.S.System.told l.fn.system) (g.S.System.told l.system);
-  read : (k : ℕ) (d : Peer) → k < l.peer-index → IsRead (g.S.System.told l.system) (slice_index_or l.peers k d).number;
+  others : (other : ℕ) → IsAbsent other l.fn.peers → Spares other (g.S.System.trace l.fn.system) (g.S.System.trace l.system);
+  calls : SaysNothing (g.S.System.trace l.fn.system) (g.S.System.trace l.system);
+  times : KeepsTimes (g.S.System.trace l.fn.system) (g.S.System.trace l.system);
+  read : (k : ℕ) (d : Peer) → k < l.peer-index → IsRead (g.S.System.trace l.system) (slice_index_or l.peers k d).number;
   marked : (k : ℕ) (d : Peer) → k < l.peer-index
       → (slice_index_or l.peers k d).share.mark ≡ (not l.clear && (slice_index_or l.fn.peers k d).share.mark);
   rooms : (k : ℕ) (d : Peer) → k < l.peer-index → (slice_index_or l.peers k d).room ≡ l.room;

@@ -10,9 +10,9 @@ loop-peer-init g c = record {
   kept = c.requires.kept;
   apart = c.requires.apart;
   those = λ k d lt. refl;
-  others = λ other absent. spares_none other (g.S.System.told c.args.system.now);
-  calls = says_none (g.S.System.told c.args.system.now);
-  times = keeps_none (g.S.System.told c.args.system.now);
+  others = λ other absent. spares_none other (g.S.System.trace c.args.system.now);
+  calls = says_none (g.S.System.trace c.args.system.now);
+  times = keeps_none (g.S.System.trace c.args.system.now);
   offered = λ k d lt. absurd (omega (arith, lt));
   shut = λ k d lt. absurd (omega (arith, lt));
   rest = λ k d late. refl;
@@ -20,24 +20,24 @@ loop-peer-init g c = record {
 
 pub loop-peer-preserved : goal.loop-peer-preserved
 loop-peer-preserved g c = record {
-  kept = set_kept (g.S.System.told c.loop-peer.system) (g.S.System.told c.hand_over.new.system) c.loop-peer.peers c.loop-peer.peer-index
+  kept = set_kept (g.S.System.trace c.loop-peer.system) (g.S.System.trace c.hand_over.new.system) c.loop-peer.peers c.loop-peer.peer-index
       c.peer-item.result c.hand_over.new.self (omega arith) c.loop-peer.invariant.apart c.loop-peer.invariant.kept
       c.hand_over.ensures.kept c.hand_over.ensures.others;
   apart = set_apart c.loop-peer.peers c.loop-peer.peer-index c.peer-item.result c.hand_over.new.self (omega arith)
       c.hand_over.ensures.number c.loop-peer.invariant.apart;
   those = set_those c.args.peers.now c.loop-peer.peers c.loop-peer.peer-index c.peer-item.result c.hand_over.new.self (omega arith)
       c.loop-peer.auto.peers c.hand_over.ensures.number c.loop-peer.invariant.those;
-  others = λ other absent. spares_then other (g.S.System.told c.args.system.now) (g.S.System.told c.loop-peer.system)
-      (g.S.System.told c.hand_over.new.system)
+  others = λ other absent. spares_then other (g.S.System.trace c.args.system.now) (g.S.System.trace c.loop-peer.system)
+      (g.S.System.trace c.hand_over.new.system)
       (c.loop-peer.invariant.others other absent)
       (c.hand_over.ensures.others other (absent_there other c.args.peers.now c.loop-peer.peers c.loop-peer.peer-index c.peer-item.result
       (omega arith)
       c.loop-peer.auto.peers c.loop-peer.invariant.those absent));
-  calls = says_then (g.S.System.told c.args.system.now) (g.S.System.told c.loop-peer.system) (g.S.System.told c.hand_over.new.system)
+  calls = says_then (g.S.System.trace c.args.system.now) (g.S.System.trace c.loop-peer.system) (g.S.System.trace c.hand_over.new.system)
       c.loop-peer.invariant.calls c.hand_over.ensures.calls;
-  times = keeps_then (g.S.System.told c.args.system.now) (g.S.System.told c.loop-peer.system) (g.S.System.told c.hand_over.new.system)
+  times = keeps_then (g.S.System.trace c.args.system.now) (g.S.System.trace c.loop-peer.system) (g.S.System.trace c.hand_over.new.system)
       c.loop-peer.invariant.times c.hand_over.ensures.times;
-  offered = set_offered (g.S.System.told c.args.system.now) (g.S.System.told c.loop-peer.system) (g.S.System.told c.hand_over.new.system)
+  offered = set_offered (g.S.System.trace c.args.system.now) (g.S.System.trace c.loop-peer.system) (g.S.System.trace c.hand_over.new.system)
       c.args.what c.args.peers.now c.loop-peer.peers c.loop-peer.peer-index c.peer-item.result (omega arith) c.loop-peer.invariant.rest
       c.loop-peer.invariant.calls c.hand_over.ensures.calls c.hand_over.ensures.offered c.loop-peer.invariant.offered;
   shut = set_stays c.args.peers.now c.loop-peer.peers c.loop-peer.peer-index c.peer-item.result c.hand_over.new.self (omega arith)

@@ -8,14 +8,14 @@ use Rattle.srcp_peers.proofs.peers.flush.Given as goal
 
 abbrev pub invariant-loop-peer : goal.invariant-loop-peer
 invariant-loop-peer g l = record {
-  kept : AreKept (g.S.System.told l.system) l.peers;
+  kept : AreKept (g.S.System.trace l.system) l.peers;
   apart : AreApart l.peers;
   those : AreThose l.fn.peers l.peers;
-  others : (other : ℕ) → IsAbsent other l.fn.peers → Spares other (g.S.System.told l.fn.system) (g.S.System.told l.system);
-  calls : SaysNothing (g.S.System.told l.fn.system) (g.S.System.told l.system);
-  times : KeepsTimes (g.S.System.told l.fn.system) (g.S.System.told l.system);
+  others : (other : ℕ) → IsAbsent other l.fn.peers → Spares other (g.S.System.trace l.fn.system) (g.S.System.trace l.system);
+  calls : SaysNothing (g.S.System.trace l.fn.system) (g.S.System.trace l.system);
+  times : KeepsTimes (g.S.System.trace l.fn.system) (g.S.System.trace l.system);
   offered : (k : ℕ) (d : Peer) → k < l.peer-index
-      → OffersDue l.fn.what (slice_index_or l.fn.peers k d) (g.S.System.told l.fn.system) (g.S.System.told l.system);
+      → OffersDue l.fn.what (slice_index_or l.fn.peers k d) (g.S.System.trace l.fn.system) (g.S.System.trace l.system);
   shut : (k : ℕ) (d : Peer) → k < l.peer-index → (let p = slice_index_or l.peers k d in
       p.stay ≡ stay_after (slice_index_or l.fn.peers k d).stay p.outgoing p.output);
   rest : (k : ℕ) (d : Peer) → l.peer-index ≤ k → slice_index_or l.peers k d ≡ slice_index_or l.fn.peers k d;

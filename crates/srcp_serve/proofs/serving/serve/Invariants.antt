@@ -6,11 +6,11 @@ use Rattle.srcp_serve.proofs.serving.serve.Given as goal
 
 abbrev pub invariant-loop : goal.invariant-loop
 invariant-loop g l =
-    let told = g.D.Door.told l.server.door.now in
+    let trace = g.D.Door.trace l.server.door.now in
     record {
       same_door : l.server.door.ghost_name ≡ l.initial.server.door.ghost_name;
       faults : CountsFaults 0 (g.D.Door.faults l.fn.door) l.server.tally.faults (g.D.Door.faults l.server.door.now);
-      course : ServesSoFar l.counter l.opened l.fn.core (g.D.Door.told l.fn.door) l.core told l.server.slots;
+      course : ServesSoFar l.counter l.opened l.fn.core (g.D.Door.trace l.fn.door) l.core trace l.server.slots;
       few : l.opened ≤ l.counter;
-      told : AsksTurns l.counter (g.D.Door.told l.fn.door) told;
+      trace : AsksTurns l.counter (g.D.Door.trace l.fn.door) trace;
     }

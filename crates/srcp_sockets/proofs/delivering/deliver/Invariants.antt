@@ -8,11 +8,11 @@ use Rattle.srcp_sockets.proofs.delivering.deliver.Given as goal
 
 abbrev pub invariant-loop-look : goal.invariant-loop-look
 invariant-loop-look g l = record {
-  kept : AreKept (g.S.System.told l.system) l.peers;
+  kept : AreKept (g.S.System.trace l.system) l.peers;
   apart : AreApart l.peers;
-  standing : AreStanding (g.S.System.told l.fn.system) l.fn.peers → AreStanding (g.S.System.told l.system) l.peers;
-  calls : SaysNothing (g.S.System.told l.fn.system) (g.S.System.told l.system);
-  first : l._look ≡ 0 → (l.peers ≡ l.fn.peers) × (g.S.System.told l.system ≡ g.S.System.told l.fn.system);
-  offered : 0 < l._look → AreOffered flush.All l.fn.peers (g.S.System.told l.fn.system) (g.S.System.told l.system);
-  waited : HasWaited l._look (g.S.System.told l.fn.system) (g.S.System.told l.system);
+  standing : AreStanding (g.S.System.trace l.fn.system) l.fn.peers → AreStanding (g.S.System.trace l.system) l.peers;
+  calls : SaysNothing (g.S.System.trace l.fn.system) (g.S.System.trace l.system);
+  first : l._look ≡ 0 → (l.peers ≡ l.fn.peers) × (g.S.System.trace l.system ≡ g.S.System.trace l.fn.system);
+  offered : 0 < l._look → AreOffered flush.All l.fn.peers (g.S.System.trace l.fn.system) (g.S.System.trace l.system);
+  waited : HasWaited l._look (g.S.System.trace l.fn.system) (g.S.System.trace l.system);
 }

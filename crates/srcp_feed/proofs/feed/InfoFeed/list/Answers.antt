@@ -7,6 +7,10 @@ use Rattle.srcp_feed.specs.Feed.{Feed}
 use Rattle.srcp_feed.proofs.FeedLaws.{next_of_listed, next_of_settled, no_row_after_done, after_next_is}
 use Rattle.srcp_feed.proofs.feed.InfoFeed.list.Goals as goal
 
+-- a queue that is empty stays so
+none_left : (held feed : Feed) → held ≡ feed → feed.queue ≡ [] → held.queue ≡ drop 1 feed.queue
+none_left held feed same none = ap (λ (f : Feed). f.queue) same ∙ none ∙ ap (drop 1) (sym none)
+
 pub returns-in-Done-clause-settled : goal.returns-in-Done-clause-settled
 returns-in-Done-clause-settled g c =
     let state = g.R.Rows.state c.args.rows.now in
@@ -18,9 +22,7 @@ returns-in-Done-clause-settled g c =
 pub returns-in-Done-clause-feed : goal.returns-in-Done-clause-feed
 returns-in-Done-clause-feed g c =
     let state = g.R.Rows.state c.args.rows.now in
-    let empty : c.self.inside.waiting ≡ [] = ap (λ (f : Feed). f.queue) c.self.view_is ∙ c.requires in
-    let left : c.self.inside.waiting ≡ drop 1 c.args.self.now.queue =
-    empty ∙ ap (λ (queue : List Change). drop 1 queue) (sym c.requires) in
+    let left = none_left _ c.args.self.now c.self.view_is c.requires in
     sym c.self.view_is ∙ ap (λ cursor. let f : Feed = record { cursor = cursor; queue = c.self.inside.waiting } in f) c.in-Done.is
     ∙ ap (λ (queue : List Change). let f : Feed = record { cursor = Done; queue = queue } in f) left
     ∙ sym (after_next_is c.args.self.now (shown_rows state) _ (returns-in-Done-clause-settled g c))
@@ -35,9 +37,7 @@ returns-in-Some-clause-listed g c =
 pub returns-in-Some-clause-feed : goal.returns-in-Some-clause-feed
 returns-in-Some-clause-feed g c =
     let state = g.R.Rows.state c.args.rows.now in
-    let empty : c.self.inside.waiting ≡ [] = ap (λ (f : Feed). f.queue) c.self.view_is ∙ c.requires in
-    let left : c.self.inside.waiting ≡ drop 1 c.args.self.now.queue =
-    empty ∙ ap (λ (queue : List Change). drop 1 queue) (sym c.requires) in
+    let left = none_left _ c.args.self.now c.self.view_is c.requires in
     ap (λ (queue : List Change). let f : Feed = record { cursor = After c.in-Some.row.now.shown.key; queue = queue } in f) left
     ∙ sym (after_next_is c.args.self.now (shown_rows state) _ (returns-in-Some-clause-listed g c))
 
@@ -51,8 +51,6 @@ returns-in-None-clause-settled g c =
 pub returns-in-None-clause-feed : goal.returns-in-None-clause-feed
 returns-in-None-clause-feed g c =
     let state = g.R.Rows.state c.args.rows.now in
-    let empty : c.self.inside.waiting ≡ [] = ap (λ (f : Feed). f.queue) c.self.view_is ∙ c.requires in
-    let left : c.self.inside.waiting ≡ drop 1 c.args.self.now.queue =
-    empty ∙ ap (λ (queue : List Change). drop 1 queue) (sym c.requires) in
+    let left = none_left _ c.args.self.now c.self.view_is c.requires in
     ap (λ (queue : List Change). let f : Feed = record { cursor = Done; queue = queue } in f) left
     ∙ sym (after_next_is c.args.self.now (shown_rows state) _ (returns-in-None-clause-settled g c))

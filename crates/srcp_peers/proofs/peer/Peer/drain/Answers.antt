@@ -8,18 +8,18 @@ pub loop-init : goal.loop-init
 loop-init g c = record {
   kept = c.requires.kept;
   gone = c.requires.gone;
-  others = λ other differ. spares_none other (g.S.System.told c.args.system.now);
-  calls = says_none (g.S.System.told c.args.system.now);
-  times = keeps_none (g.S.System.told c.args.system.now);
+  others = λ other differ. spares_none other (g.S.System.trace c.args.system.now);
+  calls = says_none (g.S.System.trace c.args.system.now);
+  times = keeps_none (g.S.System.trace c.args.system.now);
   number = refl;
   stay = refl;
 }
 
 pub loop-preserved : goal.loop-preserved
 loop-preserved g c =
-    let first = g.S.System.told c.args.system.now in
-    let old = g.S.System.told c.loop.system in
-    let new = g.S.System.told c.skip.new.system in
+    let first = g.S.System.trace c.args.system.now in
+    let old = g.S.System.trace c.loop.system in
+    let new = g.S.System.trace c.skip.new.system in
     let was = c.loop.invariant in
     record {
       kept = c.skip.ensures.kept;

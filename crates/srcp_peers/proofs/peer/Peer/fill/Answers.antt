@@ -5,20 +5,20 @@ use Rattle.srcp_peers.proofs.peer.Peer.fill.Goals as goal
 
 pub returns-in-Ok-clause-calls : goal.returns-in-Ok-clause-calls
 returns-in-Ok-clause-calls g c = let e = c.in-Ok.ensures in
-    says_step (g.S.System.told c.args.system.now) (g.S.System.told c.read_from.new.system)
+    says_step (g.S.System.trace c.args.system.now) (g.S.System.trace c.read_from.new.system)
     (Reads c.args.self.now.number e.0 (Ok c.in-Ok.count)) e.2 refl
 
 pub returns-in-Err-clause-calls : goal.returns-in-Err-clause-calls
 returns-in-Err-clause-calls g c = let e = c.in-Err.ensures in
-    says_step (g.S.System.told c.args.system.now) (g.S.System.told c.read_from.new.system)
+    says_step (g.S.System.trace c.args.system.now) (g.S.System.trace c.read_from.new.system)
     (Reads c.args.self.now.number e.0 (Err c.in-Err.fault)) e.2 refl
 
 pub returns-in-Ok-clause-times : goal.returns-in-Ok-clause-times
-returns-in-Ok-clause-times g c = keeps_step (g.S.System.told c.args.system.now) (g.S.System.told c.read_from.new.system)
+returns-in-Ok-clause-times g c = keeps_step (g.S.System.trace c.args.system.now) (g.S.System.trace c.read_from.new.system)
     (Reads c.args.self.now.number c.in-Ok.ensures.0 (Ok c.in-Ok.count)) c.in-Ok.ensures.2 (λ t. refl)
 
 pub returns-in-Err-clause-times : goal.returns-in-Err-clause-times
-returns-in-Err-clause-times g c = keeps_step (g.S.System.told c.args.system.now) (g.S.System.told c.read_from.new.system)
+returns-in-Err-clause-times g c = keeps_step (g.S.System.trace c.args.system.now) (g.S.System.trace c.read_from.new.system)
     (Reads c.args.self.now.number c.in-Err.ensures.0 (Err c.in-Err.fault)) c.in-Err.ensures.2 (λ t. refl)
 
 pub returns-in-Ok-clause-asked : goal.returns-in-Ok-clause-asked

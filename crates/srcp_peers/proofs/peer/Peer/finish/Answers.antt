@@ -6,26 +6,26 @@ use Rattle.srcp_peers.proofs.Saying.{says_then}
 use Rattle.srcp_peers.proofs.peer.Peer.finish.Goals as goal
 
 pub returns-then-not-is_lost-clause-others : goal.returns-then-not-is_lost-clause-others
-returns-then-not-is_lost-clause-others g c = λ other differ. spares_then other (g.S.System.told c.args.system.now)
-    (g.S.System.told c.flush.new.system) (g.S.System.told c.shut_down.new.system) (c.flush.ensures.others other differ)
+returns-then-not-is_lost-clause-others g c = λ other differ. spares_then other (g.S.System.trace c.args.system.now)
+    (g.S.System.trace c.flush.new.system) (g.S.System.trace c.shut_down.new.system) (c.flush.ensures.others other differ)
     (c.shut_down.ensures.others other (λ e. differ (e ∙ c.flush.ensures.number)))
 
 pub returns-then-not-is_lost-clause-calls : goal.returns-then-not-is_lost-clause-calls
-returns-then-not-is_lost-clause-calls g c = says_then (g.S.System.told c.args.system.now) (g.S.System.told c.flush.new.system)
-    (g.S.System.told c.shut_down.new.system) c.flush.ensures.calls c.shut_down.ensures.calls
+returns-then-not-is_lost-clause-calls g c = says_then (g.S.System.trace c.args.system.now) (g.S.System.trace c.flush.new.system)
+    (g.S.System.trace c.shut_down.new.system) c.flush.ensures.calls c.shut_down.ensures.calls
 
 pub returns-then-not-is_lost-clause-offered : goal.returns-then-not-is_lost-clause-offered
 returns-then-not-is_lost-clause-offered g c =
     let p = c.args.self.now in
-    let old = g.S.System.told c.args.system.now in
-    let flushed = g.S.System.told c.flush.new.system in
-    let new = g.S.System.told c.shut_down.new.system in
+    let old = g.S.System.trace c.args.system.now in
+    let flushed = g.S.System.trace c.flush.new.system in
+    let new = g.S.System.trace c.shut_down.new.system in
     due_all p old new (λ due. offered_then p.number p.outgoing old flushed new
     (flushed_now flush.All p old flushed c.flush.ensures.offered due) c.shut_down.ensures.calls)
 
 pub returns-else-is_empty-clause-offered : goal.returns-else-is_empty-clause-offered
 returns-else-is_empty-clause-offered g c =
     let p = c.args.self.now in
-    let old = g.S.System.told c.args.system.now in
-    let new = g.S.System.told c.flush.new.system in
+    let old = g.S.System.trace c.args.system.now in
+    let new = g.S.System.trace c.flush.new.system in
     due_all p old new (flushed_now flush.All p old new c.flush.ensures.offered)

@@ -2,5 +2,5 @@ use Rattle.srcp_peers.proofs.Offering.{shut_offered}
 use Rattle.srcp_peers.proofs.peer.Peer.part.Goals as goal
 
 pub returns-in-Shut-clause-offered : goal.returns-in-Shut-clause-offered
-returns-in-Shut-clause-offered g c gone = shut_offered c.args.self.now c.in-Shut.since (g.S.System.told c.args.system.now)
-    (g.S.System.told c.drain.new.system) c.in-Shut.is c.requires c.drain.ensures.calls
+returns-in-Shut-clause-offered g c gone = shut_offered c.args.self.now c.in-Shut.since (g.S.System.trace c.args.system.now)
+    (g.S.System.trace c.drain.new.system) c.in-Shut.is c.requires c.drain.ensures.calls

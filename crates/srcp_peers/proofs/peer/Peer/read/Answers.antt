@@ -1,17 +1,17 @@
 use Rattle.std.proofs.Common.{◌≡◌, ℕ, ap, subst}
 use Rattle.srcp_serve.specs.Calls.{ReadCall}
 use Rattle.srcp_peers.specs.declared.peer.Peer.{Peer}
-use Rattle.srcp_peers.specs.Steps.{Tells, Told}
+use Rattle.srcp_peers.specs.Steps.{Tells, Answers}
 use Rattle.srcp_peers.proofs.Keeping.{kept_got}
 use Rattle.srcp_peers.proofs.peer.Peer.read.Goals as goal
 
 pub returns-clause-kept : goal.returns-clause-kept
 returns-clause-kept g c =
-    let old = g.S.System.told c.args.system.now in
-    let new = g.S.System.told c.told_read.new.self in
+    let old = g.S.System.trace c.args.system.now in
+    let new = g.S.System.trace c.note_read.new.self in
     let out = c.take_out-handed in
     let number : out.new.self.number ≡ c.args.self.now.number = ap (λ (p : Peer). p.number) out.ensures.same in
     kept_got old new c.args.self.now out.new.self out.result.got out.new.buffer c.requires.here out.ensures.same out.ensures.bytes
     out.ensures.line
     out.ensures.ended out.ensures.failed
-    (subst (λ (n : ℕ). Tells old (Told (ReadCall n out.result.got out.new.buffer)) new) number c.told_read.ensures) c.requires.kept
+    (subst (λ (n : ℕ). Tells old (Answers (ReadCall n out.result.got out.new.buffer)) new) number c.note_read.ensures) c.requires.kept

@@ -6,8 +6,8 @@ use Rattle.srcp_peers.proofs.peer.Peer.shut_down.Goals as goal
 
 pub returns : goal.returns
 returns g c =
-    let old = g.S.System.told c.args.system.now in
-    let new = g.S.System.told c.shutdown.new.self in
+    let old = g.S.System.trace c.args.system.now in
+    let new = g.S.System.trace c.shutdown.new.self in
     let tells = c.shutdown.ensures in
     record {
       kept = kept_shut old new c.args.self.now c.args.since c.requires.draining c.requires.taken c.requires.sound tells c.requires.kept;

@@ -10,16 +10,16 @@ returns-in-Ok g c =
     let held = c.self.inside.end - c.self.inside.start in
     let bytes = c.deref_mut.result.now in
     let more = take c.in-Ok.count c.read.new.buffer in
-    let front = ap (λ b. slice_range b 0 held) c.deref_mut.ensures.value ∙ c.move_to_front.ensures.moved ∙ c.self.view_is in
+    let moved = ap (λ b. slice_range b 0 held) c.deref_mut.ensures.value ∙ c.move_to_front.ensures.moved ∙ c.self.view_is in
     let mid = drop held bytes in
     let sized : length c.read.new.buffer ≡ length (take (length bytes - held) mid) = search rules in
     let long = same_len_mid held (length bytes - held) bytes c.read.new.buffer sized in
     let is = ap (λ b. slice_range b 0 (held + c.in-Ok.count)) (with_items_is c.move_to_front.new.buffer _ (long ∙ search rules))
     ∙ followed_by bytes c.read.new.buffer 0 held (length bytes - held) c.in-Ok.count (omega arith) (omega arith) c.in-Ok.ensures.count
-    ∙ ap (λ b. b ++ more) front in
+    ∙ ap (λ b. b ++ more) moved in
     let own : length c.args.self.now ≡ held = sym (ap length c.self.view_is)
     ∙ range_length c.self.inside.buffer.items c.self.inside.start c.self.inside.end (omega arith) (omega arith) in
     let all : length bytes ≡ g.row.MOST = search rules in
     let room : length c.read.new.buffer ≡ g.row.MOST - length c.args.self.now =
     omega (arith, own, all, sized, length-take (length bytes - held) mid, length-drop held bytes) in
-    (c.read.new.buffer, room, c.in-Ok.ensures.told, (c.in-Ok.ensures.count, is))
+    (c.read.new.buffer, room, c.in-Ok.ensures.trace, (c.in-Ok.ensures.count, is))

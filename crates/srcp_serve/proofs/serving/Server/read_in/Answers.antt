@@ -20,29 +20,29 @@ returns-in-Ok-Bytes-clause-course g c =
     read_bytes _ _ _ _ _ c.ready.ensures c.in-Ok-Bytes.count c.read.new.buf _ _ _ _ c.if-not-ready.false full
     (subst
     (λ (x : Got).
-    Tells (g.D.Door.told c.args.self.now.door.now) (door.ReadCall c.args.seat.peer (Ok x) c.read.new.buf)
-    (g.D.Door.told c.read.new.self))
-    c.in-Ok-Bytes.field-0-is c.in-Ok-Bytes.ensures.told) c.receive.ensures.fault c.receive.ensures.received c.is_ok.ensures.value
+    Tells (g.D.Door.trace c.args.self.now.door.now) (door.ReadCall c.args.client.peer (Ok x) c.read.new.buf)
+    (g.D.Door.trace c.read.new.self))
+    c.in-Ok-Bytes.field-0-is c.in-Ok-Bytes.ensures.trace) c.receive.ensures.fault c.receive.ensures.received c.is_ok.ensures.value
 
 pub returns-in-Ok-Nothing-clause-course : goal.returns-in-Ok-Nothing-clause-course
 returns-in-Ok-Nothing-clause-course g c =
     let full : length c.read.new.buf ≡ 256 = omega (arith, c.read.auto.buf) in
     read_other _ _ _ _ _ c.ready.ensures
-    (Ok c.in-Ok-Nothing.field-0) c.read.new.buf _ c.if-not-ready.false full c.in-Ok-Nothing.ensures.told _
-    (ap (λ (x : Got). piece_of (ReadCall c.args.seat.peer (Ok x) c.read.new.buf [])) c.in-Ok-Nothing.field-0-is)
-    (ap (λ (x : Got). loses_reading (ReadCall c.args.seat.peer (Ok x) c.read.new.buf [])) c.in-Ok-Nothing.field-0-is)
+    (Ok c.in-Ok-Nothing.field-0) c.read.new.buf _ c.if-not-ready.false full c.in-Ok-Nothing.ensures.trace _
+    (ap (λ (x : Got). piece_of (ReadCall c.args.client.peer (Ok x) c.read.new.buf [])) c.in-Ok-Nothing.field-0-is)
+    (ap (λ (x : Got). loses_reading (ReadCall c.args.client.peer (Ok x) c.read.new.buf [])) c.in-Ok-Nothing.field-0-is)
 
 pub returns-in-Ok-Ended-clause-course : goal.returns-in-Ok-Ended-clause-course
 returns-in-Ok-Ended-clause-course g c =
     let full : length c.read.new.buf ≡ 256 = omega (arith, c.read.auto.buf) in
-    read_other _ _ _ _ _ c.ready.ensures (Ok c.in-Ok-Ended.field-0) c.read.new.buf _ c.if-not-ready.false full c.in-Ok-Ended.ensures.told _
-    (ap (λ (x : Got). piece_of (ReadCall c.args.seat.peer (Ok x) c.read.new.buf [])) c.in-Ok-Ended.field-0-is)
-    (ap (λ (x : Got). loses_reading (ReadCall c.args.seat.peer (Ok x) c.read.new.buf [])) c.in-Ok-Ended.field-0-is)
+    read_other _ _ _ _ _ c.ready.ensures (Ok c.in-Ok-Ended.field-0) c.read.new.buf _ c.if-not-ready.false full c.in-Ok-Ended.ensures.trace _
+    (ap (λ (x : Got). piece_of (ReadCall c.args.client.peer (Ok x) c.read.new.buf [])) c.in-Ok-Ended.field-0-is)
+    (ap (λ (x : Got). loses_reading (ReadCall c.args.client.peer (Ok x) c.read.new.buf [])) c.in-Ok-Ended.field-0-is)
 
 pub returns-in-Err-clause-course : goal.returns-in-Err-clause-course
 returns-in-Err-clause-course g c =
     let full : length c.read.new.buf ≡ 256 = omega (arith, c.read.auto.buf) in
-    read_other _ _ _ _ _ c.ready.ensures (Err c.in-Err.field-0) c.read.new.buf _ c.if-not-ready.false full c.in-Err.ensures.told _ refl refl
+    read_other _ _ _ _ _ c.ready.ensures (Err c.in-Err.field-0) c.read.new.buf _ c.if-not-ready.false full c.in-Err.ensures.trace _ refl refl
 
 pub returns-then-not-ready-clause-calls : goal.returns-then-not-ready-clause-calls
 returns-then-not-ready-clause-calls g c = calls_none _ _ c.args.self.now c.requires
@@ -50,20 +50,20 @@ returns-then-not-ready-clause-calls g c = calls_none _ _ c.args.self.now c.requi
 pub returns-in-Ok-Bytes-clause-calls : goal.returns-in-Ok-Bytes-clause-calls
 returns-in-Ok-Bytes-clause-calls g c =
     calls_one _ _ _ c.args.self.now _ refl (none_failed _ _ _ c.requires c.in-Ok-Bytes.ensures.ok) refl
-    (fair_read c.args.seat.peer c.read.result _ c.read.new.buf c.read.ensures.count c.read.auto.buf) c.read.ensures.told
+    (fair_read c.args.client.peer c.read.result _ c.read.new.buf c.read.ensures.count c.read.auto.buf) c.read.ensures.trace
 
 pub returns-in-Ok-Nothing-clause-calls : goal.returns-in-Ok-Nothing-clause-calls
 returns-in-Ok-Nothing-clause-calls g c =
     calls_one _ _ _ c.args.self.now _ refl (none_failed _ _ _ c.requires c.in-Ok-Nothing.ensures.ok) refl
-    (fair_read c.args.seat.peer c.read.result _ c.read.new.buf c.read.ensures.count c.read.auto.buf) c.read.ensures.told
+    (fair_read c.args.client.peer c.read.result _ c.read.new.buf c.read.ensures.count c.read.auto.buf) c.read.ensures.trace
 
 pub returns-in-Ok-Ended-clause-calls : goal.returns-in-Ok-Ended-clause-calls
 returns-in-Ok-Ended-clause-calls g c =
     calls_one _ _ _ c.args.self.now _ refl (none_failed _ _ _ c.requires c.in-Ok-Ended.ensures.ok) refl
-    (fair_read c.args.seat.peer c.read.result _ c.read.new.buf c.read.ensures.count c.read.auto.buf) c.read.ensures.told
+    (fair_read c.args.client.peer c.read.result _ c.read.new.buf c.read.ensures.count c.read.auto.buf) c.read.ensures.trace
 
 pub returns-in-Err-clause-calls : goal.returns-in-Err-clause-calls
 returns-in-Err-clause-calls g c =
     calls_one _ _ _ c.args.self.now _ refl
     (one_failed _ _ _ _ c.requires (ap (λ (t : Tally). t.faults) c.fault.ensures) c.in-Err.ensures.err) refl
-    (fair_read c.args.seat.peer c.read.result _ c.read.new.buf c.read.ensures.count c.read.auto.buf) c.read.ensures.told
+    (fair_read c.args.client.peer c.read.result _ c.read.new.buf c.read.ensures.count c.read.auto.buf) c.read.ensures.trace

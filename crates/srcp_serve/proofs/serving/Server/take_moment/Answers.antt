@@ -10,7 +10,7 @@ pub returns-in-Ok-clause-calls : goal.returns-in-Ok-clause-calls
 returns-in-Ok-clause-calls g c = record {
   same_door = refl;
   counted = none_failed _ _ _ c.requires (c.in-Ok.ensures.ok ∙ c.expect.ensures.faults);
-  asks = asks_moment _ _ _ _ _ _ c.expect.ensures.told c.now.ensures.told;
+  asks = asks_moment _ _ _ _ _ _ c.expect.ensures.trace c.now.ensures.trace;
 }
 
 pub returns-in-Err-clause-calls : goal.returns-in-Err-clause-calls
@@ -19,19 +19,19 @@ returns-in-Err-clause-calls g c = record {
   counted =
       one_failed _ _ _ _ c.requires (ap (λ (t : Tally). t.faults) c.fault.ensures)
       (c.in-Err.ensures.err ∙ ap one_more c.expect.ensures.faults);
-  asks = asks_moment _ _ _ _ _ _ c.expect.ensures.told c.now.ensures.told;
+  asks = asks_moment _ _ _ _ _ _ c.expect.ensures.trace c.now.ensures.trace;
 }
 
 pub returns-in-Ok-clause-course : goal.returns-in-Ok-clause-course
 returns-in-Ok-clause-course g c =
     takes_moment c.earliest_due.result c.slack.result c.args.core.now c.earliest_due.ensures c.slack.ensures
-    (g.D.Door.told c.args.self.now.door.now)
-    (g.D.Door.told c.expect.new.self)
-    (g.D.Door.told c.now.new.self) c.expect.ensures.told c.in-Ok.moment c.advance.new.self c.in-Ok.ensures.told c.advance.ensures
+    (g.D.Door.trace c.args.self.now.door.now)
+    (g.D.Door.trace c.expect.new.self)
+    (g.D.Door.trace c.now.new.self) c.expect.ensures.trace c.in-Ok.moment c.advance.new.self c.in-Ok.ensures.trace c.advance.ensures
 
 pub returns-in-Err-clause-course : goal.returns-in-Err-clause-course
 returns-in-Err-clause-course g c =
     keeps_moment c.earliest_due.result c.slack.result c.args.core.now c.earliest_due.ensures c.slack.ensures
-    (g.D.Door.told c.args.self.now.door.now)
-    (g.D.Door.told c.expect.new.self)
-    (g.D.Door.told c.now.new.self) c.expect.ensures.told c.in-Err.field-0 c.in-Err.ensures.told
+    (g.D.Door.trace c.args.self.now.door.now)
+    (g.D.Door.trace c.expect.new.self)
+    (g.D.Door.trace c.now.new.self) c.expect.ensures.trace c.in-Err.field-0 c.in-Err.ensures.trace

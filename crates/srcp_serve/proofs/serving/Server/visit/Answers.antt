@@ -14,63 +14,63 @@ returns-then-not-closing-clause-calls g c = calls_on _ _ _ _ _ c.read_in.ensures
 
 pub returns-then-not-closing-clause-course : goal.returns-then-not-closing-clause-course
 returns-then-not-closing-clause-course g c =
-    let peer = c.args.seat.peer in
-    let key = c.args.seat.key in
-    let told = g.D.Door.told c.args.self.now.door.now in
-    let told_r = g.D.Door.told c.read_in.new.self.door.now in
-    let told_w = g.D.Door.told c.write_out.new.self.door.now in
-    visit_stays peer key c.args.core.now c.write_out.new.core told told_w c.closing.result
-    (exchanges_on peer key c.args.core.now c.read_in.new.core told told_r c.write_out.new.core told_w
+    let peer = c.args.client.peer in
+    let key = c.args.client.key in
+    let trace = g.D.Door.trace c.args.self.now.door.now in
+    let trace_r = g.D.Door.trace c.read_in.new.self.door.now in
+    let trace_w = g.D.Door.trace c.write_out.new.self.door.now in
+    visit_stays peer key c.args.core.now c.write_out.new.core trace trace_w c.closing.result
+    (exchanges_on peer key c.args.core.now c.read_in.new.core trace trace_r c.write_out.new.core trace_w
     c.write_out.ensures.denied c.write_out.ensures.calls.asks true c.if-read_in.ensures.course c.if-write_out.ensures.course)
     c.closing.ensures c.if-not-closing.true
 
 pub returns-clause-calls : goal.returns-clause-calls
 returns-clause-calls g c =
     let old = c.args.self.now in
-    let first : CallsDoor g.D.Door.faults g.D.Door.told AsksPeers old c.else-read_in.self =
+    let first : CallsDoor g.D.Door.faults g.D.Door.trace AsksPeers old c.else-read_in.self =
     elim c.else-read_in.branch [
       | else-read_in-via-then-read_in+then-write_out+else-not-closing w ↦
-          subst (CallsDoor g.D.Door.faults g.D.Door.told AsksPeers old) (sym w.self-is)
+          subst (CallsDoor g.D.Door.faults g.D.Door.trace AsksPeers old) (sym w.self-is)
           (calls_on _ _ _ _ _ c.read_in.ensures.calls w.write_out.ensures.calls)
       | else-read_in-via-then-read_in+else-write_out w ↦
-          subst (CallsDoor g.D.Door.faults g.D.Door.told AsksPeers old) (sym w.self-is)
+          subst (CallsDoor g.D.Door.faults g.D.Door.trace AsksPeers old) (sym w.self-is)
           (calls_on _ _ _ _ _ c.read_in.ensures.calls w.write_out.ensures.calls)
       | else-read_in-via-else-read_in w ↦
-          subst (CallsDoor g.D.Door.faults g.D.Door.told AsksPeers old) (sym w.self-is) c.read_in.ensures.calls
+          subst (CallsDoor g.D.Door.faults g.D.Door.trace AsksPeers old) (sym w.self-is) c.read_in.ensures.calls
     ] in
     calls_on _ _ _ _ _ first c.disconnect.ensures.calls
 
 pub returns-clause-course : goal.returns-clause-course
 returns-clause-course g c =
-    let peer = c.args.seat.peer in
-    let key = c.args.seat.key in
+    let peer = c.args.client.peer in
+    let key = c.args.client.key in
     let old = c.args.core.now in
     let mid = c.else-read_in.core in
-    let told = g.D.Door.told c.args.self.now.door.now in
-    let told_r = g.D.Door.told c.read_in.new.self.door.now in
-    let told_mid = g.D.Door.told c.else-read_in.self.door.now in
-    let first : Ends peer key old mid told told_mid =
+    let trace = g.D.Door.trace c.args.self.now.door.now in
+    let trace_r = g.D.Door.trace c.read_in.new.self.door.now in
+    let trace_mid = g.D.Door.trace c.else-read_in.self.door.now in
+    let first : Ends peer key old mid trace trace_mid =
     elim c.else-read_in.branch [
       | else-read_in-via-then-read_in+then-write_out+else-not-closing w ↦
-          let told_w = g.D.Door.told w.write_out.new.self.door.now in
-          subst (λ (s : Server g.row.D.Denot). Ends peer key old mid told (g.D.Door.told s.door.now)) (sym w.self-is)
-          (subst (λ (h : Held). Ends peer key old h told told_w) (sym w.core-is)
+          let trace_w = g.D.Door.trace w.write_out.new.self.door.now in
+          subst (λ (s : Server g.row.D.Denot). Ends peer key old mid trace (g.D.Door.trace s.door.now)) (sym w.self-is)
+          (subst (λ (h : Held). Ends peer key old h trace trace_w) (sym w.core-is)
           (inr (
-            exchanges_on peer key old c.read_in.new.core told told_r w.write_out.new.core told_w
+            exchanges_on peer key old c.read_in.new.core trace trace_r w.write_out.new.core trace_w
                 w.write_out.ensures.denied w.write_out.ensures.calls.asks true w.if-read_in.ensures.course w.if-write_out.ensures.course,
             sym w.closing.ensures ∙ w.if-not-closing.false,
           )))
       | else-read_in-via-then-read_in+else-write_out w ↦
-          let told_w = g.D.Door.told w.write_out.new.self.door.now in
-          subst (λ (s : Server g.row.D.Denot). Ends peer key old mid told (g.D.Door.told s.door.now)) (sym w.self-is)
-          (subst (λ (h : Held). Ends peer key old h told told_w) (sym w.core-is)
-          (inl (exchanges_on peer key old c.read_in.new.core told told_r w.write_out.new.core told_w
+          let trace_w = g.D.Door.trace w.write_out.new.self.door.now in
+          subst (λ (s : Server g.row.D.Denot). Ends peer key old mid trace (g.D.Door.trace s.door.now)) (sym w.self-is)
+          (subst (λ (h : Held). Ends peer key old h trace trace_w) (sym w.core-is)
+          (inl (exchanges_on peer key old c.read_in.new.core trace trace_r w.write_out.new.core trace_w
           w.write_out.ensures.denied w.write_out.ensures.calls.asks false w.if-read_in.ensures.course w.if-write_out.ensures.course)))
       | else-read_in-via-else-read_in w ↦
-          subst (λ (s : Server g.row.D.Denot). Ends peer key old mid told (g.D.Door.told s.door.now)) (sym w.self-is)
-          (subst (λ (h : Held). Ends peer key old h told told_r) (sym w.core-is)
-          (inl (exchanges_lost peer key old c.read_in.new.core told told_r w.if-read_in.ensures.course)))
+          subst (λ (s : Server g.row.D.Denot). Ends peer key old mid trace (g.D.Door.trace s.door.now)) (sym w.self-is)
+          (subst (λ (h : Held). Ends peer key old h trace trace_r) (sym w.core-is)
+          (inl (exchanges_lost peer key old c.read_in.new.core trace trace_r w.if-read_in.ensures.course)))
     ] in
-    visit_ends peer key old mid told told_mid
-    c.disconnect.new.core (g.D.Door.told c.disconnect.new.self.door.now) c.disconnect.ensures.denied
+    visit_ends peer key old mid trace trace_mid
+    c.disconnect.new.core (g.D.Door.trace c.disconnect.new.self.door.now) c.disconnect.ensures.denied
     c.disconnect.ensures.calls.asks c.disconnect.ensures.course first

@@ -11,7 +11,7 @@ loop-slot-init g c = record {
   free = c.end-end.ensures.free;
   most = c.end-end.ensures.most;
   calls = calls_none _ _ c.args.self.now c.requires;
-  course = slots_first c.args.core.now (g.D.Door.told c.args.self.now.door.now) c.args.self.now.slots;
+  course = slots_first c.args.core.now (g.D.Door.trace c.args.self.now.door.now) c.args.self.now.slots;
 }
 
 pub loop-slot-preserved : goal.loop-slot-preserved
@@ -22,9 +22,9 @@ loop-slot-preserved g c = record {
       c.loop-slot.invariant.free;
   most = c.loop-slot.invariant.most;
   calls = calls_on _ _ _ _ _ c.loop-slot.invariant.calls c.visit_slot.ensures.calls;
-  course = slots_on c.loop-slot.slot c.args.core.now c.loop-slot.core c.visit_slot.new.core (g.D.Door.told c.args.self.now.door.now)
-      (g.D.Door.told c.loop-slot.self.door.now)
-      (g.D.Door.told c.visit_slot.new.self.door.now) c.args.self.now.slots c.loop-slot.self.slots
+  course = slots_on c.loop-slot.slot c.args.core.now c.loop-slot.core c.visit_slot.new.core (g.D.Door.trace c.args.self.now.door.now)
+      (g.D.Door.trace c.loop-slot.self.door.now)
+      (g.D.Door.trace c.visit_slot.new.self.door.now) c.args.self.now.slots c.loop-slot.self.slots
       c.visit_slot.new.self.slots
       c.loop-slot.invariant.long (omega (arith, c.loop-slot-test.true, c.loop-slot.invariant.most)) c.visit_slot.ensures.course
       c.loop-slot.invariant.course c.visit_slot.ensures.calls.asks;
@@ -40,7 +40,7 @@ pub returns-clause-course : goal.returns-clause-course
 returns-clause-course g c =
     let i = c.loop-slot.invariant in
     let last : c.loop-slot.slot ≡ c.end-end.result = omega (arith, c.loop-slot-test.false, c.loop-slot.auto.slot-end) in
-    slots_rest c.args.core.now c.loop-slot.core (g.D.Door.told c.args.self.now.door.now)
-    (g.D.Door.told c.loop-slot.self.door.now) c.args.self.now.slots
+    slots_rest c.args.core.now c.loop-slot.core (g.D.Door.trace c.args.self.now.door.now)
+    (g.D.Door.trace c.loop-slot.self.door.now) c.args.self.now.slots
     c.loop-slot.self.slots i.long c.loop-slot.slot (omega (arith, last, i.most))
     (subst (λ (n : ℕ). AreFreeFrom n c.loop-slot.self.slots) (sym last) i.free) i.course

@@ -9,7 +9,7 @@ invariant-loop-slot g l = record {
   long : length l.self.slots ≡ 64;
   free : AreFreeFrom l.end l.self.slots;
   most : l.end ≤ 64;
-  calls : CallsDoor g.D.Door.faults g.D.Door.told AsksPeers l.fn.self l.self;
-  course : VisitsSoFar l.slot l.fn.core (g.D.Door.told l.fn.self.door.now) l.fn.self.slots l.core
-      (g.D.Door.told l.self.door.now) l.self.slots;
+  calls : CallsDoor g.D.Door.faults g.D.Door.trace AsksPeers l.fn.self l.self;
+  course : VisitsSoFar l.slot l.fn.core (g.D.Door.trace l.fn.self.door.now) l.fn.self.slots l.core
+      (g.D.Door.trace l.self.door.now) l.self.slots;
 }

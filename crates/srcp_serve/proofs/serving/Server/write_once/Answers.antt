@@ -9,8 +9,8 @@ use Rattle.srcp_serve.proofs.serving.Server.write_once.Goals as goal
 
 pub returns-in_default-clause-course : goal.returns-in_default-clause-course
 returns-in_default-clause-course g c =
-    wrote_absent c.args.seat.peer c.args.seat.key c.args.core.now (g.D.Door.told c.args.self.now.door.now) c.outgoing.follows.lender-at-none
-    (g.D.Door.told c.args.self.now.door.now) Less c.in_default.ensures.absent.1
+    wrote_absent c.args.client.peer c.args.client.key c.args.core.now (g.D.Door.trace c.args.self.now.door.now) c.outgoing.follows.lender-at-none
+    (g.D.Door.trace c.args.self.now.door.now) Less c.in_default.ensures.absent.1
 
 pub returns-then-is_empty-clause-course : goal.returns-then-is_empty-clause-course
 returns-then-is_empty-clause-course g c =
@@ -20,22 +20,22 @@ returns-then-is_empty-clause-course g c =
 pub returns-then-count-handed-clause-course : goal.returns-then-count-handed-clause-course
 returns-then-count-handed-clause-course g c =
     wrote_less _ _ _ _ c.in-Ok.lent.now _ _ _ c.in-Ok.ensures.bytes
-    (sends c.args.seat.key c.in-Ok-write.count c.args.core.now c.outgoing.follows.lender-at-none c.sent.new.self
+    (sends c.args.client.key c.in-Ok-write.count c.args.core.now c.outgoing.follows.lender-at-none c.sent.new.self
     c.outgoing.follows.holds-at-none c.sent.ensures c.in-Ok.lent.now c.in-Ok.ensures.bytes
-    c.in-Ok-write.ensures.count) c.in-Ok-write.ensures.told c.if-count-handed.true
+    c.in-Ok-write.ensures.count) c.in-Ok-write.ensures.trace c.if-count-handed.true
 
 pub returns-else-count-handed-clause-course : goal.returns-else-count-handed-clause-course
 returns-else-count-handed-clause-course g c =
     let full : c.in-Ok-write.count ≡ length c.in-Ok.lent.now = omega (arith, c.in-Ok-write.ensures.count, c.if-count-handed.false) in
     wrote_all _ _ _ _ c.in-Ok.lent.now _ _ _ c.in-Ok.ensures.bytes
-    (sends c.args.seat.key c.in-Ok-write.count c.args.core.now c.outgoing.follows.lender-at-none c.sent.new.self
+    (sends c.args.client.key c.in-Ok-write.count c.args.core.now c.outgoing.follows.lender-at-none c.sent.new.self
     c.outgoing.follows.holds-at-none c.sent.ensures c.in-Ok.lent.now c.in-Ok.ensures.bytes
-    c.in-Ok-write.ensures.count) c.in-Ok-write.ensures.told full
+    c.in-Ok-write.ensures.count) c.in-Ok-write.ensures.trace full
     (sym c.is_empty.ensures ∙ c.if-is_empty.false)
 
 pub returns-in_default-write-clause-course : goal.returns-in_default-write-clause-course
 returns-in_default-write-clause-course g c =
-    wrote_failed _ _ _ _ _ c.outgoing.follows.holds-at-none c.in-Ok.lent.now _ _ c.in-Ok.ensures.bytes c.in_default-write.ensures.told
+    wrote_failed _ _ _ _ _ c.outgoing.follows.holds-at-none c.in-Ok.lent.now _ _ c.in-Ok.ensures.bytes c.in_default-write.ensures.trace
     (sym c.is_empty.ensures ∙ c.if-is_empty.false)
 
 pub returns-in_default-clause-calls : goal.returns-in_default-clause-calls
@@ -47,15 +47,15 @@ returns-then-is_empty-clause-calls g c = calls_none _ _ c.args.self.now c.requir
 pub returns-then-count-handed-clause-calls : goal.returns-then-count-handed-clause-calls
 returns-then-count-handed-clause-calls g c =
     calls_one _ _ _ c.args.self.now _ refl (none_failed _ _ _ c.requires c.in-Ok-write.ensures.ok) refl
-    (fair_write c.args.seat.peer c.in-Ok.lent.now c.write.result c.write.ensures.count) c.write.ensures.told
+    (fair_write c.args.client.peer c.in-Ok.lent.now c.write.result c.write.ensures.count) c.write.ensures.trace
 
 pub returns-else-count-handed-clause-calls : goal.returns-else-count-handed-clause-calls
 returns-else-count-handed-clause-calls g c =
     calls_one _ _ _ c.args.self.now _ refl (none_failed _ _ _ c.requires c.in-Ok-write.ensures.ok) refl
-    (fair_write c.args.seat.peer c.in-Ok.lent.now c.write.result c.write.ensures.count) c.write.ensures.told
+    (fair_write c.args.client.peer c.in-Ok.lent.now c.write.result c.write.ensures.count) c.write.ensures.trace
 
 pub returns-in_default-write-clause-calls : goal.returns-in_default-write-clause-calls
 returns-in_default-write-clause-calls g c =
     calls_one _ _ _ c.args.self.now _ refl
     (one_failed _ _ _ _ c.requires (ap (λ (t : Tally). t.faults) c.fault.ensures) c.in_default-write.ensures.err) refl
-    (fair_write c.args.seat.peer c.in-Ok.lent.now c.write.result c.write.ensures.count) c.write.ensures.told
+    (fair_write c.args.client.peer c.in-Ok.lent.now c.write.result c.write.ensures.count) c.write.ensures.trace

@@ -6,20 +6,20 @@ use Rattle.srcp_peers.proofs.Saying.{says_after}
 use Rattle.srcp_sockets.proofs.Serving.{tells_one}
 use Rattle.srcp_sockets.proofs.door.SocketDoorDoor.now.Goals as goal
 
-pub returns-else-is_err-clause-told : goal.returns-else-is_err-clause-told
-returns-else-is_err-clause-told g c =
-    let old = g.S.System.told c.args.self.now.sockets.system in
-    let begun = g.S.System.told c.begin_turn.new.self.system in
-    let new = g.S.System.told c.now-answer.new.self.system in
+pub returns-else-is_err-clause-trace : goal.returns-else-is_err-clause-trace
+returns-else-is_err-clause-trace g c =
+    let old = g.S.System.trace c.args.self.now.sockets.system in
+    let begun = g.S.System.trace c.begin_turn.new.self.system in
+    let new = g.S.System.trace c.now-answer.new.self.system in
     let call = NowCall c.now-answer.result in
-    tells_one old new call (says_after old begun new call c.begin_turn.ensures.calls c.now-answer.ensures.told)
+    tells_one old new call (says_after old begun new call c.begin_turn.ensures.calls c.now-answer.ensures.trace)
 
-pub returns-then-is_err-clause-told : goal.returns-then-is_err-clause-told
-returns-then-is_err-clause-told g c =
-    let old = g.S.System.told c.args.self.now.sockets.system in
-    let begun = g.S.System.told c.begin_turn.new.self.system in
-    let new = g.S.System.told c.now-answer.new.self.system in
+pub returns-then-is_err-clause-trace : goal.returns-then-is_err-clause-trace
+returns-then-is_err-clause-trace g c =
+    let old = g.S.System.trace c.args.self.now.sockets.system in
+    let begun = g.S.System.trace c.begin_turn.new.self.system in
+    let new = g.S.System.trace c.now-answer.new.self.system in
     let call = NowCall c.now-answer.result in
-    subst (λ (told : Option (List Step)). Tells (option_map calls old) call (option_map calls told))
-    (sym (ap (λ sockets. g.S.System.told sockets.system) c.failed.ensures.sockets))
-    (tells_one old new call (says_after old begun new call c.begin_turn.ensures.calls c.now-answer.ensures.told))
+    subst (λ (trace : Option (List Step)). Tells (option_map calls old) call (option_map calls trace))
+    (sym (ap (λ sockets. g.S.System.trace sockets.system) c.failed.ensures.sockets))
+    (tells_one old new call (says_after old begun new call c.begin_turn.ensures.calls c.now-answer.ensures.trace))

@@ -8,80 +8,81 @@ use Rattle.srcp_peers.specs.declared.waiting.Listening.{Listening}
 use Rattle.srcp_sockets.specs.Doors.{Stands}
 use Rattle.srcp_peers.specs.Listeners.{refused_listening}
 use Rattle.srcp_peers.specs.Steps.{Accepts}
-use Rattle.srcp_peers.specs.Times.{is_told, refused_newcomer}
+use Rattle.srcp_peers.specs.Times.{is_as_heard, refused_newcomer}
 use Rattle.srcp_peers.proofs.Keeping.{own}
 use Rattle.srcp_peers.proofs.Saying.{says_after, says_call, says_step}
 use Rattle.srcp_sockets.proofs.Naming.{named_call, named_come, named_silent, nobody_named}
 use Rattle.srcp_sockets.proofs.Coming.{stands_came, stands_refused}
-use Rattle.srcp_sockets.proofs.Standing.{stands_told}
+use Rattle.srcp_sockets.proofs.Standing.{stands_answered}
 use Rattle.srcp_sockets.proofs.Timing.{timed_asked}
 use Rattle.srcp_sockets.proofs.sockets.Sockets.accept_next.Goals as goal
 
 pub invariant_of-self : goal.invariant_of-self
 invariant_of-self g c =
-    let old = g.S.System.told c.args.self.now.system in
-    let mid = g.S.System.told c.accept.new.self in
-    let new = g.S.System.told c.told_accept.new.self in
+    let old = g.S.System.trace c.args.self.now.system in
+    let mid = g.S.System.trace c.accept.new.self in
+    let new = g.S.System.trace c.note_accept.new.self in
     let self = c.args.self.now in
     let number = c.args.number in
     let said : Result Unit ErrorKind = Ok c.in-Ok.field-0 in
     let call = AcceptCall (Ok (Some number)) in
     let pushed : c.push.new.self.items ≡ self.peers.items ++ c.new.result ∷ [] = search rules in
     record {
-      stands = stands_told mid new c.push.new.self.items self.listening number call (λ s a. refl) c.told_accept.ensures
+      stands = stands_answered mid new c.push.new.self.items self.listening number call (λ s a. refl) c.note_accept.ensures
           (stands_came old mid self.peers.items c.push.new.self.items c.new.result self.listening self.last number c.in-Ok.field-0
           c.requires.next pushed c.new.ensures c.in-Ok.ensures self.stands);
-      named = named_come mid new self.last number (omega (arith, c.requires.next)) (says_call mid new call c.told_accept.ensures)
+      named = named_come mid new self.last number (omega (arith, c.requires.next)) (says_call mid new call c.note_accept.ensures)
           (named_silent old mid self.last (says_step old mid (Accepts number said) c.in-Ok.ensures refl) self.named);
-      timed = timed_asked old mid new self.turn c.note_accept.new.self number said (Ok (Some number)) c.note_accept.ensures (own number)
-          c.in-Ok.ensures c.told_accept.ensures self.timed;
+      timed = timed_asked old mid new self.turn c.note_accept-in-Ok.new.self number said (Ok (Some number)) c.note_accept-in-Ok.ensures
+          (own number)
+          c.in-Ok.ensures c.note_accept.ensures self.timed;
     }
 
-pub returns-in-Ok-clause-told : goal.returns-in-Ok-clause-told
-returns-in-Ok-clause-told g c =
-    let old = g.S.System.told c.args.self.now.system in
-    let mid = g.S.System.told c.accept.new.self in
-    let new = g.S.System.told c.told_accept.new.self in
+pub returns-in-Ok-clause-trace : goal.returns-in-Ok-clause-trace
+returns-in-Ok-clause-trace g c =
+    let old = g.S.System.trace c.args.self.now.system in
+    let mid = g.S.System.trace c.accept.new.self in
+    let new = g.S.System.trace c.note_accept.new.self in
     let call = AcceptCall (Ok (Some c.args.number)) in
     says_after old mid new call (says_step old mid (Accepts c.args.number (Ok c.in-Ok.field-0)) c.in-Ok.ensures refl)
-    (says_call mid new call c.told_accept.ensures)
+    (says_call mid new call c.note_accept.ensures)
 
--- what was told is what the system said
-told_so : (said : Refusal) → is_told (Some (refused_newcomer said)) (refused_newcomer said) ≡ true
-told_so Later = refl
-told_so Again = refl
-told_so Fault = refl
+-- what is answered is what the system said
+answered_so : (said : Refusal) → is_as_heard (Some (refused_newcomer said)) (refused_newcomer said) ≡ true
+answered_so Later = refl
+answered_so Again = refl
+answered_so Fault = refl
 
 pub invariant_of-self-in-Err : goal.invariant_of-self-in-Err
 invariant_of-self-in-Err g c =
-    let old = g.S.System.told c.args.self.now.system in
-    let mid = g.S.System.told c.accept.new.self in
-    let new = g.S.System.told c.told_accept-in-Err.new.self in
+    let old = g.S.System.trace c.args.self.now.system in
+    let mid = g.S.System.trace c.accept.new.self in
+    let new = g.S.System.trace c.note_accept-in-Err.new.self in
     let self = c.args.self.now in
     let number = c.args.number in
     let said : Result Unit ErrorKind = Err c.in-Err.fault in
     let answer = c.nobody-answer.result in
     let call = AcceptCall answer in
-    let is : answer ≡ refused_newcomer c.refusal_of-said.result = c.nobody-answer.ensures.told in
+    let is : answer ≡ refused_newcomer c.refusal_of-said.result = c.nobody-answer.ensures.answer in
     record {
-      stands = stands_told mid new self.peers.items c.refused-self.result self.last call (λ s a. refl) c.told_accept-in-Err.ensures
+      stands = stands_answered mid new self.peers.items c.refused-self.result self.last call (λ s a. refl) c.note_accept-in-Err.ensures
           (subst (λ (l : Listening). Stands mid self.peers.items l self.last)
           (sym (c.refused-self.ensures ∙ ap refused_listening c.refusal_of-said.ensures))
           (stands_refused old mid self.peers.items self.listening self.last number c.in-Err.fault c.in-Err.ensures self.stands));
-      named = named_call mid new self.last call (says_call mid new call c.told_accept-in-Err.ensures)
+      named = named_call mid new self.last call (says_call mid new call c.note_accept-in-Err.ensures)
           (ap (λ a. filter_map peer_of (AcceptCall a ∷ [])) is ∙ nobody_named c.refusal_of-said.result)
           (named_silent old mid self.last (says_step old mid (Accepts number said) c.in-Err.ensures refl) self.named);
-      timed = timed_asked old mid new self.turn c.note_accept-in-Err.new.self number said answer c.note_accept-in-Err.ensures
-          (ap (λ a. is_told (Some a) answer) (ap refused_newcomer (sym c.refusal_of-said.ensures))
-          ∙ ap (is_told (Some (refused_newcomer c.refusal_of-said.result))) is ∙ told_so c.refusal_of-said.result)
-          c.in-Err.ensures c.told_accept-in-Err.ensures self.timed;
+      timed = timed_asked old mid new self.turn c.note_accept-in-Err-2.new.self number said answer c.note_accept-in-Err-2.ensures
+          (ap (λ a. is_as_heard (Some a) answer) (ap refused_newcomer (sym c.refusal_of-said.ensures))
+          ∙ ap (is_as_heard (Some (refused_newcomer c.refusal_of-said.result))) is ∙ answered_so c.refusal_of-said.result)
+          c.in-Err.ensures c.note_accept-in-Err.ensures self.timed;
     }
 
-pub returns-in-Err-clause-told : goal.returns-in-Err-clause-told
-returns-in-Err-clause-told g c =
-    let old = g.S.System.told c.args.self.now.system in
-    let mid = g.S.System.told c.accept.new.self in
-    let new = g.S.System.told c.told_accept-in-Err.new.self in
+pub returns-in-Err-clause-trace : goal.returns-in-Err-clause-trace
+returns-in-Err-clause-trace g c =
+    let old = g.S.System.trace c.args.self.now.system in
+    let mid = g.S.System.trace c.accept.new.self in
+    let new = g.S.System.trace c.note_accept-in-Err.new.self in
     let call = AcceptCall c.nobody-answer.result in
     says_after old mid new call (says_step old mid (Accepts c.args.number (Err c.in-Err.fault)) c.in-Err.ensures refl)
-    (says_call mid new call c.told_accept-in-Err.ensures)
+    (says_call mid new call c.note_accept-in-Err.ensures)

@@ -10,22 +10,22 @@ use Rattle.srcp_sockets.proofs.sockets.Sockets.begin_turn.Goals as goal
 
 pub returns-clause-calls : goal.returns-clause-calls
 returns-clause-calls g c =
-    let old = g.S.System.told c.args.self.now.system in
-    let flushed = g.S.System.told c.flush.new.self.system in
-    let gone = g.S.System.told c.close_gone.new.self.system in
-    let looked = g.S.System.told c.look.new.self.system in
-    let new = g.S.System.told c.begin_visits.new.self.system in
+    let old = g.S.System.trace c.args.self.now.system in
+    let flushed = g.S.System.trace c.flush.new.self.system in
+    let gone = g.S.System.trace c.close_gone.new.self.system in
+    let looked = g.S.System.trace c.look.new.self.system in
+    let new = g.S.System.trace c.begin_visits.new.self.system in
     says_then old gone new (says_then old flushed gone c.flush.ensures.calls c.close_gone.ensures.calls)
     (says_then gone looked new c.look.ensures c.begin_visits.ensures.calls)
 
 pub returns-clause-offered : goal.returns-clause-offered
 returns-clause-offered g c =
     let was = c.args.self.now in
-    let old = g.S.System.told was.system in
-    let flushed = g.S.System.told c.flush.new.self.system in
-    let gone = g.S.System.told c.close_gone.new.self.system in
-    let looked = g.S.System.told c.look.new.self.system in
-    let new = g.S.System.told c.begin_visits.new.self.system in
+    let old = g.S.System.trace was.system in
+    let flushed = g.S.System.trace c.flush.new.self.system in
+    let gone = g.S.System.trace c.close_gone.new.self.system in
+    let looked = g.S.System.trace c.look.new.self.system in
+    let new = g.S.System.trace c.begin_visits.new.self.system in
     let what = flushed_in was.turn was.flushed was.peers.items in
     let ticked = has_ticked was.turn was.flushed in
     let same : c.flushing-what.result ≡ what = c.flushing-what.ensures

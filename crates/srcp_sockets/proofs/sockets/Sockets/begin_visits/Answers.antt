@@ -13,8 +13,8 @@ use Rattle.srcp_sockets.proofs.sockets.Sockets.begin_visits.Goals as goal
 
 pub invariant_of-self : goal.invariant_of-self
 invariant_of-self g c =
-    let old = g.S.System.told c.args.self.now.system in
-    let new = g.S.System.told c.begin_visits.new.system in
+    let old = g.S.System.trace c.args.self.now.system in
+    let new = g.S.System.trace c.begin_visits.new.system in
     let listening = c.args.self.now.listening in
     let last = c.args.self.now.last in
     record {
@@ -29,8 +29,8 @@ invariant_of-self g c =
 
 pub returns-clause-read : goal.returns-clause-read
 returns-clause-read g c =
-    let old = g.S.System.told c.args.self.now.system in
-    let new = g.S.System.told c.begin_visits.new.system in
+    let old = g.S.System.trace c.args.self.now.system in
+    let new = g.S.System.trace c.begin_visits.new.system in
     let listening = c.args.self.now.listening in
     let last = c.args.self.now.last in
     all_read new c.begin_visits.new.peers listening last

@@ -5,47 +5,47 @@ use Rattle.srcp_serve.specs.Calls.{CloseCall}
 use Rattle.srcp_sockets.proofs.Clocking.{clock_is}
 use Rattle.srcp_peers.proofs.Saying.{says_call}
 use Rattle.srcp_sockets.proofs.Naming.{named_call}
-use Rattle.srcp_sockets.proofs.Parting.{stands_let_go, stands_missing}
+use Rattle.srcp_sockets.proofs.Parting.{stands_left, stands_missing}
 use Rattle.srcp_sockets.proofs.Timing.{timed_close}
 use Rattle.srcp_sockets.proofs.sockets.Sockets.close.Goals as goal
 
-pub returns-in_default-clause-told : goal.returns-in_default-clause-told
-returns-in_default-clause-told g c = says_call (g.S.System.told c.args.self.now.system) (g.S.System.told c.told_close.new.self)
-    (CloseCall c.args.number (Err Close)) c.told_close.ensures
+pub returns-in_default-clause-trace : goal.returns-in_default-clause-trace
+returns-in_default-clause-trace g c = says_call (g.S.System.trace c.args.self.now.system) (g.S.System.trace c.note_close.new.self)
+    (CloseCall c.args.number (Err Close)) c.note_close.ensures
 
 pub invariant_of-self : goal.invariant_of-self
 invariant_of-self g c =
-    let old = g.S.System.told c.args.self.now.system in
-    let new = g.S.System.told c.told_close.new.self in
+    let old = g.S.System.trace c.args.self.now.system in
+    let new = g.S.System.trace c.note_close.new.self in
     let call = CloseCall c.args.number (Err Close) in
     record {
       stands = stands_missing old new c.args.self.now.peers.items c.args.self.now.listening c.args.self.now.last c.args.number (Err Close)
-          c.in_default.ensures.none c.told_close.ensures c.args.self.now.stands;
-      named = named_call old new c.args.self.now.last call (says_call old new call c.told_close.ensures) refl c.args.self.now.named;
-      timed = timed_close old new c.args.self.now.turn c.note_close.new.self c.args.number (Err Close)
-          (λ peer. c.note_close.ensures peer (Err Close))
-          c.told_close.ensures c.args.self.now.timed;
+          c.in_default.ensures.none c.note_close.ensures c.args.self.now.stands;
+      named = named_call old new c.args.self.now.last call (says_call old new call c.note_close.ensures) refl c.args.self.now.named;
+      timed = timed_close old new c.args.self.now.turn c.note_close-in_default.new.self c.args.number (Err Close)
+          (λ peer. c.note_close-in_default.ensures peer (Err Close))
+          c.note_close.ensures c.args.self.now.timed;
     }
 
 pub invariant_of-self-2 : goal.invariant_of-self-2
 invariant_of-self-2 g c =
-    let old = g.S.System.told c.args.self.now.system in
-    let new = g.S.System.told c.told_close-2.new.self in
+    let old = g.S.System.trace c.args.self.now.system in
+    let new = g.S.System.trace c.note_close-2.new.self in
     let call = CloseCall c.args.number (Ok tt) in
     let x = c.index_mut.result.now in
     let at = c.index_mut.ensures.value in
     let there = c.in-Some.ensures.found in
     record {
-      stands = stands_let_go old new c.args.self.now.peers.items c.in-Some.index x c.linger.new.self c.args.self.now.listening
+      stands = stands_left old new c.args.self.now.peers.items c.in-Some.index x c.linger.new.self c.args.self.now.listening
           c.args.self.now.last c.args.number c.args.self.now.turn.clock (Ok tt) there.0 (sym at)
           (ap (λ (p : Peer). p.number) at ∙ (there.1 x).0) (ap (λ (p : Peer). p.stay) at ∙ (there.1 x).1) c.linger.ensures
-          (clock_is old c.args.self.now.turn c.args.number c.args.self.now.timed) c.told_close-2.ensures c.args.self.now.stands;
-      named = named_call old new c.args.self.now.last call (says_call old new call c.told_close-2.ensures) refl c.args.self.now.named;
-      timed = timed_close old new c.args.self.now.turn c.note_close-2.new.self c.args.number (Ok tt)
-          (λ peer. c.note_close-2.ensures peer (Ok tt))
-          c.told_close-2.ensures c.args.self.now.timed;
+          (clock_is old c.args.self.now.turn c.args.number c.args.self.now.timed) c.note_close-2.ensures c.args.self.now.stands;
+      named = named_call old new c.args.self.now.last call (says_call old new call c.note_close-2.ensures) refl c.args.self.now.named;
+      timed = timed_close old new c.args.self.now.turn c.note_close-3.new.self c.args.number (Ok tt)
+          (λ peer. c.note_close-3.ensures peer (Ok tt))
+          c.note_close-2.ensures c.args.self.now.timed;
     }
 
-pub returns-clause-told : goal.returns-clause-told
-returns-clause-told g c = says_call (g.S.System.told c.args.self.now.system) (g.S.System.told c.told_close-2.new.self)
-    (CloseCall c.args.number (Ok tt)) c.told_close-2.ensures
+pub returns-clause-trace : goal.returns-clause-trace
+returns-clause-trace g c = says_call (g.S.System.trace c.args.self.now.system) (g.S.System.trace c.note_close-2.new.self)
+    (CloseCall c.args.number (Ok tt)) c.note_close-2.ensures

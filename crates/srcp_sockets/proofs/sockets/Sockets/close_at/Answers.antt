@@ -11,8 +11,8 @@ use Rattle.srcp_sockets.proofs.sockets.Sockets.close_at.Goals as goal
 
 pub invariant_of-self : goal.invariant_of-self
 invariant_of-self g c =
-    let old = g.S.System.told c.args.self.now.system in
-    let new = g.S.System.told c.close.new.self in
+    let old = g.S.System.trace c.args.self.now.system in
+    let new = g.S.System.trace c.close.new.self in
     let self = c.args.self.now in
     let peer = c.index.result.now in
     record {
@@ -26,6 +26,6 @@ invariant_of-self g c =
 
 pub returns-clause-calls : goal.returns-clause-calls
 returns-clause-calls g c =
-    let old = g.S.System.told c.args.self.now.system in
-    let new = g.S.System.told c.close.new.self in
+    let old = g.S.System.trace c.args.self.now.system in
+    let new = g.S.System.trace c.close.new.self in
     says_step old new (Closes c.index.result.now.number) c.close.ensures refl

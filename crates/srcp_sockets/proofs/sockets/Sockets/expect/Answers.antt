@@ -1,6 +1,6 @@
 use Rattle.std.proofs.Common.{refl}
 use Rattle.srcp_serve.specs.Calls.{ExpectCall}
-use Rattle.srcp_peers.specs.Steps.{Told}
+use Rattle.srcp_peers.specs.Steps.{Answers}
 use Rattle.srcp_peers.proofs.Saying.{says_call}
 use Rattle.srcp_sockets.proofs.Naming.{named_call}
 use Rattle.srcp_sockets.proofs.Standing.{stands_step}
@@ -9,18 +9,18 @@ use Rattle.srcp_sockets.proofs.sockets.Sockets.expect.Goals as goal
 
 pub invariant_of-self : goal.invariant_of-self
 invariant_of-self g c =
-    let old = g.S.System.told c.args.self.now.system in
-    let new = g.S.System.told c.told_expect.new.self in
+    let old = g.S.System.trace c.args.self.now.system in
+    let new = g.S.System.trace c.note_expect.new.self in
     let call = ExpectCall c.args.due c.args.slack in
     record {
-      stands = stands_step old new c.args.self.now.peers.items c.args.self.now.listening c.args.self.now.last (Told call)
-          (λ s a. refl) c.told_expect.ensures
+      stands = stands_step old new c.args.self.now.peers.items c.args.self.now.listening c.args.self.now.last (Answers call)
+          (λ s a. refl) c.note_expect.ensures
           c.args.self.now.stands;
-      named = named_call old new c.args.self.now.last call (says_call old new call c.told_expect.ensures) refl c.args.self.now.named;
-      timed = timed_expect old new c.args.self.now.turn c.expect.new.self c.args.due c.args.slack c.expect.ensures c.told_expect.ensures
+      named = named_call old new c.args.self.now.last call (says_call old new call c.note_expect.ensures) refl c.args.self.now.named;
+      timed = timed_expect old new c.args.self.now.turn c.expect.new.self c.args.due c.args.slack c.expect.ensures c.note_expect.ensures
           c.args.self.now.timed;
     }
 
 pub returns : goal.returns
-returns g c = says_call (g.S.System.told c.args.self.now.system) (g.S.System.told c.told_expect.new.self)
-    (ExpectCall c.args.due c.args.slack) c.told_expect.ensures
+returns g c = says_call (g.S.System.trace c.args.self.now.system) (g.S.System.trace c.note_expect.new.self)
+    (ExpectCall c.args.due c.args.slack) c.note_expect.ensures

@@ -10,8 +10,8 @@ use Rattle.srcp_sockets.proofs.sockets.Sockets.flush.Goals as goal
 
 pub invariant_of-self : goal.invariant_of-self
 invariant_of-self g c =
-    let old = g.S.System.told c.args.self.now.system in
-    let new = g.S.System.told c.flush.new.system in
+    let old = g.S.System.trace c.args.self.now.system in
+    let new = g.S.System.trace c.flush.new.system in
     let listening = c.args.self.now.listening in
     let last = c.args.self.now.last in
     record {
@@ -26,6 +26,6 @@ invariant_of-self g c =
 
 pub returns-clause-offered : goal.returns-clause-offered
 returns-clause-offered g c =
-    let old = g.S.System.told c.args.self.now.system in
-    let new = g.S.System.told c.flush.new.system in
+    let old = g.S.System.trace c.args.self.now.system in
+    let new = g.S.System.trace c.flush.new.system in
     subst (λ (ps : List Peer). AreOffered c.args.what ps old new) c.as_mut_slice.ensures.value c.flush.ensures.offered

@@ -1,7 +1,7 @@
 use Rattle.std.proofs.Common.{refl, Ok}
 use Rattle.srcp_serve.specs.declared.door.Got.TheVariants.{Nothing}
 use Rattle.srcp_serve.specs.Calls.{ReadCall}
-use Rattle.srcp_peers.specs.Steps.{Told}
+use Rattle.srcp_peers.specs.Steps.{Answers}
 use Rattle.srcp_peers.proofs.Saying.{says_call}
 use Rattle.srcp_sockets.proofs.Naming.{named_call}
 use Rattle.srcp_sockets.proofs.Standing.{stands_step}
@@ -10,16 +10,16 @@ use Rattle.srcp_sockets.proofs.sockets.Sockets.hold_back.Goals as goal
 
 pub invariant_of-self : goal.invariant_of-self
 invariant_of-self g c =
-    let old = g.S.System.told c.args.self.now.system in
-    let new = g.S.System.told c.told_read.new.self in
+    let old = g.S.System.trace c.args.self.now.system in
+    let new = g.S.System.trace c.note_read.new.self in
     let call = ReadCall c.args.number (Ok Nothing) c.args.buffer.now in
     record {
-      stands = stands_step old new c.args.self.now.peers.items c.args.self.now.listening c.args.self.now.last (Told call)
-          (λ s a. refl) c.told_read.ensures c.args.self.now.stands;
-      named = named_call old new c.args.self.now.last call (says_call old new call c.told_read.ensures) refl c.args.self.now.named;
-      timed = timed_nothing old new c.args.self.now.turn c.args.number c.args.buffer.now c.told_read.ensures c.args.self.now.timed;
+      stands = stands_step old new c.args.self.now.peers.items c.args.self.now.listening c.args.self.now.last (Answers call)
+          (λ s a. refl) c.note_read.ensures c.args.self.now.stands;
+      named = named_call old new c.args.self.now.last call (says_call old new call c.note_read.ensures) refl c.args.self.now.named;
+      timed = timed_nothing old new c.args.self.now.turn c.args.number c.args.buffer.now c.note_read.ensures c.args.self.now.timed;
     }
 
-pub returns-clause-told : goal.returns-clause-told
-returns-clause-told g c = says_call (g.S.System.told c.args.self.now.system) (g.S.System.told c.told_read.new.self)
-    (ReadCall c.args.number (Ok Nothing) c.args.buffer.now) c.told_read.ensures
+pub returns-clause-trace : goal.returns-clause-trace
+returns-clause-trace g c = says_call (g.S.System.trace c.args.self.now.system) (g.S.System.trace c.note_read.new.self)
+    (ReadCall c.args.number (Ok Nothing) c.args.buffer.now) c.note_read.ensures

@@ -3,7 +3,7 @@ use Rattle.srcp_sockets.proofs.Naming.{named_first}
 use Rattle.srcp_sockets.proofs.sockets.Sockets.new.Goals as goal
 
 pub invariant_of-result-clause-named : goal.invariant_of-result-clause-named
-invariant_of-result-clause-named g c = named_first (g.S.System.told c.args.system) 0 c.requires.told
+invariant_of-result-clause-named g c = named_first (g.S.System.trace c.args.system) 0 c.requires.trace
 
 pub invariant_of-result-clause-timed : goal.invariant_of-result-clause-timed
-invariant_of-result-clause-timed g c = timed_first (g.S.System.told c.args.system) c.args.turn c.requires.turn c.requires.told
+invariant_of-result-clause-timed g c = timed_first (g.S.System.trace c.args.system) c.args.turn c.requires.turn c.requires.trace

@@ -11,8 +11,8 @@ use Rattle.srcp_sockets.proofs.sockets.Sockets.read.Goals as goal
 
 pub invariant_of-self : goal.invariant_of-self
 invariant_of-self g c =
-    let old = g.S.System.told c.args.self.now.system in
-    let new = g.S.System.told c.read-handed.new.system in
+    let old = g.S.System.trace c.args.self.now.system in
+    let new = g.S.System.trace c.read-handed.new.system in
     let x = c.index_mut.result.now in
     let is = c.index_mut.ensures.value in
     let e = ap (λ (p : Peer). p.number) is in
@@ -25,23 +25,23 @@ invariant_of-self g c =
           (c.read-handed.ensures.number ∙ e) (λ other differ. c.read-handed.ensures.others other (λ same. differ (same ∙ e)))
           c.args.self.now.stands;
       named = named_call old new c.args.self.now.last (ReadCall x.number answer buffer)
-          (says_call old new (ReadCall x.number answer buffer) c.read-handed.ensures.told) refl c.args.self.now.named;
+          (says_call old new (ReadCall x.number answer buffer) c.read-handed.ensures.trace) refl c.args.self.now.named;
       timed = timed_read old new c.args.self.now.turn c.read-handed.new.turn x.share.line x.number answer buffer
           c.read-handed.ensures.turn
-          (λ wall start log told. line_kept old wall start x log
-          (subst (IsKept old) (sym is) (c.args.self.now.stands.kept c.in-Some.index x within)) told)
+          (λ wall start log logged. line_kept old wall start x log
+          (subst (IsKept old) (sym is) (c.args.self.now.stands.kept c.in-Some.index x within)) logged)
           (record {
             prompt = λ late. absurd (true≢false (sym late ∙ c.requires));
             light = c.read-handed.ensures.fits;
             single = c.read-handed.ensures.ends;
-          }) c.read-handed.ensures.told c.args.self.now.timed;
+          }) c.read-handed.ensures.trace c.args.self.now.timed;
     }
 
-pub returns-clause-told : goal.returns-clause-told
-returns-clause-told g c =
+pub returns-clause-trace : goal.returns-clause-trace
+returns-clause-trace g c =
     let x = c.index_mut.result.now in
     let e = ap (λ (p : Peer). p.number) c.index_mut.ensures.value ∙ (c.in-Some.ensures.found.1 x).0 in
-    subst (λ (n : ℕ). SaysOne (g.S.System.told c.args.self.now.system) (ReadCall n c.read-handed.result.got c.read-handed.new.buffer)
-    (g.S.System.told c.read-handed.new.system)) e
-    (says_call (g.S.System.told c.args.self.now.system) (g.S.System.told c.read-handed.new.system)
-    (ReadCall x.number c.read-handed.result.got c.read-handed.new.buffer) c.read-handed.ensures.told)
+    subst (λ (n : ℕ). SaysOne (g.S.System.trace c.args.self.now.system) (ReadCall n c.read-handed.result.got c.read-handed.new.buffer)
+    (g.S.System.trace c.read-handed.new.system)) e
+    (says_call (g.S.System.trace c.args.self.now.system) (g.S.System.trace c.read-handed.new.system)
+    (ReadCall x.number c.read-handed.result.got c.read-handed.new.buffer) c.read-handed.ensures.trace)

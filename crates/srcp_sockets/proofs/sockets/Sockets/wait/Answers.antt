@@ -17,8 +17,8 @@ use Rattle.srcp_sockets.proofs.sockets.Sockets.wait.Goals as goal
 
 pub invariant_of-self : goal.invariant_of-self
 invariant_of-self g c =
-    let old = g.S.System.told c.args.self.now.system in
-    let new = g.S.System.told c.wait-count.new.self in
+    let old = g.S.System.trace c.args.self.now.system in
+    let new = g.S.System.trace c.wait-count.new.self in
     let most = c.longest_wait-most.result in
     let count = c.wait-count.result in
     let ready = c.wait-count.new.ready in
@@ -33,14 +33,14 @@ invariant_of-self g c =
           (stands_waited old new before c.wake.new.peers most count ready listening last
           (subst (λ (ps : List Peer). is_short most ≡ false → All (λ peer. is_resting peer ≡ true) ps) same
           c.longest_wait-most.ensures.rest)
-          c.longest_wait-most.ensures.newcomers c.wait-count.ensures.told c.wake.auto.peers c.wake.ensures
+          c.longest_wait-most.ensures.newcomers c.wait-count.ensures.trace c.wake.auto.peers c.wake.ensures
           (subst (λ (ps : List Peer). Stands old ps listening last) same c.args.self.now.stands)));
-      named = named_silent old new last (says_step old new (Waits most count ready) c.wait-count.ensures.told refl) c.args.self.now.named;
+      named = named_silent old new last (says_step old new (Waits most count ready) c.wait-count.ensures.trace refl) c.args.self.now.named;
       timed = subst (λ (t : Turn). IsTimed new t) (sym c.wait.ensures)
           (timed_wait old new c.args.self.now.turn most count ready c.longest_wait-most.ensures.due c.longest_wait-most.ensures.panels
-          c.wait-count.ensures.told c.args.self.now.timed);
+          c.wait-count.ensures.trace c.args.self.now.timed);
     }
 
 pub returns : goal.returns
-returns g c = says_step (g.S.System.told c.args.self.now.system) (g.S.System.told c.wait-count.new.self)
-    (Waits c.longest_wait-most.result c.wait-count.result c.wait-count.new.ready) c.wait-count.ensures.told refl
+returns g c = says_step (g.S.System.trace c.args.self.now.system) (g.S.System.trace c.wait-count.new.self)
+    (Waits c.longest_wait-most.result c.wait-count.result c.wait-count.new.ready) c.wait-count.ensures.trace refl

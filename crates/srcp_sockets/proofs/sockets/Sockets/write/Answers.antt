@@ -10,50 +10,51 @@ use Rattle.srcp_sockets.proofs.Standing.{stands_one}
 use Rattle.srcp_sockets.proofs.Timing.{timed_write}
 use Rattle.srcp_sockets.proofs.sockets.Sockets.write.Goals as goal
 
-pub returns-in_default-clause-told : goal.returns-in_default-clause-told
-returns-in_default-clause-told g c = says_call (g.S.System.told c.args.self.now.system) (g.S.System.told c.told_write.new.self)
-    (WriteCall c.args.number c.args.bytes.now (Err Write)) c.told_write.ensures
+pub returns-in_default-clause-trace : goal.returns-in_default-clause-trace
+returns-in_default-clause-trace g c = says_call (g.S.System.trace c.args.self.now.system) (g.S.System.trace c.note_write.new.self)
+    (WriteCall c.args.number c.args.bytes.now (Err Write)) c.note_write.ensures
 
 pub invariant_of-self-2 : goal.invariant_of-self-2
 invariant_of-self-2 g c =
     let x = c.index_mut.result.now in
     let e = ap (λ (p : Peer). p.number) c.index_mut.ensures.value in
     record {
-      stands = stands_one (g.S.System.told c.args.self.now.system) (g.S.System.told c.write-count.new.system) c.args.self.now.peers.items
+      stands = stands_one (g.S.System.trace c.args.self.now.system) (g.S.System.trace c.write-count.new.system) c.args.self.now.peers.items
           c.in-Some.index
           x c.write-count.new.self c.args.self.now.listening c.args.self.now.last c.in-Some.ensures.found.0 c.write-count.ensures.kept
           (c.write-count.ensures.number ∙ e) (λ other differ. c.write-count.ensures.others other (λ same. differ (same ∙ e)))
           c.args.self.now.stands;
-      named = named_call (g.S.System.told c.args.self.now.system) (g.S.System.told c.write-count.new.system) c.args.self.now.last
+      named = named_call (g.S.System.trace c.args.self.now.system) (g.S.System.trace c.write-count.new.system) c.args.self.now.last
           (WriteCall x.number c.args.bytes.now (Ok c.write-count.result))
-          (says_call (g.S.System.told c.args.self.now.system) (g.S.System.told c.write-count.new.system)
-          (WriteCall x.number c.args.bytes.now (Ok c.write-count.result)) c.write-count.ensures.told) refl c.args.self.now.named;
-      timed = timed_write (g.S.System.told c.args.self.now.system) (g.S.System.told c.write-count.new.system) c.args.self.now.turn
+          (says_call (g.S.System.trace c.args.self.now.system) (g.S.System.trace c.write-count.new.system)
+          (WriteCall x.number c.args.bytes.now (Ok c.write-count.result)) c.write-count.ensures.trace) refl c.args.self.now.named;
+      timed = timed_write (g.S.System.trace c.args.self.now.system) (g.S.System.trace c.write-count.new.system) c.args.self.now.turn
           c.note_write-2.new.self
-          x.number c.args.bytes.now (Ok c.write-count.result) c.note_write-2.ensures c.write-count.ensures.told c.args.self.now.timed;
+          x.number c.args.bytes.now (Ok c.write-count.result) c.note_write-2.ensures c.write-count.ensures.trace c.args.self.now.timed;
     }
 
-pub returns-clause-told : goal.returns-clause-told
-returns-clause-told g c =
+pub returns-clause-trace : goal.returns-clause-trace
+returns-clause-trace g c =
     let x = c.index_mut.result.now in
     let e = ap (λ (p : Peer). p.number) c.index_mut.ensures.value ∙ (c.in-Some.ensures.found.1 x).0 in
-    subst (λ (n : ℕ). SaysOne (g.S.System.told c.args.self.now.system) (WriteCall n c.args.bytes.now (Ok c.write-count.result))
-    (g.S.System.told c.write-count.new.system)) e
-    (says_call (g.S.System.told c.args.self.now.system) (g.S.System.told c.write-count.new.system)
-    (WriteCall x.number c.args.bytes.now (Ok c.write-count.result)) c.write-count.ensures.told)
+    subst (λ (n : ℕ). SaysOne (g.S.System.trace c.args.self.now.system) (WriteCall n c.args.bytes.now (Ok c.write-count.result))
+    (g.S.System.trace c.write-count.new.system)) e
+    (says_call (g.S.System.trace c.args.self.now.system) (g.S.System.trace c.write-count.new.system)
+    (WriteCall x.number c.args.bytes.now (Ok c.write-count.result)) c.write-count.ensures.trace)
 
 pub invariant_of-self-clause-named : goal.invariant_of-self-clause-named
-invariant_of-self-clause-named g c = named_call (g.S.System.told c.args.self.now.system)
-    (g.S.System.told c.told_write.new.self) c.args.self.now.last (WriteCall c.args.number c.args.bytes.now (Err Write))
-    (says_call (g.S.System.told c.args.self.now.system) (g.S.System.told c.told_write.new.self)
-    (WriteCall c.args.number c.args.bytes.now (Err Write)) c.told_write.ensures) refl c.args.self.now.named
+invariant_of-self-clause-named g c = named_call (g.S.System.trace c.args.self.now.system)
+    (g.S.System.trace c.note_write.new.self) c.args.self.now.last (WriteCall c.args.number c.args.bytes.now (Err Write))
+    (says_call (g.S.System.trace c.args.self.now.system) (g.S.System.trace c.note_write.new.self)
+    (WriteCall c.args.number c.args.bytes.now (Err Write)) c.note_write.ensures) refl c.args.self.now.named
 
 pub invariant_of-self-clause-timed : goal.invariant_of-self-clause-timed
-invariant_of-self-clause-timed g c = timed_write (g.S.System.told c.args.self.now.system)
-    (g.S.System.told c.told_write.new.self) c.args.self.now.turn
-    c.note_write.new.self c.args.number c.args.bytes.now (Err Write) c.note_write.ensures c.told_write.ensures c.args.self.now.timed
+invariant_of-self-clause-timed g c = timed_write (g.S.System.trace c.args.self.now.system)
+    (g.S.System.trace c.note_write.new.self) c.args.self.now.turn
+    c.note_write-in_default.new.self c.args.number c.args.bytes.now (Err Write)
+    c.note_write-in_default.ensures c.note_write.ensures c.args.self.now.timed
 
 pub invariant_of-self-clause-stands : goal.invariant_of-self-clause-stands
-invariant_of-self-clause-stands g c = stands_unwritten (g.S.System.told c.args.self.now.system) (g.S.System.told c.told_write.new.self)
+invariant_of-self-clause-stands g c = stands_unwritten (g.S.System.trace c.args.self.now.system) (g.S.System.trace c.note_write.new.self)
     c.args.self.now.peers.items c.args.self.now.listening c.args.self.now.last c.args.number c.args.bytes.now Write
-    c.in_default.ensures.none c.told_write.ensures c.args.self.now.stands
+    c.in_default.ensures.none c.note_write.ensures c.args.self.now.stands

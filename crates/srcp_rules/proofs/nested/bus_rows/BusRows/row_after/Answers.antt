@@ -4,7 +4,7 @@ use Rattle.std.specs.List.{flat_map}
 use Rattle.srcp_info.specs.declared.key.Group.{Group}
 use Rattle.srcp_info.specs.declared.key.Group.TheVariants as group
 use Rattle.srcp_rules.specs.State.{row_after}
-use Rattle.srcp_rules.specs.declared.nested.bus_rows.TheConstants.{GROUPS}
+use Rattle.srcp_info.specs.declared.key.TheConstants.{GROUPS}
 use Rattle.srcp_rules.specs.Nested.{group_rows}
 use Rattle.srcp_rules.proofs.ListedLaws.{first_has, first_has_none}
 use Rattle.srcp_rules.proofs.nested.bus_rows.BusRows.row_after.Goals as goal

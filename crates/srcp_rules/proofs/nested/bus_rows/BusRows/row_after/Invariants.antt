@@ -1,7 +1,7 @@
 use Rattle.std.proofs.Common.{◌≡◌, drop}
 use Rattle.std.specs.List.{flat_map}
 use Rattle.srcp_rules.specs.State.{row_after}
-use Rattle.srcp_rules.specs.declared.nested.bus_rows.TheConstants.{GROUPS}
+use Rattle.srcp_info.specs.declared.key.TheConstants.{GROUPS}
 use Rattle.srcp_rules.specs.Nested.{bus_rows, group_rows}
 use Rattle.srcp_rules.proofs.nested.bus_rows.BusRows.row_after.Given as goal
 

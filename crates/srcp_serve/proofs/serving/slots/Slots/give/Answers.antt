@@ -6,7 +6,7 @@ pub invariant_of-self : goal.invariant_of-self
 invariant_of-self c =
     let p = c.self.inside in
     let i = c.self.invariant in (
-      length_set p.seats c.args.slot (Some c.args.seat) ∙ i.0,
+      length_set p.clients c.args.slot (Some c.args.client) ∙ i.0,
       omega (arith, c.max-self-inside.ensures, c.requires, i.1),
-      free_behind p.end c.args.slot c.max-self-inside.result (Some c.args.seat) p.seats c.max-self-inside.ensures i.2,
+      free_behind p.end c.args.slot c.max-self-inside.result (Some c.args.client) p.clients c.max-self-inside.ensures i.2,
     )

@@ -1,0 +1,67 @@
+use Rattle.std.proofs.Common.{◌≡◌, ◌≤◌, true, length, List, Option, sym, ap, ◌∙◌, subst, arith}
+use Rattle.srcp_grammar.specs.Command.{IsCommandOf}
+use Rattle.srcp_rules.specs.Effect.{effect}
+use Rattle.srcp_grammar.specs.Devices.{session_device}
+use Rattle.srcp_rules.specs.State.{State, is_there}
+use Rattle.srcp_core.specs.Held.{Held, IsSound, Place, place_at}
+use Rattle.srcp_core.specs.Machine.{told_each, unsent_at, unsent_of}
+use Rattle.srcp_core.proofs.Invariants.RefusalsChangeNothing.{denied_same, given_took}
+use Rattle.srcp_core.proofs.Invariants.CoreStaysSound.{sound_obeyed, sound_carried_as}
+use Rattle.srcp_core.proofs.Invariants.PanelsStay.{panels_told_each}
+use Rattle.srcp_core.proofs.Invariants.RepliesStayUnsent.{longest_most, told_each_shorter}
+use Rattle.srcp_core.proofs.server_core.Core.carry_out.Goals as goal
+
+pub reply-requires-clause-room : goal.reply-requires-clause-room
+reply-requires-clause-room g c =
+    let places = c.self.inside.connections.slots in
+    let is = ap (λ (ps : List (Option Place)). length (unsent_of (place_at ps c.args.conn))) c.tell_each.ensures.slots in
+    let shorter = told_each_shorter c.as_slice-2.result.now places c.args.conn in
+    let most = longest_most c.obey_into.new.obeyed.reply in
+    let room = ap (λ (h : Held). length (unsent_at c.args.conn h)) c.self.view_is in
+    omega (arith, is, shorter, most, room, c.requires.room)
+
+pub invariant_of-self-2 : goal.invariant_of-self-2
+invariant_of-self-2 g c =
+    let held : Held =
+    record {
+      buses = c.self.inside.layout.now;
+      rows = g.R.Rows.state c.self.inside.rows;
+      moment = c.self.inside.moment;
+      last_id = c.self.inside.last_id;
+      places = c.self.inside.connections.slots;
+      denied = c.self.inside.denied;
+    } in
+    let row : is_there (session_device c.args.session) held.rows ≡ true =
+    ap (λ (h : Held). is_there (session_device c.args.session) h.rows) c.self.view_is ∙ c.requires.row in
+    let of : IsCommandOf held.buses c.args.command.now =
+    subst (λ (h : Held). IsCommandOf h.buses c.args.command.now) (sym c.self.view_is) c.requires.command in
+    let did =
+    given_took held.rows _ c.args.session held.moment c.args.command.now _ c.obey_into.ensures.obeyed
+    (c.is_denied.ensures.given c.if-is_denied.false) in (
+      sound_carried_as held (effect held.rows c.args.session held.moment c.args.command.now).updates _ _ did.rows
+          (c.tell_each.ensures.slots ∙ ap (λ cs. told_each cs held.places) (c.as_slice-2.ensures.value ∙ did.told.changes))
+          (sound_obeyed c.args.session held.moment c.args.command.now held c.self.invariant.0.moment of row c.self.invariant.0),
+      c.obey_into.ensures.layout ∙ c.self.invariant.1,
+      subst (λ n. 64 ≤ n) (sym c.tell_each.ensures.capacity) c.self.invariant.2,
+      rw (c.tell_each.ensures.slots, panels_told_each) c.self.invariant.3,
+    )
+
+pub invariant_of-self : goal.invariant_of-self
+invariant_of-self g c =
+    let held : Held =
+    record {
+      buses = c.self.inside.layout.now;
+      rows = g.R.Rows.state c.self.inside.rows;
+      moment = c.self.inside.moment;
+      last_id = c.self.inside.last_id;
+      places = c.self.inside.connections.slots;
+      denied = c.self.inside.denied;
+    } in
+    let same =
+    denied_same held.rows _ c.args.session held.moment c.args.command.now _ c.obey_into.ensures.obeyed
+    (c.is_denied.ensures.denied c.if-is_denied.true) in (
+      subst (λ (s : State). IsSound (record held { rows = s })) (sym same) c.self.invariant.0,
+      c.obey_into.ensures.layout ∙ c.self.invariant.1,
+      c.self.invariant.2,
+      c.self.invariant.3,
+    )

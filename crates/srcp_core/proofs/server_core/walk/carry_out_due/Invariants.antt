@@ -1,0 +1,23 @@
+use Rattle.std.proofs.Common.{◌≡◌, length, map}
+use Rattle.srcp_rules.specs.Due.{due}
+use Rattle.srcp_rules.specs.State.{IsWhole, updated_all}
+use Rattle.srcp_core.specs.Machine.{panel_keys, told_each}
+use Rattle.srcp_core.proofs.Invariants.DueInOneWalk.{AreAhead}
+use Rattle.srcp_core.proofs.Invariants.ChangesOneByOne.{change_in}
+use Rattle.srcp_core.proofs.server_core.walk.carry_out_due.Given as goal
+
+abbrev pub invariant-loop-change : goal.invariant-loop-change
+invariant-loop-change g l = record {
+  layout : g.R.Rows.buses l.rows ≡ g.R.Rows.buses l.fn.rows;
+  whole : IsWhole (g.R.Rows.buses l.fn.rows) (g.R.Rows.state l.rows);
+  ahead : AreAhead l.at (due (g.R.Rows.state l.rows) l.moment);
+  rows : updated_all (due (g.R.Rows.state l.rows) l.moment) (g.R.Rows.state l.rows)
+      ≡ updated_all (due (g.R.Rows.state l.fn.rows) l.moment) (g.R.Rows.state l.fn.rows);
+  panels : l.panels ≡ panel_keys l.connections.slots;
+  slots : told_each (map change_in (due (g.R.Rows.state l.rows) l.moment)) l.connections.slots
+      ≡ told_each (map change_in (due (g.R.Rows.state l.fn.rows) l.moment)) l.fn.connections.slots;
+  capacity : l.connections.capacity ≡ l.fn.connections.capacity;
+}
+
+abbrev pub decreases-loop-change : goal.decreases-loop-change
+decreases-loop-change g l = length (due (g.R.Rows.state l.rows) l.moment)

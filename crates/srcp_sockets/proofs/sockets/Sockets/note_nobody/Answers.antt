@@ -1,0 +1,32 @@
+use Rattle.std.proofs.Common.{◌≡◌, ap, refl, ⊎_elim, true, None, [], ◌∷◌}
+use Rattle.std.specs.Prelude.{filter_map}
+use Rattle.srcp_serve.specs.Calls.{AcceptCall, peer_of}
+use Rattle.srcp_peers.specs.Times.{is_as_heard}
+use Rattle.srcp_peers.proofs.Saying.{says_call}
+use Rattle.srcp_sockets.proofs.Naming.{named_call}
+use Rattle.srcp_sockets.proofs.Standing.{stands_answered}
+use Rattle.srcp_sockets.proofs.Timing.{timed_unasked}
+use Rattle.srcp_sockets.proofs.sockets.Sockets.note_nobody.Goals as goal
+
+pub invariant_of-self : goal.invariant_of-self
+invariant_of-self g c =
+    let old = g.S.System.trace c.args.self.now.system in
+    let new = g.S.System.trace c.note_accept.new.self in
+    let answer = c.args.answer in
+    let self = c.args.self.now in
+    let none : filter_map peer_of (AcceptCall answer ∷ []) ≡ [] = ⊎_elim
+    (λ e. ap (λ a. filter_map peer_of (AcceptCall a ∷ [])) e) (λ e. ap (λ a. filter_map peer_of (AcceptCall a ∷ [])) e) c.requires in
+    let as_heard : is_as_heard None answer ≡ true = ⊎_elim (λ e. ap (is_as_heard None) e) (λ e. ap (is_as_heard None) e) c.requires in
+    record {
+      stands =
+          stands_answered old new self.peers.items self.listening self.last (AcceptCall answer) (λ s a. refl) c.note_accept.ensures
+          self.stands;
+      named =
+          named_call old new self.last (AcceptCall answer) (says_call old new (AcceptCall answer) c.note_accept.ensures) none self.named;
+      timed = timed_unasked old new self.turn c.note_accept-2.new.self answer c.note_accept-2.ensures as_heard
+          c.note_accept.ensures self.timed;
+    }
+
+pub returns-clause-trace : goal.returns-clause-trace
+returns-clause-trace g c = says_call (g.S.System.trace c.args.self.now.system) (g.S.System.trace c.note_accept.new.self)
+    (AcceptCall c.args.answer) c.note_accept.ensures
