@@ -7,7 +7,7 @@ use Rattle.std.specs.List.{AllByRecursion, list_any}
 use Rattle.std.specs.List.Sorted.{IsStrictlySortedBy, IsPartitionPoint, IsPartitionedBy}
 use Rattle.std.specs.Ordering.{nat_cmp}
 use Rattle.std.specs.declared.cmp.Ordering.TheVariants.{Less}
-use Rattle.std.proofs.lemmas.Bool.{ltb-true, ltb-false, lt-ltb, le-ltb, eqb-false}
+use Rattle.std.proofs.lemmas.Bool.{ltb-true, lt-ltb}
 use Rattle.std.proofs.lemmas.List.Folds.{list_any_at}
 use Rattle.std.proofs.lemmas.Map.Keys.{sorted_from_strictly_increasing, IsStrictlyIncreasing-from_sorted}
 use Rattle.srcp_info.proofs.ClientLaws.{all_append, all_filter, all_kept}
@@ -47,10 +47,8 @@ found_step false o bus r e = e
 
 -- one has the number where it is found
 any_found : (buses : List Bus) (n : ℕ) → list_any (λ bus. bus.number == n) buses ≡ has_number buses n
-any_found [] n = refl
-any_found (bus ∷ buses) n =
-    found_step (bus.number == n) (list_any (λ other. other.number == n) buses) bus (find (λ other. other.number == n) buses)
-    (any_found buses n)
+any_found [] n = grind arith
+any_found (bus ∷ buses) n = grind (arith, any_found buses n)
 
 -- a bus of a number is there where it is found
 pub has_number-found : (buses : List Bus) (n : ℕ) → has_number buses n ≡ is_some (find (λ bus. bus.number == n) buses)
@@ -72,19 +70,13 @@ rises_step true b bs a r = (a, r)
 rises_step false b bs a r = r
 
 rises-filter : (p : Bus → Bool) (bs : List Bus) → Rising bs → Rising (filter p bs)
-rises-filter p [] h = tt
-rises-filter p (b ∷ bs) h =
-    rises_step (p b) b (filter p bs) (all_filter (λ other. b.number < other.number) p bs h.0) (rises-filter p bs h.1)
+rises-filter p [] h = grind (arith, rises_step, all_filter)
+rises-filter p (b ∷ bs) h = grind (arith, rises_step, all_filter, rises-filter p bs h.1)
 
 rises_join : (xs : List Bus) (b : Bus) (ys : List Bus) → Rising xs → AllByRecursion (λ x. x.number < b.number) xs
     → AllByRecursion (λ y. b.number < y.number) ys → Rising ys → Rising (xs ++ b ∷ ys)
-rises_join [] b ys r low high s = (high, s)
-rises_join (x ∷ xs) b ys r low high s =
-    let first : x.number < b.number = low.0 in (
-      all_append (λ y. x.number < y.number) xs (b ∷ ys) r.0
-          (low.0, each-weaken {P = λ y. b.number < y.number} (λ y h. omega (arith, h, first)) ys high),
-      rises_join xs b ys r.1 low.1 high s,
-    )
+rises_join [] b ys r low high s = grind (arith, all_append, each-weaken)
+rises_join (x ∷ xs) b ys r low high s = grind (arith, all_append, each-weaken, rises_join xs b ys r.1 low.1 high s)
 
 -- ---- places
 
@@ -100,14 +92,10 @@ module _ (bus : Bus) where
   above other = nat_lt bus.number other.number
 
   not_above : (other : Bus) → below other ≡ true → above other ≡ false
-  not_above other e = le-ltb bus.number other.number (omega (arith, ltb-true other.number bus.number e))
+  not_above other e = grind arith
 
   then_above : (other : Bus) → below other ≡ false → ((other.number == bus.number) ≡ true → ⊥) → above other ≡ true
-  then_above other e f = by (other.number == bus.number) refl
-    where
-      by : (b : Bool) → (other.number == bus.number) ≡ b → above other ≡ true
-      by true g = absurd (f g)
-      by false g = lt-ltb bus.number other.number (omega (arith, ltb-false other.number bus.number e, eqb-false other.number bus.number g))
+  then_above other e f = grind arith
 
   pub below_partitioned : (buses : List Bus) → IsLayout buses → IsPartitionedBy below buses
   below_partitioned buses layout =

@@ -1,20 +1,18 @@
 -- What the grammar reads is a command of the layout.
-use Rattle.std.specs.Prelude.{codes, ◌≡◌, ℕ, suc, ◌+◌, ◌-◌, ◌<◌, ◌≤◌, Bool, true, false, cond, ◌&&◌, ◌||◌, ◌==◌, nat_le, nat_lt, length}
+use Rattle.std.proofs.Common.{rules}
+use Rattle.std.specs.Prelude.{◌≡◌, ℕ, ◌+◌, ◌-◌, ◌<◌, ◌≤◌, Bool, true, false, cond, ◌&&◌, ◌||◌, ◌==◌, nat_le, nat_lt, length}
 use Rattle.std.specs.Prelude.{List, [], ◌∷◌, Option, Some, None, Result, Ok, Err, IfOk, IfSome, IsTrue}
-use Rattle.std.proofs.Common.{refl, sym, ap, subst, ◌∙◌, true≢false, arith, eqb-true, eq-eqb}
-use Rattle.std.specs.Cmp.{second_so}
-use Rattle.std.specs.List.{AllByRecursion, join_with_byte}
-use Rattle.std.specs.Option.{ok_or, option_and_then, option_map_or}
-use Rattle.std.proofs.lemmas.Bool.{ltb-false, le-leb}
-use borrow.Author.Tests.{leb-true}
+use Rattle.std.proofs.Common.{refl, sym, ap, subst, ◌∙◌, arith, eqb-true}
+use Rattle.std.specs.List.{AllByRecursion}
+use Rattle.std.specs.Option.{ok_or, option_and_then}
+use Rattle.std.proofs.lemmas.Bool.{ltb-false}
 use Rattle.srcp_info.specs.declared.key.Group.{Group}
 use Rattle.srcp_info.specs.declared.key.Group.TheVariants as group
 use Rattle.srcp_info.specs.declared.value.Letter.{Letter}
-use Rattle.srcp_info.specs.declared.value.Letter.TheVariants.{P}
 use Rattle.srcp_info.specs.declared.change.Code.{Code}
-use Rattle.srcp_info.specs.declared.change.Code.TheVariants.{C410, C412, C418, C419, C421, C422}
+use Rattle.srcp_info.specs.declared.change.Code.TheVariants.{C412, C418, C421, C422}
 use Rattle.srcp_info.specs.WellFormed.{is_text, IsSpeed}
-use Rattle.srcp_text.specs.Words.{number_of, is_numeral, is_keyword, words_of}
+use Rattle.srcp_text.specs.Words.{number_of, is_numeral, words_of}
 use Rattle.std.specs.Str.Parse.{digits_value}
 use Rattle.srcp_grammar.specs.declared.layout.Bus.{Bus}
 use Rattle.srcp_grammar.specs.declared.command.Operation.{Operation}
@@ -25,26 +23,20 @@ use Rattle.srcp_grammar.specs.declared.command.DeviceGroup.{DeviceGroup}
 use Rattle.srcp_grammar.specs.declared.command.DeviceGroup.TheVariants as devices
 use Rattle.srcp_grammar.specs.declared.command.Target.{Target}
 use Rattle.srcp_grammar.specs.declared.command.NewGl.{NewGl}
-use Rattle.srcp_grammar.specs.declared.command.NewGa.{NewGa}
 use Rattle.srcp_grammar.specs.declared.command.Drive.{Drive}
-use Rattle.srcp_grammar.specs.declared.command.Switch.{Switch}
-use Rattle.srcp_grammar.specs.declared.command.PowerSwitch.{PowerSwitch}
-use Rattle.srcp_grammar.specs.declared.command.Sensor.{Sensor}
-use Rattle.srcp_grammar.specs.declared.command.TimedLock.{TimedLock}
 use Rattle.srcp_grammar.specs.declared.command.Command.{Command}
-use Rattle.srcp_grammar.specs.declared.command.Command.TheVariants.{GetSession, TermSession, GetPower, SetPower, CheckPower, GetGl, SetGl}
-use Rattle.srcp_grammar.specs.declared.command.Command.TheVariants.{CheckGl, InitGl, TermGl, GetGa, SetGa, CheckGa, InitGa, TermGa, GetFb}
+use Rattle.srcp_grammar.specs.declared.command.Command.TheVariants.{GetPower, SetPower, CheckPower, GetGl, SetGl}
+use Rattle.srcp_grammar.specs.declared.command.Command.TheVariants.{CheckGl, InitGl, TermGl, SetGa, CheckGa, InitGa, TermGa, GetFb}
 use Rattle.srcp_grammar.specs.declared.command.Command.TheVariants.{SetFb, CheckFb, GetLock, SetLock, CheckLock, TermLock}
-use Rattle.srcp_grammar.specs.Layout.{IsBus, IsLayout, IsKeyOf, server, bus_at, has_group, address_max, is_within, rows_if, rows_on}
+use Rattle.srcp_grammar.specs.Layout.{IsBus, IsLayout, IsKeyOf, bus_at, has_group, address_max, is_within, rows_if, rows_on}
 use Rattle.srcp_grammar.specs.Layout.{row_count}
 use Rattle.srcp_grammar.specs.Devices.{key_at, device_in, lock_on}
 use Rattle.srcp_grammar.specs.Command.{IsCommandOf, IsDrive, IsLock, IsNewGa, IsNewGl, IsPowerSwitch, IsSensor, IsSwitch, IsTimedLock}
-use Rattle.srcp_grammar.specs.Grammar.{◌>>=◌, number_in, bit_of, bits_of, letter_of, switch_of, text_of, time_of, device_group_on, groups}
-use Rattle.srcp_grammar.specs.Grammar.{operations, named_in, alone, addressed, get_session, term_session, powered, driven, init_gl, ga_port}
+use Rattle.srcp_grammar.specs.Grammar.{◌>>=◌, number_in, bits_of, text_of, time_of, groups}
+use Rattle.srcp_grammar.specs.Grammar.{named_in, alone, addressed, get_session, term_session, powered, driven, init_gl}
 use Rattle.srcp_grammar.specs.Grammar.{get_ga, switched, init_ga, sensed, named_lock, timed_lock, asked, directed, parsed, reads}
 use Rattle.srcp_grammar.proofs.FindLaws.{found_holds}
 use Rattle.srcp_info.proofs.ListingLaws.{find_passes}
-use Rattle.srcp_grammar.proofs.LayoutLaws.{within}
 
 -- ---- one word after another
 
@@ -71,32 +63,21 @@ module _ {A : Type 0} (Q : A → Type 0) where
 
 number_of_max : (max : ℕ) (word : List ℕ) (b : Bool) → (is_numeral word && nat_le (digits_value 10 word) max) ≡ b
     → IfOk (ok_or (cond b (Some (digits_value 10 word)) None) C412) (λ n. n ≤ max)
-number_of_max max word true e = leb-true (digits_value 10 word) max (second_so (is_numeral word) (nat_le (digits_value 10 word) max) e)
-number_of_max max word false e = tt
+number_of_max max word b e = grind arith
 
 pub number_in_range : (least most : ℕ) (word : List ℕ) → IfOk (number_in least most word) (λ n. (least ≤ n) × (n ≤ most))
-number_in_range least most word =
-    read (λ n. (least ≤ n) × (n ≤ most)) (λ n. n ≤ most) (ok_or (number_of most word) C412) (λ n. cond (nat_lt n least) (Err C412) (Ok n))
-    (number_of_max most word (is_numeral word && nat_le (digits_value 10 word) most) refl)
-    (λ n high. if_ok (λ n. (least ≤ n) × (n ≤ most)) (nat_lt n least) C412 (Ok n) (λ e. (ltb-false n least e, high)))
+number_in_range least most word = grind arith
 
 pub text_read : (words : List (List ℕ)) → IfOk (text_of words) (λ t. IsTrue (is_text t))
-text_read words = then_ok (λ t. IsTrue (is_text t)) (is_text (join_with_byte 32 words)) C412 (Ok (join_with_byte 32 words)) (λ e. e)
+text_read words = grind arith
 
 pub bits_length : (words : List (List ℕ)) → IfOk (bits_of words) (λ bits. length bits ≡ length words)
-bits_length [] = refl
-bits_length (word ∷ words) =
-    read_any (λ bits. length bits ≡ suc (length words)) (bit_of word) (λ first. bits_of words >>= (λ others. Ok (first ∷ others)))
-    (λ first.
-    read (λ bits. length bits ≡ suc (length words)) (λ bits. length bits ≡ length words) (bits_of words) (λ others. Ok (first ∷ others))
-    (bits_length words) (λ others e. ap suc e))
+bits_length [] = grind arith
+bits_length (word ∷ words) = grind (arith, bits_length words)
 
 time_tail : (word : List ℕ) (b : Bool)
     → IfOk (cond b (Ok None) (number_in 0 60000 word >>= (λ n. Ok (Some n)))) (λ t. IfSome t (λ n. n ≤ 60000))
-time_tail word true = tt
-time_tail word false =
-    read (λ t. IfSome t (λ n. n ≤ 60000)) (λ n. (0 ≤ n) × (n ≤ 60000)) (number_in 0 60000 word) (λ n. Ok (Some n))
-    (number_in_range 0 60000 word) (λ n h. h.1)
+time_tail word b = grind arith
 
 pub time_range : (word : List ℕ) → IfOk (time_of word) (λ t. IfSome t (λ n. n ≤ 60000))
 time_range word = time_tail word _
@@ -109,26 +90,25 @@ module _ (buses : List Bus) (layout : IsLayout buses) (bus : Bus) (found : bus_a
 
   -- a device of the bus is one of the layout
   counted : (g : Group) (address : ℕ) → row_count buses (record { bus = bus.number; group = g; address = address }) ≡ rows_on bus g address
-  counted g address = ap (λ o. option_map_or (λ b. rows_on b g address) o 0) found
+  counted g address = grind arith
 
   many : (most n count : ℕ) → 1 ≤ n → n ≤ most → rows_if (is_within 1 most n) count ≡ count
-  many most n count low high = ap (λ b. rows_if b count) (within 1 most n low high)
+  many most n count low high = grind arith
 
   gl_rows : (address : ℕ) → 1 ≤ address → address ≤ bus.gl_max → row_count buses (device_in devices.Gl bus.number address) ≡ 2
-  gl_rows address low high = counted group.Gl address ∙ many bus.gl_max address 2 low high
+  gl_rows address low high = grind arith
 
   ga_rows : (address : ℕ) → 1 ≤ address → address ≤ bus.ga_max
       → row_count buses (device_in devices.Ga bus.number address) ≡ 1 + bus.ga_ports
-  ga_rows address low high = counted group.Ga address ∙ many bus.ga_max address (1 + bus.ga_ports) low high
+  ga_rows address low high = grind arith
 
   fb_rows : (port : ℕ) → 1 ≤ port → port ≤ bus.fb_ports
       → row_count buses (record { bus = bus.number; group = group.Fb; address = port }) ≡ 1
-  fb_rows port low high = counted group.Fb port ∙ many bus.fb_ports port 1 low high
+  fb_rows port low high = grind arith
 
   lock_rows : (g : DeviceGroup) (address : ℕ) → 1 ≤ address → address ≤ address_max bus g
       → row_count buses (lock_on g bus.number address) ≡ 1
-  lock_rows devices.Gl address low high = counted group.LockGl address ∙ many bus.gl_max address 1 low high
-  lock_rows devices.Ga address low high = counted group.LockGa address ∙ many bus.ga_max address 1 low high
+  lock_rows g address low high = grind arith
 
   power_rows : bus.power ≡ true → row_count buses (record { bus = bus.number; group = group.Power; address = 0 }) ≡ 1
   power_rows on = counted group.Power 0 ∙ ap (λ b. rows_if (b && 0 == 0) 1) on
@@ -142,9 +122,7 @@ module _ (buses : List Bus) (layout : IsLayout buses) (bus : Bus) (found : bus_a
   each_ports (b ∷ bs) h = (h.0.ga_ports, each_ports bs h.1)
 
   ports : HasPorts bus
-  ports =
-      found_holds HasPorts (λ b. b.number == bus.number) (server ∷ buses)
-      ((λ h. absurd (omega (arith, h))), each_ports buses layout.each) bus found
+  ports = grind (arith, found_holds, each_ports)
 
   -- ---- the words of each pair
 
@@ -154,41 +132,21 @@ module _ (buses : List Bus) (layout : IsLayout buses) (bus : Bus) (found : bus_a
 
   addressed_fits : (most : ℕ) (make : ℕ → Command) (words : List (List ℕ)) → ((a : ℕ) → 1 ≤ a → a ≤ most → IsCommandOf buses (make a))
       → Fits (addressed most make words)
-  addressed_fits most make [] h = tt
-  addressed_fits most make (a ∷ []) h =
-      read (IsCommandOf buses) (λ n. (1 ≤ n) × (n ≤ most)) (number_in 1 most a) (λ n. Ok (make n)) (number_in_range 1 most a)
-      (λ n r. h n r.0 r.1)
-  addressed_fits most make (a ∷ b ∷ ws) h = tt
+  addressed_fits most make words h = grind arith
 
   get_session_fits : (words : List (List ℕ)) → Fits (get_session words)
-  get_session_fits [] = tt
-  get_session_fits (s ∷ []) =
-      read (IsCommandOf buses) (λ n. (0 ≤ n) × (n ≤ 4294967295)) (number_in 0 4294967295 s) (λ n. Ok (GetSession n))
-      (number_in_range 0 4294967295 s) (λ n r. let m = r.1 in omega (arith, m))
-  get_session_fits (s ∷ t ∷ ws) = tt
+  get_session_fits words = grind arith
 
   term_session_fits : (words : List (List ℕ)) → Fits (term_session words)
-  term_session_fits [] = tt
-  term_session_fits (s ∷ []) =
-      read (IsCommandOf buses) (λ n. (0 ≤ n) × (n ≤ 4294967295)) (number_in 0 4294967295 s) (λ n. Ok (TermSession (Some n)))
-      (number_in_range 0 4294967295 s) (λ n r. let m = r.1 in omega (arith, m))
-  term_session_fits (s ∷ t ∷ ws) = tt
+  term_session_fits words = grind arith
 
   powered_fits : (words : List (List ℕ)) → has_group bus Power ≡ true → IfOk (powered bus words) (IsPowerSwitch buses)
-  powered_fits [] on_bus = tt
-  powered_fits (w ∷ ws) on_bus =
-      read_any (IsPowerSwitch buses) (switch_of w) (λ on. text_of ws >>= (λ t. Ok (power on t)))
-      (λ on. read (IsPowerSwitch buses) (λ t. IsTrue (is_text t)) (text_of ws) (λ t. Ok (power on t)) (text_read ws) (λ t r.
-      let one = power_rows on_bus in (omega (arith, one), (refl, refl, r))))
-    where
-      power : (on : Bool) (text : List ℕ) → PowerSwitch
-      power on text = record { bus = bus.number; on = on; text = text }
+  powered_fits words on_bus = grind arith
 
   -- V in mode 2 is kept as 0
   kept_within : (mode v vmax : ℕ) → mode ≤ 2 → v ≤ 65535 → vmax ≤ 65535 → (nat_le v vmax || vmax == 0) ≡ true → (b : Bool) → (mode == 2) ≡ b
       → IsSpeed mode (cond b 0 v) vmax
-  kept_within mode v vmax m x y e true t = (m, omega arith, y, ap (λ b. b || vmax == 0) (le-leb 0 vmax (omega arith)), λ _. refl)
-  kept_within mode v vmax m x y e false t = (m, x, y, e, λ two. absurd (true≢false (sym (eq-eqb mode 2 two) ∙ t)))
+  kept_within mode v vmax m x y e b t = grind arith
 
   driven_fits : (words : List (List ℕ)) → IfOk (driven bus words) (IsDrive buses)
   driven_fits [] = tt
@@ -239,144 +197,33 @@ module _ (buses : List Bus) (layout : IsLayout buses) (bus : Bus) (found : bus_a
       record { bus = bus.number; address = address; letter = letter; version = version; steps = steps; functions = functions }
 
   init_gl_fits : (words : List (List ℕ)) → IfOk (init_gl bus words) (IsNewGl buses)
-  init_gl_fits [] = tt
-  init_gl_fits (a ∷ []) = tt
-  init_gl_fits (a ∷ l ∷ []) =
-      then_ok (IsNewGl buses) (is_keyword (codes "P") l) C419 (number_in 1 bus.gl_max a >>= (λ address. Ok (new_gl address P 1 28 5)))
-      (λ e.
-      read (IsNewGl buses) (λ n. (1 ≤ n) × (n ≤ bus.gl_max)) (number_in 1 bus.gl_max a)
-      (λ address. Ok (new_gl address P 1 28 5)) (number_in_range 1 bus.gl_max a)
-      (λ address r. let two = gl_rows address r.0 r.1 in
-      (omega (arith, two), (refl, refl, omega arith, (omega arith, omega arith), omega arith))))
-  init_gl_fits (a ∷ l ∷ v ∷ []) = tt
-  init_gl_fits (a ∷ l ∷ v ∷ s ∷ []) = tt
-  init_gl_fits (a ∷ l ∷ v ∷ s ∷ f ∷ []) =
-      read (IsNewGl buses) (λ n. (1 ≤ n) × (n ≤ bus.gl_max)) (number_in 1 bus.gl_max a)
-      (λ address. letter_of l >>= (λ protocol. version_of address protocol)) (number_in_range 1 bus.gl_max a) (λ address r.
-      read_any (IsNewGl buses) (letter_of l) (λ protocol. version_of address protocol) (λ protocol.
-      read (IsNewGl buses) (λ n. (0 ≤ n) × (n ≤ 255)) (number_in 0 255 v) (λ version. steps_of address protocol version)
-      (number_in_range 0 255 v) (λ version r2.
-      read (IsNewGl buses) (λ n. (1 ≤ n) × (n ≤ 1000)) (number_in 1 1000 s)
-      (λ steps. functions_after_steps address protocol version steps) (number_in_range 1 1000 s) (λ steps r3.
-      read (IsNewGl buses) (λ n. (0 ≤ n) × (n ≤ 29)) (number_in 0 29 f)
-      (λ functions. Ok (new_gl address protocol version steps functions)) (number_in_range 0 29 f) (λ functions r4.
-      let two = gl_rows address r.0 r.1 in (omega (arith, two), (refl, refl, r2.1, r3, r4.1)))))))
-    where
-      functions_after_steps : (address : ℕ) (protocol : Letter) (version steps : ℕ) → Result NewGl Code
-      functions_after_steps address protocol version steps =
-          number_in 0 29 f >>= (λ functions. Ok (new_gl address protocol version steps functions))
-
-      steps_of : (address : ℕ) (protocol : Letter) (version : ℕ) → Result NewGl Code
-      steps_of address protocol version = number_in 1 1000 s >>= (λ steps. functions_after_steps address protocol version steps)
-
-      version_of : (address : ℕ) (protocol : Letter) → Result NewGl Code
-      version_of address protocol = number_in 0 255 v >>= (λ version. steps_of address protocol version)
-  init_gl_fits (a ∷ l ∷ v ∷ s ∷ f ∷ w ∷ ws) = tt
+  init_gl_fits words = search (rules, then_ok, read, number_in_range, gl_rows, read_any)
 
   -- a port that the bus has, of an address that it has
   port_place : (address port : ℕ) → 1 ≤ address → address ≤ bus.ga_max → port ≤ bus.ga_ports - 1
       → IsKeyOf buses (key_at (device_in devices.Ga bus.number address) (1 + port)) × (1 + port ≤ 8)
-  port_place address port low high h =
-      let rows = ga_rows address low high in
-      let few = ports (omega (arith, low, high)) in
-      let two : 2 ≤ bus.ga_ports = few.0 in
-      let eight : bus.ga_ports ≤ 8 = few.1 in
-      (omega (arith, rows, h, two), omega (arith, h, two, eight))
+  port_place address port low high h = grind (arith, ga_rows, ports)
 
   get_ga_fits : (words : List (List ℕ)) → Fits (get_ga bus words)
-  get_ga_fits [] = tt
-  get_ga_fits (a ∷ []) = tt
-  get_ga_fits (a ∷ p ∷ []) =
-      read (IsCommandOf buses) (λ n. (1 ≤ n) × (n ≤ bus.ga_max)) (number_in 1 bus.ga_max a)
-      (λ address. ga_port bus p >>= (λ port. Ok (GetGa bus.number address port))) (number_in_range 1 bus.ga_max a) (λ address r.
-      read (IsCommandOf buses) (λ n. (0 ≤ n) × (n ≤ bus.ga_ports - 1)) (ga_port bus p) (λ port. Ok (GetGa bus.number address port))
-      (number_in_range 0 (bus.ga_ports - 1) p) (λ port r2.
-      (port_place address port r.0 r.1 r2.1).0))
-  get_ga_fits (a ∷ p ∷ w ∷ ws) = tt
+  get_ga_fits words = grind (arith, read, number_in_range, port_place)
 
   switched_fits : (words : List (List ℕ)) → IfOk (switched bus words) (IsSwitch buses)
-  switched_fits [] = tt
-  switched_fits (a ∷ []) = tt
-  switched_fits (a ∷ p ∷ []) = tt
-  switched_fits (a ∷ p ∷ v ∷ []) = tt
-  switched_fits (a ∷ p ∷ v ∷ t ∷ []) =
-      read (IsSwitch buses) (λ n. (1 ≤ n) × (n ≤ bus.ga_max)) (number_in 1 bus.ga_max a)
-      (λ address. ga_port bus p >>= (λ port. on_tail address port)) (number_in_range 1 bus.ga_max a) (λ address r.
-      read (IsSwitch buses) (λ n. (0 ≤ n) × (n ≤ bus.ga_ports - 1)) (ga_port bus p) (λ port. on_tail address port)
-      (number_in_range 0 (bus.ga_ports - 1) p) (λ port r2.
-      read_any (IsSwitch buses) (bit_of v) (λ on. time_of t >>= (λ milliseconds. Ok (switch address port on milliseconds))) (λ on.
-      read (IsSwitch buses) (λ n. IfSome n (λ k. k ≤ 60000)) (time_of t) (λ milliseconds. Ok (switch address port on milliseconds))
-      (time_range t) (λ milliseconds r3.
-      let place = port_place address port r.0 r.1 r2.1 in
-      ((place.0, (refl, (omega arith, place.1))), r3)))))
-    where
-      switch : (address port : ℕ) (on : Bool) (time : Option ℕ) → Switch
-      switch address port on time = record { bus = bus.number; address = address; port = port; on = on; time = time }
-
-      on_tail : (address port : ℕ) → Result Switch Code
-      on_tail address port = bit_of v >>= (λ on. time_of t >>= (λ milliseconds. Ok (switch address port on milliseconds)))
-  switched_fits (a ∷ p ∷ v ∷ t ∷ w ∷ ws) = tt
+  switched_fits words = search (rules, read, number_in_range, read_any, time_range, port_place)
 
   init_ga_fits : (words : List (List ℕ)) → IfOk (init_ga bus words) (IsNewGa buses)
-  init_ga_fits [] = tt
-  init_ga_fits (a ∷ []) = tt
-  init_ga_fits (a ∷ l ∷ ws) =
-      read (IsNewGa buses) (λ n. (1 ≤ n) × (n ≤ bus.ga_max)) (number_in 1 bus.ga_max a)
-      (λ address. letter_of l >>= (λ protocol. Ok (new_ga address protocol))) (number_in_range 1 bus.ga_max a) (λ address r.
-      read_any (IsNewGa buses) (letter_of l) (λ protocol. Ok (new_ga address protocol)) (λ protocol.
-      let low = r.0 in
-      let high = r.1 in
-      (ga_rows address low high, (ports (omega (arith, low, high))).1)))
-    where
-      new_ga : (address : ℕ) → Letter → NewGa
-      new_ga address letter = record { bus = bus.number; address = address; letter = letter; ports = bus.ga_ports }
+  init_ga_fits words = search (rules, read, number_in_range, read_any, ga_rows, ports)
 
   sensed_fits : (words : List (List ℕ)) → IfOk (sensed bus words) (IsSensor buses)
-  sensed_fits [] = tt
-  sensed_fits (p ∷ []) = tt
-  sensed_fits (p ∷ v ∷ []) =
-      read (IsSensor buses) (λ n. (1 ≤ n) × (n ≤ bus.fb_ports)) (number_in 1 bus.fb_ports p)
-      (λ port. bit_of v >>= (λ on. Ok (sensor port on))) (number_in_range 1 bus.fb_ports p) (λ port r.
-      read_any (IsSensor buses) (bit_of v) (λ on. Ok (sensor port on)) (λ on.
-      let one = fb_rows port r.0 r.1 in omega (arith, one)))
-    where
-      sensor : (port : ℕ) (on : Bool) → Sensor
-      sensor port on = record { bus = bus.number; port = port; on = on }
-  sensed_fits (p ∷ v ∷ w ∷ ws) = tt
+  sensed_fits words = grind arith
 
   abbrev target : DeviceGroup → (address : ℕ) → Target
   target group address = record { bus = bus.number; group = group; address = address }
 
   named_lock_fits : (words : List (List ℕ)) → IfOk (named_lock bus words) (IsLock buses)
-  named_lock_fits [] = tt
-  named_lock_fits (g ∷ []) = tt
-  named_lock_fits (g ∷ a ∷ []) =
-      read_any (IsLock buses) (device_group_on bus g)
-      (λ group. number_in 1 (address_max bus group) a >>= (λ address. Ok (target group address))) (λ group.
-      read (IsLock buses) (λ n. (1 ≤ n) × (n ≤ address_max bus group)) (number_in 1 (address_max bus group) a)
-      (λ address. Ok (target group address)) (number_in_range 1 (address_max bus group) a) (λ address r.
-      let one = lock_rows group address r.0 r.1 in omega (arith, one)))
-  named_lock_fits (g ∷ a ∷ w ∷ ws) = tt
+  named_lock_fits words = grind arith
 
   timed_lock_fits : (words : List (List ℕ)) → IfOk (timed_lock bus words) (IsTimedLock buses)
-  timed_lock_fits [] = tt
-  timed_lock_fits (g ∷ []) = tt
-  timed_lock_fits (g ∷ a ∷ []) = tt
-  timed_lock_fits (g ∷ a ∷ s ∷ []) =
-      read_any (IsTimedLock buses) (device_group_on bus g)
-      (λ group. number_in 1 (address_max bus group) a
-      >>= (λ address. number_in 0 86400 s >>= (λ seconds. Ok (lock group address seconds))))
-      (λ group.
-      read (IsTimedLock buses) (λ n. (1 ≤ n) × (n ≤ address_max bus group)) (number_in 1 (address_max bus group) a)
-      (λ address. number_in 0 86400 s >>= (λ seconds. Ok (lock group address seconds)))
-      (number_in_range 1 (address_max bus group) a) (λ address r.
-      read (IsTimedLock buses) (λ n. (0 ≤ n) × (n ≤ 86400)) (number_in 0 86400 s) (λ seconds. Ok (lock group address seconds))
-      (number_in_range 0 86400 s) (λ seconds r2.
-      let one = lock_rows group address r.0 r.1 in (omega (arith, one), r2.1))))
-    where
-      lock : (group : DeviceGroup) (address seconds : ℕ) → TimedLock
-      lock group address seconds = record { target = target group address; seconds = seconds }
-  timed_lock_fits (g ∷ a ∷ s ∷ w ∷ ws) = tt
+  timed_lock_fits words = grind arith
 
   -- ---- the pairs
 
@@ -439,14 +286,10 @@ module _ (buses : List Bus) (layout : IsLayout buses) (bus : Bus) (found : bus_a
 module _ (buses : List Bus) (layout : IsLayout buses) where
   -- a bus that was found by its number
   bus_step : (number : ℕ) (o : Option Bus) → bus_at buses number ≡ o → IfOk (ok_or o C412) (λ bus. bus_at buses bus.number ≡ Some bus)
-  bus_step number None e = tt
-  bus_step number (Some bus) e =
-      let same : bus.number ≡ number = eqb-true bus.number number (find_passes (λ b. b.number == number) (server ∷ buses) bus e) in
-      ap (bus_at buses) same ∙ e
+  bus_step number o e = grind (arith, eqb-true, find_passes)
 
   bus_found : (o : Option ℕ) → IfOk (ok_or (option_and_then (bus_at buses) o) C412) (λ bus. bus_at buses bus.number ≡ Some bus)
-  bus_found None = tt
-  bus_found (Some number) = bus_step number (bus_at buses number) refl
+  bus_found o = grind (arith, bus_step)
 
   directed_fits : (operation : Operation) (words : List (List ℕ)) → IfOk (directed buses operation words) (IsCommandOf buses)
   directed_fits operation [] = tt
@@ -461,10 +304,7 @@ module _ (buses : List Bus) (layout : IsLayout buses) where
       (λ on. asked_fits buses layout bus found operation g ws on)))
 
   parsed_fits : (words : List (List ℕ)) → IfOk (parsed buses words) (IsCommandOf buses)
-  parsed_fits [] = tt
-  parsed_fits (w ∷ ws) =
-      read_any (IsCommandOf buses) (ok_or (named_in operations w) C410) (λ operation. directed buses operation ws)
-      (λ operation. directed_fits operation ws)
+  parsed_fits words = grind (arith, read_any, directed_fits)
 
   -- a line that reads as a command reads as one of the layout
   pub reads_fits : (line : List ℕ) → IfOk (reads buses line) (IsCommandOf buses)

@@ -1,7 +1,7 @@
 -- Places in a list: what stands before one and what from it on.
-use Rattle.std.specs.Prelude.{◌≡◌, ℕ, zero, suc, ◌≤◌, ◌<◌, Bool, true, false, cond, List, [], ◌∷◌, ◌++◌, length, take, drop, filter, find}
-use Rattle.std.specs.Prelude.{slice_get, slice_index_or, not, Some}
-use Rattle.std.proofs.Common.{refl, sym, ap, ◌∙◌, arith}
+use Rattle.std.specs.Prelude.{◌≡◌, ℕ, zero, suc, ◌≤◌, ◌<◌, Bool, true, false, List, [], ◌∷◌, ◌++◌, length, take, drop, filter, find}
+use Rattle.std.specs.Prelude.{slice_get, slice_index_or, not}
+use Rattle.std.proofs.Common.{sym, ap, ◌∙◌, arith}
 use Rattle.std.specs.List.{AllByRecursion, AllWithin}
 use Rattle.std.specs.List.Sorted.{IsPartitionedBy, IsNonDecreasingBy}
 use Rattle.std.proofs.lemmas.List.{take-append-drop, append-nil}
@@ -56,24 +56,26 @@ module _ {X : Type 0} (R : X → X → Type 0) where
 
   -- a test that an item passes where a later one does splits the list
   pub partitioned : (p : X → Bool) → ((x y : X) → R x y → p y ≡ true → p x ≡ true) → (xs : List X) → Follows xs → IsPartitionedBy p xs
-  partitioned p keeps [] f i j d le h e = absurd (omega (arith, h))
-  partitioned p keeps (x ∷ xs) f zero zero d le h e = e
-  partitioned p keeps (x ∷ xs) f zero (suc j) d le h e = keeps x (slice_index_or xs j d) (each_at (R x) xs f.0 j d (omega (arith, h))) e
-  partitioned p keeps (x ∷ xs) f (suc i) zero d le h e = absurd (omega (arith, le))
-  partitioned p keeps (x ∷ xs) f (suc i) (suc j) d le h e = partitioned p keeps xs f.1 i j d (omega (arith, le)) (omega (arith, h)) e
+  partitioned p keeps [] f i j d le h e = grind (arith, each_at)
+  partitioned p keeps (x ∷ xs) f zero zero d le h e = grind (arith, each_at)
+  partitioned p keeps (x ∷ xs) f zero (suc j) d le h e = grind (arith, each_at)
+  partitioned p keeps (x ∷ xs) f (suc i) zero d le h e = grind (arith, each_at)
+  partitioned p keeps (x ∷ xs) f (suc i) (suc j) d le h e =
+      grind (arith, each_at, partitioned p keeps xs f.1 i j d (omega (arith, le)) (omega (arith, h)) e)
 
   -- a number that does not fall from an item to one that follows does not fall along the list
   pub non_decreasing : (n : X → ℕ) → ((x y : X) → R x y → n x ≤ n y) → (xs : List X) → Follows xs → IsNonDecreasingBy n xs
-  non_decreasing n keeps [] f i j d le h = absurd (omega (arith, h))
-  non_decreasing n keeps (x ∷ xs) f zero zero d le h = omega arith
-  non_decreasing n keeps (x ∷ xs) f zero (suc j) d le h = keeps x (slice_index_or xs j d) (each_at (R x) xs f.0 j d (omega (arith, h)))
-  non_decreasing n keeps (x ∷ xs) f (suc i) zero d le h = absurd (omega (arith, le))
-  non_decreasing n keeps (x ∷ xs) f (suc i) (suc j) d le h = non_decreasing n keeps xs f.1 i j d (omega (arith, le)) (omega (arith, h))
+  non_decreasing n keeps [] f i j d le h = grind (arith, each_at)
+  non_decreasing n keeps (x ∷ xs) f zero zero d le h = grind (arith, each_at)
+  non_decreasing n keeps (x ∷ xs) f zero (suc j) d le h = grind (arith, each_at)
+  non_decreasing n keeps (x ∷ xs) f (suc i) zero d le h = grind (arith, each_at)
+  non_decreasing n keeps (x ∷ xs) f (suc i) (suc j) d le h =
+      grind (arith, each_at, non_decreasing n keeps xs f.1 i j d (omega (arith, le)) (omega (arith, h)))
 
 -- the first item that fails a test stands at the place that splits the list by it
 pub find-parted : {X : Type 0} (p : X → Bool) (xs : List X) (i : ℕ) → AllByRecursion (λ x. p x ≡ true) (take i xs)
     → AllByRecursion (λ x. p x ≡ false) (drop i xs) → find (λ x. not (p x)) xs ≡ slice_get xs i
-find-parted p [] zero a b = refl
-find-parted p [] (suc i) a b = refl
-find-parted p (x ∷ xs) zero a b = ap (λ c. cond (not c) (Some x) (find (λ y. not (p y)) xs)) b.0
-find-parted p (x ∷ xs) (suc i) a b = ap (λ c. cond (not c) (Some x) (find (λ y. not (p y)) xs)) a.0 ∙ find-parted p xs i a.1 b
+find-parted p [] zero a b = grind arith
+find-parted p [] (suc i) a b = grind arith
+find-parted p (x ∷ xs) zero a b = grind arith
+find-parted p (x ∷ xs) (suc i) a b = grind (arith, find-parted p xs i a.1 b)

@@ -1,25 +1,25 @@
 -- Laws of rows that are kept at their keys.
+use Rattle.std.proofs.lemmas.Grind.{common_steps}
 use Rattle.std.specs.Prelude.{◌≡◌, ℕ, ◌+◌, Bool, true, false, not, List, [], ◌∷◌, length, None, ⊤}
 use Rattle.std.specs.BTreeMap.{insert_entry, is_at}
 use Rattle.std.specs.BTreeMap.Range.{entries_between}
 use Rattle.std.specs.List.{AllByRecursion, filter}
 use Rattle.std.specs.List.Sorted.{IsStrictlySortedBy}
 use Rattle.std.specs.Map.{keys_of, values_of, lookup, remove_entry}
-use Rattle.std.specs.Ordering.{nat_cmp, ordering_then, ordering_reverse, is_gt, is_eq}
+use Rattle.std.specs.Ordering.{nat_cmp, ordering_then, is_gt}
 use Rattle.std.specs.declared.cmp.Ordering.{Ordering}
 use Rattle.std.specs.declared.cmp.Ordering.TheVariants.{Less, Equal, Greater}
 use Rattle.std.specs.declared.ops.Bound.TheVariants.{Included, Unbounded}
-use Rattle.std.proofs.Common.{refl, ap, sym, subst, ◌∙◌, arith, inl, inr}
-use Rattle.std.proofs.lemmas.Bool.{cases_Bool, both_ways, false_from_ne_true}
-use Rattle.std.proofs.lemmas.Cmp.{nat_cmp_total}
+use Rattle.std.proofs.Common.{refl, ap, sym, subst, ◌∙◌, arith}
+use Rattle.std.proofs.lemmas.Bool.{both_ways, false_from_ne_true}
 use Rattle.std.proofs.lemmas.Map.Keys.{sorted_head, sorted_tail}
 use Rattle.srcp_info.specs.declared.key.Key.{Key}
 use Rattle.srcp_info.specs.declared.key.Device.{Device}
 use Rattle.srcp_info.specs.declared.change.Shown.{Shown}
-use Rattle.srcp_info.specs.Key.{group_place, key_cmp, is_after, device_of, first_key, owns}
+use Rattle.srcp_info.specs.Key.{key_cmp, is_after, first_key, owns}
 use Rattle.srcp_info.specs.Client.{AreAtKeys, IsRisingBy, put}
-use Rattle.srcp_info.proofs.KeyLaws.{derived_key, key_order, key_cmp_total, key_tie, nat_tie, same_group}
-use Rattle.srcp_info.proofs.KeyLaws.{first_key_first, owns-device_of, device_from_owns}
+use Rattle.srcp_info.proofs.KeyLaws.{derived_key, key_order, key_cmp_total, key_tie, same_group}
+use Rattle.srcp_info.proofs.KeyLaws.{owns-device_of, device_from_owns}
 use Rattle.srcp_info.proofs.ClientLaws.{key_at, after_one_way, all_weaker, filter_every, put_between, put_over}
 
 -- rows, each with the key that it stands at
@@ -37,8 +37,8 @@ abbrev AreAbove : Key → List Shown → Type 0
 AreAbove k rows = AllByRecursion (λ row. key_cmp k row.key ≡ Less) rows
 
 above_values : (k : Key) (es : Entries) → AreAtKeys es → AllByRecursion (λ q. key_cmp k q ≡ Less) (keys_of es) → AreAbove k (values_of es)
-above_values k [] h a = tt
-above_values k (e ∷ es) h a = (subst (λ (q : Key). key_cmp k q ≡ Less) h.0 a.0, above_values k es h.1 a.1)
+above_values k [] h a = grind arith
+above_values k (e ∷ es) h a = grind (arith, above_values k es h.1 a.1)
 
 -- if the keys rise, so do the rows
 pub rising_values : (es : Entries) → AreAtKeys es → IsStrictlySortedBy key_cmp (keys_of es) → IsRisingBy key_at (values_of es)
@@ -52,14 +52,8 @@ rising_values (e ∷ es) h s = (
 
 -- it stands at its key
 pub at_keys-insert : (x : Shown) (es : Entries) → AreAtKeys es → AreAtKeys (insert_entry key_cmp es x.key x)
-at_keys-insert x [] h = (refl, tt)
-at_keys-insert x (e ∷ es) h = by_order (at_keys-insert x es h.1) (key_cmp x.key e.0) refl
-  where
-    by_order : AreAtKeys (insert_entry key_cmp es x.key x) → (o : Ordering) → key_cmp x.key e.0 ≡ o
-        → AreAtKeys (insert_entry key_cmp (e ∷ es) x.key x)
-    by_order more Less lt = rw lt (refl, h)
-    by_order more Equal eq = rw eq (sym (key_tie x.key e.0 eq), h.1)
-    by_order more Greater gt = rw gt (h.0, more)
+at_keys-insert x [] h = grind (arith, common_steps, key_tie)
+at_keys-insert x (e ∷ es) h = grind (arith, common_steps, key_tie, at_keys-insert x es h.1)
 
 -- and among the rows as a client puts it
 pub values-insert : (x : Shown) (es : Entries) → AreAtKeys es → IsRisingBy key_at (values_of es)
@@ -88,79 +82,37 @@ values-insert x (e ∷ es) h r = by_order (values-insert x es h.1 r.1) (key_cmp 
 -- it is one more if its key is not there
 pub length-insert : (k : Key) (v : Shown) (es : Entries) → lookup (is_at (key_cmp k)) es ≡ None
     → length (values_of (insert_entry key_cmp es k v)) ≡ length (values_of es) + 1
-length-insert k v [] none = refl
-length-insert k v (e ∷ es) none = by_order (length-insert k v es) (key_cmp k e.0) refl
-  where
-    by_order : (lookup (is_at (key_cmp k)) es ≡ None → length (values_of (insert_entry key_cmp es k v)) ≡ length (values_of es) + 1)
-        → (o : Ordering) → key_cmp k e.0 ≡ o
-        → length (values_of (insert_entry key_cmp (e ∷ es) k v)) ≡ length (values_of (e ∷ es)) + 1
-    by_order more Less lt = rw lt (omega arith)
-    by_order more Equal eq = let some = rw eq at none in cc
-    by_order more Greater gt =
-        let one = more (rw gt at none) in
-        rw gt (omega arith)
+length-insert k v [] none = grind (arith, common_steps)
+length-insert k v (e ∷ es) none = grind (arith, common_steps, length-insert k v es)
 
 -- ---- rows that are taken out
 
 same_key : (k q : Key) → is_at (key_cmp k) q ≡ true → k ≡ q
-same_key k q at = key_tie k q (by_order (key_cmp k q) at)
-  where
-    by_order : (o : Ordering) → is_eq o ≡ true → o ≡ Equal
-    by_order Less e = cc
-    by_order Equal e = refl
-    by_order Greater e = cc
+same_key k q at = grind (arith, common_steps, key_tie)
 
 -- to take out a row that is left out anyway makes no difference
 pub filter-remove : (out : Key → Bool) (k : Key) → out k ≡ true → (es : Entries)
     → filter (λ e. not (out e.0)) (remove_entry (is_at (key_cmp k)) es) ≡ filter (λ e. not (out e.0)) es
-filter-remove out k own [] = refl
-filter-remove out k own (e ∷ es) =
-    elim (cases_Bool (is_at (key_cmp k) e.0)) [
-      | inl t ↦ let gone : out e.0 ≡ true = subst (λ (q : Key). out q ≡ true) (same_key k e.0 t) own in rw (t, gone) refl
-      | inr f ↦ elim (cases_Bool (out e.0)) [
-        | inl o ↦ rw (f, o) (filter-remove out k own es)
-        | inr n ↦ rw (f, n) (ap (λ (rest : Entries). e ∷ rest) (filter-remove out k own es))
-      ]
-    ]
+filter-remove out k own [] = grind (arith, common_steps, same_key)
+filter-remove out k own (e ∷ es) = grind (arith, common_steps, same_key, filter-remove out k own es)
 
 -- a filter by the keys is one of the rows
 pub values-filter : (p : Key → Bool) (es : Entries) → AreAtKeys es
     → values_of (filter (λ e. p e.0) es) ≡ filter (λ row. p row.key) (values_of es)
-values-filter p [] h = refl
-values-filter p (e ∷ es) h =
-    let same : p e.1.key ≡ p e.0 = ap p (sym h.0) in
-    elim (cases_Bool (p e.0)) [
-      | inl t ↦ rw (same, t) (ap (λ (rows : List Shown). e.1 ∷ rows) (values-filter p es h.1))
-      | inr f ↦ rw (same, f) (values-filter p es h.1)
-    ]
+values-filter p [] h = grind arith
+values-filter p (e ∷ es) h = grind (arith, values-filter p es h.1)
 
 -- ---- the rows of a device
 
 -- a number between a number and itself is that number
 squeezed : (m n : ℕ) (p q : Ordering) → is_gt (ordering_then (nat_cmp m n) p) ≡ false → ordering_then (nat_cmp n m) q ≡ Less
     → (m ≡ n) × (is_gt p ≡ false) × (q ≡ Less)
-squeezed m n p q low high =
-    by_order (nat_cmp m n) refl low (subst (λ (o : Ordering). ordering_then o q ≡ Less) (nat_cmp_total.antisymm n m) high)
-  where
-    by_order : (o : Ordering) → nat_cmp m n ≡ o → is_gt (ordering_then o p) ≡ false
-        → ordering_then (ordering_reverse (nat_cmp m n)) q ≡ Less → (m ≡ n) × (is_gt p ≡ false) × (q ≡ Less)
-    by_order Less e f l = let g = rw e at l in cc
-    by_order Equal e f l = (nat_tie m n e, f, rw e at l)
-    by_order Greater e f l = cc
+squeezed m n p q low high = grind arith
 
 -- a key between a device's first and another of its keys is the device's too
 between_owned : (device : Device) (low high : Key) → is_after (first_key device) low ≡ false → key_cmp low high ≡ Less
     → owns device high ≡ true → owns device low ≡ true
-between_owned device low high from to own =
-    let mine = device_from_owns device high own in
-    let bus = squeezed high.bus low.bus _ _ (subst (λ (d : Device). is_after (first_key d) low ≡ false) (sym mine) from) to in
-    let g = squeezed (group_place high.group) (group_place low.group) _ _ bus.1 bus.2 in
-    let address = squeezed high.address low.address _ _ g.1 g.2 in
-    let e1 = bus.0 in
-    let e2 = same_group high.group low.group g.0 in
-    let e3 = address.0 in
-    let same : device_of high ≡ device_of low = λ i. record { bus = e1 i; group = e2 i; address = e3 i } in
-    subst (λ (d : Device). owns d low ≡ true) (sym same ∙ mine) (owns-device_of low)
+between_owned device low high from to own = grind (arith, common_steps, device_from_owns, squeezed, same_group, owns-device_of)
 
 -- the first of these is not of the device
 abbrev pub IsOfAnother : Device → Entries → Type 0
@@ -178,16 +130,12 @@ module _ (device : Device) where
 
   above_others : (low : Key) → is_after (first_key device) low ≡ false → owns device low ≡ false
       → (es : Entries) → AllByRecursion (λ k. key_cmp low k ≡ Less) (keys_of es) → AreOfOthers es
-  above_others low from other [] h = tt
-  above_others low from other (e ∷ es) h = (
-    ap not (false_from_ne_true (owns device e.0) (λ own. both_ways (owns device low) other (between_owned device low e.0 from h.0 own))),
-    above_others low from other es h.1,
-  )
+  above_others low from other [] h = grind (arith, false_from_ne_true, both_ways, between_owned)
+  above_others low from other (e ∷ es) h = grind (arith, false_from_ne_true, both_ways, between_owned, above_others low from other es h.1)
 
   -- a key below the device's first is not the device's
   below_first : (k : Key) → is_after (first_key device) k ≡ true → owns device k ≡ false
-  below_first k after =
-      false_from_ne_true (owns device k) (λ own. both_ways (is_after (first_key device) k) (first_key_first device k own) after)
+  below_first k after = grind arith
 
   all_others : (es : Entries) → IsStrictlySortedBy key_cmp (keys_of es) → IsOfAnother device (from_first es) → AreOfOthers es
   all_others [] s h = tt
@@ -206,12 +154,10 @@ module _ (device : Device) where
   -- if the first entry from the device's first key on is not the device's, the device has none
   none_owned : (es : Entries) → IsStrictlySortedBy key_cmp (keys_of es) → IsOfAnother device (from_first es)
       → es ≡ filter (λ e. not (owns device e.0)) es
-  none_owned es s h = sym (filter_every (λ e. not (owns device e.0)) es (all_others es s h))
+  none_owned es s h = grind (arith, filter_every, all_others)
 
   -- as a map by the derived order says it
   pub none_found : (es found : Entries) (from : Key) → from ≡ first_key device → IsStrictlySortedBy derived_key (keys_of es)
       → found ≡ entries_between derived_key (Included from) Unbounded es → IsOfAnother device found
       → es ≡ filter (λ e. not (owns device e.0)) es
-  none_found es found from first s is other =
-      none_owned es (subst (λ cmp. IsStrictlySortedBy cmp (keys_of es)) same_order s)
-      (subst (IsOfAnother device) (is ∙ (λ i. entries_between (same_order i) (Included (first i)) Unbounded es)) other)
+  none_found es found from first s is other = grind (arith, none_owned, same_order)

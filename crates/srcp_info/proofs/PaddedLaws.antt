@@ -13,5 +13,4 @@ rest_after n k x y xs rest =
 -- a list below its capacity may take one more
 pub room_after : {A : Type 0} → (n k : ℕ) (y : A) (places seen : List A) → k ≤ n → length places ≡ n → take k places ≡ seen
     → length seen < n → (k + 1 ≤ n) × (length (slice_set places k y) ≡ n)
-room_after n k y places seen within len same room =
-    (omega (arith, length-take-le k places (omega arith), ap length same), length-set places k y ∙ len)
+room_after n k y places seen within len same room = grind (arith, length-take-le, length-set)

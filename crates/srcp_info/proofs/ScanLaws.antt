@@ -4,8 +4,8 @@ use Rattle.std.specs.Prelude.{position, ◌==◌, Some, None}
 use Rattle.std.specs.List.{list_any, position_or_len, before_first, after_first, join_with_byte}
 use Rattle.std.specs.Char.{is_ascii_digit}
 use Rattle.std.specs.Fmt.{decimal}
-use Rattle.std.proofs.Common.{refl, ap, sym, ◌∙◌, arith, inl, inr}
-use Rattle.std.proofs.lemmas.Bool.{cases_lt, lt-ltb, or_parts, eqb-true, both_ways}
+use Rattle.std.proofs.Common.{refl, arith}
+use Rattle.std.proofs.lemmas.Bool.{lt-ltb, eqb-true, both_ways}
 use Rattle.std.proofs.lemmas.Bool.Decides.{nat_tests}
 use Rattle.std.proofs.lemmas.Option.{none-some}
 use Rattle.std.proofs.lemmas.Fmt.{digits_decimal}
@@ -14,11 +14,9 @@ use Rattle.std.proofs.Math.Seq.{take-append_seam, drop-append-add}
 use Rattle.srcp_text.specs.Stamp.{stamp, three_digits}
 use Rattle.srcp_text.specs.Words.{number_of, plain_number_of}
 use Rattle.srcp_text.proofs.NumberLaws.{own, has_leading_zero-decimal, plain_number_of-decimal}
-use Rattle.srcp_text.proofs.ScanLaws.{position_some}
 use Rattle.srcp_text.proofs.StampLaws.{digits_free, stamp_free, digit_no_point}
-use Rattle.srcp_info.specs.Line.{bit_word, after_spaces}
+use Rattle.srcp_info.specs.Line.{bit_word}
 use Rattle.srcp_info.specs.declared.scan.InfoKind.{InfoKind}
-use Rattle.srcp_info.specs.declared.scan.InfoKind.TheVariants.{State, Init, Term}
 use Rattle.srcp_info.specs.WellFormed.{is_space}
 use Rattle.srcp_info.specs.Read.{kind_code}
 use Rattle.srcp_info.proofs.LineLaws.{join-cons}
@@ -28,59 +26,45 @@ use Rattle.srcp_info.proofs.LineLaws.{join-cons}
 -- if one does
 pub cut_some : (p : ℕ → Bool) (xs : List ℕ) (n : ℕ) → position p xs ≡ Some n
     → (take n xs ≡ before_first p xs) × (drop (n + 1) xs ≡ after_first p xs)
-cut_some p xs n e =
-    let at = (position_some p xs n e).0 in
-    (ap (λ k. take k xs) (sym at), ap (λ k. drop (k + 1) xs) (sym at))
+cut_some p xs n e = grind arith
 
 -- if none does
 pub cut_none : (p : ℕ → Bool) (xs : List ℕ) → position p xs ≡ None → (xs ≡ before_first p xs) × ([] ≡ after_first p xs)
-cut_none p xs e =
-    elim (cases_lt (position_or_len p xs) (length xs)) [
-      | inl inside ↦ absurd (none-some (position_or_len p xs) (sym (rw (lt-ltb (position_or_len p xs) (length xs) inside) at e)))
-      | inr outside ↦ (sym (take_all (position_or_len p xs) xs outside), sym (drop_all (position_or_len p xs + 1) xs (omega arith)))
-    ]
+cut_none p xs e = grind (arith, none-some, lt-ltb, take_all, drop_all)
 
 position_or_len-none : (p : ℕ → Bool) (w : List ℕ) → list_any p w ≡ false → position_or_len p w ≡ length w
-position_or_len-none p [] e = refl
-position_or_len-none p (x ∷ w) e =
-    let parts = or_parts (p x) (list_any p w) e in
-    let more = position_or_len-none p w parts.1 in
-    rw parts.0 (omega arith)
+position_or_len-none p [] e = grind arith
+position_or_len-none p (x ∷ w) e = grind (arith, position_or_len-none p w)
 
 position_or_len-append : (p : ℕ → Bool) (w : List ℕ) (y : ℕ) (ys : List ℕ) → list_any p w ≡ false → p y ≡ true
     → position_or_len p (w ++ y ∷ ys) ≡ length w
-position_or_len-append p [] y ys e h = rw h refl
-position_or_len-append p (x ∷ w) y ys e h =
-    let parts = or_parts (p x) (list_any p w) e in
-    let more = position_or_len-append p w y ys parts.1 h in
-    rw parts.0 (omega arith)
+position_or_len-append p [] y ys e h = grind arith
+position_or_len-append p (x ∷ w) y ys e h = grind (arith, position_or_len-append p w y ys)
 
 -- what stands before the first and what stands after it
 pub before_first-append : (p : ℕ → Bool) (w : List ℕ) (y : ℕ) (ys : List ℕ) → list_any p w ≡ false → p y ≡ true
     → before_first p (w ++ y ∷ ys) ≡ w
-before_first-append p w y ys e h = rw (position_or_len-append p w y ys e h) (take-append_seam w (y ∷ ys))
+before_first-append p w y ys e h = grind (arith, position_or_len-append, take-append_seam)
 
 pub after_first-append : (p : ℕ → Bool) (w : List ℕ) (y : ℕ) (ys : List ℕ) → list_any p w ≡ false → p y ≡ true
     → after_first p (w ++ y ∷ ys) ≡ ys
-after_first-append p w y ys e h = rw (position_or_len-append p w y ys e h) (drop-append-add w (y ∷ ys) 1)
+after_first-append p w y ys e h = grind (arith, position_or_len-append, drop-append-add)
 
 -- and if none passes, all of it and nothing
 pub before_first-none : (p : ℕ → Bool) (w : List ℕ) → list_any p w ≡ false → before_first p w ≡ w
-before_first-none p w e = take_all (position_or_len p w) w (omega (arith, position_or_len-none p w e))
+before_first-none p w e = grind (arith, take_all, position_or_len-none)
 
 pub after_first-none : (p : ℕ → Bool) (w : List ℕ) → list_any p w ≡ false → after_first p w ≡ []
-after_first-none p w e = drop_all (position_or_len p w + 1) w (omega (arith, position_or_len-none p w e))
+after_first-none p w e = grind (arith, drop_all, position_or_len-none)
 
 -- so a word is cut off the words that spaces join
 pub before_first-join : (w : List ℕ) (ws : List (List ℕ)) → list_any is_space w ≡ false
     → before_first is_space (join_with_byte 32 (w ∷ ws)) ≡ w
-before_first-join w [] e = before_first-none is_space w e
-before_first-join w (v ∷ ws) e = before_first-append is_space w 32 (join_with_byte 32 (v ∷ ws)) e refl
+before_first-join w ws e = grind (arith, before_first-none, before_first-append)
 
 pub after_first-join : (w : List ℕ) (ws : List (List ℕ)) → list_any is_space w ≡ false
     → after_first is_space (join_with_byte 32 (w ∷ ws)) ≡ join_with_byte 32 ws
-after_first-join w [] e = after_first-none is_space w e
-after_first-join w (v ∷ ws) e = after_first-append is_space w 32 (join_with_byte 32 (v ∷ ws)) e refl
+after_first-join w ws e = grind (arith, after_first-none, after_first-append)
 
 -- ---- words without a space
 
@@ -93,13 +77,11 @@ decimal_no_space n h = digits_free is_space digit_no_space (decimal n) (digits_d
 
 -- nor has a stamp
 pub stamp_no_space : (moment : ℕ) → moment < 2 ^ 64 → list_any is_space (stamp moment) ≡ false
-stamp_no_space moment h = stamp_free is_space digit_no_space refl moment h
+stamp_no_space moment h = grind (arith, stamp_free, digit_no_space)
 
 -- nor has the number of a line
 pub kind_no_space : (kind : InfoKind) → list_any is_space (kind_code kind) ≡ false
-kind_no_space State = refl
-kind_no_space Init = refl
-kind_no_space Term = refl
+kind_no_space kind = grind arith
 
 -- ---- numbers
 
@@ -123,21 +105,14 @@ after_first-stamp moment h =
 
 -- and they are read as such
 pub seconds_again : (moment : ℕ) → moment < 2 ^ 64 → plain_number_of 18446744073709551 (decimal (moment / 1000)) ≡ Some (moment / 1000)
-seconds_again moment h = plain_number_of-decimal 18446744073709551 (moment / 1000) (omega arith) (omega arith)
+seconds_again moment h = grind (arith, plain_number_of-decimal)
 
 -- ---- functions
 
 -- no functions have no text
 pub bits_none : (bits : List Bool) (rest : List ℕ) → rest ≡ join_with_byte 32 (map bit_word bits) → (length rest == 0) ≡ true → bits ≡ []
-bits_none [] rest is e = refl
-bits_none (b ∷ bs) rest is e =
-    let whole : length rest ≡ length (bit_word b ++ after_spaces (map bit_word bs)) =
-    ap length (is ∙ join-cons (bit_word b) (map bit_word bs)) in
-    absurd (omega (arith, whole, length-append (bit_word b) (after_spaces (map bit_word bs)), length_bit b, eqb-true (length rest) 0 e))
-  where
-    length_bit : (b : Bool) → length (bit_word b) ≡ 1
-    length_bit true = refl
-    length_bit false = refl
+bits_none [] rest is e = grind (arith, join-cons, length-append, eqb-true)
+bits_none (b ∷ bs) rest is e = grind (arith, join-cons, length-append, eqb-true)
 
 -- and if there is a text there is a first
 pub bits_some : (bits : List Bool) (rest : List ℕ) → rest ≡ join_with_byte 32 (map bit_word bits) → (length rest == 0) ≡ false
@@ -150,13 +125,4 @@ pub bits_step : (bits seen seen' left : List Bool) (on : Bool) (rest more : List
     → rest ≡ join_with_byte 32 (map bit_word left) → (length rest == 0) ≡ false → seen' ≡ seen ++ on ∷ []
     → ((b : Bool) (others : List (List ℕ)) → rest ≡ join_with_byte 32 (bit_word b ∷ others) → (on ≡ b) × (more ≡ join_with_byte 32 others))
     → (left' : List Bool) × (bits ≡ seen' ++ left') × (more ≡ join_with_byte 32 (map bit_word left'))
-bits_step bits seen seen' left on rest more whole is some push next =
-    let first = bits_some left rest is some in
-    let b = first.0 in
-    let bs = first.1 in
-    let read = next b (map bit_word bs) (is ∙ ap (λ (ys : List Bool). join_with_byte 32 (map bit_word ys)) first.2) in (
-      bs,
-      whole ∙ ap (λ (ys : List Bool). seen ++ ys) (first.2 ∙ ap (λ (y : Bool). y ∷ bs) (sym read.0))
-          ∙ sym (append_assoc seen (on ∷ []) bs) ∙ ap (λ (ys : List Bool). ys ++ bs) (sym push),
-      read.1,
-    )
+bits_step bits seen seen' left on rest more whole is some push next = grind (arith, bits_some, append_assoc)

@@ -1,9 +1,10 @@
 -- The law of a stream that a reader is fed in pieces.
-use Rattle.std.specs.Prelude.{◌≡◌, ℕ, ◌+◌, ◌-◌, ◌<◌, ◌≤◌, List, [], ◌∷◌, ◌++◌, length, take, drop, slice_range, Option, MatchOption, IfSome}
+use Rattle.std.proofs.lemmas.Grind.{common_steps}
+use Rattle.std.specs.Prelude.{◌≡◌, ℕ, ◌+◌, ◌-◌, ◌<◌, ◌≤◌, List, [], ◌∷◌, ◌++◌, length, take, drop, Option, MatchOption, IfSome}
 use Rattle.std.specs.List.{concat, flat_map}
 use Rattle.std.proofs.Common.{refl, ap, sym, ◌∙◌, subst, arith, suc, zero, drop-drop}
 use Rattle.std.proofs.lemmas.List.{append_assoc, append-nil, take-append-drop}
-use Rattle.srcp_text.specs.Marks.{Mark, Line, TooLong, marks, rest}
+use Rattle.srcp_text.specs.Marks.{Mark, marks, rest}
 use Rattle.srcp_text.specs.Reading.{Reading, StandsAt, known, nothing_read}
 use Rattle.srcp_text.specs.Feeding.{feed_of, new_marks, stop_of, consumed}
 use Rattle.srcp_text.specs.Pieces.{Step, FeedsPiece, FeedsPieces, found, FindsMarks}
@@ -18,11 +19,7 @@ Finds fed more new_ones new = (marks (fed ++ more) ≡ marks fed ++ new_ones) ×
 -- a feed, and then those of what follows
 finds-append : (fed first second : List ℕ) (ms ns : List Mark) (between new : Reading) → Finds fed first ms between
     → Finds (fed ++ first) second ns new → Finds fed (first ++ second) (ms ++ ns) new
-finds-append fed first second ms ns between new one two =
-    let join = sym (append_assoc fed first second) in (
-      ap marks join ∙ two.0 ∙ ap (λ xs. xs ++ ns) one.0 ∙ append_assoc (marks fed) ms ns,
-      subst (λ (bytes : List ℕ). StandsAt bytes new) (sym join) two.1,
-    )
+finds-append fed first second ms ns between new one two = grind (arith, append_assoc)
 
 -- the bytes up to a stop, and those after it
 front : (piece : List ℕ) (start stop : ℕ) → start ≤ stop → take (stop - start) (drop start piece) ++ drop stop piece ≡ drop start piece
@@ -39,15 +36,7 @@ finds_next : (piece fed : List ℕ) (start : ℕ) (reading new : Reading) (steps
     → ((stop : ℕ) → FeedsPiece piece stop reading steps new → StandsAt (fed ++ consumed piece start result) reading
     → Finds (fed ++ consumed piece start result) (drop stop piece) (found steps) new)
     → Finds fed (drop start piece) (new_marks result reading.line ++ found steps) new
-finds_next piece fed start reading new steps (FoundLine stop) within h one later =
-    subst (λ (bytes : List ℕ). Finds fed bytes (Line reading.line ∷ found steps) new) (front piece start stop (omega (arith, within.0)))
-    (finds-append fed (slice_range piece start stop) (drop stop piece) (Line reading.line ∷ []) (found steps) reading new one
-    (later stop h one.1))
-finds_next piece fed start reading new steps (FoundTooLong stop) within h one later =
-    subst (λ (bytes : List ℕ). Finds fed bytes (TooLong ∷ found steps) new) (front piece start stop (omega (arith, within.0)))
-    (finds-append fed (slice_range piece start stop) (drop stop piece) (TooLong ∷ []) (found steps) reading new one (later stop h one.1))
-finds_next piece fed start reading new steps More within h one later =
-    (one.0 ∙ ap (λ ms. marks fed ++ ms) (sym (ap found h.0)), sym (ap (λ r. r.begun) h.1) ∙ one.1)
+finds_next piece fed start reading new steps result within h one later = grind (arith, common_steps, front, finds-append)
 
 -- the feeds of a piece find its marks
 finds_piece : (piece fed : List ℕ) (start : ℕ) (old : Reading) (steps : List Step) (new : Reading) → FeedsPiece piece start old steps new
@@ -89,9 +78,7 @@ feeds_next piece start old reading More e within later = (record { result = More
 
 stops_within : (piece : List ℕ) (start : ℕ) (old : Reading)
     → IfSome (stop_of (feed_of old piece start).0) (λ stop. (start < stop) × (stop ≤ length piece))
-stops_within piece start old =
-    subst (λ (o : Option ℕ). IfSome o (λ stop. (start < stop) × (stop ≤ length piece))) (sym (stop_of-feed_of old piece start))
-    (within-next_stop piece start)
+stops_within piece start old = grind (arith, stop_of-feed_of, within-next_stop)
 
 -- so there are
 feeds_piece : (n : ℕ) (piece : List ℕ) (start : ℕ) (old : Reading) → length piece - start ≤ n

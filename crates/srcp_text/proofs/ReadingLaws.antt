@@ -1,16 +1,17 @@
 -- Laws of what a reader of lines knows.
-use Rattle.std.specs.Prelude.{◌≡◌, ℕ, ◌+◌, ◌-◌, ◌<◌, ◌≤◌, false, List, [], ◌∷◌, ◌++◌, length, take, drop, get_or, IfSome, nat_lt, position}
+use Rattle.std.proofs.lemmas.Grind.{common_steps}
+use Rattle.std.specs.Prelude.{◌≡◌, ℕ, ◌+◌, ◌-◌, ◌<◌, ◌≤◌, false, List, [], ◌∷◌, ◌++◌, length, take, drop, get_or, IfSome, position}
 use Rattle.std.specs.Prelude.{slice_range, Option, Some, None}
 use Rattle.std.specs.List.{list_any, position_or_len}
-use Rattle.std.proofs.Common.{refl, ap, subst, sym, ◌∙◌, arith, inl, inr, suc, add-one, take-suc, take-add}
-use Rattle.std.proofs.lemmas.Bool.{cases_Bool, cases_lt, lt-ltb, le-ltb, eqb-true, ne_eqb, or_from}
+use Rattle.std.proofs.Common.{refl, ap, sym, ◌∙◌, arith, inl, inr, suc, add-one, take-suc, take-add}
+use Rattle.std.proofs.lemmas.Bool.{cases_Bool, cases_lt, lt-ltb, le-ltb, eqb-true, or_from}
 use Rattle.std.proofs.lemmas.Option.{none-some}
 use Rattle.std.proofs.lemmas.List.{append_assoc, append-nil, length-append, length-drop, take_all, take-append-drop, drop-append-le}
 use Rattle.std.proofs.lemmas.List.Folds.{list_any-append}
 use Rattle.std.proofs.lemmas.List.Sums.{passes_at_first}
 use Rattle.srcp_text.specs.Marks.{Mark, is_lf, marks, mark_of, rest, without_cr}
 use Rattle.srcp_text.specs.Reading.{Reading, known, extended, after_lf, StandsAt}
-use Rattle.srcp_text.specs.Feeding.{new_marks, fed_at, feed_at, feed_of, consumed, stop_of, place_after, next_stop}
+use Rattle.srcp_text.specs.Feeding.{new_marks, fed_at, feed_of, consumed, stop_of, next_stop}
 use Rattle.srcp_text.specs.declared.reader.Fed.{Fed}
 use Rattle.srcp_text.specs.declared.reader.Fed.TheVariants.{More}
 use Rattle.srcp_text.proofs.MarkLaws.{marks-append, rest-append, marks_line, marks_none, rest_line, rest_none, rest_within}
@@ -24,30 +25,22 @@ without_cr_cr (x ∷ y ∷ front) = ap (λ ys. x ∷ ys) (without_cr_cr (y ∷ f
 
 -- and another byte is not
 pub without_cr_other : (front : List ℕ) (x : ℕ) → (x ≡ 13 → ⊥) → without_cr (front ++ x ∷ []) ≡ front ++ x ∷ []
-without_cr_other [] x h = rw (ne_eqb x 13 h) refl
-without_cr_other (y ∷ []) x h = ap (λ ys. y ∷ ys) (without_cr_other [] x h)
-without_cr_other (y ∷ z ∷ front) x h = ap (λ ys. y ∷ ys) (without_cr_other (z ∷ front) x h)
+without_cr_other [] x h = grind arith
+without_cr_other (y ∷ []) x h = grind (arith, without_cr_other [] x h)
+without_cr_other (y ∷ z ∷ front) x h = grind (arith, without_cr_other (z ∷ front) x h)
 
 -- what is known of a line is what is known of its front, with what follows
 pub extended-known : (begun more : List ℕ) → extended (known begun) more ≡ known (begun ++ more)
-extended-known begun more =
-    elim (cases_lt 1000 (length begun)) [
-      | inl long ↦
-          let longer : 1000 < length (begun ++ more) = omega (arith, long, length-append begun more) in
-          rw (lt-ltb 1000 (length begun) long, lt-ltb 1000 (length (begun ++ more)) longer) refl
-      | inr short ↦ rw (le-ltb 1000 (length begun) short) refl
-    ]
+extended-known begun more = grind (arith, length-append, lt-ltb, le-ltb)
 
 -- the mark of a line is what the reader finds at its end
 pub new_marks-fed_at : (begun : List ℕ) (stop : ℕ)
     → new_marks (fed_at (known begun) stop) (after_lf (known begun)).line ≡ mark_of begun ∷ []
-new_marks-fed_at begun stop =
-    elim (cases_Bool (nat_lt 1000 (length begun))) [ inl t ↦ rw t refl | inr f ↦ rw f refl ]
+new_marks-fed_at begun stop = grind arith
 
 -- and then nothing has begun
 pub after_lf-begun : (whole : Option (List ℕ)) → (after_lf whole).begun ≡ Some []
-after_lf-begun None = refl
-after_lf-begun (Some bytes) = refl
+after_lf-begun whole = grind arith
 
 -- before the first LF there is none
 none_before : (xs : List ℕ) → list_any is_lf (take (position_or_len is_lf xs) xs) ≡ false
@@ -86,28 +79,20 @@ lf_found xs len e =
 
 -- a line that goes on has none either
 begun_none : (fed more : List ℕ) → list_any is_lf more ≡ false → list_any is_lf (rest fed ++ more) ≡ false
-begun_none fed more none =
-    list_any-append is_lf (rest fed) more ∙ or_from (list_any is_lf (rest fed)) (list_any is_lf more) (rest_within fed) none
+begun_none fed more none = grind (arith, list_any-append, or_from, rest_within)
 
 -- bytes without LF end no line
 pub marks-more : (fed more : List ℕ) → list_any is_lf more ≡ false → marks (fed ++ more) ≡ marks fed
-marks-more fed more none =
-    let all = begun_none fed more none in
-    marks-append fed more ∙ ap (λ ms. marks fed ++ ms) (marks_none (rest fed ++ more) all) ∙ append-nil (marks fed)
+marks-more fed more none = grind (arith, begun_none, marks-append, marks_none, append-nil)
 
 -- and the line goes on
 pub rest-more : (fed more : List ℕ) → list_any is_lf more ≡ false → rest (fed ++ more) ≡ rest fed ++ more
-rest-more fed more none =
-    let all = begun_none fed more none in
-    rest-append fed more ∙ rest_none (rest fed ++ more) all
+rest-more fed more none = grind (arith, begun_none, rest-append, rest_none)
 
 -- bytes that end in their only LF end the begun line
 pub marks-ended : (fed more : List ℕ) → list_any is_lf more ≡ false
     → marks (fed ++ (more ++ 10 ∷ [])) ≡ marks fed ++ mark_of (rest fed ++ more) ∷ []
-marks-ended fed more none =
-    let all = begun_none fed more none in
-    marks-append fed (more ++ 10 ∷ [])
-    ∙ ap (λ ms. marks fed ++ ms) (ap marks (sym (append_assoc (rest fed) more (10 ∷ []))) ∙ marks_line (rest fed ++ more) [] all)
+marks-ended fed more none = grind (arith, begun_none, marks-append, append_assoc, marks_line)
 
 -- and no line has begun then
 pub rest-ended : (fed more : List ℕ) → list_any is_lf more ≡ false → rest (fed ++ (more ++ 10 ∷ [])) ≡ []
@@ -117,26 +102,11 @@ rest-ended fed more none =
 
 -- a feed takes the bytes up to the first LF
 pub stop_of-feed_of : (reading : Reading) (piece : List ℕ) (start : ℕ) → stop_of (feed_of reading piece start).0 ≡ next_stop piece start
-stop_of-feed_of reading piece start = go (position is_lf (drop start piece))
-  where
-    each : (whole : Option (List ℕ)) (stop : ℕ) → stop_of (fed_at whole stop) ≡ Some stop
-    each None stop = refl
-    each (Some bytes) stop = refl
-
-    go : (o : Option ℕ) → stop_of (feed_at reading.begun start (drop start piece) o).0 ≡ place_after start o
-    go None = refl
-    go (Some len) = each (extended reading.begun (take len (drop start piece))) (start + len + 1)
+stop_of-feed_of reading piece start = grind arith
 
 -- and stops further on in the piece
 pub within-next_stop : (piece : List ℕ) (start : ℕ) → IfSome (next_stop piece start) (λ stop. (start < stop) × (stop ≤ length piece))
-within-next_stop piece start = go (position is_lf (drop start piece)) refl
-  where
-    go : (o : Option ℕ) → position is_lf (drop start piece) ≡ o
-        → IfSome (place_after start o) (λ stop. (start < stop) × (stop ≤ length piece))
-    go None e = tt
-    go (Some len) e =
-        let found = position_some is_lf (drop start piece) len e in
-        (omega arith, omega (arith, found.1, length-drop start piece))
+within-next_stop piece start = grind (arith, position_some, length-drop)
 
 -- if it stops after an LF, that is the part of the line and its LF
 consumed-fed_at : (piece : List ℕ) (start len : ℕ) (whole : Option (List ℕ)) → position is_lf (drop start piece) ≡ Some len
@@ -152,40 +122,14 @@ consumed-fed_at piece start len (Some bytes) e =
 pub marks-feed_of : (fed : List ℕ) (reading : Reading) (piece : List ℕ) (start : ℕ) → StandsAt fed reading
     → marks (fed ++ consumed piece start (feed_of reading piece start).0)
     ≡ marks fed ++ new_marks (feed_of reading piece start).0 (feed_of reading piece start).1.line
-marks-feed_of fed reading piece start stands = go (position is_lf (drop start piece)) refl
-  where
-    go : (o : Option ℕ) → position is_lf (drop start piece) ≡ o
-        → marks (fed ++ consumed piece start (feed_at reading.begun start (drop start piece) o).0)
-        ≡ marks fed
-        ++ new_marks (feed_at reading.begun start (drop start piece) o).0 (feed_at reading.begun start (drop start piece) o).1.line
-    go None e = marks-more fed (drop start piece) (lf_absent (drop start piece) e) ∙ sym (append-nil (marks fed))
-    go (Some len) e =
-        let left = drop start piece in
-        let whole = ap (λ b. extended b (take len left)) stands ∙ extended-known (rest fed) (take len left) in
-        ap (λ ts. marks (fed ++ ts)) (consumed-fed_at piece start len (extended reading.begun (take len left)) e)
-        ∙ marks-ended fed (take len left) (lf_found left len e).0
-        ∙ ap (λ ms. marks fed ++ ms)
-        (sym
-        (ap (λ b. new_marks (fed_at b (start + len + 1)) (after_lf b).line) whole
-        ∙ new_marks-fed_at (rest fed ++ take len left) (start + len + 1)))
+marks-feed_of fed reading piece start stands =
+    grind (arith, common_steps, marks-more, lf_absent, append-nil, extended-known, consumed-fed_at, marks-ended, lf_found, new_marks-fed_at)
 
 -- and then the reader stands at what has been fed
 pub stands-feed_of : (fed : List ℕ) (reading : Reading) (piece : List ℕ) (start : ℕ) → StandsAt fed reading
     → StandsAt (fed ++ consumed piece start (feed_of reading piece start).0) (feed_of reading piece start).1
-stands-feed_of fed reading piece start stands = go (position is_lf (drop start piece)) refl
-  where
-    go : (o : Option ℕ) → position is_lf (drop start piece) ≡ o
-        → (feed_at reading.begun start (drop start piece) o).1.begun
-        ≡ known (rest (fed ++ consumed piece start (feed_at reading.begun start (drop start piece) o).0))
-    go None e =
-        ap (λ b. extended b (drop start piece)) stands ∙ extended-known (rest fed) (drop start piece)
-        ∙ ap known (sym (rest-more fed (drop start piece) (lf_absent (drop start piece) e)))
-    go (Some len) e =
-        let left = drop start piece in
-        let whole = extended reading.begun (take len left) in
-        after_lf-begun whole
-        ∙ sym (ap (λ ts. known (rest (fed ++ ts))) (consumed-fed_at piece start len whole e)
-        ∙ ap known (rest-ended fed (take len left) (lf_found left len e).0))
+stands-feed_of fed reading piece start stands =
+    grind (arith, common_steps, extended-known, rest-more, lf_absent, after_lf-begun, consumed-fed_at, rest-ended, lf_found)
 
 -- the same of what a feed answered and left
 pub marks-fed : (fed : List ℕ) (old new : Reading) (piece : List ℕ) (start : ℕ) (result : Fed) → (result, new) ≡ feed_of old piece start
@@ -202,16 +146,13 @@ stands-fed fed old new piece start result e stands =
 -- a feed of what is left, if that has no LF
 pub feed_of-more : (old new : Reading) (piece left : List ℕ) (start : ℕ) → left ≡ drop start piece → None ≡ position is_lf left
     → new ≡ record { begun = extended old.begun left; line = [] } → (More, new) ≡ feed_of old piece start
-feed_of-more old new piece left start from none after =
-    ap (λ r. (More, r)) after ∙ ap (feed_at old.begun start left) none ∙ ap (λ ys. feed_at old.begun start ys (position is_lf ys)) from
+feed_of-more old new piece left start from none after = grind arith
 
 -- and if its first LF is so far on
 pub feed_of-line : (old mid new : Reading) (piece left : List ℕ) (start len : ℕ) (result : Fed) → left ≡ drop start piece
     → Some len ≡ position is_lf left → mid.begun ≡ extended old.begun (take len left) → result ≡ fed_at mid.begun (start + len + 1)
     → new ≡ after_lf mid.begun → (result, new) ≡ feed_of old piece start
-feed_of-line old mid new piece left start len result from found whole answer after =
-    (λ i. (answer i, after i)) ∙ ap (λ b. (fed_at b (start + len + 1), after_lf b)) whole ∙ ap (feed_at old.begun start left) found
-    ∙ ap (λ ys. feed_at old.begun start ys (position is_lf ys)) from
+feed_of-line old mid new piece left start len result from found whole answer after = grind arith
 
 -- what was fed before a piece, with the piece up to a place and from there to a stop
 up_to_stop : (fed piece : List ℕ) (start stop : ℕ) → start ≤ stop
@@ -223,7 +164,7 @@ up_to_stop fed piece start stop le =
 
 -- and from there to its end
 up_to_end : (fed piece : List ℕ) (start : ℕ) → (fed ++ take start piece) ++ drop start piece ≡ fed ++ piece
-up_to_end fed piece start = append_assoc fed (take start piece) (drop start piece) ∙ ap (λ ys. fed ++ ys) (take-append-drop start piece)
+up_to_end fed piece start = grind (arith, append_assoc, take-append-drop)
 
 -- a step of a loop that feeds a piece: the reader stood at the piece up to a place, and now stands at the piece up to the stop
 pub fed_to_stop : (fed piece : List ℕ) (start stop : ℕ) (ms : List Mark) (old new : Reading) → start ≤ stop
@@ -231,11 +172,7 @@ pub fed_to_stop : (fed piece : List ℕ) (start stop : ℕ) (ms : List Mark) (ol
     → ((fed : List ℕ) → StandsAt fed old → StandsAt (fed ++ slice_range piece start stop) new)
     → StandsAt (fed ++ take start piece) old
     → (marks (fed ++ take stop piece) ≡ marks (fed ++ take start piece) ++ ms) × StandsAt (fed ++ take stop piece) new
-fed_to_stop fed piece start stop ms old new le adds moves stands =
-    let bytes = up_to_stop fed piece start stop le in (
-      sym (ap marks bytes) ∙ adds (fed ++ take start piece) stands,
-      subst (λ (all : List ℕ). StandsAt all new) bytes (moves (fed ++ take start piece) stands),
-    )
+fed_to_stop fed piece start stop ms old new le adds moves stands = grind (arith, up_to_stop)
 
 -- and its end
 pub fed_to_end : (fed piece : List ℕ) (start : ℕ) (ms : List Mark) (old new : Reading)
@@ -243,16 +180,9 @@ pub fed_to_end : (fed piece : List ℕ) (start : ℕ) (ms : List Mark) (old new 
     → ((fed : List ℕ) → StandsAt fed old → StandsAt (fed ++ drop start piece) new)
     → StandsAt (fed ++ take start piece) old
     → (marks (fed ++ piece) ≡ marks (fed ++ take start piece) ++ ms) × StandsAt (fed ++ piece) new
-fed_to_end fed piece start ms old new adds moves stands =
-    let bytes = up_to_end fed piece start in (
-      sym (ap marks bytes) ∙ adds (fed ++ take start piece) stands,
-      subst (λ (all : List ℕ). StandsAt all new) bytes (moves (fed ++ take start piece) stands),
-    )
+fed_to_end fed piece start ms old new adds moves stands = grind (arith, up_to_end)
 
 -- the marks past those of what was fed before, with more at their end
 pub later_marks : (fed first : List ℕ) (all ms : List Mark) → all ≡ marks (fed ++ first) ++ ms
     → drop (length (marks fed)) all ≡ drop (length (marks fed)) (marks (fed ++ first)) ++ ms
-later_marks fed first all ms e =
-    let within : length (marks fed) ≤ length (marks (fed ++ first)) =
-    rw (marks-append fed first, length-append (marks fed) (marks (rest fed ++ first))) (omega arith) in
-    ap (drop (length (marks fed))) e ∙ drop-append-le (length (marks fed)) (marks (fed ++ first)) ms within
+later_marks fed first all ms e = grind (arith, marks-append, length-append, drop-append-le)

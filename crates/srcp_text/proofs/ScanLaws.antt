@@ -1,10 +1,11 @@
 -- Laws of the words of a line that is gone through from its front.
+use Rattle.std.proofs.lemmas.Grind.{common_steps}
 use Rattle.std.specs.Prelude.{◌≡◌, ℕ, ◌+◌, ◌<◌, ◌≤◌, Bool, false, not, List, [], ◌∷◌, length, take, drop, get_or, position}
-use Rattle.std.specs.Prelude.{nat_lt, Option, Some, None}
+use Rattle.std.specs.Prelude.{Option, Some, None}
 use Rattle.std.specs.List.{list_any, filter, slice_split, position_or_len}
 use Rattle.std.proofs.Common.{refl, ap, sym, ◌∙◌, arith, inl, inr, suc, drop-cons, add-one, length-drop}
-use Rattle.std.proofs.lemmas.Bool.{cases_Bool, cases_lt, false_from_ne_true, lt-ltb, le-ltb, ltb-true, not-true}
-use Rattle.std.proofs.lemmas.Option.{cond_some, none-some}
+use Rattle.std.proofs.lemmas.Bool.{cases_Bool, cases_lt, false_from_ne_true, lt-ltb, le-ltb, not-true}
+use Rattle.std.proofs.lemmas.Option.{none-some}
 use Rattle.std.proofs.lemmas.List.{take_all, drop_all, length-take-le}
 use Rattle.std.proofs.lemmas.List.Splits.{slice_split_first}
 use Rattle.std.proofs.lemmas.List.Sums.{passes_at_first, position_or_len_is, prefix_len-le-length}
@@ -15,13 +16,11 @@ use Rattle.srcp_text.proofs.WordLaws.{words_of_blank, words_of_word}
 
 -- the first place that passes is within the list
 pub position_or_len-le : (p : ℕ → Bool) (xs : List ℕ) → position_or_len p xs ≤ length xs
-position_or_len-le p xs = prefix_len-le-length (λ x. not (p x)) xs
+position_or_len-le p xs = grind (arith, prefix_len-le-length)
 
 -- if it is found
 pub position_some : (p : ℕ → Bool) (xs : List ℕ) (n : ℕ) → position p xs ≡ Some n → (position_or_len p xs ≡ n) × (n < length xs)
-position_some p xs n e =
-    let is = cond_some (nat_lt (position_or_len p xs) (length xs)) (position_or_len p xs) n e in
-    (is.1, omega (arith, is.1, ltb-true (position_or_len p xs) (length xs) is.0))
+position_some p xs n e = grind arith
 
 -- blanks in front have no words
 pub words_of-drop_blanks : (xs : List ℕ) → words_of (drop (position_or_len is_filled xs) xs) ≡ words_of xs
@@ -38,19 +37,11 @@ words_of-drop_blanks (x ∷ xs) =
 
 -- what begins with no blank has none at its first place
 first_filled : (xs : List ℕ) → 0 < length xs → is_blank (get_or xs 0 0) ≡ false → 0 < position_or_len is_blank xs
-first_filled [] some filled = absurd (omega arith)
-first_filled (x ∷ xs) some filled = rw filled (omega arith)
+first_filled xs some filled = grind (arith, common_steps, filled)
 
 no_blank : (xs : List ℕ) → length xs ≤ position_or_len is_blank xs → list_any is_blank xs ≡ false
-no_blank [] h = refl
-no_blank (x ∷ xs) h =
-    elim (cases_Bool (is_blank x)) [
-      | inl t ↦ absurd (nothing (length xs) (rw t at h))
-      | inr f ↦ rw f (no_blank xs (omega (arith, rw f at h)))
-    ]
-  where
-    nothing : (n : ℕ) → suc n ≤ 0 → ⊥
-    nothing n h = omega arith
+no_blank [] h = grind arith
+no_blank (x ∷ xs) h = grind (arith, no_blank xs)
 
 -- the bytes before the first blank are the first word
 pub words_of-first : (xs : List ℕ) → 0 < position_or_len is_blank xs

@@ -11,27 +11,6 @@ copied : (o : Option (Bor Bus)) → is_some o ≡ is_some (option_copied o)
 copied None = refl
 copied (Some bus) = refl
 
-pub returns-then-is_some-clause-fault : goal.returns-then-is_some-clause-fault
-returns-then-is_some-clause-fault c = (
-  c.is_in_range.ensures.0 c.if-not-is_in_range.false,
-  has_number-found c.args.self.now c.args.bus.number ∙ sym (ap is_some c.bus.ensures) ∙ sym (copied c.bus.result)
-      ∙ sym c.is_some.ensures ∙ c.if-is_some.true,
-)
-
-pub returns-then-is_err-clause-fault : goal.returns-then-is_err-clause-fault
-returns-then-is_err-clause-fault c = (
-  c.is_in_range.ensures.0 c.if-not-is_in_range.false,
-  has_number-found c.args.self.now c.args.bus.number ∙ sym (ap is_some c.bus.ensures) ∙ sym (copied c.bus.result)
-      ∙ sym c.is_some.ensures ∙ c.if-is_some.false,
-)
-
-pub returns-clause-valid : goal.returns-clause-valid
-returns-clause-valid c = (
-  c.is_in_range.ensures.0 c.if-not-is_in_range.false,
-  has_number-found c.args.self.now c.args.bus.number ∙ sym (ap is_some c.bus.ensures) ∙ sym (copied c.bus.result)
-      ∙ sym c.is_some.ensures ∙ c.if-is_some.false,
-)
-
 pub returns-clause-ok : goal.returns-clause-ok
 returns-clause-ok c =
     let bus = c.args.bus in

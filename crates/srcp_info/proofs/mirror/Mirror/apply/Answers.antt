@@ -51,9 +51,6 @@ device_gone device old new is h = (
   ap values_of is ∙ values-filter (λ k. not (owns device k)) old h,
 )
 
-pub invariant_of-self : goal.invariant_of-self
-invariant_of-self c = subst AreRows (sym c.in_default.ensures.err) c.self.invariant
-
 pub returns-in_default-clause-memory : goal.returns-in_default-clause-memory
 returns-in_default-clause-memory c same =
     let shown = c.in-Some-Put.shown in

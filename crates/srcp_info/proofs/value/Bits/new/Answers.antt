@@ -1,5 +1,0 @@
-use Rattle.std.proofs.Common.{rules}
-use Rattle.srcp_info.proofs.value.Bits.new.Goals as goal
-
-pub returns : goal.returns
-returns c = search rules
