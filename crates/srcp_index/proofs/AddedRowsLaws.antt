@@ -1,46 +1,27 @@
 -- Laws of the rows with both indexes: rows that are added.
-use Rattle.std.specs.Prelude.{◌≡◌, ℕ, ◌+◌, ◌≤◌, Bool, true, false, not, cond, is_some, List}
-use Rattle.std.specs.Prelude.{[], ◌∷◌, Option, Some, None}
-use Rattle.std.specs.List.{AllByRecursion}
-use Rattle.std.specs.Ordering.{is_eq}
-use Rattle.std.specs.declared.cmp.Ordering.TheVariants.{Less}
-use Rattle.std.proofs.Common.{refl, sym, ap, subst, ◌∙◌, arith, true≢false}
-use Rattle.std.proofs.lemmas.List.Sums.{sum_by-cons}
-use Rattle.srcp_info.specs.declared.key.Key.{Key}
-use Rattle.srcp_info.specs.declared.key.Device.{Device}
-use Rattle.srcp_info.specs.declared.change.Row.{Row}
-use Rattle.srcp_info.specs.Key.{key_cmp}
-use Rattle.srcp_info.proofs.ClientLaws.{all_put, rising_put}
-use Rattle.srcp_grammar.specs.declared.layout.Bus.{Bus}
-use Rattle.srcp_grammar.specs.Layout.{row_count}
-use Rattle.srcp_grammar.specs.Devices.{key_at}
-use Rattle.srcp_rules.specs.State.{State, IsRising, IsRowOf, row_at, put_row}
-use Rattle.srcp_rules.specs.State.{holder_of}
-use Rattle.srcp_rules.specs.Rows.{AreNewRowsOf, put_rows}
+use Rattle.srcp_rules.proofs.Names
+use Names.{◌≡◌, ℕ, ◌+◌, ◌≤◌, Bool, true, false, not, cond, is_some, List, [], ◌∷◌, Option, Some, None, AllByRecursion, is_eq, Less, refl}
+use Names.{sym, ap, subst, ◌∙◌, arith, true≢false, sum_by-cons, Key, Device, Row, key_cmp, all_put, rising_put, Bus, row_count, key_at}
+use Names.{State, IsRising, IsRowOf, row_at, put_row, holder_of, AreNewRowsOf, put_rows, weaken, none-some}
 use Rattle.srcp_rules.proofs.KeyLaws.{same_key}
-use Rattle.srcp_grammar.proofs.FindLaws.{each-weaken}
 use Rattle.srcp_rules.proofs.StateLaws.{row_key, row_at-put_other}
-use Rattle.srcp_rules.proofs.NewDeviceLaws.{IsFrom, ports_from, ports_rise}
+use Rattle.srcp_rules.proofs.NewDeviceLaws.{ports_from, ports_rise}
 use Rattle.srcp_index.specs.declared.indexes.Indexes.{Indexes}
 use Rattle.srcp_index.specs.Pairs.{IndexModel}
-use Rattle.srcp_index.specs.Indexed.{IsIndexed, HasPairs, IsRankedRow, due_of, removable_count, removable_rows}
-use Rattle.srcp_index.specs.Indexed.{with_row, with_rows}
+use Rattle.srcp_index.specs.Indexed.{IsIndexed, HasPairs, IsRankedRow, due_of, removable_count, removable_rows, with_row, with_rows}
 use Rattle.srcp_index.proofs.RowSums.{but_at, sum-put_row}
 use Rattle.srcp_index.proofs.RankLaws.{with_pairs, ranked_row}
 
 -- ---- rows that are added
 
 module _ where
-  nothing_else : (row : Row) → Some row ≡ None → ⊥
-  nothing_else row e = cc
-
   pub but_at_none : (key : Key) (state : State) → row_at key state ≡ None → but_at key state ≡ state
   but_at_none key [] e = refl
   but_at_none key (row ∷ state) e = by (same_key row.shown.key key) refl (but_at_none key state)
     where
       by : (b : Bool) → same_key row.shown.key key ≡ b → (row_at key state ≡ None → but_at key state ≡ state) → but_at key (row ∷ state)
           ≡ row ∷ state
-      by true f later = absurd (nothing_else row (sym (ap (λ c. cond c (Some row) (row_at key state)) f) ∙ e))
+      by true f later = absurd (none-some row (sym e ∙ ap (λ c. cond c (Some row) (row_at key state)) f))
       by false f later =
           ap (λ c. cond (not c) (row ∷ but_at key state) (but_at key state)) f
           ∙ ap (λ rest. row ∷ rest) (later (sym (ap (λ c. cond c (Some row) (row_at key state)) f) ∙ e))
@@ -108,6 +89,7 @@ module _ (buses : List Bus) where
   added_indexed state device rows fresh both count due_room held_room h =
       let n = row_count buses device in
       all_added rows state both count (ports_rise device rows 0 n fresh.all.keys)
-      (each-weaken {P = IsFrom device 0} (λ row from. ap (λ k. row_at k state) from.2 ∙ no_row (row_at (key_at device from.0) state)
-      (fresh.free from.0)) rows (ports_from device rows 0 n fresh.all.keys))
+      (weaken rows (ports_from device rows 0 n fresh.all.keys)
+      (λ row from. ap (λ k. row_at k state) from.2 ∙ no_row (row_at (key_at device from.0) state)
+      (fresh.free from.0)))
       fresh.all.each due_room held_room h

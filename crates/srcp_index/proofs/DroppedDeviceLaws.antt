@@ -1,27 +1,15 @@
 -- Laws of the rows with both indexes: a device that is dropped.
-use Rattle.std.specs.Prelude.{◌≡◌, ℕ, ◌+◌, ◌-◌, ◌<◌, ◌≤◌, Bool, true, false, not, ◌&&◌, cond, nat_lt}
-use Rattle.std.specs.Prelude.{[], ◌∷◌, filter, Some, None}
-use Rattle.std.specs.List.{AllByRecursion}
-use Rattle.std.proofs.Common.{refl, sym, ap, subst, ◌∙◌, arith, inl, inr, true≢false}
+use Rattle.srcp_rules.proofs.Names
+use Names.{◌≡◌, ℕ, ◌+◌, ◌-◌, ◌<◌, ◌≤◌, Bool, true, false, not, ◌&&◌, cond, nat_lt, [], ◌∷◌, filter, Some, None, AllByRecursion, refl, sym}
+use Names.{ap, subst, ◌∙◌, arith, inl, inr, true≢false, cases_Bool, ltb-true, ltb-false, false_from_ne_true, Key, Device, Row, owns, can_go}
+use Names.{all_filter, filter_every, rising_filter, owns-device_of, device_from_owns, key_at, State, row_at, without, holder_of, most_rows}
+use Names.{weaken}
 use Rattle.std.proofs.Math.Bool.{and-false}
-use Rattle.std.proofs.lemmas.Bool.{cases_Bool, ltb-true, ltb-false, lt-ltb, false_from_ne_true}
-use Rattle.srcp_info.specs.declared.key.Key.{Key}
-use Rattle.srcp_info.specs.declared.key.Device.{Device}
-use Rattle.srcp_info.specs.declared.change.Row.{Row}
-use Rattle.srcp_info.specs.Key.{owns}
-use Rattle.srcp_info.specs.WellFormed.{can_go}
-use Rattle.srcp_info.proofs.ClientLaws.{all_filter, filter_every, rising_filter}
-use Rattle.srcp_info.proofs.KeyLaws.{owns-device_of, device_from_owns}
-use Rattle.srcp_grammar.specs.Devices.{key_at}
-use Rattle.srcp_rules.specs.State.{State, row_at, without}
-use Rattle.srcp_rules.specs.State.{holder_of}
-use Rattle.srcp_rules.specs.Rows.{most_rows}
+use Rattle.std.proofs.lemmas.Bool.{lt-ltb}
 use Rattle.srcp_rules.proofs.KeyLaws.{same_key, same_key-itself, same_key-true}
-use Rattle.srcp_grammar.proofs.FindLaws.{each-weaken}
 use Rattle.srcp_rules.proofs.StateLaws.{at-filter, row_key, row_at_key}
 use Rattle.srcp_index.specs.declared.indexes.Indexes.{Indexes}
-use Rattle.srcp_index.specs.Indexed.{IsIndexed, IsRankedRow, due_of, removable_count, is_removable}
-use Rattle.srcp_index.specs.Indexed.{without_row}
+use Rattle.srcp_index.specs.Indexed.{IsIndexed, IsRankedRow, due_of, removable_count, is_removable, without_row}
 use Rattle.srcp_index.proofs.RowSums.{but_at, sum-there}
 use Rattle.srcp_index.proofs.RankLaws.{without_pairs, fewer, counted_one}
 use Rattle.srcp_index.proofs.AddedRowsLaws.{but_at_none}
@@ -126,7 +114,7 @@ module _ (device : Device) where
       → but_below device (most_rows device.group) state ≡ without device state
   but_below-all state h =
       filter_alike (λ row. not (owns device row.shown.key && nat_lt row.shown.key.port (most_rows device.group)))
-      (λ row. not (owns device row.shown.key)) state (each-weaken {P = IsRankedRow} (λ row r. own_below row.shown.key r.port) state h)
+      (λ row. not (owns device row.shown.key)) state (weaken state h (λ row r. own_below row.shown.key r.port))
 
 -- a row of the device that is taken out
 module _ (state : State) (both : Indexes) (count : ℕ) (h : IsIndexed state both count) (row : Row)

@@ -1,19 +1,11 @@
 -- Laws of the rows with both indexes: the opening, a moment, and more room.
-use Rattle.std.specs.Prelude.{◌≡◌, ℕ, ◌≤◌, Bool, true, false, List}
-use Rattle.std.specs.Prelude.{[], ◌∷◌, length, map, Option, None, if◌then◌else◌}
-use Rattle.std.specs.List.{AllByRecursion, range_with_len}
-use Rattle.std.proofs.Common.{refl, sym, ap, ◌∙◌, arith, lit<}
-use Rattle.std.proofs.lemmas.List.Sums.{sum_by-cons}
-use Rattle.srcp_info.specs.declared.value.Value.TheVariants as value
-use Rattle.srcp_info.specs.declared.change.Row.{Row}
-use Rattle.srcp_info.proofs.ClientLaws.{all_append}
-use Rattle.srcp_grammar.specs.declared.layout.Bus.{Bus}
-use Rattle.srcp_grammar.specs.Layout.{IsLayout}
-use Rattle.srcp_grammar.specs.Devices.{power_device, fb_device}
-use Rattle.srcp_rules.specs.State.{State, IsRowOf, opening, opening_on, first_row}
-use Rattle.srcp_rules.specs.State.{holder_of}
-use Rattle.srcp_grammar.proofs.FindLaws.{each-weaken}
-use Rattle.srcp_rules.proofs.StateLaws.{each_found}
+use Rattle.srcp_rules.proofs.Names
+use Names.{◌≡◌, ℕ, ◌≤◌, Bool, true, false, List, [], ◌∷◌, length, map, Option, None, if◌then◌else◌, AllByRecursion, range_with_len, refl}
+use Names.{sym, ap, ◌∙◌, arith, sum_by-cons, Row, all_append, Bus, IsLayout, power_device, fb_device, State, opening, opening_on, first_row}
+use Names.{holder_of, weaken}
+use Names.value
+use Rattle.std.proofs.Common.{lit<}
+use Rattle.srcp_rules.proofs.StateLaws.{each_of}
 use Rattle.srcp_rules.proofs.OpeningLaws.{opening_whole}
 use Rattle.srcp_index.specs.declared.indexes.Indexes.{Indexes}
 use Rattle.srcp_index.specs.Pairs.{IndexModel, before}
@@ -71,18 +63,17 @@ opening_indexed buses layout both moments sessions since =
       rising = whole.rising;
       due = record {
         pairs = moments ∙ ap (order_by (before both.moments.since))
-            (sym (no_pairs due_of state (each-weaken {P = IsPlain} (λ row p. p.0) state plain)));
+            (sym (no_pairs due_of state (weaken state plain (λ row p. p.0))));
         room = omega arith;
       };
       held = record {
         pairs = sessions ∙ ap (order_by (before both.sessions.since))
-            (sym (no_pairs holder_of state (each-weaken {P = IsPlain} (λ row p. p.1) state plain)));
+            (sym (no_pairs holder_of state (weaken state plain (λ row p. p.1))));
         room = omega arith;
       };
       since = since;
-      counted = no_goers state (each-weaken {P = IsPlain} (λ row p. p.2) state plain);
-      rows = each-weaken {P = IsRowOf buses} (λ row of. ranked_row buses row of) state
-          (each_found (IsRowOf buses) state whole.rising whole.rows);
+      counted = no_goers state (weaken state plain (λ row p. p.2));
+      rows = weaken state (each_of buses state whole) (ranked_row buses);
     }
 
 -- ---- a moment

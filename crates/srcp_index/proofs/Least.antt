@@ -1,20 +1,19 @@
 -- Laws of the least rank of pairs in the order since a moment, and of the rows whose pairs they are.
-use Rattle.std.specs.Prelude.{◌≡◌, ℕ, zero, suc, ◌<◌, ◌≤◌, Bool, true, false, cond, nat_le, nat_lt, min, slice_index_or, IfSome, List, []}
-use Rattle.std.specs.Prelude.{◌∷◌, ◌++◌, length, fold, take_while, Any, Option, Some, None}
-use Rattle.std.specs.List.{AllByRecursion}
-use Rattle.std.specs.Option.{option_map_or}
-use Rattle.std.proofs.Common.{refl, sym, ap, subst, ◌∙◌, arith, ◌⊎◌, inl, inr, true≢false}
-use Rattle.std.proofs.lemmas.Bool.{cases_Bool, leb-true, leb-false, ltb-true, ltb-false}
+use Rattle.srcp_rules.proofs.Names
+use Names.{◌≡◌, ℕ, zero, suc, ◌<◌, ◌≤◌, Bool, true, false, cond, nat_le, nat_lt, min, slice_index_or, IfSome, List, [], ◌∷◌, ◌++◌, length}
+use Names.{Option, Some, None, AllByRecursion, option_map_or, refl, sym, ap, subst, ◌∙◌, arith, inl, inr, true≢false, cases_Bool, leb-true}
+use Names.{ltb-true, ltb-false, Row, State, weaken}
+use Rattle.std.specs.Prelude.{fold, take_while, Any}
+use Rattle.std.proofs.Common.{◌⊎◌}
+use Rattle.std.proofs.lemmas.Bool.{leb-false}
 use Rattle.std.proofs.lemmas.List.Sums.{take_while-cons}
-use Rattle.srcp_info.specs.declared.change.Row.{Row}
-use Rattle.srcp_rules.specs.State.{State}
 use Rattle.srcp_index.specs.declared.index.Pair.{Pair}
 use Rattle.srcp_index.specs.Pairs.{IsLeastRank, before}
 use Rattle.srcp_index.specs.Ordered.{IsInOrder, insert_by, order_by}
 use Rattle.srcp_index.specs.Indexed.{at_rank, due_of, pairs_of}
 use Rattle.srcp_index.specs.Earliest.{IsEarliestDue}
 use Rattle.srcp_index.proofs.Pairs.{lower_before}
-use Rattle.srcp_index.proofs.Ordered.{all_weaker, length-order_by}
+use Rattle.srcp_index.proofs.Ordered.{length-order_by}
 
 -- ---- some item of a list
 
@@ -95,14 +94,14 @@ module _ (since : ℕ) where
 
   no_less : (y : Pair) → has_come y ≡ false → (zs : List Pair) → AllByRecursion (λ z. before since z y ≡ false) zs
       → AllByRecursion (λ z. y.rank ≤ z.rank) zs
-  no_less y e zs a = all_weaker (λ z. before since z y ≡ false) (λ z. y.rank ≤ z.rank) (λ z b.
+  no_less y e zs a = weaken zs a (λ z b.
       elim (cases_Bool (nat_lt z.rank y.rank)) [
         | inl f ↦
             let k = leb-false y.rank since e in
             let l = ltb-true z.rank y.rank f in
             absurd (true≢false (sym (lower_before since z y (omega (arith, k, l))) ∙ b))
         | inr f ↦ ltb-false z.rank y.rank f
-      ]) zs a
+      ])
 
   least_of_all : (rank : ℕ) (ys : List Pair) → IsInOrder (before since) ys → rank ≤ since
       → AllByRecursion (λ y. least_from rank ys ≤ y.rank) ys
@@ -117,8 +116,7 @@ module _ (since : ℕ) where
             let k = leb-false y.rank since e in
             subst (λ least. AllByRecursion (λ (x : Pair). least ≤ x.rank) (y ∷ ys)) (sym (least_step rank y ys false e)) (
               omega (arith, h, k),
-              all_weaker (λ x. y.rank ≤ x.rank) (λ x. rank ≤ x.rank) (λ x l. omega (arith, h, k, l)) ys
-                  (no_less y e ys r.0),
+              weaken ys (no_less y e ys r.0) (λ x l. omega (arith, h, k, l)),
             )
       ]
 

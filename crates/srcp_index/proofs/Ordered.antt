@@ -1,18 +1,10 @@
 -- Laws of lists in the order of a test.
-use Rattle.std.specs.Prelude.{◌≡◌, ℕ, zero, suc, ◌+◌, Bool, true, false, cond, List, [], ◌∷◌, ◌++◌, length, drop, find, Some}
-use Rattle.std.specs.Prelude.{if◌then◌else◌}
-use Rattle.std.specs.List.{AllByRecursion, sum_by}
-use Rattle.std.specs.Cmp.{IsStrictWeakOrder}
-use Rattle.std.proofs.Common.{refl, sym, ap, ◌∙◌, arith, inl, inr, true≢false}
-use Rattle.std.proofs.lemmas.Bool.{cases_Bool}
-use Rattle.std.proofs.lemmas.List.Sums.{sum_by-cons, sum_by-append}
+use Rattle.srcp_rules.proofs.Names
+use Names.{◌≡◌, ℕ, zero, suc, ◌+◌, Bool, true, false, List, [], ◌∷◌, ◌++◌, length, drop, find, Some, if◌then◌else◌, AllByRecursion, sum_by}
+use Names.{IsStrictWeakOrder, refl, sym, ap, ◌∙◌, arith, inl, inr, true≢false, cases_Bool, sum_by-cons, weaken, all_append}
 use Rattle.srcp_index.specs.Ordered.{IsInOrder, insert_by, remove_by, order_by}
 
 module _ {X : Type 0} (P : X → Type 0) where
-  pub all_weaker : (Q : X → Type 0) → ((x : X) → P x → Q x) → (xs : List X) → AllByRecursion P xs → AllByRecursion Q xs
-  all_weaker Q f [] h = tt
-  all_weaker Q f (x ∷ xs) h = (f x h.0, all_weaker Q f xs h.1)
-
   pub all_put : (lt : X → X → Bool) (x : X) (xs : List X) → P x → AllByRecursion P xs → AllByRecursion P (insert_by lt x xs)
   all_put lt x [] p h = (p, tt)
   all_put lt x (y ∷ ys) p h =
@@ -82,11 +74,8 @@ module _ {X : Type 0} (lt : X → X → Bool) where
   pub order_by-append : (xs ys : List X) → IsInOrder lt xs → IsInOrder lt ys
       → AllByRecursion (λ x. AllByRecursion (λ y. lt y x ≡ false) ys) xs → IsInOrder lt (xs ++ ys)
   order_by-append [] ys a b c = b
-  order_by-append (x ∷ xs) ys a b c = (both xs a.0, order_by-append xs ys a.1 b c.1)
-    where
-      both : (zs : List X) → AllByRecursion (λ y. lt y x ≡ false) zs → AllByRecursion (λ y. lt y x ≡ false) (zs ++ ys)
-      both [] h = c.0
-      both (z ∷ zs) h = (h.0, both zs h.1)
+  order_by-append (x ∷ xs) ys a b c =
+      (all_append (λ y. lt y x ≡ false) xs ys a.0 c.0, order_by-append xs ys a.1 b c.1)
 
   pub ranked_drop : (n : ℕ) (xs : List X) → IsInOrder lt xs → IsInOrder lt (drop n xs)
   ranked_drop zero xs h = h
@@ -96,20 +85,20 @@ module _ {X : Type 0} (lt : X → X → Bool) where
   -- to look for what passes a test in an order in which what a found item is put behind does not pass it
   module _ (t : X → Bool) where
     find_put-skipped : (x : X) (xs : List X) → t x ≡ false → find t (insert_by lt x xs) ≡ find t xs
-    find_put-skipped x [] e = ap (λ b. cond b (Some x) (find t [])) e
+    find_put-skipped x [] e = rw e
     find_put-skipped x (y ∷ ys) e =
         elim (cases_Bool (lt y x)) [
-          | inl l ↦ rw l (ap (λ o. cond (t y) (Some y) o) (find_put-skipped x ys e))
-          | inr l ↦ rw l (ap (λ b. cond b (Some x) (find t (y ∷ ys))) e)
+          | inl l ↦ rw (l, find_put-skipped x ys e)
+          | inr l ↦ rw (l, e)
         ]
 
     find_put-found : (x : X) (xs : List X) → t x ≡ true → AllByRecursion (λ y. lt y x ≡ true → t y ≡ false) xs → find t (insert_by lt x xs)
         ≡ Some x
-    find_put-found x [] e h = ap (λ b. cond b (Some x) (find t [])) e
+    find_put-found x [] e h = rw e
     find_put-found x (y ∷ ys) e h =
         elim (cases_Bool (lt y x)) [
-          | inl l ↦ rw l (ap (λ b. cond b (Some y) (find t (insert_by lt x ys))) (h.0 l) ∙ find_put-found x ys e h.1)
-          | inr l ↦ rw l (ap (λ b. cond b (Some x) (find t (y ∷ ys))) e)
+          | inl l ↦ rw (l, h.0 l) (find_put-found x ys e h.1)
+          | inr l ↦ rw (l, e)
         ]
 
     -- the list has no item that passes before one that passes and that it follows
@@ -121,10 +110,9 @@ module _ {X : Type 0} (lt : X → X → Bool) where
     find-order_by [] h = refl
     find-order_by (x ∷ xs) h =
         elim (cases_Bool (t x)) [
-          | inl e ↦ find_put-found x (order_by lt xs) e (all_ranked (λ y. lt y x ≡ true → t y ≡ false) lt xs
-              (all_weaker (λ y. t x ≡ true → lt y x ≡ true → t y ≡ false) (λ y. lt y x ≡ true → t y ≡ false) (λ y f. f e) xs h.0))
-              ∙ sym (ap (λ b. cond b (Some x) (find t xs)) e)
-          | inr e ↦ find_put-skipped x (order_by lt xs) e ∙ find-order_by xs h.1 ∙ sym (ap (λ b. cond b (Some x) (find t xs)) e)
+          | inl e ↦ rw e (find_put-found x (order_by lt xs) e (all_ranked (λ y. lt y x ≡ true → t y ≡ false) lt xs
+              (weaken xs h.0 (λ y f. f e))))
+          | inr e ↦ rw e (find_put-skipped x (order_by lt xs) e ∙ find-order_by xs h.1)
         ]
 
 module _ {X : Type 0} (lt : X → X → Bool) (weak : IsStrictWeakOrder lt) where
@@ -139,7 +127,7 @@ module _ {X : Type 0} (lt : X → X → Bool) (weak : IsStrictWeakOrder lt) wher
   ranked_put x (y ∷ ys) h =
       elim (cases_Bool (lt y x)) [
         | inl e ↦ rw e (all_put (λ z. lt z y ≡ false) lt x ys (weak.one_way y x e) h.0, ranked_put x ys h.1)
-        | inr e ↦ rw e ((e, all_weaker (λ z. lt z y ≡ false) (λ z. lt z x ≡ false) (λ z l. weak.chain z y x l e) ys h.0), h)
+        | inr e ↦ rw e ((e, weaken ys h.0 (λ z l. weak.chain z y x l e)), h)
       ]
 
   pub ranked_is : (xs : List X) → IsInOrder lt (order_by lt xs)
@@ -223,20 +211,6 @@ module _ {X : Type 0} (lt : X → X → Bool) (weak : IsStrictWeakOrder lt) wher
 
     pub ranked_fixed : (xs : List X) → IsInOrder lt xs → order_by lt xs ≡ xs
     ranked_fixed xs h = unique (order_by lt xs) xs (ranked_is xs) h (λ z. sum-order_by lt (hit z) xs)
-
-    -- an item among others is put where it belongs
-    pub order_by-middle : (xs : List X) (x : X) (ys : List X) → order_by lt (xs ++ x ∷ ys) ≡ insert_by lt x (order_by lt (xs ++ ys))
-    order_by-middle xs x ys =
-        unique (order_by lt (xs ++ x ∷ ys)) (insert_by lt x (order_by lt (xs ++ ys))) (ranked_is (xs ++ x ∷ ys))
-        (ranked_put x (order_by lt (xs ++ ys)) (ranked_is (xs ++ ys)))
-        (λ z.
-        let a = sum-order_by lt (hit z) (xs ++ x ∷ ys) in
-        let b = sum_by-append (hit z) xs (x ∷ ys) in
-        let c = sum_by-cons (hit z) x ys in
-        let d = sum-insert_by lt (hit z) x (order_by lt (xs ++ ys)) in
-        let e = sum-order_by lt (hit z) (xs ++ ys) in
-        let f = sum_by-append (hit z) xs ys in
-        omega arith)
 
     -- the order that a list was brought into before makes no difference
     pub order_by-order_by : (other : X → X → Bool) (xs : List X) → order_by lt (order_by other xs) ≡ order_by lt xs

@@ -1,35 +1,25 @@
 -- Laws of the order of pairs since a moment.
-use Rattle.std.specs.Prelude.{◌≡◌, ℕ, ◌-◌, ◌<◌, ◌≤◌, Bool, true, false}
-use Rattle.std.specs.Ordering.{nat_cmp, ordering_then, ordering_reverse, is_lt}
-use Rattle.std.specs.Cmp.{IsTotalOrder, IsStrictWeakOrder}
-use Rattle.std.specs.declared.cmp.Ordering.{Ordering}
-use Rattle.std.specs.declared.cmp.Ordering.TheVariants.{Less, Equal, Greater}
-use Rattle.std.proofs.Common.{refl, sym, ap, ◌∙◌, arith}
-use Rattle.std.proofs.lemmas.Cmp.{nat_cmp_total, on_total, then_total, ranked, by_ranked}
-use Rattle.std.proofs.lemmas.List.Sorted.{ranks_by}
-use Rattle.std.proofs.Common.{true≢false}
-use Rattle.std.specs.Prelude.{List, [], ◌∷◌, ◌++◌, take, drop, nat_le}
-use Rattle.std.specs.List.{AllByRecursion, sum_by}
+use Rattle.srcp_rules.proofs.Names
+use Names.{◌≡◌, ℕ, ◌-◌, ◌<◌, ◌≤◌, Bool, true, false, nat_cmp, ordering_then, ordering_reverse, IsStrictWeakOrder, Ordering, Less, Equal}
+use Names.{Greater, refl, sym, ap, ◌∙◌, arith, nat_cmp_total, ranked, true≢false, List, [], ◌∷◌, ◌++◌, take, drop, nat_le, AllByRecursion}
+use Names.{sum_by, leb-true, take-append-drop, sum_by-append, ltb-true, ltb-false, eqb-true, false_from_ne_true, nat_lt, ◌==◌, ◌&&◌, not}
+use Names.{Cursor, key_cmp, has_reached, is_after, key_cmp_total, key_tie, nat_tie, reached_below}
+use Rattle.std.specs.Ordering.{is_lt}
+use Rattle.std.specs.Cmp.{IsTotalOrder}
+use Rattle.std.proofs.lemmas.Cmp.{on_total, then_total, by_ranked}
+use Rattle.std.proofs.lemmas.List.Sorted.{ranks_by, sum_by-IsPermutation, All-permutation}
 use Rattle.std.specs.List.Sorted.{IsPermutation}
-use Rattle.std.proofs.lemmas.Bool.{leb-true, leb-false, true_from_ne_false}
-use Rattle.std.proofs.lemmas.List.{take-append-drop}
-use Rattle.std.proofs.lemmas.List.Sums.{sum_by-append}
-use Rattle.std.proofs.lemmas.List.Sorted.{sum_by-IsPermutation}
-use Rattle.std.proofs.lemmas.List.Sorted.{All-permutation}
+use Rattle.std.proofs.lemmas.Bool.{leb-false, true_from_ne_false, eqb-false}
 use Rattle.std.proofs.lemmas.List.Elements.{All-from_recursion, recursion_from_All}
-use Rattle.std.proofs.lemmas.Bool.{ltb-true, ltb-false, eqb-true, eqb-false, false_from_ne_true}
-use Rattle.std.specs.Prelude.{nat_lt, ◌==◌, ◌&&◌, not}
-use Rattle.srcp_index.specs.Pairs.{is_due_beyond}
+use Rattle.srcp_index.specs.Pairs.{is_due_beyond, order, before}
 use Rattle.srcp_index.proofs.Splits.{StopsAtOnce}
-use Rattle.srcp_info.specs.declared.change.Cursor.{Cursor}
-use Rattle.srcp_info.specs.Key.{key_cmp, has_reached, is_after}
-use Rattle.srcp_info.proofs.KeyLaws.{key_cmp_total, key_tie, nat_tie, then_tie}
-use Rattle.srcp_info.proofs.ClientLaws.{less_from_after, reached_below}
+use Rattle.srcp_info.proofs.KeyLaws.{then_tie}
+use Rattle.srcp_info.proofs.ClientLaws.{less_from_after}
 use Rattle.srcp_index.specs.declared.index.Pair.{Pair}
-use Rattle.srcp_index.specs.Pairs.{order, before}
 use Rattle.srcp_index.specs.Ordered.{IsInOrder}
 use Rattle.srcp_index.specs.Ordered as ranks
 use Rattle.srcp_index.proofs.Ordered as law
+use Rattle.srcp_rules.proofs.OrderLaws.{greater, less, same}
 
 pub order_total : (since : ℕ) → IsTotalOrder (order since)
 order_total since = then_total (on_total (λ (p : Pair). p.rank - since) nat_cmp_total)
@@ -57,35 +47,20 @@ neither Greater Greater e f g = cc
 pub before_tie : (since : ℕ) (a b : Pair) → before since a b ≡ false → before since b a ≡ false → a ≡ b
 before_tie since a b e f = order_tie since a b (neither (order since a b) (order since b a) ((order_total since).antisymm a b) e f)
 
-pub less : (m n : ℕ) → m < n → nat_cmp m n ≡ Less
-less m n h = by_ranked (m < n) (m ≡ n) (n < m) (nat_cmp m n) (ranked m n (nat_cmp m n) refl) (λ o lt. o)
-    (λ o eq. absurd (omega (arith, h, eq))) (λ o gt. absurd (omega (arith, h, gt)))
-
-pub greater : (m n : ℕ) → n < m → nat_cmp m n ≡ Greater
-greater m n h = by_ranked (m < n) (m ≡ n) (n < m) (nat_cmp m n) (ranked m n (nat_cmp m n) refl) (λ o lt. absurd (omega (arith, h, lt)))
-    (λ o eq. absurd (omega (arith, h, eq))) (λ o gt. o)
-
-pub equal : (m n : ℕ) → m ≡ n → nat_cmp m n ≡ Equal
-equal m n h = by_ranked (m < n) (m ≡ n) (n < m) (nat_cmp m n) (ranked m n (nat_cmp m n) refl) (λ o lt. absurd (omega (arith, h, lt)))
-    (λ o eq. o) (λ o gt. absurd (omega (arith, h, gt)))
-
 -- a pair of lower rank since the moment comes before
 pub lower_before : (since : ℕ) (a b : Pair) → a.rank - since < b.rank - since → before since a b ≡ true
-lower_before since a b h = ap (λ o. is_lt (ordering_then o (ordering_then (key_cmp a.key b.key) (nat_cmp a.rank b.rank))))
-    (less (a.rank - since) (b.rank - since) h)
+lower_before since a b h = rw (less (a.rank - since) (b.rank - since) h)
 
 pub higher_after : (since : ℕ) (a b : Pair) → b.rank - since < a.rank - since → before since a b ≡ false
-higher_after since a b h = ap (λ o. is_lt (ordering_then o (ordering_then (key_cmp a.key b.key) (nat_cmp a.rank b.rank))))
-    (greater (a.rank - since) (b.rank - since) h)
+higher_after since a b h = rw (greater (a.rank - since) (b.rank - since) h)
 
 -- of two alike the one of greater key comes after
 pub alike_after : (since : ℕ) (a b : Pair) → a.rank - since ≡ b.rank - since → key_cmp a.key b.key ≡ Greater → before since a b ≡ false
-alike_after since a b e h = ap (λ o. is_lt (ordering_then o (ordering_then (key_cmp a.key b.key) (nat_cmp a.rank b.rank))))
-    (equal (a.rank - since) (b.rank - since) e) ∙ ap (λ o. is_lt (ordering_then o (nat_cmp a.rank b.rank))) h
+alike_after since a b e h = rw (same (a.rank - since) (b.rank - since) e, h)
 
 shifted : (s m n : ℕ) → s ≤ m → s ≤ n → nat_cmp (m - s) (n - s) ≡ nat_cmp m n
 shifted s m n h k = by_ranked (m < n) (m ≡ n) (n < m) (nat_cmp m n) (ranked m n (nat_cmp m n) refl)
-    (λ o lt. less (m - s) (n - s) (omega (arith, h, k, lt)) ∙ sym o) (λ o eq. equal (m - s) (n - s) (omega (arith, h, k, eq)) ∙ sym o)
+    (λ o lt. less (m - s) (n - s) (omega (arith, h, k, lt)) ∙ sym o) (λ o eq. same (m - s) (n - s) (omega (arith, h, k, eq)) ∙ sym o)
     (λ o gt. greater (m - s) (n - s) (omega (arith, h, k, gt)) ∙ sym o)
 
 -- past two moments their orders are one
@@ -157,8 +132,7 @@ come_first since latest h x y e f = true_from_ne_false (nat_le x.rank latest) (�
 
 -- of two alike the one of lower key comes first
 alike_before : (since : ℕ) (a b : Pair) → a.rank - since ≡ b.rank - since → key_cmp a.key b.key ≡ Less → before since a b ≡ true
-alike_before since a b e h = ap (λ o. is_lt (ordering_then o (ordering_then (key_cmp a.key b.key) (nat_cmp a.rank b.rank))))
-    (equal (a.rank - since) (b.rank - since) e) ∙ ap (λ o. is_lt (ordering_then o (nat_cmp a.rank b.rank))) h
+alike_before since a b e h = rw (same (a.rank - since) (b.rank - since) e, h)
 
 passed_parts : (b c : Bool) → (b && not (b && c)) ≡ true → (b ≡ true) × (c ≡ false)
 passed_parts true true e = absurd (true≢false (sym e))

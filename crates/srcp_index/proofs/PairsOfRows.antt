@@ -1,26 +1,17 @@
 -- Laws of an index that has the pairs of rows: a row is put, looked at or taken out, and the first that is sought is found.
-use Rattle.std.specs.Prelude.{◌≡◌, ℕ, ◌+◌, ◌≤◌, Bool, true, false, not, ◌&&◌, cond, nat_le, ◌==◌, IsTrue, IsSome, List, [], ◌∷◌, ◌++◌}
-use Rattle.std.specs.Prelude.{length, find, Option, Some, None, option_map, option_and_then}
-use Rattle.std.specs.List.{AllByRecursion, sum_by}
-use Rattle.std.specs.Option.{option_map_or}
-use Rattle.std.specs.declared.cmp.Ordering.TheVariants.{Less, Greater}
-use Rattle.std.specs.Ordering.{ordering_reverse}
-use Rattle.std.proofs.Common.{refl, sym, ap, subst, ◌∙◌, arith, true≢false}
-use Rattle.std.proofs.lemmas.Bool.{and_parts, leb-true, eqb-true, false_from_ne_true}
-use Rattle.std.proofs.lemmas.List.Sums.{sum_by-cons, sum_by-append}
-use Rattle.srcp_info.specs.declared.change.Cursor.{Cursor}
-use Rattle.srcp_info.specs.declared.key.Key.{Key}
-use Rattle.srcp_info.specs.declared.change.Row.{Row}
-use Rattle.srcp_info.specs.Key.{key_cmp, has_reached}
-use Rattle.srcp_info.proofs.KeyLaws.{key_cmp_total}
-use Rattle.srcp_rules.specs.State.{State, IsRising, row_at, put_row, holder_of}
-use Rattle.srcp_rules.specs.Due.{is_due, is_held_by, first_due, first_held}
+use Rattle.srcp_rules.proofs.Names
+use Names.{◌≡◌, ℕ, ◌+◌, ◌≤◌, Bool, true, false, not, ◌&&◌, cond, nat_le, ◌==◌, IsTrue, IsSome, List, [], ◌∷◌, ◌++◌, length, find, Option}
+use Names.{Some, None, option_map, AllByRecursion, sum_by, option_map_or, Less, Greater, ordering_reverse, refl, sym, ap, subst, ◌∙◌, arith}
+use Names.{true≢false, leb-true, eqb-true, false_from_ne_true, sum_by-cons, sum_by-append, Cursor, Key, Row, key_cmp, has_reached}
+use Names.{key_cmp_total, State, IsRising, row_at, put_row, holder_of, is_due, is_held_by, first_due, first_held}
+use Rattle.std.specs.Prelude.{option_and_then}
+use Rattle.std.proofs.lemmas.Bool.{and_parts}
 use Rattle.srcp_rules.proofs.StateLaws.{row_at-first, row_at-later}
 use Rattle.srcp_index.specs.declared.index.Pair.{Pair}
 use Rattle.srcp_index.specs.Pairs.{IndexModel, before, is_due_beyond}
 use Rattle.srcp_index.specs.Ordered.{insert_by, remove_by, order_by}
-use Rattle.srcp_index.specs.Indexed.{at_rank, due_of, pair_of, pairs_of, insert_ranked, remove_ranked}
-use Rattle.srcp_index.specs.Indexed.{is_removable, removable_count, removable_rows}
+use Rattle.srcp_index.specs.Indexed.{at_rank, due_of, pair_of, pairs_of, insert_ranked, remove_ranked, is_removable, removable_count}
+use Rattle.srcp_index.specs.Indexed.{removable_rows}
 use Rattle.srcp_index.proofs.Pairs.{before_weak, before_tie, alike_after}
 use Rattle.srcp_index.proofs.Ordered.{Keeps, find-order_by, remove_by-insert_by, length-order_by}
 use Rattle.srcp_index.proofs.Ordered as law

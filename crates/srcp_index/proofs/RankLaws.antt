@@ -1,23 +1,13 @@
 -- Which rows have a rank, and what an index has of them.
-use Rattle.std.specs.Prelude.{◌≡◌, ℕ, ◌+◌, ◌<◌, ◌≤◌, Bool, true, false, cond, IsTrue, IsSome, IfSome, List}
-use Rattle.std.specs.Prelude.{length, Option, Some, None}
-use Rattle.std.specs.List.{AllByRecursion}
-use Rattle.std.proofs.Common.{refl, sym, ap, ◌∙◌, arith, true≢false}
-use Rattle.srcp_info.specs.declared.key.Key.{Key}
-use Rattle.srcp_info.specs.declared.key.Group.{Group}
-use Rattle.srcp_info.specs.declared.key.Group.TheVariants as group
-use Rattle.srcp_info.specs.declared.value.Value.{Value}
-use Rattle.srcp_info.specs.declared.value.Value.TheVariants as value
-use Rattle.srcp_info.specs.declared.change.Row.{Row}
-use Rattle.srcp_info.specs.WellFormed.{IsMoment, IsValueAt, can_go, is_lock}
-use Rattle.srcp_grammar.specs.declared.layout.Bus.{Bus}
-use Rattle.srcp_rules.specs.State.{State, IsRising, IsRowOf, MayFall, row_at, put_row}
-use Rattle.srcp_rules.specs.State.{holder_of, holder_in}
-use Rattle.srcp_rules.specs.Rows.{most_rows}
-use Rattle.srcp_grammar.proofs.FindLaws.{each-weaken}
+use Rattle.srcp_rules.proofs.Names
+use Names.{◌≡◌, ℕ, ◌+◌, ◌<◌, ◌≤◌, Bool, true, false, cond, IsTrue, IsSome, IfSome, List, length, Option, Some, None, AllByRecursion, refl}
+use Names.{sym, ap, ◌∙◌, arith, true≢false, Key, Group, Value, Row, IsMoment, IsValueAt, can_go, is_lock, Bus, State, IsRising, IsRowOf}
+use Names.{MayFall, row_at, put_row, holder_of, holder_in, most_rows, weaken}
+use Names.group
+use Names.value
 use Rattle.srcp_index.specs.Pairs.{IndexModel, before}
-use Rattle.srcp_index.specs.Indexed.{HasPairs, IsRankedRow, due_of, removable_rows, is_removable, may_rank, pairs_of}
-use Rattle.srcp_index.specs.Indexed.{insert_ranked, remove_ranked, with_pair, without_pair}
+use Rattle.srcp_index.specs.Indexed.{HasPairs, IsRankedRow, due_of, removable_rows, is_removable, may_rank, pairs_of, insert_ranked}
+use Rattle.srcp_index.specs.Indexed.{remove_ranked, with_pair, without_pair}
 use Rattle.srcp_index.proofs.Ordered.{length-insert_by, length-order_by}
 use Rattle.srcp_index.proofs.RowSums.{but_at}
 use Rattle.srcp_index.proofs.PairsOfRows.{inserted-pairs, removed-pairs, fewer_pairs}
@@ -66,61 +56,33 @@ module _ where
   lock_ranks : (g : Group) → is_lock g ≡ true → may_rank g ≡ true
   lock_ranks group.LockGl e = refl
   lock_ranks group.LockGa e = refl
-  lock_ranks group.Session e = absurd (true≢false (sym e))
-  lock_ranks group.Power e = absurd (true≢false (sym e))
-  lock_ranks group.Gl e = absurd (true≢false (sym e))
-  lock_ranks group.Ga e = absurd (true≢false (sym e))
-  lock_ranks group.Fb e = absurd (true≢false (sym e))
+  lock_ranks other e = absurd (true≢false (sym e))
 
   pub ranked_goes : (g : Group) → may_rank g ≡ true → can_go g ≡ true
-  ranked_goes group.Ga e = refl
-  ranked_goes group.LockGl e = refl
-  ranked_goes group.LockGa e = refl
-  ranked_goes group.Gl e = refl
-  ranked_goes group.Session e = refl
   ranked_goes group.Power e = absurd (true≢false (sym e))
   ranked_goes group.Fb e = absurd (true≢false (sym e))
+  ranked_goes other e = refl
 
   due_goes : (g : Group) (port : ℕ) (shows : Value) (o : Option ℕ) → IsValueAt g port shows
       → IfSome o (λ moment. IsMoment moment × MayFall shows) → IsSome o → may_rank g ≡ true
   due_goes g port shows None v h s = absurd (true≢false (sym s))
   due_goes g port (value.GaPort on) (Some moment) v h s = ap may_rank v.0
   due_goes g port (value.Lock seconds session) (Some moment) v h s = lock_ranks g v.0
-  due_goes g port (value.Session mode) (Some moment) v h s = absurd h.1
-  due_goes g port (value.Power on text) (Some moment) v h s = absurd h.1
-  due_goes g port (value.GlInit letter version steps functions) (Some moment) v h s = absurd h.1
-  due_goes g port (value.GlState mode speed vmax functions) (Some moment) v h s = absurd h.1
-  due_goes g port (value.GaInit letter) (Some moment) v h s = absurd h.1
-  due_goes g port (value.Fb on) (Some moment) v h s = absurd h.1
+  due_goes g port other (Some moment) v h s = absurd h.1
 
   held_goes : (g : Group) (port : ℕ) (shows : Value) → IsValueAt g port shows → IsSome (holder_in shows) → may_rank g ≡ true
   held_goes g port (value.Lock seconds session) v s = lock_ranks g v.0
-  held_goes g port (value.GaPort on) v s = absurd (true≢false (sym s))
-  held_goes g port (value.Session mode) v s = absurd (true≢false (sym s))
-  held_goes g port (value.Power on text) v s = absurd (true≢false (sym s))
-  held_goes g port (value.GlInit letter version steps functions) v s = absurd (true≢false (sym s))
-  held_goes g port (value.GlState mode speed vmax functions) v s = absurd (true≢false (sym s))
-  held_goes g port (value.GaInit letter) v s = absurd (true≢false (sym s))
-  held_goes g port (value.Fb on) v s = absurd (true≢false (sym s))
+  held_goes g port other v s = absurd (true≢false (sym s))
 
   one_port : (g : Group) → IsTrue (is_lock g) → most_rows g ≡ 1
   one_port group.LockGl l = refl
   one_port group.LockGa l = refl
-  one_port group.Session l = absurd (true≢false (sym l))
-  one_port group.Power l = absurd (true≢false (sym l))
-  one_port group.Gl l = absurd (true≢false (sym l))
-  one_port group.Ga l = absurd (true≢false (sym l))
-  one_port group.Fb l = absurd (true≢false (sym l))
+  one_port other l = absurd (true≢false (sym l))
 
   port_within : (g : Group) (port : ℕ) (shows : Value) → IsValueAt g port shows → port < most_rows g
   port_within g port (value.Lock seconds session) v = let e = v.1 in rw (one_port g v.0) (omega arith)
   port_within g port (value.GaPort on) v = let e = v.1.1 in rw v.0 (omega arith)
-  port_within g port (value.Session mode) v = let e = v.1 in rw v.0 (omega arith)
-  port_within g port (value.Power on text) v = let e = v.1 in rw v.0 (omega arith)
-  port_within g port (value.GlInit letter version steps functions) v = let e = v.1 in rw v.0 (omega arith)
-  port_within g port (value.GlState mode speed vmax functions) v = let e = v.1 in rw v.0 (omega arith)
-  port_within g port (value.GaInit letter) v = let e = v.1 in rw v.0 (omega arith)
-  port_within g port (value.Fb on) v = let e = v.1 in rw v.0 (omega arith)
+  port_within g port other v = let e = v.1 in rw v.0 (omega arith)
 
 pub ranked_row : (buses : List Bus) (row : Row) → IsRowOf buses row → IsRankedRow row
 ranked_row buses row of =
@@ -134,11 +96,11 @@ ranked_row buses row of =
 
 pub due_all : (state : State) → AllByRecursion IsRankedRow state
     → AllByRecursion (λ row. IsSome (due_of row) → IsTrue (is_removable row)) state
-due_all state h = each-weaken {P = IsRankedRow} (λ row r s. ranked_goes row.shown.key.group (r.due s)) state h
+due_all state h = weaken state h (λ row r s. ranked_goes row.shown.key.group (r.due s))
 
 pub held_all : (state : State) → AllByRecursion IsRankedRow state
     → AllByRecursion (λ row. IsSome (holder_of row) → IsTrue (is_removable row)) state
-held_all state h = each-weaken {P = IsRankedRow} (λ row r s. ranked_goes row.shown.key.group (r.held s)) state h
+held_all state h = weaken state h (λ row r s. ranked_goes row.shown.key.group (r.held s))
 
 -- a row that may go counts
 pub counted_one : (b : Bool) → b ≡ true → cond {A = ℕ} b 1 0 ≡ 1

@@ -1,17 +1,8 @@
 -- Sums over the rows of a registry, with one row put or looked at apart.
-use Rattle.std.specs.Prelude.{◌≡◌, ℕ, ◌+◌, Bool, true, false, not, cond, [], ◌∷◌, filter, Some}
-use Rattle.std.specs.List.{sum_by}
-use Rattle.std.specs.Ordering.{is_gt, is_eq, ordering_reverse}
-use Rattle.std.specs.declared.cmp.Ordering.{Ordering}
-use Rattle.std.specs.declared.cmp.Ordering.TheVariants.{Less, Equal, Greater}
-use Rattle.std.proofs.Common.{refl, sym, ap, ◌∙◌, arith}
-use Rattle.std.proofs.lemmas.List.Sums.{sum_by-cons, sum_by-append}
-use Rattle.srcp_info.specs.declared.key.Key.{Key}
-use Rattle.srcp_info.specs.declared.change.Row.{Row}
-use Rattle.srcp_info.specs.Key.{key_cmp, is_after}
-use Rattle.srcp_info.proofs.KeyLaws.{key_cmp_total}
-use Rattle.srcp_info.proofs.ClientLaws.{rising_put}
-use Rattle.srcp_rules.specs.State.{State, IsRising, row_at, put_row}
+use Rattle.srcp_rules.proofs.Names
+use Names.{◌≡◌, ℕ, ◌+◌, Bool, true, false, not, cond, [], ◌∷◌, filter, Some, sum_by, is_gt, is_eq, ordering_reverse, Ordering, Less, Equal}
+use Names.{Greater, refl, sym, ap, ◌∙◌, arith, sum_by-cons, sum_by-append, Key, Row, key_cmp, is_after, key_cmp_total, rising_put, State}
+use Names.{IsRising, row_at, put_row}
 use Rattle.srcp_rules.proofs.KeyLaws.{same_key, same_key-true}
 use Rattle.srcp_rules.proofs.StateLaws.{row_key, row_at-put_row}
 use Rattle.srcp_rules.proofs.PutRowsLaws.{same_rows}

@@ -1,37 +1,16 @@
 -- Laws of the rows with both indexes: a row that is set.
-use Rattle.std.specs.Prelude.{◌≡◌, ℕ, ◌+◌, Bool, true, false, not, cond, is_some, IsSome, List}
-use Rattle.std.specs.Prelude.{[], ◌∷◌, Option, Some, None}
-use Rattle.std.specs.List.{AllByRecursion}
-use Rattle.std.proofs.Common.{refl, sym, ap, subst, ◌∙◌, arith, true≢false}
-use Rattle.srcp_info.specs.declared.key.Key.{Key}
-use Rattle.srcp_info.specs.declared.change.Row.{Row}
-use Rattle.srcp_info.specs.WellFormed.{can_go}
-use Rattle.srcp_info.proofs.ClientLaws.{all_filter, all_put, rising_put}
-use Rattle.srcp_grammar.specs.declared.layout.Bus.{Bus}
-use Rattle.srcp_rules.specs.State.{State, IsRowOf, row_at, put_row}
-use Rattle.srcp_rules.specs.State.{holder_of}
+use Rattle.srcp_rules.proofs.Names
+use Names.{◌≡◌, ℕ, ◌+◌, true, false, not, cond, is_some, IsSome, List, Option, Some, None, AllByRecursion, refl, sym, ap, subst, ◌∙◌, arith}
+use Names.{true≢false, Row, can_go, all_filter, all_put, rising_put, Bus, State, IsRowOf, row_at, put_row, holder_of, found_holds}
 use Rattle.srcp_rules.proofs.KeyLaws.{same_key}
 use Rattle.srcp_rules.proofs.StateLaws.{row_key, row_at_key}
 use Rattle.srcp_index.specs.declared.indexes.Indexes.{Indexes}
-use Rattle.srcp_index.specs.Indexed.{IsIndexed, HasPairs, HasRoom, IsRankedRow, due_of, may_rank}
-use Rattle.srcp_index.specs.Indexed.{removable_count, removable_rows, is_removable}
-use Rattle.srcp_index.specs.Indexed.{with_pair, without_pair, with_row, without_row}
+use Rattle.srcp_index.specs.Indexed.{IsIndexed, HasPairs, HasRoom, IsRankedRow, due_of, may_rank, removable_count, removable_rows}
+use Rattle.srcp_index.specs.Indexed.{is_removable, with_pair, without_pair, with_row, without_row}
 use Rattle.srcp_index.proofs.RowSums.{but_at, sum-put_row, sum-there}
 use Rattle.srcp_index.proofs.RankLaws.{with_pairs, without_pairs, few, ranked_goes, ranked_row, due_all, held_all, counted_one}
 
 -- ---- a row that is set
-
--- what holds for all rows holds for the one at a key
-found_all : (P : Row → Type 0) (state : State) → AllByRecursion P state → (key : Key) (row : Row) → row_at key state ≡ Some row → P row
-found_all P [] h key row e = absurd (let f : ⊥ = cc in f)
-found_all P (first ∷ state) h key row e = by (same_key first.shown.key key) refl (found_all P state h.1 key row)
-  where
-    by : (b : Bool) → same_key first.shown.key key ≡ b → (row_at key state ≡ Some row → P row) → P row
-    by true f later =
-        let found : Some first ≡ Some row = sym (ap (λ c. cond c (Some first) (row_at key state)) f) ∙ e in
-        let it : first ≡ row = cc in
-        subst P it h.0
-    by false f later = later (sym (ap (λ c. cond c (Some first) (row_at key state)) f) ∙ e)
 
 module _ (buses : List Bus) (state : State) (both : Indexes) (count : ℕ) (h : IsIndexed state both count) (old row : Row)
     (there : row_at row.shown.key state ≡ Some old) (of : IsRowOf buses row) where
@@ -109,7 +88,7 @@ module _ (buses : List Bus) (state : State) (both : Indexes) (count : ℕ) (h : 
 
   passed_indexed : may_rank row.shown.key.group ≡ false → IsIndexed (put_row row state) both count
   passed_indexed never =
-      let was = found_all IsRankedRow state h.rows row.shown.key old there in
+      let was = found_holds IsRankedRow (λ other. same_key other.shown.key row.shown.key) state h.rows old there in
       let before : may_rank old.shown.key.group ≡ may_rank row.shown.key.group = ap (λ k. may_rank k.group) same in
       let a = no_rank (due_of row) (ranked_row buses row of).due never in
       let b = no_rank (holder_of row) (ranked_row buses row of).held never in

@@ -1,7 +1,7 @@
 -- Lists in the order of a test, split at an index.
-use Rattle.std.specs.Prelude.{◌≡◌, ℕ, zero, suc, ◌<◌, ◌≤◌, Bool, true, false, cond, List, [], ◌∷◌, ◌++◌, length, take, drop, find, insert}
-use Rattle.std.specs.Prelude.{remove, slice_index_or, Option, Some, None, IsSome, OnSome, Result, Ok, Err, OnOk, OnErr}
-use Rattle.std.specs.List.{AllByRecursion, AllWithin}
+use Rattle.std.specs.Prelude.{◌≡◌, ℕ, zero, suc, ◌<◌, ◌≤◌, Bool, true, false, List, [], ◌∷◌, ◌++◌, length, take, drop, find, insert, remove}
+use Rattle.std.specs.Prelude.{slice_index_or, Option, Some, None, IsSome, OnSome, Result, Ok, Err, OnOk, OnErr}
+use Rattle.std.specs.List.{AllByRecursion}
 use Rattle.std.specs.List.Sorted.{IsPartitionedBy, IsSortedBy}
 use Rattle.std.specs.Bool.{then_some}
 use Rattle.std.specs.Cmp.{IsStrictWeakOrder}
@@ -10,46 +10,15 @@ use Rattle.std.proofs.lemmas.List.{take-append-drop}
 use Rattle.std.proofs.lemmas.List.Sorted.{sorted_far}
 use Rattle.srcp_index.specs.Ordered.{IsInOrder, insert_by, remove_by}
 use Rattle.srcp_index.proofs.Ordered.{put_between, taken_between, taken_none, taken_past}
-
-module _ {X : Type 0} (P : X → Type 0) where
-  -- what holds at each index below this one holds of each item before it
-  pub front_each : (xs : List X) (i : ℕ) → i ≤ length xs → AllWithin P xs 0 i → AllByRecursion P (take i xs)
-  front_each xs zero h a = tt
-  front_each [] (suc i) h a = absurd (omega (arith, h))
-  front_each (x ∷ xs) (suc i) h a = (
-    a 0 x (omega arith) (omega arith),
-    front_each xs i (omega (arith, h))
-        (λ k d low high. a (suc k) d (omega arith) (omega (arith, high))),
-  )
-
-  -- what holds at each index from this one on holds of each item there
-  pub back_each : (xs : List X) (i : ℕ) → AllWithin P xs i (length xs) → AllByRecursion P (drop i xs)
-  back_each [] zero a = tt
-  back_each [] (suc i) a = tt
-  back_each (x ∷ xs) zero a = (
-    a 0 x (omega arith) (omega arith),
-    back_each xs zero (λ k d low high. a (suc k) d (omega arith)
-        (omega (arith, high))),
-  )
-  back_each (x ∷ xs) (suc i) a = back_each xs i (λ k d low high. a (suc k) d (omega (arith, low)) (omega (arith, high)))
-
--- what holds of each item holds at each index
-pub each_at : {X : Type 0} (P : X → Type 0) (xs : List X) → AllByRecursion P xs → (k : ℕ) (d : X) → k < length xs
-    → P (slice_index_or xs k d)
-each_at P [] a k d h = absurd (omega (arith, h))
-each_at P (x ∷ xs) a zero d h = a.0
-each_at P (x ∷ xs) a (suc k) d h = each_at P xs a.1 k d (omega (arith, h))
+use Rattle.srcp_grammar.proofs.PlaceLaws as place
+use Rattle.srcp_grammar.proofs.PlaceLaws.{back_each}
+use Rattle.srcp_rules.proofs.PutLaws.{find_none}
 
 module _ {X : Type 0} (lt : X → X → Bool) where
   -- a test that an item passes if a later one does splits the list
   pub partitioned : (p : X → Bool) → ((x y : X) → lt y x ≡ false → p y ≡ true → p x ≡ true) → (xs : List X) → IsInOrder lt xs
       → IsPartitionedBy p xs
-  partitioned p keeps [] f i j d le h e = absurd (omega (arith, h))
-  partitioned p keeps (x ∷ xs) f zero zero d le h e = e
-  partitioned p keeps (x ∷ xs) f zero (suc j) d le h e = keeps x (slice_index_or xs j d) (each_at (λ y. lt y x ≡ false) xs f.0 j d
-      (omega (arith, h))) e
-  partitioned p keeps (x ∷ xs) f (suc i) zero d le h e = absurd (omega (arith, le))
-  partitioned p keeps (x ∷ xs) f (suc i) (suc j) d le h e = partitioned p keeps xs f.1 i j d (omega (arith, le)) (omega (arith, h)) e
+  partitioned p keeps xs f = place.partitioned (λ x y. lt y x ≡ false) p keeps xs f
 
   from_far : (xs : List X) → ((i j : ℕ) (d : X) → i ≤ j → j < length xs → lt (slice_index_or xs j d) (slice_index_or xs i d) ≡ false)
       → IsInOrder lt xs
@@ -97,10 +66,6 @@ module _ {X : Type 0} (lt : X → X → Bool) where
         whole (suc n) (z ∷ zs) h = ap (λ l. z ∷ l) (whole n zs (omega (arith, h)))
 
 module _ {X : Type 0} (t : X → Bool) where
-  find_none : (xs : List X) → AllByRecursion (λ x. t x ≡ false) xs → find t xs ≡ None
-  find_none [] h = refl
-  find_none (x ∷ xs) h = ap (λ b. cond b (Some x) (find t xs)) h.0 ∙ find_none xs h.1
-
   -- if the first item fails the test, so do all
   abbrev pub StopsAtOnce : List X → Type 0
   StopsAtOnce [] = Unit {0}
@@ -110,19 +75,19 @@ module _ {X : Type 0} (t : X → Bool) where
   pub find_here : (xs : List X) (i : ℕ) (d : X) → AllByRecursion (λ x. t x ≡ false) (take i xs) → i < length xs
       → t (slice_index_or xs i d) ≡ true → find t xs ≡ Some (slice_index_or xs i d)
   find_here [] i d a h e = absurd (omega (arith, h))
-  find_here (x ∷ xs) zero d a h e = ap (λ b. cond b (Some x) (find t xs)) e
-  find_here (x ∷ xs) (suc i) d a h e = ap (λ b. cond b (Some x) (find t xs)) a.0 ∙ find_here xs i d a.1 (omega (arith, h)) e
+  find_here (x ∷ xs) zero d a h e = rw e
+  find_here (x ∷ xs) (suc i) d a h e = rw a.0 (find_here xs i d a.1 (omega (arith, h)) e)
 
   pub find_not_here : (xs : List X) (i : ℕ) (d : X) → AllByRecursion (λ x. t x ≡ false) (take i xs) → StopsAtOnce (drop i xs)
       → i < length xs → t (slice_index_or xs i d) ≡ false → find t xs ≡ None
   find_not_here [] i d a s h e = absurd (omega (arith, h))
-  find_not_here (x ∷ xs) zero d a s h e = ap (λ b. cond b (Some x) (find t xs)) e ∙ find_none xs (s e)
-  find_not_here (x ∷ xs) (suc i) d a s h e = ap (λ b. cond b (Some x) (find t xs)) a.0 ∙ find_not_here xs i d a.1 s (omega (arith, h)) e
+  find_not_here (x ∷ xs) zero d a s h e = rw e (find_none t xs (s e))
+  find_not_here (x ∷ xs) (suc i) d a s h e = rw a.0 (find_not_here xs i d a.1 s (omega (arith, h)) e)
 
   pub find_past : (xs : List X) (i : ℕ) → AllByRecursion (λ x. t x ≡ false) (take i xs) → length xs ≤ i → find t xs ≡ None
   find_past [] i a h = refl
   find_past (x ∷ xs) zero a h = absurd (omega (arith, h))
-  find_past (x ∷ xs) (suc i) a h = ap (λ b. cond b (Some x) (find t xs)) a.0 ∙ find_past xs i a.1 (omega (arith, h))
+  find_past (x ∷ xs) (suc i) a h = rw a.0 (find_past xs i a.1 (omega (arith, h)))
 
 -- what holds of an insert that fails for want of room alone, if there is room
 pub put_ok : {T E : Type 0} (r : Result T E) (P Q : Type 0) → OnOk r P → OnErr r Q → (Q → ⊥) → P

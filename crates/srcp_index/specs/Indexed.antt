@@ -87,13 +87,10 @@ is_removable row = can_go row.shown.key.group
 
 -- a row of the group may have a due moment or a holder
 abbrev pub may_rank : Group → Bool
-may_rank group.Session = false
-may_rank group.Power = false
-may_rank group.Gl = false
 may_rank group.Ga = true
-may_rank group.Fb = false
 may_rank group.LockGl = true
 may_rank group.LockGa = true
+may_rank other = false
 
 -- 1 for such a row
 abbrev pub removable_count : Row → ℕ

@@ -1,18 +1,13 @@
 -- Rows that are sought beyond a cursor.
-use Rattle.std.specs.Prelude.{◌≡◌, ◌<◌, Bool, true, false, not, ◌&&◌, cond, List, [], ◌∷◌, length, filter, find, Option, Some, None}
-use Rattle.std.proofs.Common.{refl, sym, ap, subst, ◌∙◌, true≢false, arith}
-use Rattle.std.specs.declared.cmp.Ordering.TheVariants.{Less}
-use Rattle.srcp_info.specs.declared.key.Key.{Key}
-use Rattle.srcp_info.specs.declared.change.Row.{Row}
-use Rattle.srcp_info.specs.declared.change.Cursor.{Cursor}
-use Rattle.srcp_info.specs.declared.change.Cursor.TheVariants as cursor
-use Rattle.srcp_info.specs.Key.{key_cmp, has_reached}
-use Rattle.srcp_info.proofs.ClientLaws.{filter_every, reached_below, after_from_less, after_not_itself}
+use Rattle.srcp_rules.proofs.Names
+use Names.{◌≡◌, ◌<◌, Bool, true, false, not, ◌&&◌, cond, List, [], ◌∷◌, length, filter, find, Option, Some, None, refl, sym, ap, subst, ◌∙◌}
+use Names.{true≢false, arith, Less, Key, Row, Cursor, key_cmp, has_reached, filter_every, reached_below, after_from_less, State, IsRising}
+use Names.{row_after, found_holds, false_from_ne_true, weaken}
+use Names.cursor
+use Rattle.srcp_info.proofs.ClientLaws.{after_not_itself}
 use Rattle.srcp_rules.specs.declared.filter.RowFilter.{RowFilter}
 use Rattle.srcp_rules.specs.Filter.{passes, first_passed}
-use Rattle.srcp_rules.specs.State.{State, IsRising, row_after}
 use Rattle.srcp_rules.proofs.KeyLaws.{not_after}
-use Rattle.srcp_grammar.proofs.FindLaws.{each-weaken, found_holds}
 
 -- the rows beyond the cursor
 abbrev pub beyond : Cursor → State → State
@@ -36,10 +31,9 @@ module _ {X : Type 0} (p q : X → Bool) where
 
 -- ---- the next row
 
-still_beyond : (at : Cursor) (low high : Key) → key_cmp low high ≡ Less → has_reached at low ≡ false → (b : Bool) → has_reached at high ≡ b
-    → b ≡ false
-still_beyond at low high less e true f = absurd (true≢false (sym (reached_below at low high (not_after low high less) f) ∙ e))
-still_beyond at low high less e false f = refl
+still_beyond : (at : Cursor) (low high : Key) → key_cmp low high ≡ Less → has_reached at low ≡ false → has_reached at high ≡ false
+still_beyond at low high less e =
+    false_from_ne_true (has_reached at high) (λ f. true≢false (sym (reached_below at low high (not_after low high less) f) ∙ e))
 
 abbrev Next : Cursor → Row → State → Type 0
 Next at row state = beyond at state ≡ row ∷ beyond (cursor.After row.shown.key) state
@@ -47,25 +41,16 @@ Next at row state = beyond at state ≡ row ∷ beyond (cursor.After row.shown.k
 next_here : (at : Cursor) (row : Row) (state : State) → IsRising (row ∷ state) → has_reached at row.shown.key ≡ false
     → Next at row (row ∷ state)
 next_here at row state rising e =
-    ap (λ b. cond (not b) (row ∷ beyond at state) (beyond at state)) e
-    ∙ ap (λ rows. row ∷ rows)
+    rw (e, after_not_itself row.shown.key)
+    (ap (λ rows. row ∷ rows)
     (filter_every (λ other. not (has_reached at other.shown.key)) state
-    (each-weaken {P = λ other. key_cmp row.shown.key other.shown.key ≡ Less}
-    (λ other less. ap not (still_beyond at row.shown.key other.shown.key less e (has_reached at other.shown.key) refl)) state rising.0)
-    ∙ sym
-    (ap (λ b. cond (not (not b)) (row ∷ beyond (cursor.After row.shown.key) state) (beyond (cursor.After row.shown.key) state))
-    (after_not_itself row.shown.key)
-    ∙ filter_every (λ other. not (has_reached (cursor.After row.shown.key) other.shown.key)) state
-    (each-weaken {P = λ other. key_cmp row.shown.key other.shown.key ≡ Less}
-    (λ other less. ap (λ b. not (not b)) (after_from_less other.shown.key row.shown.key less)) state rising.0)))
+    (weaken state rising.0 (λ other less. ap not (still_beyond at row.shown.key other.shown.key less e)))
+    ∙ sym (filter_every (λ other. not (has_reached (cursor.After row.shown.key) other.shown.key)) state
+    (weaken state rising.0 (λ other less. ap (λ b. not (not b)) (after_from_less other.shown.key row.shown.key less))))))
 
 next_later : (at : Cursor) (row first : Row) (state : State) → key_cmp first.shown.key row.shown.key ≡ Less
     → has_reached at first.shown.key ≡ true → Next at row state → Next at row (first ∷ state)
-next_later at row first state less e next =
-    ap (λ b. cond (not b) (first ∷ beyond at state) (beyond at state)) e ∙ next
-    ∙ ap (λ rows. row ∷ rows)
-    (sym (ap (λ b. cond (not (not b)) (first ∷ beyond (cursor.After row.shown.key) state) (beyond (cursor.After row.shown.key) state))
-    (not_after first.shown.key row.shown.key less)))
+next_later at row first state less e next = rw (e, not_after first.shown.key row.shown.key less) next
 
 -- the next row beyond a cursor is the first that is beyond, and the others are beyond that row
 pub beyond-next : (at : Cursor) (row : Row) (state : State) → IsRising state → row_after at state ≡ Some row → Next at row state
@@ -90,7 +75,7 @@ beyond-none at (first ∷ state) e = by (beyond-none at state) (has_reached at f
   where
     by : (row_after at state ≡ None → beyond at state ≡ []) → (b : Bool) → has_reached at first.shown.key ≡ b
         → cond (not b) (Some first) (row_after at state) ≡ None → beyond at (first ∷ state) ≡ []
-    by rest true r e = ap (λ b. cond (not b) (first ∷ beyond at state) (beyond at state)) r ∙ rest e
+    by rest true r e = rw r (rest e)
     by rest false r e = cc
 
 -- past the next row fewer are beyond
@@ -113,10 +98,10 @@ module _ (row_filter : RowFilter) (at : Cursor) (state : State) where
     first = seek ∙ ap (find (passes row_filter)) (beyond-next at row state rising next)
 
     pub passed_here : passes row_filter row ≡ true → first_passed row_filter at state ≡ Some row
-    passed_here e = first ∙ ap (λ b. cond b (Some row) (find (passes row_filter) (beyond (cursor.After row.shown.key) state))) e
+    passed_here e = first ∙ rw e
 
     pub passed_later : passes row_filter row ≡ false
         → first_passed row_filter (cursor.After row.shown.key) state ≡ first_passed row_filter at state
     passed_later e =
         find-both (λ other. not (has_reached (cursor.After row.shown.key) other.shown.key)) (passes row_filter) state
-        ∙ sym (first ∙ ap (λ b. cond b (Some row) (find (passes row_filter) (beyond (cursor.After row.shown.key) state))) e)
+        ∙ sym (first ∙ rw e)

@@ -1,31 +1,16 @@
 -- The rows of devices of one group of one bus, by address: look-ups and changes.
-use Rattle.std.specs.Prelude.{◌≡◌, ℕ, zero, suc, ◌+◌, ◌<◌, ◌==◌, Bool, true, false, cond, is_some, not, List, [], ◌∷◌, ◌++◌, drop}
-use Rattle.std.specs.Prelude.{length, filter, find, Option, Some, None, nat_lt, slice_get, slice_index_or}
-use Rattle.std.proofs.Common.{refl, sym, ap, subst, ◌∙◌, arith, true≢false}
+use Rattle.srcp_rules.proofs.Names
+use Names.{◌≡◌, ℕ, zero, suc, ◌+◌, ◌<◌, ◌==◌, Bool, true, false, is_some, not, List, [], ◌∷◌, ◌++◌, drop, length, filter, find, Option}
+use Names.{Some, None, nat_lt, slice_get, slice_index_or, refl, sym, ap, subst, ◌∙◌, arith, true≢false, find-append, none-some, same_Some}
+use Names.{AllByRecursion, set_value, remove_entry, option_map, option_map_or, option_or, is_eq, is_gt, nat_cmp, is_at, insert_entry, Less}
+use Names.{Group, Key, Device, Row, Cursor, is_after, key_cmp, device_of, has_reached, owns, after_from_less, all_append, all_put}
+use Names.{rising_put, key_at, State, IsRising, has_row, put_row, row_at, row_after, without, put_rows, numbered, AreOfDevice, IsIn}
+use Names.{device_rows, entry_at, weaken}
 use Rattle.std.proofs.lemmas.Bool.Decides.{nat_tests}
-use Rattle.std.proofs.lemmas.List.Folds.{find-append}
-use Rattle.std.proofs.lemmas.Option.{none-some, same_Some}
-use Rattle.std.specs.List.{AllByRecursion}
 use Rattle.std.specs.List.Sorted.{IsStrictlySortedBy}
-use Rattle.std.specs.Map.{set_value, remove_entry}
-use Rattle.std.specs.Option.{option_map, option_map_or, option_or}
-use Rattle.std.specs.Ordering.{is_eq, is_gt, nat_cmp}
-use Rattle.std.specs.BTreeMap.{is_at, insert_entry}
-use Rattle.std.specs.declared.cmp.Ordering.TheVariants.{Less}
-use Rattle.srcp_info.specs.declared.key.Group.{Group}
-use Rattle.srcp_info.specs.declared.key.Key.{Key}
-use Rattle.srcp_info.specs.declared.key.Device.{Device}
-use Rattle.srcp_info.specs.declared.change.Row.{Row}
-use Rattle.srcp_info.specs.declared.change.Cursor.{Cursor}
 use Rattle.srcp_info.specs.declared.change.Cursor.TheVariants as at
-use Rattle.srcp_info.specs.Key.{is_after, key_cmp, device_of, has_reached, owns}
-use Rattle.srcp_info.proofs.ClientLaws.{after_from_less, all_append, all_put, rising_put}
-use Rattle.srcp_grammar.specs.Devices.{key_at}
-use Rattle.srcp_rules.specs.State.{State, IsRising, has_row, put_row, row_at, row_after, without}
-use Rattle.srcp_rules.specs.Rows.{put_rows}
-use Rattle.srcp_rules.specs.Numbered.{numbered}
-use Rattle.srcp_rules.specs.Nested.{AreDevices, AreOfDevice, IsIn, device_rows, entry_at}
-use Rattle.srcp_grammar.proofs.FindLaws.{each-weaken, find_same}
+use Rattle.srcp_rules.specs.Nested.{AreDevices}
+use Rattle.srcp_grammar.proofs.FindLaws.{find_same}
 use Rattle.srcp_rules.proofs.StateLaws.{row_key, row_at-first}
 use Rattle.srcp_rules.proofs.OrderLaws.{address_order, device_in_group, device_order, group_alike, owns-other, owns-own}
 use Rattle.srcp_rules.proofs.PutLaws.{find_none, find_past, put_rows-new, without-all}
@@ -51,7 +36,7 @@ some-put_row row rows =
 first_beyond : (cursor : Cursor) (rows : State) → AllByRecursion (λ row. has_reached cursor row.shown.key ≡ false) rows
     → row_after cursor rows ≡ slice_get rows 0
 first_beyond cursor [] h = refl
-first_beyond cursor (row ∷ rows) h = ap (λ b. cond (not b) (Some row) (row_after cursor rows)) h.0
+first_beyond cursor (row ∷ rows) h = rw h.0
 
 first_of_both : (rows rest : State) → 0 < length rows → slice_get (rows ++ rest) 0 ≡ slice_get rows 0
 first_of_both [] rest h = absurd (omega (arith, h))
@@ -65,26 +50,19 @@ above m n = grind (arith, nat_tests)
 same_port : (m n : ℕ) → is_eq (nat_cmp m n) ≡ (m == n)
 same_port m n = grind (arith, nat_tests)
 
-abbrev IsOf : Key → Row → Type 0
-IsOf key row = IsIn key.bus key.group row.shown.key × (row.shown.key.address ≡ key.address)
-
 module _ (key : Key) (rows : State) (device : AreOfDevice key.bus key.group key.address rows) where
   -- in the key's own device the row at a key is the one of its port
   pub row_at-own_device : row_at key rows ≡ find (λ row. row.shown.key.port == key.port) rows
   row_at-own_device =
       find_same (λ row. is_eq (key_cmp row.shown.key key)) (λ row. row.shown.key.port == key.port) rows
-      (each-weaken {P = IsOf key}
-      (λ row t. ap is_eq (device_order row.shown.key key t.0.0 t.0.1 t.1) ∙ same_port row.shown.key.port key.port)
-      rows device.each)
+      (weaken rows device.each (λ row t. ap is_eq (device_order row.shown.key key t.0.0 t.0.1 t.1) ∙ same_port row.shown.key.port key.port))
 
   -- and the next one is the first of a greater port
   pub row_after-own_device : row_after (at.After key) rows ≡ find (λ row. nat_lt key.port row.shown.key.port) rows
   row_after-own_device =
       find_same (λ row. not (has_reached (at.After key) row.shown.key)) (λ row. nat_lt key.port row.shown.key.port) rows
-      (each-weaken {P = IsOf key}
-      (λ row t. ap (λ o. not (not (is_gt o))) (device_order row.shown.key key t.0.0 t.0.1 t.1)
-      ∙ above row.shown.key.port key.port)
-      rows device.each)
+      (weaken rows device.each (λ row t. ap (λ o. not (not (is_gt o))) (device_order row.shown.key key t.0.0 t.0.1 t.1)
+      ∙ above row.shown.key.port key.port))
 
 -- without a first device there is no row
 pub no_first_device : (es : List (ℕ × State)) → None ≡ option_map (λ (e : ℕ × State). e.1) (slice_get es 0)
@@ -131,7 +109,7 @@ module _ (bus : ℕ) (g : Group) where
 
   module _ (es : List (ℕ × State)) (devices : AreDevices bus g es) where
     tagged : AllByRecursion (IsTagged whole address_of Here) es
-    tagged = each-weaken {P = λ e. AreOfDevice bus g e.0 e.1} (λ e h. h.each) es devices.each
+    tagged = weaken es devices.each (λ e h. h.each)
 
     -- the rows of the device that is found
     pub found_device : (address : ℕ) (rows : State) → entry_at address es ≡ Some rows → AreOfDevice bus g address rows
@@ -141,14 +119,13 @@ module _ (bus : ℕ) (g : Group) where
     pub devices_in_group : AllByRecursion (λ row. Here row.shown.key) (device_rows es)
     devices_in_group =
         each-listed whole (λ row. Here row.shown.key) es
-        (each-weaken {P = IsTagged whole address_of Here}
-        (λ e h. each-weaken {P = λ row. Here row.shown.key × (row.shown.key.address ≡ e.0)} (λ row t. t.0) e.1 h) es tagged)
+        (weaken es tagged (λ e h. weaken e.1 h (λ row t. t.0)))
 
     -- their keys rise
     pub devices_rising : IsRising (device_rows es)
     devices_rising =
         listed-rising whole address_of Here in_order es tagged devices.sorted
-        (each-weaken {P = λ e. AreOfDevice bus g e.0 e.1} (λ e h. h.rising) es devices.each)
+        (weaken es devices.each (λ e h. h.rising))
 
     -- ---- looking up
 
@@ -164,14 +141,13 @@ module _ (bus : ℕ) (g : Group) where
     module _ (cursor : Cursor) (outside : (last : Key) → cursor ≡ at.After last → Here last → ⊥) where
       reached : (b : Bool) → has_reached cursor least ≡ b → AllByRecursion (λ row. has_reached cursor row.shown.key ≡ b) (device_rows es)
       reached b e =
-          each-weaken {P = λ row. Here row.shown.key} (λ row h. all_or_none cursor outside row.shown.key h ∙ e)
-          (device_rows es) devices_in_group
+          weaken (device_rows es) devices_in_group (λ row h. all_or_none cursor outside row.shown.key h ∙ e)
 
       -- a cursor that has reached all keys of the group has none of its rows beyond it
       pub none_after : has_reached cursor least ≡ true → row_after cursor (device_rows es) ≡ None
       none_after e =
           find_none (λ row. not (has_reached cursor row.shown.key)) (device_rows es)
-          (each-weaken {P = λ row. has_reached cursor row.shown.key ≡ true} (λ row h. ap not h) (device_rows es) (reached true e))
+          (weaken (device_rows es) (reached true e) (λ row h. ap not h))
 
       -- and one that has reached none has them all
       pub first_after : has_reached cursor least ≡ false → row_after cursor (device_rows es) ≡ slice_get (device_rows es) 0
@@ -189,17 +165,15 @@ module _ (bus : ℕ) (g : Group) where
         → device.address ≡ address → without device rows ≡ []
     gone device here address rows h e =
         without-all device rows
-        (each-weaken {P = λ row. Here row.shown.key × (row.shown.key.address ≡ address)}
-        (λ row t.
+        (weaken rows h.each (λ row t.
         owns-own device row.shown.key
-        (device_in_group device.bus device.group device.address row.shown.key (t.0.0 ∙ here.0, t.0.1 ∙ here.1) (t.1 ∙ sym e)))
-        rows h.each)
+        (device_in_group device.bus device.group device.address row.shown.key (t.0.0 ∙ here.0, t.0.1 ∙ here.1) (t.1 ∙ sym e))))
 
     pub devices-remove : (device : Device) → (bus ≡ device.bus) × (g ≡ device.group)
         → device_rows (remove_entry (is_at (nat_cmp device.address)) es) ≡ without device (device_rows es)
     devices-remove device here =
         listed-without_all whole address_of Here in_order device device.address (apart device) es tagged devices.sorted
-        (each-weaken {P = λ e. AreOfDevice bus g e.0 e.1} (λ e h. gone device here e.0 e.1 h) es devices.each)
+        (weaken es devices.each (λ e h. gone device here e.0 e.1 h))
 
     -- ---- adding a device
 
@@ -238,9 +212,8 @@ module _ {B : Type 0} (value : B → State) (last : Key) where
   earlier : (address : ℕ) (rows : State) → address < last.address → AreOfDevice last.bus last.group address rows
       → AllByRecursion (λ row. not (has_reached (at.After last) row.shown.key) ≡ false) rows
   earlier address rows h device =
-      each-weaken {P = λ row. IsIn last.bus last.group row.shown.key × (row.shown.key.address ≡ address)}
-      (λ row t. ap (λ o. not (not (is_gt o)))
-      (address_order row.shown.key last t.0.0 t.0.1 (omega (arith, h, t.1)))) rows device.each
+      weaken rows device.each (λ row t. ap (λ o. not (not (is_gt o)))
+      (address_order row.shown.key last t.0.0 t.0.1 (omega (arith, h, t.1))))
 
   -- and all rows of the devices behind it are
   later : (first : ℕ) → last.address < first → (slots : List (Option B)) → AreDevicesAt first slots
@@ -250,10 +223,8 @@ module _ {B : Type 0} (value : B → State) (last : Key) where
   later first h (Some x ∷ slots) each =
       all_append (λ row. has_reached (at.After last) row.shown.key ≡ false) (value x)
       (device_rows (numbered value (first + 1) slots))
-      (each-weaken {P = λ row. IsIn last.bus last.group row.shown.key × (row.shown.key.address ≡ first)}
-      (λ row t. ap not
-      (after_from_less row.shown.key last (address_order last row.shown.key (sym t.0.0) (sym t.0.1) (omega (arith, h, t.1)))))
-      (value x) each.0.each)
+      (weaken (value x) each.0.each (λ row t. ap not
+      (after_from_less row.shown.key last (address_order last row.shown.key (sym t.0.0) (sym t.0.1) (omega (arith, h, t.1))))))
       (later (first + 1) (omega (arith, h)) slots each.1)
 
   -- the next row is of the key's own device, or else the first behind it

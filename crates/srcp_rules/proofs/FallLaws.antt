@@ -1,34 +1,24 @@
 -- What a moment makes of each row, and what a timed SET leaves behind.
-use Rattle.std.specs.Prelude.{◌≡◌, ℕ, ◌+◌, ◌*◌, ◌<◌, min, Bool, true, false, cond, map, filter, List, [], ◌∷◌, Option, Some, None}
-use Rattle.std.specs.Prelude.{Err}
-use Rattle.std.proofs.Common.{refl, sym, ap, subst, ◌∙◌, arith}
+use Rattle.srcp_rules.proofs.Names
+use Names.{◌≡◌, ℕ, ◌+◌, ◌<◌, min, Bool, true, false, cond, map, filter, List, [], ◌∷◌, Option, Some, None, refl, sym, ap, subst, ◌∙◌, arith}
+use Names.{false_from_ne_true, option_map_or, AllByRecursion, Key, Value, Row, Code, Accepted, device_of, first_key, owns, IsMoment}
+use Names.{IsValueAt, is_lock, Bus, SetLock, key_at, device_in, lock_at, State, Update, IsWhole, MayFall, row_at, updated, updated_all}
+use Names.{row_put, done, unless_refused, refusals, put_at, port_end, lock_end, due, due_change, is_due, device_from_owns, each_filtered}
+use Names.{found_holds}
+use Names.value
+use Names.devices
+use Rattle.std.specs.Prelude.{◌*◌}
 use Rattle.std.proofs.lemmas.Bool.{lt-ltb}
 use Rattle.std.proofs.Math.Nat.{min-eq_left, min-eq_right}
-use Rattle.std.specs.Option.{option_map_or}
-use Rattle.std.specs.List.{AllByRecursion}
-use Rattle.srcp_info.specs.declared.key.Key.{Key}
-use Rattle.srcp_info.specs.declared.value.Value.{Value}
-use Rattle.srcp_info.specs.declared.value.Value.TheVariants as value
-use Rattle.srcp_info.specs.declared.change.Row.{Row}
-use Rattle.srcp_info.specs.declared.change.Code.{Code}
-use Rattle.srcp_info.specs.declared.change.Reply.TheVariants.{Accepted}
-use Rattle.srcp_info.specs.Key.{device_of, first_key, owns}
-use Rattle.srcp_info.specs.WellFormed.{IsMoment, IsValueAt, is_lock}
-use Rattle.srcp_grammar.specs.declared.layout.Bus.{Bus}
-use Rattle.srcp_grammar.specs.declared.command.DeviceGroup.TheVariants as devices
-use Rattle.srcp_grammar.specs.declared.command.Command.TheVariants.{SetLock}
-use Rattle.srcp_grammar.specs.Devices.{key_at, device_in, lock_at}
-use Rattle.srcp_rules.specs.State.{State, Update, IsWhole, IsRowOf, MayFall, row_at, updated, updated_all, row_put}
-use Rattle.srcp_rules.specs.Effect.{done, unless_refused, refusals, put_at, port_end, lock_end, moment_after}
-use Rattle.srcp_rules.specs.Due.{due, due_change, is_due}
+use Rattle.srcp_rules.specs.Effect.{moment_after}
 use Rattle.srcp_rules.specs.Laws.{EndsInTime, LocksAreSet, LocksRunOut, PortsAreSet, PortsFallBack, comes_to, fallen, port_on}
 use Rattle.srcp_rules.proofs.KeyLaws.{same_key, same_key-true}
-use Rattle.srcp_info.proofs.KeyLaws.{device_from_owns}
-use Rattle.srcp_grammar.proofs.FindLaws.{each_filtered, each_unfiltered, found_holds}
-use Rattle.srcp_rules.proofs.StateLaws.{row_at-put_row, row_at-put_same, row_at-without, row_at_key, each_found}
-use Rattle.srcp_rules.proofs.DueLaws.{due_may}
+use Rattle.srcp_grammar.proofs.FindLaws.{each_unfiltered}
+use Rattle.srcp_rules.proofs.StateLaws.{row_at-put_row, row_at-put_same, row_at-without, row_at_key, IsKnown, each_known}
+use Rattle.srcp_rules.proofs.DueRowLaws.{due_may}
 use Rattle.srcp_rules.proofs.DueStepLaws.{due_later, lock_port}
 use Rattle.srcp_rules.proofs.EffectLaws.{effect_kept}
+use Rattle.srcp_rules.proofs.CommandLaws.{unless_made}
 
 -- ---- one moment
 
@@ -40,21 +30,15 @@ module _ (buses : List Bus) (moment : ℕ) (now : IsMoment moment) where
   -- a row that is due falls
   due_fate : (row : Row) (shows : Value) → is_due moment row ≡ true → row.shown.value ≡ shows
       → comes_to moment row ≡ fallen moment row.shown.key shows
-  due_fate row shows now_due same =
-      ap (λ b. cond b (fallen moment row.shown.key row.shown.value) (Some row)) now_due ∙ ap (fallen moment row.shown.key) same
+  due_fate row shows now_due same = rw (now_due, same)
 
   -- and any other stays
   other_fate : (row : Row) → is_due moment row ≡ false → comes_to moment row ≡ Some row
-  other_fate row other = ap (λ b. cond b (fallen moment row.shown.key row.shown.value) (Some row)) other
+  other_fate row other = rw other
 
   module _ (state : State) (whole : IsWhole buses state) where
     abbrev Known : Row → Type 0
-    Known row = IsRowOf buses row × (row_at row.shown.key state ≡ Some row)
-
-    known : AllByRecursion Known state
-    known =
-        each_found Known state whole.rising
-        (λ key row h. (whole.rows key row h, subst (λ k. row_at k state ≡ Some row) (sym (row_at_key key state row h)) h))
+    Known row = IsKnown buses state row
 
     -- ---- a port that is due
 
@@ -102,19 +86,14 @@ module _ (buses : List Bus) (moment : ℕ) (now : IsMoment moment) where
     -- to carry it out leaves what the moment makes of each row
     step_by : (row : Row) → Known row → is_due moment row ≡ true → (shows : Value) → row.shown.value ≡ shows → MayFall shows → (key : Key)
         → fate (row_at key (updated (due_change moment row.shown.key shows) state)) ≡ fate (row_at key state)
-    step_by row k now_due (value.Session mode) same may key = absurd may
-    step_by row k now_due (value.Power on text) same may key = absurd may
-    step_by row k now_due (value.GlInit letter version steps functions) same may key = absurd may
-    step_by row k now_due (value.GlState mode v vmax functions) same may key = absurd may
-    step_by row k now_due (value.GaInit letter) same may key = absurd may
     step_by row k now_due (value.GaPort on) same may key =
         ap fate (row_at-put_row key (row_put moment row.shown.key (value.GaPort false) None) state)
         ∙ port_fate row on k now_due same key (same_key row.shown.key key) refl
-    step_by row k now_due (value.Fb on) same may key = absurd may
     step_by row k now_due (value.Lock seconds session) same may key =
         let fits = subst (IsValueAt row.shown.key.group row.shown.key.port) same k.0.shown.value in
         ap fate (row_at-without key (device_of row.shown.key) state)
         ∙ lock_fate row seconds session k fits.0 now_due same key (owns (device_of row.shown.key) key) refl
+    step_by row k now_due other same may key = absurd may
 
     first_step : (rows : List Row) (update : Update) (updates : List Update)
         → AllByRecursion (λ row. Known row × (is_due moment row ≡ true)) rows
@@ -130,7 +109,8 @@ module _ (buses : List Bus) (moment : ℕ) (now : IsMoment moment) where
     step : (update : Update) (updates : List Update) → due state moment ≡ update ∷ updates → (key : Key)
         → fate (row_at key (updated update state)) ≡ fate (row_at key state)
     step update updates e key =
-        first_step (filter (is_due moment) state) update updates (each_filtered Known (is_due moment) state known) e key
+        first_step (filter (is_due moment) state) update updates
+        (each_filtered Known (is_due moment) state (each_known buses state whole)) e key
 
     -- ---- if nothing is due
 
@@ -141,17 +121,12 @@ module _ (buses : List Bus) (moment : ℕ) (now : IsMoment moment) where
         let bad : due_change moment row.shown.key row.shown.value ∷ map (λ r. due_change moment r.shown.key r.shown.value) rows ≡ [] = e in
         cc
 
-    stays : (row : Row) → (is_due moment row ≡ true → ⊥) → (b : Bool) → is_due moment row ≡ b → b ≡ false
-    stays row none true e = absurd (none e)
-    stays row none false e = refl
-
     still_by : due state moment ≡ [] → (key : Key) (o : Option Row) → row_at key state ≡ o → o ≡ fate o
     still_by e key None h = refl
     still_by e key (Some row) h =
-        let none : is_due moment row ≡ true → ⊥ =
-        found_holds (λ r. is_due moment r ≡ true → ⊥) (λ r. same_key r.shown.key key) state
-        (each_unfiltered (λ r. ⊥) (is_due moment) state (nothing_due (filter (is_due moment) state) e)) row h in
-        sym (other_fate row (stays row none (is_due moment row) refl))
+        sym (other_fate row (false_from_ne_true (is_due moment row)
+        (found_holds (λ r. is_due moment r ≡ true → ⊥) (λ r. same_key r.shown.key key) state
+        (each_unfiltered (λ r. ⊥) (is_due moment) state (nothing_due (filter (is_due moment) state) e)) row h)))
 
   all_fates : (updates : List Update) (state : State) → IsWhole buses state → due state moment ≡ updates → (key : Key)
       → row_at key (updated_all updates state) ≡ fate (row_at key state)
@@ -170,14 +145,8 @@ module _ (buses : List Bus) (moment : ℕ) (now : IsMoment moment) where
 -- a command that is accepted makes its changes
 accepted_done : (refused : List (Bool × Code)) (updates : List Update) → (done (unless_refused refused updates)).reply ≡ Accepted
     → (done (unless_refused refused updates)).updates ≡ updates
-accepted_done [] updates e = refl
-accepted_done (refusal ∷ others) updates e = by refusal.0 (accepted_done others updates) e
-  where
-    by : (b : Bool) → ((done (unless_refused others updates)).reply ≡ Accepted → (done (unless_refused others updates)).updates ≡ updates)
-        → (done (cond b (Err refusal.1) (unless_refused others updates))).reply ≡ Accepted
-        → (done (cond b (Err refusal.1) (unless_refused others updates))).updates ≡ updates
-    by true later e = cc
-    by false later e = later e
+accepted_done refused updates =
+    unless_made (λ did. did.reply ≡ Accepted → did.updates ≡ updates) (λ code e. cc) refused updates (λ none e. refl)
 
 -- so the row that a SET puts is there
 put_there : (refused : List (Bool × Code)) (moment : ℕ) (key : Key) (shows : Value) (ends : Option ℕ) (state : State)
@@ -202,10 +171,10 @@ lock_set state session moment lock e =
 -- ---- and what becomes of it
 
 some_time : (moment n : ℕ) → 0 < n → port_end moment true (Some n) ≡ Some (moment_after moment n)
-some_time moment n some = ap (λ b. cond b (Some (moment_after moment n)) None) (lt-ltb 0 n some)
+some_time moment n some = rw (lt-ltb 0 n some)
 
 some_seconds : (moment n : ℕ) → 0 < n → lock_end moment n ≡ Some (moment_after moment (1000 * n))
-some_seconds moment n some = ap (λ b. cond b (Some (moment_after moment (1000 * n))) None) (lt-ltb 0 n some)
+some_seconds moment n some = rw (lt-ltb 0 n some)
 
 pub port_falls : PortsFallBack
 port_falls buses state session moment later bus address port milliseconds may begins now some e after is =

@@ -1,13 +1,8 @@
 -- What the end of a session leaves.
-use Rattle.std.specs.Prelude.{◌≡◌, ℕ, Bool, true, false, ◌==◌, List, Option, Some, None}
-use Rattle.std.proofs.Common.{refl, sym, ap, ◌∙◌, true≢false, eqb-true}
-use Rattle.std.specs.Option.{option_map_or}
-use Rattle.srcp_info.specs.declared.key.Key.{Key}
-use Rattle.srcp_info.specs.declared.change.Row.{Row}
-use Rattle.srcp_grammar.specs.declared.layout.Bus.{Bus}
-use Rattle.srcp_grammar.specs.Devices.{session_device}
-use Rattle.srcp_rules.specs.State.{State, IsWhole, row_at, is_there, holder_of, updated_all}
-use Rattle.srcp_rules.specs.Due.{freed}
+use Rattle.srcp_rules.proofs.Names
+use Names.{◌≡◌, ℕ, true, false, ◌==◌, List, Option, Some, None, refl, sym, ap, ◌∙◌, true≢false, option_map_or, Key, Row, Bus}
+use Names.{session_device, State, IsWhole, row_at, is_there, holder_of, updated_all, freed, false_from_ne_true}
+use Rattle.std.proofs.Common.{eqb-true}
 use Rattle.srcp_rules.specs.Laws.{IsFreed}
 use Rattle.srcp_rules.proofs.DueLaws.{freed_kept}
 use Rattle.srcp_rules.proofs.SessionLaws.{freed_own, freed_others}
@@ -17,13 +12,10 @@ unheld : (buses : List Bus) (state : State) (session : ℕ) → IsWhole buses st
     → (key : Key) (row : Row) → row_at key state ≡ Some row
     → (o : Option ℕ) → holder_of row ≡ o → option_map_or (λ holder. holder == session) o false ≡ false
 unheld buses state session whole absent key row h None e = refl
-unheld buses state session whole absent key row h (Some holder) e = by (holder == session) refl
-  where
-    by : (b : Bool) → (holder == session) ≡ b → b ≡ false
-    by true same =
-        let there : is_there (session_device holder) state ≡ true = whole.held key row h holder e in
-        absurd (true≢false (sym there ∙ ap (λ n. is_there (session_device n) state) (eqb-true holder session same) ∙ absent))
-    by false same = refl
+unheld buses state session whole absent key row h (Some holder) e =
+    false_from_ne_true (holder == session) (λ same.
+    let there : is_there (session_device holder) state ≡ true = whole.held key row h holder e in
+    true≢false (sym there ∙ ap (λ n. is_there (session_device n) state) (eqb-true holder session same) ∙ absent))
 
 pub all_freed : (buses : List Bus) (state : State) (session moment : ℕ) → IsWhole buses state
     → IsFreed session state (updated_all (freed state session moment) state)

@@ -1,25 +1,17 @@
 -- A device that is made, or made afresh.
-use Rattle.std.specs.Prelude.{◌≡◌, ℕ, ◌<◌, Bool, true, false, cond, is_some, List, [], ◌∷◌, ◌++◌, map, None, Ok, Err}
-use Rattle.std.proofs.Common.{refl, sym, ap, ◌∙◌, true≢false}
+use Rattle.srcp_rules.proofs.Names
+use Names.{◌≡◌, ℕ, ◌<◌, Bool, true, false, cond, is_some, List, [], ◌∷◌, ◌++◌, map, Ok, Err, refl, sym, ap, ◌∙◌, true≢false, Row, Change}
+use Names.{C414, Value, first_key, owns, Bus, DeviceGroup, row_count, device_in, lock_on, State, Update, IsWhole, is_there, put_of, without}
+use Names.{updated_all, accepted, done, gone_at, is_locked, removal, removals, AreRowsOf, AreNewRowsOf, put_rows}
+use Names.devices
 use Rattle.std.proofs.lemmas.List.{map-append}
-use Rattle.srcp_info.specs.declared.change.Row.{Row}
-use Rattle.srcp_info.specs.declared.change.Change.{Change}
-use Rattle.srcp_info.specs.declared.change.Code.TheVariants.{C414}
-use Rattle.srcp_info.specs.declared.value.Value.{Value}
-use Rattle.srcp_info.specs.Key.{first_key, owns}
-use Rattle.srcp_grammar.specs.declared.layout.Bus.{Bus}
-use Rattle.srcp_grammar.specs.declared.command.DeviceGroup.{DeviceGroup}
-use Rattle.srcp_grammar.specs.declared.command.DeviceGroup.TheVariants as devices
-use Rattle.srcp_grammar.specs.Layout.{row_count}
-use Rattle.srcp_grammar.specs.Devices.{device_in, lock_on}
-use Rattle.srcp_rules.specs.State.{State, Update, IsWhole, row_at, is_there, put_of, without, updated_all}
-use Rattle.srcp_rules.specs.Effect.{accepted, done, gone_at, has_init, init_device, is_locked, removal, removals}
-use Rattle.srcp_rules.specs.Rows.{AreRowsOf, AreNewRowsOf, put_rows}
-use Rattle.srcp_rules.proofs.StateLaws.{row_at-without, updated_all-append}
+use Rattle.srcp_rules.specs.Effect.{has_init, init_device}
+use Rattle.srcp_rules.proofs.StateLaws.{row_at-kept, updated_all-append}
 use Rattle.srcp_rules.proofs.StepLaws.{lock_on_gone}
 use Rattle.srcp_rules.proofs.AddingLaws.{none_there}
 use Rattle.srcp_rules.proofs.PutRowsLaws.{updated_all-puts, put_rows-without}
 use Rattle.std.proofs.Math.Bool.{and-false}
+use Rattle.std.proofs.lemmas.Simd.{map-map}
 
 abbrev change_of : Update → Change
 change_of update = update.change
@@ -50,8 +42,7 @@ module _ (buses : List Bus) (state : State) (whole : IsWhole buses state) (momen
       by : (b : Bool) → is_there (device_in g bus address) (updated_all (lock_gone b) state) ≡ true
       by true =
           ap is_some
-          (row_at-without (first_key (device_in g bus address)) (lock_on g bus address) state
-          ∙ ap (λ b. cond b None (row_at (first_key (device_in g bus address)) state)) (lock_apart g bus address))
+          (row_at-kept (first_key (device_in g bus address)) (lock_on g bus address) state (lock_apart g bus address))
           ∙ there
       by false = there
 
@@ -66,8 +57,7 @@ module _ (buses : List Bus) (state : State) (whole : IsWhole buses state) (momen
       no_lock false e = e
 
   changes_puts : (rows : List Row) → map (λ row. (put_of row).change) rows ≡ map change_of (map put_of rows)
-  changes_puts [] = refl
-  changes_puts (row ∷ rows) = ap (λ changes. (put_of row).change ∷ changes) (changes_puts rows)
+  changes_puts rows = sym (map-map change_of put_of rows)
 
   pub changes_made : (rows : List Row) → is_there (device_in g bus address) state ≡ false
       → map (λ row. (put_of row).change) rows ≡ map change_of (removals state moment g bus address ++ map put_of rows)

@@ -1,46 +1,25 @@
 -- The rows of all buses: look-ups, changes, and how they begin.
-use Rattle.std.specs.Prelude.{◌≡◌, ℕ, zero, suc, ◌<◌, Bool, true, false, ◌&&◌, ◌==◌, cond, is_some, not, List, [], ◌∷◌, ◌++◌, length, map}
-use Rattle.std.specs.Prelude.{flat_map, take, drop, find, slice_index_or, Option, Some, None, IsTrue, Result, Ok, Err, OnOk, OnErr}
-use Rattle.std.proofs.Common.{refl, sym, ap, subst, ◌∙◌, arith, append_assoc, true≢false}
-use Rattle.std.proofs.lemmas.Bool.{eqb-true}
-use Rattle.std.proofs.lemmas.Cmp.{nat_cmp_total, tied_itself}
-use Rattle.std.proofs.lemmas.List.{append-nil}
-use Rattle.std.specs.Cmp.{second_so}
-use Rattle.std.specs.List.{AllByRecursion}
-use Rattle.std.specs.Map.{keys_of, set_value}
-use Rattle.std.specs.Option.{option_map_or}
-use Rattle.std.specs.Ordering.{nat_cmp, is_eq, is_gt, match_ordering}
-use Rattle.std.specs.BTreeMap.{is_at, insert_entry}
-use Rattle.std.specs.BTreeMap.Range.{entries_between}
-use Rattle.std.specs.declared.ops.Bound.TheVariants.{Included, Unbounded}
-use Rattle.std.specs.declared.cmp.Ordering.TheVariants.{Less}
-use Rattle.srcp_info.specs.declared.key.Group.{Group}
-use Rattle.srcp_info.specs.declared.key.Group.TheVariants as group
-use Rattle.srcp_info.specs.declared.key.Key.{Key}
-use Rattle.srcp_info.specs.declared.key.Device.{Device}
-use Rattle.srcp_info.specs.declared.change.Row.{Row}
-use Rattle.srcp_info.specs.declared.change.Cursor.{Cursor}
-use Rattle.srcp_info.specs.declared.change.Cursor.TheVariants as cursor
-use Rattle.srcp_info.specs.Key.{key_cmp, first_key, has_reached, owns}
-use Rattle.srcp_info.specs.WellFormed.{can_go}
-use Rattle.srcp_grammar.specs.declared.layout.Bus.{Bus}
-use Rattle.srcp_grammar.specs.Layout.{IsLayout, bus_at, row_count, rows_on, server}
-use Rattle.srcp_grammar.specs.Devices.{fb_device, key_at, power_device}
-use Rattle.srcp_rules.specs.State.{State, IsRising, has_row, is_there, opening, put_row, row_at, row_after, without}
-use Rattle.srcp_rules.specs.Rows.{put_rows}
+use Rattle.srcp_rules.proofs.Names
+use Names.{◌≡◌, ℕ, zero, suc, ◌<◌, Bool, true, false, ◌&&◌, ◌==◌, cond, is_some, not, List, [], ◌∷◌, ◌++◌, length, map, flat_map, take}
+use Names.{drop, find, slice_index_or, Option, Some, None, IsTrue, Result, Ok, Err, OnOk, OnErr, refl, sym, ap, subst, ◌∙◌, arith}
+use Names.{true≢false, eqb-true, nat_cmp_total, tied_itself, append-nil, second_so, AllByRecursion, keys_of, set_value, option_map_or}
+use Names.{nat_cmp, is_eq, is_gt, match_ordering, is_at, insert_entry, entries_between, Included, Unbounded, Less, Group, Key, Device, Row}
+use Names.{Cursor, key_cmp, first_key, has_reached, owns, can_go, Bus, IsLayout, bus_at, row_count, rows_on, server, fb_device, key_at}
+use Names.{power_device, State, IsRising, has_row, is_there, opening, put_row, row_at, row_after, without, put_rows, AreRowsOfBus}
+use Names.{AreSorted, bus_rows, entry_at, listed, Rising, each_at, weaken}
+use Names.group
+use Names.cursor
 use Rattle.srcp_rules.specs.declared.nested.bus_rows.BusRows.{BusRows}
-use Rattle.srcp_rules.specs.Nested.{AreRowsOfBus, AreRowsOfLayout, AreSorted, bus_rows, entry_at, group_rows, listed}
-use Rattle.srcp_grammar.proofs.FindLaws.{each-weaken}
+use Rattle.srcp_rules.specs.Nested.{AreRowsOfLayout, group_rows}
 use Rattle.srcp_grammar.proofs.LayoutLaws.{within_step}
-use Rattle.srcp_grammar.proofs.BusLaws.{Rising}
 use Rattle.srcp_rules.proofs.OpeningLaws.{opening_whole}
-use Rattle.srcp_grammar.proofs.PlaceLaws.{each_at}
-use Rattle.srcp_rules.proofs.StateLaws.{has_row-put_row, row_at-without}
+use Rattle.srcp_rules.proofs.StateLaws.{has_row-put_row, row_at-kept}
 use Rattle.srcp_rules.proofs.PutRowsLaws.{has_row-put_rows}
 use Rattle.srcp_rules.proofs.OrderLaws.{bus_order, greater, owns-other}
 use Rattle.srcp_rules.proofs.ListedLaws.{IsTagged, each-set_value, entry_holds, row_at-listed, row_after-listed, row_after-own}
 use Rattle.srcp_rules.proofs.TaggedLaws.{listed-put_row, listed-put_rows, listed-rising, listed-same, listed-without, listed-without_none}
 use Rattle.srcp_rules.proofs.BusRowsLaws.{bus_rising, row_after-own_group, rows_on_bus}
+use Rattle.std.proofs.lemmas.Grind.{flat_map-append}
 
 abbrev Any : Key → Type 0
 Any key = Unit {0}
@@ -57,35 +36,28 @@ apart device key x h = owns-other device key (λ e. h (ap (λ (d : Device). d.bu
 
 -- ---- numbers of records
 
-choose : {X : Type 0} (c : Bool) (xs ys : List (ℕ × X)) → keys_of (cond c xs ys) ≡ cond c (keys_of xs) (keys_of ys)
-choose true xs ys = refl
-choose false xs ys = refl
-
-same_either : {A : Type 0} (c : Bool) (x : A) → cond c x x ≡ x
-same_either true x = refl
-same_either false x = refl
-
 -- setting an entry keeps the numbers
 keys_of-set_value : {X : Type 0} (n : ℕ) (w : X) (es : List (ℕ × X)) → keys_of (set_value (is_at (nat_cmp n)) es w) ≡ keys_of es
 keys_of-set_value n w [] = refl
-keys_of-set_value n w (e ∷ es) =
-    choose (is_at (nat_cmp n) e.0) ((e.0, w) ∷ es) (e ∷ set_value (is_at (nat_cmp n)) es w)
-    ∙ ap (λ ks. cond (is_at (nat_cmp n) e.0) (e.0 ∷ keys_of es) (e.0 ∷ ks)) (keys_of-set_value n w es)
-    ∙ same_either (is_at (nat_cmp n) e.0) (e.0 ∷ keys_of es)
+keys_of-set_value n w (e ∷ es) = by (is_at (nat_cmp n) e.0) (keys_of-set_value n w es)
+  where
+    by : (b : Bool) → keys_of (set_value (is_at (nat_cmp n)) es w) ≡ keys_of es
+        → keys_of (cond b ((e.0, w) ∷ es) (e ∷ set_value (is_at (nat_cmp n)) es w)) ≡ e.0 ∷ keys_of es
+    by true ih = refl
+    by false ih = ap (λ ks. e.0 ∷ ks) ih
 
 -- ---- the records of a layout
 
 module _ {buses : List Bus} {es : List (ℕ × BusRows)} (are : AreRowsOfLayout buses es) where
   tagged : AllByRecursion (IsTagged bus_rows bus_of Any) es
   tagged =
-      each-weaken {P = λ e. AreRowsOfBus e.0 e.1}
-      (λ e h. each-weaken {P = λ row. row.shown.key.bus ≡ e.0} (λ row t. (tt, t)) (bus_rows e.1) (rows_on_bus h)) es are.each
+      weaken es are.each (λ e h. weaken (bus_rows e.1) (rows_on_bus h) (λ row t. (tt, t)))
 
   -- the keys of all rows rise
   pub rising-buses : IsRising (listed bus_rows es)
   rising-buses =
       listed-rising bus_rows bus_of Any in_order es tagged are.sorted
-      (each-weaken {P = λ e. AreRowsOfBus e.0 e.1} (λ e h. bus_rising h) es are.each)
+      (weaken es are.each (λ e h. bus_rising h))
 
   -- the record that is found
   pub found_bus : {n : ℕ} {rows : BusRows} → Some rows ≡ entry_at n es → AreRowsOfBus n rows
@@ -142,7 +114,7 @@ module _ {buses : List Bus} {es : List (ℕ × BusRows)} (are : AreRowsOfLayout 
       → bus_rows after ≡ put_rows added (bus_rows rows)
       → listed bus_rows (set_value (is_at (nat_cmp n)) es after) ≡ put_rows added (listed bus_rows es)
   put_rows-bus n added new {rows} after e is =
-      let each = each-weaken {P = λ row. row.shown.key.bus ≡ n} (λ row t. (tt, t)) added new in
+      let each = weaken added new (λ row t. (tt, t)) in
       listed-put_rows bus_rows bus_of Any in_order n added each es tagged are.sorted rows after (sym e) is
 
   pub same-bus : (n : ℕ) {rows : BusRows} (after : BusRows) → Some rows ≡ entry_at n es → bus_rows after ≡ bus_rows rows
@@ -186,8 +158,7 @@ module _ {buses : List Bus} {es : List (ℕ × BusRows)} (are : AreRowsOfLayout 
       let kept : owns gone (first_key device) ≡ false =
       owns-other gone (first_key device) (λ e. true≢false (sym goes ∙ sym (ap (λ (d : Device). can_go d.group) e) ∙ never)) in
       ap (has_row (first_key device)) is
-      ∙ ap is_some (row_at-without (first_key device) gone (listed bus_rows es)
-      ∙ ap (λ c. cond c None (row_at (first_key device) (listed bus_rows es))) kept)
+      ∙ ap is_some (row_at-kept (first_key device) gone (listed bus_rows es) kept)
       ∙ are.stays device never count
 
   -- ---- a device of the layout that is not there
@@ -206,7 +177,7 @@ module _ {buses : List Bus} {es : List (ℕ × BusRows)} (are : AreRowsOfLayout 
 
 found_step : {X : Type 0} (n m : ℕ) (x : X) (o : Option X) (c : Bool) → (m == n) ≡ c → (c ≡ false → is_some o ≡ true)
     → is_some (cond (is_eq (nat_cmp n m)) (Some x) o) ≡ true
-found_step n m x o true e h = ap (λ r. is_some (cond (is_eq r) (Some x) o)) (ap (nat_cmp n) (eqb-true m n e) ∙ tied_itself nat_cmp_total n)
+found_step n m x o true e h = rw (eqb-true m n e, tied_itself nat_cmp_total n)
 found_step n m x o false e h = here_or (is_eq (nat_cmp n m)) (h refl)
   where
     here_or : (b : Bool) → is_some o ≡ true → is_some (cond b (Some x) o) ≡ true
@@ -251,13 +222,8 @@ before_rising (b ∷ bs) r zero d h = tt
 before_rising (b ∷ bs) r (suc i) d h =
     (each_at (λ c. b.number < c.number) bs r.0 i d (omega (arith, h)), before_rising bs r.1 i d (omega (arith, h)))
 
-pub map-append : {X Y : Type 0} (f : X → Y) (xs ys : List X) → map f (xs ++ ys) ≡ map f xs ++ map f ys
-map-append f [] ys = refl
-map-append f (x ∷ xs) ys = ap (λ zs. f x ∷ zs) (map-append f xs ys)
-
 pub flat_map_last : {X Y : Type 0} (f : X → List Y) (xs : List X) (x : X) → flat_map f (xs ++ x ∷ []) ≡ flat_map f xs ++ f x
-flat_map_last f [] x = append-nil (f x)
-flat_map_last f (y ∷ xs) x = ap (λ zs. f y ++ zs) (flat_map_last f xs x) ∙ sym (append_assoc (f y) (flat_map f xs) (f x))
+flat_map_last f xs x = flat_map-append f xs (x ∷ []) ∙ ap (λ zs. flat_map f xs ++ zs) (append-nil (f x))
 
 -- what never goes begins with the registry
 power_address : (a : ℕ) (o : Option Bus) → 0 < option_map_or (λ bus. rows_on bus group.Power a) o 0 → a ≡ 0
@@ -266,7 +232,6 @@ power_address a (Some bus) h = eqb-true a 0 (second_so bus.power (a == 0) (withi
 
 stays_on : (buses : List Bus) → IsLayout buses → (device : Device) (g : Group) → device.group ≡ g → can_go g ≡ false
     → 0 < row_count buses device → is_there device (opening buses 0) ≡ true
-stays_on buses layout device group.Session e never count = absurd (true≢false never)
 stays_on buses layout device group.Power e never count =
     let zeroth =
     power_address device.address (bus_at buses device.bus)
@@ -274,14 +239,11 @@ stays_on buses layout device group.Power e never count =
     let same : device ≡ power_device device.bus = λ i. record { bus = device.bus; group = e i; address = zeroth i } in
     ap (λ d. is_there d (opening buses 0)) same
     ∙ (opening_whole buses layout 0 (omega arith)).power device.bus (subst (λ d. 0 < row_count buses d) same count)
-stays_on buses layout device group.Gl e never count = absurd (true≢false never)
-stays_on buses layout device group.Ga e never count = absurd (true≢false never)
 stays_on buses layout device group.Fb e never count =
     let same : device ≡ fb_device device.bus device.address = λ i. record { bus = device.bus; group = e i; address = device.address } in
     ap (λ d. is_there d (opening buses 0)) same
     ∙ (opening_whole buses layout 0 (omega arith)).fb device.bus device.address (subst (λ d. 0 < row_count buses d) same count)
-stays_on buses layout device group.LockGl e never count = absurd (true≢false never)
-stays_on buses layout device group.LockGa e never count = absurd (true≢false never)
+stays_on buses layout device other e never count = absurd (true≢false never)
 
 pub stays-opening : (buses : List Bus) → IsLayout buses → (device : Device) → can_go device.group ≡ false → 0 < row_count buses device
     → is_there device (opening buses 0) ≡ true

@@ -1,33 +1,20 @@
 -- The rows of a device that is new: they are by rising port, and as few as its group has.
-use Rattle.std.specs.Prelude.{◌≡◌, ℕ, zero, suc, ◌+◌, ◌<◌, ◌≤◌, Bool, true, false, List, [], ◌∷◌, length, map, drop, slice_get}
-use Rattle.std.specs.Prelude.{slice_index_or, Option, Some, None}
-use Rattle.std.proofs.Common.{refl, sym, ap, subst, ◌∙◌, arith}
-use Rattle.std.proofs.lemmas.Option.{none-some, same_Some}
-use Rattle.std.specs.List.{AllByRecursion, range_with_len}
-use Rattle.std.specs.Option.{option_map_or}
-use Rattle.srcp_info.specs.declared.key.Group.{Group}
-use Rattle.srcp_info.specs.declared.key.Group.TheVariants as group
-use Rattle.srcp_info.specs.declared.key.Key.{Key}
-use Rattle.srcp_info.specs.declared.key.Device.{Device}
-use Rattle.srcp_info.specs.declared.change.Row.{Row}
-use Rattle.srcp_info.specs.Key.{key_cmp, device_of}
-use Rattle.srcp_grammar.specs.declared.layout.Bus.{Bus}
-use Rattle.srcp_grammar.specs.Layout.{bus_at, row_count, rows_if, rows_on}
-use Rattle.srcp_grammar.specs.Devices.{key_at}
-use Rattle.srcp_rules.specs.State.{State, IsRising, has_row}
-use Rattle.srcp_rules.specs.Rows.{AreNewRowsOf, AreRowsOf, most_rows}
-use Rattle.srcp_rules.specs.Nested.{AreOfDevice}
-use Rattle.srcp_grammar.proofs.FindLaws.{each-weaken}
+use Rattle.srcp_rules.proofs.Names
+use Names.{◌≡◌, ℕ, zero, suc, ◌+◌, ◌<◌, ◌≤◌, Bool, true, false, List, [], ◌∷◌, length, map, drop, slice_get, slice_index_or, Option, Some}
+use Names.{None, refl, sym, ap, subst, ◌∙◌, arith, none-some, same_Some, AllByRecursion, range_with_len, option_map_or, Group, Key, Device}
+use Names.{Row, key_cmp, device_of, Bus, bus_at, row_count, rows_if, rows_on, key_at, State, IsRising, has_row, AreNewRowsOf, AreRowsOf}
+use Names.{most_rows, AreOfDevice, weaken}
+use Names.group
 use Rattle.srcp_rules.proofs.OrderLaws.{port_order}
 
-heads : {X : Type 0} (x y : X) (xs ys : List X) → x ∷ xs ≡ y ∷ ys → x ≡ y
-heads x y xs ys e = ap (λ zs. slice_index_or zs 0 x) e
+heads : {X : Type 0} {x y : X} {xs ys : List X} → x ∷ xs ≡ y ∷ ys → x ≡ y
+heads {x} e = ap (λ zs. slice_index_or zs 0 x) e
 
-tails : {X : Type 0} (x y : X) (xs ys : List X) → x ∷ xs ≡ y ∷ ys → xs ≡ ys
-tails x y xs ys e = ap (drop 1) e
+tails : {X : Type 0} {x y : X} {xs ys : List X} → x ∷ xs ≡ y ∷ ys → xs ≡ ys
+tails e = ap (drop 1) e
 
-none_left : {X : Type 0} (x : X) (xs : List X) → x ∷ xs ≡ [] → ⊥
-none_left x xs e = let n : length (x ∷ xs) ≡ 0 = ap length e in omega (arith, n)
+none_left : {X : Type 0} {x : X} {xs : List X} → x ∷ xs ≡ [] → ⊥
+none_left {x} {xs} e = let n : length (x ∷ xs) ≡ 0 = ap length e in omega (arith, n)
 
 module _ (device : Device) where
   abbrev pub IsFrom : ℕ → Row → Type 0
@@ -36,17 +23,16 @@ module _ (device : Device) where
   pub ports_from : (rows : State) (first n : ℕ) → map (λ row. row.shown.key) rows ≡ map (key_at device) (range_with_len first n)
       → AllByRecursion (IsFrom first) rows
   ports_from [] first n e = tt
-  ports_from (row ∷ rows) first zero e = absurd (none_left row.shown.key (map (λ row. row.shown.key) rows) e)
+  ports_from (row ∷ rows) first zero e = absurd (none_left e)
   ports_from (row ∷ rows) first (suc n) e = (
     (
       first,
       omega arith,
-      heads row.shown.key (key_at device first) (map (λ row. row.shown.key) rows) (map (key_at device) (range_with_len (first + 1) n)) e,
+      heads e,
     ),
-    each-weaken {P = IsFrom (first + 1)} (λ row h. (h.0, weaker first h.0 h.1, h.2)) rows
-        (ports_from rows (first + 1) n
-        (tails row.shown.key (key_at device first) (map (λ row. row.shown.key) rows)
-        (map (key_at device) (range_with_len (first + 1) n)) e)),
+    weaken rows (ports_from rows (first + 1) n
+        (tails e))
+        (λ row h. (h.0, weaker first h.0 h.1, h.2)),
   )
     where
       weaker : (a b : ℕ) → a + 1 ≤ b → a ≤ b
@@ -55,17 +41,12 @@ module _ (device : Device) where
   pub ports_rise : (rows : State) (first n : ℕ) → map (λ row. row.shown.key) rows ≡ map (key_at device) (range_with_len first n)
       → IsRising rows
   ports_rise [] first n e = tt
-  ports_rise (row ∷ rows) first zero e = absurd (none_left row.shown.key (map (λ row. row.shown.key) rows) e)
+  ports_rise (row ∷ rows) first zero e = absurd (none_left e)
   ports_rise (row ∷ rows) first (suc n) e =
-      let here =
-      heads row.shown.key (key_at device first) (map (λ row. row.shown.key) rows)
-      (map (key_at device) (range_with_len (first + 1) n)) e in
-      let rest =
-      tails row.shown.key (key_at device first) (map (λ row. row.shown.key) rows)
-      (map (key_at device) (range_with_len (first + 1) n)) e in (
-        each-weaken {P = IsFrom (first + 1)}
-            (λ other h. (λ i. key_cmp (here i) (h.2 i)) ∙ port_order device first h.0 (stricter first h.0 h.1)) rows
-            (ports_from rows (first + 1) n rest),
+      let here : row.shown.key ≡ key_at device first = heads e in
+      let rest = tails e in (
+        weaken rows (ports_from rows (first + 1) n rest)
+            (λ other h. (λ i. key_cmp (here i) (h.2 i)) ∙ port_order device first h.0 (stricter first h.0 h.1)),
         ports_rise rows (first + 1) n rest,
       )
     where
@@ -74,13 +55,10 @@ module _ (device : Device) where
 
   counted : (rows : State) (first n : ℕ) → map (λ row. row.shown.key) rows ≡ map (key_at device) (range_with_len first n) → length rows ≡ n
   counted [] first zero e = refl
-  counted [] first (suc n) e = absurd (none_left (key_at device first) (map (key_at device) (range_with_len (first + 1) n)) (sym e))
-  counted (row ∷ rows) first zero e = absurd (none_left row.shown.key (map (λ row. row.shown.key) rows) e)
+  counted [] first (suc n) e = absurd (none_left (sym e))
+  counted (row ∷ rows) first zero e = absurd (none_left e)
   counted (row ∷ rows) first (suc n) e =
-      let rest =
-      counted rows (first + 1) n
-      (tails row.shown.key (key_at device first) (map (λ row. row.shown.key) rows)
-      (map (key_at device) (range_with_len (first + 1) n)) e) in
+      let rest = counted rows (first + 1) n (tails e) in
       omega (arith, rest)
 
   -- all rows of a device are by rising port, each of the device
@@ -89,9 +67,8 @@ module _ (device : Device) where
   new_device buses rows h some = record {
     rising = ports_rise rows 0 (row_count buses device) h.keys;
     each =
-        each-weaken {P = IsFrom 0}
-        (λ row k. ((ap (λ (key : Key). key.bus) k.2, ap (λ (key : Key). key.group) k.2), ap (λ (key : Key). key.address) k.2)) rows
-        (ports_from rows 0 (row_count buses device) h.keys);
+        weaken rows (ports_from rows 0 (row_count buses device) h.keys)
+        (λ row k. ((ap (λ (key : Key). key.bus) k.2, ap (λ (key : Key). key.group) k.2), ap (λ (key : Key). key.address) k.2));
     some = some;
   }
 
@@ -101,20 +78,11 @@ module _ (device : Device) where
 
   few_on : (o : Option Bus) (rows : State) (g : Group) → length rows ≡ option_map_or (λ bus. rows_on bus g device.address) o 0
       → length rows ≤ 9 → length rows ≤ most_rows g
-  few_on None rows group.Session e h = omega (arith, e)
-  few_on None rows group.Power e h = omega (arith, e)
-  few_on None rows group.Gl e h = omega (arith, e)
   few_on None rows group.Ga e h = h
-  few_on None rows group.Fb e h = omega (arith, e)
-  few_on None rows group.LockGl e h = omega (arith, e)
-  few_on None rows group.LockGa e h = omega (arith, e)
-  few_on (Some bus) rows group.Session e h = let few = at_most _ 1 1 (omega arith) in subst (λ n. n ≤ 1) (sym e) few
-  few_on (Some bus) rows group.Power e h = subst (λ n. n ≤ 1) (sym e) (at_most _ 1 1 (omega arith))
-  few_on (Some bus) rows group.Gl e h = subst (λ n. n ≤ 2) (sym e) (at_most _ 2 2 (omega arith))
+  few_on None rows other e h = omega (arith, e)
   few_on (Some bus) rows group.Ga e h = h
-  few_on (Some bus) rows group.Fb e h = subst (λ n. n ≤ 1) (sym e) (at_most _ 1 1 (omega arith))
-  few_on (Some bus) rows group.LockGl e h = subst (λ n. n ≤ 1) (sym e) (at_most _ 1 1 (omega arith))
-  few_on (Some bus) rows group.LockGa e h = subst (λ n. n ≤ 1) (sym e) (at_most _ 1 1 (omega arith))
+  few_on (Some bus) rows group.Gl e h = subst (λ n. n ≤ 2) (sym e) (at_most _ 2 2 (omega arith))
+  few_on (Some bus) rows other e h = subst (λ n. n ≤ 1) (sym e) (at_most _ 1 1 (omega arith))
 
   -- and as few as its group has
   few_rows : (buses : List Bus) (rows : State) → AreRowsOf buses device rows → length rows ≤ most_rows device.group

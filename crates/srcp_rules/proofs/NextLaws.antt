@@ -1,26 +1,15 @@
 -- The first change of a moment beyond a cursor, and the first of a session's end.
-use Rattle.std.specs.Prelude.{◌≡◌, ℕ, Bool, true, false, not, ◌&&◌, cond, is_some, List, [], ◌∷◌, ◌++◌, map, filter, find, option_map, Some}
-use Rattle.std.specs.Prelude.{None}
-use Rattle.std.proofs.Common.{refl, sym, ap, subst, ◌∙◌}
-use Rattle.std.specs.Cmp.{second_so}
-use Rattle.std.specs.List.{AllByRecursion}
-use Rattle.srcp_info.specs.declared.key.Key.{Key}
-use Rattle.srcp_info.specs.declared.value.Value.{Value}
-use Rattle.srcp_info.specs.declared.value.Value.TheVariants as value
-use Rattle.srcp_info.specs.declared.change.Row.{Row}
-use Rattle.srcp_info.specs.declared.change.Cursor.{Cursor}
-use Rattle.srcp_info.specs.Key.{device_of, first_key, key_of, has_reached}
-use Rattle.srcp_info.specs.WellFormed.{IsMoment, IsValueAt, IsWellFormed}
-use Rattle.srcp_grammar.specs.declared.layout.Bus.{Bus}
-use Rattle.srcp_grammar.specs.Devices.{session_device}
-use Rattle.srcp_rules.specs.State.{State, Update, AddsNoRow, IsWhole, IsRowOf, MayFall, row_at, is_there, updated}
-use Rattle.srcp_rules.specs.Effect.{gone_at}
-use Rattle.srcp_rules.specs.Due.{due_after, due_change, first_due, first_held, is_due, is_held_by, freed}
-use Rattle.srcp_grammar.proofs.FindLaws.{found_holds, find_same, each-weaken}
-use Rattle.srcp_info.proofs.ListingLaws.{find_passes}
-use Rattle.srcp_rules.proofs.StateLaws.{row_at_key, each_found}
+use Rattle.srcp_rules.proofs.Names
+use Names.{◌≡◌, ℕ, Bool, true, false, not, ◌&&◌, cond, is_some, List, [], ◌∷◌, ◌++◌, map, filter, find, option_map, Some, None, refl, sym}
+use Names.{ap, subst, ◌∙◌, second_so, Key, Value, Row, Cursor, device_of, first_key, key_of, has_reached, IsMoment, IsValueAt, IsWellFormed}
+use Names.{Bus, session_device, State, Update, AddsNoRow, IsWhole, MayFall, row_at, is_there, updated, gone_at, due_change, first_due}
+use Names.{first_held, is_due, is_held_by, freed, found_holds, find_passes, weaken, slice_get}
+use Names.value
+use Rattle.srcp_rules.specs.Due.{due_after}
+use Rattle.srcp_grammar.proofs.FindLaws.{find_same}
+use Rattle.srcp_rules.proofs.StateLaws.{IsKnown, each_known}
 use Rattle.srcp_rules.proofs.CursorLaws.{find-both}
-use Rattle.srcp_rules.proofs.DueLaws.{due_may, due_step}
+use Rattle.srcp_rules.proofs.DueRowLaws.{due_may, due_step}
 use Rattle.srcp_rules.proofs.ToldLaws.{change_told, freed_told}
 use Rattle.srcp_rules.proofs.FreedStepLaws.{freed_later}
 use Rattle.srcp_rules.proofs.AddsNoRowLaws.{AddsNoRow-from_put, due_put}
@@ -43,24 +32,14 @@ lock_key key h = λ i. record { bus = key.bus; group = key.group; address = key.
 -- the change that a row brings stands at the row
 pub change_key : (moment : ℕ) (key : Key) (shows : Value) → MayFall shows → IsValueAt key.group key.port shows
     → key_of (due_change moment key shows).change ≡ key
-change_key moment key (value.Session mode) may fits = absurd may
-change_key moment key (value.Power on text) may fits = absurd may
-change_key moment key (value.GlInit letter version steps functions) may fits = absurd may
-change_key moment key (value.GlState mode v vmax functions) may fits = absurd may
-change_key moment key (value.GaInit letter) may fits = absurd may
 change_key moment key (value.GaPort on) may fits = refl
-change_key moment key (value.Fb on) may fits = absurd may
 change_key moment key (value.Lock seconds session) may fits = lock_key key fits.1
+change_key moment key other may fits = absurd may
 
 module _ (buses : List Bus) (state : State) (whole : IsWhole buses state) (moment : ℕ) (now : IsMoment moment) where
   -- what is known of each row
   abbrev Known : Row → Type 0
-  Known row = IsRowOf buses row × (row_at row.shown.key state ≡ Some row)
-
-  known : AllByRecursion Known state
-  known =
-      each_found Known state whole.rising
-      (λ key row h. (whole.rows key row h, subst (λ k. row_at k state ≡ Some row) (sym (row_at_key key state row h)) h))
+  Known row = IsKnown buses state row
 
   abbrev brings : Row → Update
   brings row = due_change moment row.shown.key row.shown.value
@@ -88,41 +67,46 @@ module _ (buses : List Bus) (state : State) (whole : IsWhole buses state) (momen
         by false e = no_more (not (has_reached cursor row.shown.key))
 
     -- the first change beyond the cursor is that of the first row beyond it that is due
-    pub due_after-first : due_after state moment cursor ≡ option_map brings (first_due moment cursor state)
+    due_after-first : due_after state moment cursor ≡ option_map brings (first_due moment cursor state)
     due_after-first =
         find-map brings (λ update. not (has_reached cursor (key_of update.change))) (filter (is_due moment) state)
         ∙ ap (option_map brings)
         (sym (find-both (is_due moment) (λ row. not (has_reached cursor (key_of (brings row).change))) state)
         ∙ find_same (λ row. is_due moment row && not (has_reached cursor (key_of (brings row).change)))
         (λ row. not (has_reached cursor row.shown.key) && is_due moment row) state
-        (each-weaken {P = Known} test_same state known))
+        (weaken state (each_known buses state whole) test_same))
 
-    module _ (row : Row) (found : first_due moment cursor state ≡ Some row) where
-      abbrev Test : Row → Bool
-      Test other = not (has_reached cursor other.shown.key) && is_due moment other
+-- the row whose change is the first of a moment beyond a cursor
+pub record IsNextDue (buses : List Bus) (state : State) (moment : ℕ) (cursor : Cursor) (row : Row) : Type 0 where
+  pub first : due_after state moment cursor ≡ Some (due_change moment row.shown.key row.shown.value)
+  pub there : row_at row.shown.key state ≡ Some row
+  pub may : MayFall row.shown.value
+  pub whole : IsWhole buses (updated (due_change moment row.shown.key row.shown.value) state)
+  pub told : IsWellFormed (due_change moment row.shown.key row.shown.value).change
+  pub adds : AddsNoRow state (due_change moment row.shown.key row.shown.value).change
 
-      pub row_known : Known row
-      row_known = found_holds Known Test state known row found
+module _ {buses : List Bus} {state : State} (whole : IsWhole buses state) (moment : ℕ) (now : IsMoment moment) (cursor : Cursor) where
+  pub next_due : (row : Row) → Some row ≡ first_due moment cursor state → IsNextDue buses state moment cursor row
+  next_due row is =
+      let test = λ (other : Row). not (has_reached cursor other.shown.key) && is_due moment other in
+      let key = row.shown.key in
+      let shows = row.shown.value in
+      let k = found_holds _ test state (each_known buses state whole) row (sym is) in
+      let fits = k.0.shown in
+      let may =
+      due_may moment row row.due refl k.0.due
+      (second_so (not (has_reached cursor key)) (is_due moment row) (find_passes test state row (sym is))) in
+      record {
+        first = due_after-first buses state whole moment now cursor ∙ ap (option_map (brings buses state whole moment now)) (sym is);
+        there = k.1;
+        may = may;
+        whole = due_step buses moment now key shows state k.0.place fits.value may (λ other. ap is_some k.1) whole;
+        told = change_told buses state whole moment now key shows fits.address fits.value may;
+        adds = AddsNoRow-from_put buses state whole (due_change moment key shows).change (due_put buses moment key shows k.0.place);
+      }
 
-      row_due : is_due moment row ≡ true
-      row_due = second_so (not (has_reached cursor row.shown.key)) (is_due moment row) (find_passes Test state row found)
-
-      pub row_may : MayFall row.shown.value
-      row_may = due_may moment row row.due refl row_known.0.due row_due
-
-      -- it is there, and the registry is whole after its change
-      pub due_whole : IsWhole buses (updated (brings row) state)
-      due_whole =
-          due_step buses moment now row.shown.key row.shown.value state row_known.0.place row_known.0.shown.value row_may
-          (λ other. ap is_some row_known.1) whole
-
-      pub due_well_formed : IsWellFormed (brings row).change
-      due_well_formed =
-          change_told buses state whole moment now row.shown.key row.shown.value row_known.0.shown.address row_known.0.shown.value row_may
-
-      pub due_adds_no_row : AddsNoRow state (brings row).change
-      due_adds_no_row =
-          AddsNoRow-from_put buses state whole (brings row).change (due_put buses moment row.shown.key row.shown.value row_known.0.place)
+  pub none_due : None ≡ first_due moment cursor state → due_after state moment cursor ≡ None
+  none_due is = due_after-first buses state whole moment now cursor ∙ ap (option_map (brings buses state whole moment now)) (sym is)
 
 -- ---- the end of a session
 
@@ -133,8 +117,8 @@ found_first p (y ∷ xs) x e = by (found_first p xs x) (p y) refl e
     by : (find p xs ≡ Some x → (rest : List _) × (filter p xs ≡ x ∷ rest)) → (b : Bool) → p y ≡ b → cond b (Some y) (find p xs) ≡ Some x
         → (rest : List _) × (filter p (y ∷ xs) ≡ x ∷ rest)
     by later true t e =
-        let same : y ≡ x = cc in (filter p xs, ap (λ b. cond b (y ∷ filter p xs) (filter p xs)) t ∙ ap (λ z. z ∷ filter p xs) same)
-    by later false t e = let rest = later e in (rest.0, ap (λ b. cond b (y ∷ filter p xs) (filter p xs)) t ∙ rest.1)
+        let same : y ≡ x = cc in (filter p xs, rw (t, same))
+    by later false t e = let rest = later e in (rest.0, rw t rest.1)
 
 found_none : {X : Type 0} (p : X → Bool) (xs : List X) → find p xs ≡ None → filter p xs ≡ []
 found_none p [] e = refl
@@ -142,7 +126,7 @@ found_none p (y ∷ xs) e = by (found_none p xs) (p y) refl e
   where
     by : (find p xs ≡ None → filter p xs ≡ []) → (b : Bool) → p y ≡ b → cond b (Some y) (find p xs) ≡ None → filter p (y ∷ xs) ≡ []
     by later true t e = cc
-    by later false t e = ap (λ b. cond b (y ∷ filter p xs) (filter p xs)) t ∙ later e
+    by later false t e = rw t (later e)
 
 module _ (state : State) (session moment : ℕ) where
   abbrev gone_rows : List Row → List Update
@@ -152,7 +136,7 @@ module _ (state : State) (session moment : ℕ) where
   own there = cond there (gone_at moment (session_device session) ∷ []) []
 
   -- the first lock of the session goes first
-  pub freed_held : (row : Row) → first_held session state ≡ Some row
+  freed_held : (row : Row) → first_held session state ≡ Some row
       → (later : List Update) × (freed state session moment ≡ gone_at moment (device_of row.shown.key) ∷ later)
   freed_held row found =
       let first = found_first (is_held_by session) state row found in (
@@ -161,28 +145,40 @@ module _ (state : State) (session moment : ℕ) where
       )
 
   -- if it has none its own row goes
-  pub freed_own : (there : Bool) → first_held session state ≡ None → is_there (session_device session) state ≡ there
+  pub freed_own : (there : Bool) → None ≡ first_held session state → is_there (session_device session) state ≡ there
       → freed state session moment ≡ own there
-  freed_own there found e =
-      ap (λ rows. gone_rows rows ++ own (is_there (session_device session) state)) (found_none (is_held_by session) state found) ∙ ap own e
+  freed_own there none e =
+      ap (λ rows. gone_rows rows ++ own (is_there (session_device session) state)) (found_none (is_held_by session) state (sym none))
+      ∙ ap own e
 
-  -- the registry is whole after the first change, which can be told
-  pub freed_step : (buses : List Bus) → IsWhole buses state → IsMoment moment → (update : Update) (later : List Update)
-      → freed state session moment ≡ update ∷ later
-      → IsWhole buses (updated update state) × IsWellFormed update.change
-  freed_step buses whole now update later e = (
-    (freed_later buses state whole moment session update later e).0,
-    (subst CanBeTold e (freed_told buses state whole moment now session)).0,
-  )
+-- the first change of a session's end, after which the registry is whole
+pub record IsNextFreed (buses : List Bus) (state : State) (session moment : ℕ) (update : Update) : Type 0 where
+  pub first : slice_get (freed state session moment) 0 ≡ Some update
+  pub whole : IsWhole buses (updated update state)
+  pub told : IsWellFormed update.change
+
+module _ {buses : List Bus} {state : State} (whole : IsWhole buses state) (session moment : ℕ) (now : IsMoment moment) where
+  next_freed : (update : Update) (later : List Update) → freed state session moment ≡ update ∷ later
+      → IsNextFreed buses state session moment update
+  next_freed update later e = record {
+    first = ap (λ us. slice_get us 0) e;
+    whole = (freed_later buses state whole moment session update later e).0;
+    told = (subst CanBeTold e (freed_told buses state whole moment now session)).0;
+  }
+
+  pub next_lock : (row : Row) → Some row ≡ first_held session state
+      → IsNextFreed buses state session moment (gone_at moment (device_of row.shown.key))
+  next_lock row found =
+      let held = freed_held state session moment row (sym found) in next_freed (gone_at moment (device_of row.shown.key)) held.0 held.1
+
+  pub next_own : None ≡ first_held session state → is_there (session_device session) state ≡ true
+      → IsNextFreed buses state session moment (gone_at moment (session_device session))
+  next_own none there =
+      next_freed (gone_at moment (session_device session)) [] (freed_own state session moment true none there)
 
 -- a value that may be due and is no lock is a port
 pub port_value : (shows : Value) → MayFall shows → ((seconds session : ℕ) → shows ≡ value.Lock seconds session → ⊥)
     → (on : Bool) × (shows ≡ value.GaPort on)
-port_value (value.Session mode) may other = absurd may
-port_value (value.Power on text) may other = absurd may
-port_value (value.GlInit letter version steps functions) may other = absurd may
-port_value (value.GlState mode v vmax functions) may other = absurd may
-port_value (value.GaInit letter) may other = absurd may
 port_value (value.GaPort on) may other = (on, refl)
-port_value (value.Fb on) may other = absurd may
 port_value (value.Lock seconds session) may other = absurd (other seconds session refl)
+port_value shows may other = absurd may

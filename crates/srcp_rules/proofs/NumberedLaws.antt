@@ -1,36 +1,22 @@
 -- Values by the numbers of their slots: look-ups and changes of the one at a number.
-use Rattle.std.specs.Prelude.{◌≡◌, ℕ, zero, suc, ◌+◌, ◌<◌, ◌≤◌, cond, List, [], ◌∷◌, ◌++◌, length, Option, Some, None}
-use Rattle.std.specs.Prelude.{drop, slice_index_or, slice_set}
-use Rattle.std.proofs.Common.{refl, sym, ap, subst, ◌∙◌, arith}
-use Rattle.std.proofs.lemmas.Option.{none-some}
-use Rattle.std.specs.List.{AllByRecursion}
+use Rattle.srcp_rules.proofs.Names
+use Names.{◌≡◌, ℕ, zero, suc, ◌+◌, ◌<◌, ◌≤◌, List, [], ◌∷◌, ◌++◌, length, Option, Some, None, drop, slice_index_or, slice_set, refl, sym}
+use Names.{ap, subst, ◌∙◌, arith, none-some, AllByRecursion, set_value, remove_entry, option_map, nat_cmp, is_at, insert_entry, numbered}
+use Names.{AreSorted, entry_at}
 use Rattle.std.specs.List.Sorted.{IsStrictlySortedBy}
-use Rattle.std.specs.Map.{keys_of, set_value, remove_entry}
-use Rattle.std.specs.Option.{option_map}
-use Rattle.std.specs.Ordering.{nat_cmp, is_eq, match_ordering}
-use Rattle.std.specs.BTreeMap.{is_at, insert_entry}
-use Rattle.std.specs.declared.cmp.Ordering.TheVariants.{Less}
-use Rattle.srcp_rules.specs.Numbered.{numbered}
-use Rattle.srcp_rules.specs.Nested.{AreSorted, entry_at}
 use Rattle.srcp_rules.proofs.OrderLaws.{greater, less, same}
-use Rattle.srcp_rules.proofs.ListedLaws.{none_above}
+use Rattle.srcp_rules.proofs.ListedLaws.{none_above, AreAbove}
 
 -- ---- entries above a number
 
 module _ {X : Type 0} (n : ℕ) where
-  abbrev AreAbove : List (ℕ × X) → Type 0
-  AreAbove es = AllByRecursion (λ k. nat_cmp n k ≡ Less) (keys_of es)
-
-  insert_below : (w : X) (es : List (ℕ × X)) → AreAbove es → insert_entry nat_cmp es n w ≡ (n, w) ∷ es
+  insert_below : (w : X) (es : List (ℕ × X)) → AreAbove n es → insert_entry nat_cmp es n w ≡ (n, w) ∷ es
   insert_below w [] h = refl
-  insert_below w (e ∷ es) h =
-      ap (λ o. match_ordering o ((n, w) ∷ e ∷ es) ((e.0, w) ∷ es) (e ∷ insert_entry nat_cmp es n w)) h.0
+  insert_below w (e ∷ es) h = rw h.0
 
-  remove_below : (es : List (ℕ × X)) → AreAbove es → remove_entry (is_at (nat_cmp n)) es ≡ es
+  remove_below : (es : List (ℕ × X)) → AreAbove n es → remove_entry (is_at (nat_cmp n)) es ≡ es
   remove_below [] h = refl
-  remove_below (e ∷ es) h =
-      ap (λ o. cond (is_eq o) es (e ∷ remove_entry (is_at (nat_cmp n)) es)) h.0
-      ∙ ap (λ fs. e ∷ fs) (remove_below es h.1)
+  remove_below (e ∷ es) h = rw h.0 (ap (λ fs. e ∷ fs) (remove_below es h.1))
 
 -- ---- the values at slots
 
@@ -62,14 +48,10 @@ module _ {B X : Type 0} (value : B → X) where
   entry_at-numbered n first k e [] = refl
   entry_at-numbered n first zero e (None ∷ slots) =
       none_above n (numbered value (first + 1) slots) (above n (first + 1) (omega (arith, e)) slots)
-  entry_at-numbered n first zero e (Some x ∷ slots) =
-      let rest = numbered value (first + 1) slots in
-      ap (λ o. cond (is_eq o) (Some (value x)) (entry_at n rest)) (same n first (omega (arith, e)))
+  entry_at-numbered n first zero e (Some x ∷ slots) = rw (same n first (omega (arith, e)))
   entry_at-numbered n first (suc k) e (None ∷ slots) = entry_at-numbered n (first + 1) k (omega (arith, e)) slots
   entry_at-numbered n first (suc k) e (Some x ∷ slots) =
-      let rest = numbered value (first + 1) slots in
-      ap (λ o. cond (is_eq o) (Some (value x)) (entry_at n rest)) (greater n first (omega (arith, e)))
-      ∙ entry_at-numbered n (first + 1) k (omega (arith, e)) slots
+      rw (greater n first (omega (arith, e))) (entry_at-numbered n (first + 1) k (omega (arith, e)) slots)
 
   past : (k : ℕ) (slots : List (Option B)) → length slots ≤ k → slice_index_or slots k None ≡ None
   past k [] h = refl
@@ -77,12 +59,14 @@ module _ {B X : Type 0} (value : B → X) where
   past (suc k) (o ∷ slots) h = past k slots (omega (arith, h))
 
   -- which is found by a look at the slot
-  pub entry_at-slot : (k : ℕ) (slots : List (Option B)) {o : Option B} → o ≡ slice_index_or slots k None
-      → option_map value o ≡ entry_at k (numbered value 0 slots)
-  entry_at-slot k slots e = ap (option_map value) e ∙ sym (entry_at-numbered k 0 k (omega arith) slots)
+  pub entry_at-slot : (k : ℕ) (slots : List (Option B)) {es : List (ℕ × X)} → numbered value 0 slots ≡ es
+      → {o : Option B} → o ≡ slice_index_or slots k None → option_map value o ≡ entry_at k es
+  entry_at-slot k slots view e =
+      ap (option_map value) e ∙ sym (entry_at-numbered k 0 k (omega arith) slots) ∙ ap (entry_at k) view
 
-  pub entry_at-past : (k : ℕ) (slots : List (Option B)) → length slots ≤ k → None ≡ entry_at k (numbered value 0 slots)
-  entry_at-past k slots h = entry_at-slot k slots (sym (past k slots h))
+  pub entry_at-past : (k : ℕ) (slots : List (Option B)) {es : List (ℕ × X)} → numbered value 0 slots ≡ es → length slots ≤ k
+      → None ≡ entry_at k es
+  entry_at-past k slots view h = entry_at-slot k slots view (sym (past k slots h))
 
   -- a value is put in at its slot
   pub insert_entry-numbered : (n first k : ℕ) → n ≡ first + k → (slots : List (Option B)) → k < length slots → (x : B)
@@ -92,20 +76,12 @@ module _ {B X : Type 0} (value : B → X) where
       let rest = numbered value (first + 1) slots in
       insert_below n (value x) rest (above n (first + 1) (omega (arith, e)) slots)
       ∙ ap (λ m. (m, value x) ∷ rest) (omega (arith, e))
-  insert_entry-numbered n first zero e (Some y ∷ slots) h x =
-      let rest = numbered value (first + 1) slots in
-      ap (λ o. match_ordering o ((n, value x) ∷ (first, value y) ∷ rest) ((first, value x) ∷ rest)
-      ((first, value y) ∷ insert_entry nat_cmp rest n (value x)))
-      (same n first (omega (arith, e)))
+  insert_entry-numbered n first zero e (Some y ∷ slots) h x = rw (same n first (omega (arith, e)))
   insert_entry-numbered n first (suc k) e (None ∷ slots) h x =
       insert_entry-numbered n (first + 1) k (omega (arith, e)) slots (omega (arith, h)) x
   insert_entry-numbered n first (suc k) e (Some y ∷ slots) h x =
-      let rest = numbered value (first + 1) slots in
-      ap (λ o. match_ordering o ((n, value x) ∷ (first, value y) ∷ rest) ((first, value x) ∷ rest)
-      ((first, value y) ∷ insert_entry nat_cmp rest n (value x)))
-      (greater n first (omega (arith, e)))
-      ∙ ap (λ es. (first, value y) ∷ es)
-      (insert_entry-numbered n (first + 1) k (omega (arith, e)) slots (omega (arith, h)) x)
+      rw (greater n first (omega (arith, e)))
+      (ap (λ es. (first, value y) ∷ es) (insert_entry-numbered n (first + 1) k (omega (arith, e)) slots (omega (arith, h)) x))
 
   -- a value is taken out at its slot
   pub remove_entry-numbered : (n first k : ℕ) → n ≡ first + k → (slots : List (Option B))
@@ -113,17 +89,12 @@ module _ {B X : Type 0} (value : B → X) where
   remove_entry-numbered n first k e [] = refl
   remove_entry-numbered n first zero e (None ∷ slots) =
       remove_below n (numbered value (first + 1) slots) (above n (first + 1) (omega (arith, e)) slots)
-  remove_entry-numbered n first zero e (Some x ∷ slots) =
-      let rest = numbered value (first + 1) slots in
-      ap (λ o. cond (is_eq o) rest ((first, value x) ∷ remove_entry (is_at (nat_cmp n)) rest))
-      (same n first (omega (arith, e)))
+  remove_entry-numbered n first zero e (Some x ∷ slots) = rw (same n first (omega (arith, e)))
   remove_entry-numbered n first (suc k) e (None ∷ slots) =
       remove_entry-numbered n (first + 1) k (omega (arith, e)) slots
   remove_entry-numbered n first (suc k) e (Some x ∷ slots) =
-      let rest = numbered value (first + 1) slots in
-      ap (λ o. cond (is_eq o) rest ((first, value x) ∷ remove_entry (is_at (nat_cmp n)) rest))
-      (greater n first (omega (arith, e)))
-      ∙ ap (λ es. (first, value x) ∷ es) (remove_entry-numbered n (first + 1) k (omega (arith, e)) slots)
+      rw (greater n first (omega (arith, e)))
+      (ap (λ es. (first, value x) ∷ es) (remove_entry-numbered n (first + 1) k (omega (arith, e)) slots))
 
   set_past : (k : ℕ) (slots : List (Option B)) → length slots ≤ k → slice_set slots k None ≡ slots
   set_past k [] h = refl
@@ -141,17 +112,12 @@ module _ {B X : Type 0} (value : B → X) where
       → set_value (is_at (nat_cmp n)) (numbered value first slots) (value x) ≡ numbered value first (slice_set slots k (Some x))
   set_value-numbered n first k e [] old x h = absurd (none-some old h)
   set_value-numbered n first zero e (None ∷ slots) old x h = absurd (none-some old h)
-  set_value-numbered n first zero e (Some y ∷ slots) old x h =
-      let rest = numbered value (first + 1) slots in
-      ap (λ o. cond (is_eq o) ((first, value x) ∷ rest) ((first, value y) ∷ set_value (is_at (nat_cmp n)) rest (value x)))
-      (same n first (omega (arith, e)))
+  set_value-numbered n first zero e (Some y ∷ slots) old x h = rw (same n first (omega (arith, e)))
   set_value-numbered n first (suc k) e (None ∷ slots) old x h =
       set_value-numbered n (first + 1) k (omega (arith, e)) slots old x h
   set_value-numbered n first (suc k) e (Some y ∷ slots) old x h =
-      let rest = numbered value (first + 1) slots in
-      ap (λ o. cond (is_eq o) ((first, value x) ∷ rest) ((first, value y) ∷ set_value (is_at (nat_cmp n)) rest (value x)))
-      (greater n first (omega (arith, e)))
-      ∙ ap (λ es. (first, value y) ∷ es) (set_value-numbered n (first + 1) k (omega (arith, e)) slots old x h)
+      rw (greater n first (omega (arith, e)))
+      (ap (λ es. (first, value y) ∷ es) (set_value-numbered n (first + 1) k (omega (arith, e)) slots old x h))
 
   -- what holds of each value holds of each from a slot on
   pub each-from_place : (P : ℕ × X → Type 0) (from first k : ℕ) → from ≡ first + k → (slots : List (Option B))

@@ -1,76 +1,59 @@
 -- What is refused and what is accepted of a command, and the rows that it sets.
-use Rattle.std.specs.Prelude.{◌≡◌, ℕ, ◌+◌, ◌≤◌, ◌<◌, is_some, Bool, true, false, not, cond, List, [], ◌∷◌, length, Option, Some, None, Err}
-use Rattle.std.proofs.Common.{refl, ap, arith, subst}
+use Rattle.srcp_rules.proofs.Names
+use Names.{◌≡◌, ℕ, ◌+◌, ◌≤◌, ◌<◌, min, Bool, true, false, not, cond, nat_lt, List, [], ◌∷◌, length, Option, Some, None, Ok, Err, IfSome}
+use Names.{refl, sym, ap, ◌∙◌, arith, option_map_or, Group, Key, Row, Code, Accepted, Value, first_key, IsMoment, IsValueAt, Bus, row_count}
+use Names.{SetPower, SetGl, SetGa, SetFb, SetLock, key_at, power_device, fb_device, device_in, lock_at, session_device, key_address, State}
+use Names.{Update, IsRowOf, IsWhole, MayFall, has_row, row_at, is_there, functions_of, row_put, Effect, done, refused, accepted}
+use Names.{unless_refused, lock_end, port_end, MayObey}
+use Names.value
+use Names.devices
+use Rattle.std.specs.Prelude.{◌*◌}
+use Rattle.std.proofs.Common.{length-append, length-drop}
+use Rattle.std.proofs.Math.Nat.{min-le_right}
 use Rattle.std.specs.Result.{result_err}
-use Rattle.srcp_info.specs.declared.key.Device.{Device}
-use Rattle.srcp_info.specs.declared.key.Key.{Key}
-use Rattle.srcp_info.specs.declared.change.Row.{Row}
-use Rattle.srcp_info.specs.declared.change.Code.{Code}
-use Rattle.srcp_info.specs.declared.change.Code.TheVariants.{C416}
-use Rattle.srcp_info.specs.declared.value.Value.TheVariants as value
-use Rattle.srcp_info.specs.Key.{first_key}
-use Rattle.srcp_info.specs.WellFormed.{IsMoment}
-use Rattle.srcp_grammar.specs.declared.layout.Bus.{Bus}
-use Rattle.srcp_grammar.specs.Layout.{IsKeyOf, row_count}
 use Rattle.srcp_grammar.specs.Command.{kept_speed}
-use Rattle.srcp_grammar.specs.declared.command.DeviceGroup.TheVariants as devices
 use Rattle.srcp_grammar.specs.declared.command.Drive.{Drive}
 use Rattle.srcp_grammar.specs.declared.command.Switch.{Switch}
 use Rattle.srcp_grammar.specs.declared.command.PowerSwitch.{PowerSwitch}
 use Rattle.srcp_grammar.specs.declared.command.Sensor.{Sensor}
 use Rattle.srcp_grammar.specs.declared.command.TimedLock.{TimedLock}
-use Rattle.srcp_grammar.specs.declared.command.Command.TheVariants.{SetPower, SetGl, SetGa, SetFb, SetLock}
-use Rattle.srcp_grammar.specs.Devices.{key_at, power_device, fb_device, device_in, lock_at}
-use Rattle.srcp_rules.specs.State.{State, Update, IsRowOf, IsWhole, has_row, row_at, is_there}
-use Rattle.srcp_rules.specs.State.{functions_of, row_put}
-use Rattle.srcp_rules.specs.Effect.{done, first_refusal, refused, accepted, unless_refused, lock_end, port_end}
-use Rattle.srcp_rules.specs.Effect.{functions_after}
-use Rattle.srcp_rules.specs.Obeyed.{MayObey}
-use Rattle.srcp_rules.proofs.EffectLaws.{NoneApplies, lock_value, lock_end_fits, port_end_fits, is_not, found_few, as_many}
-use Rattle.srcp_rules.proofs.StateLaws.{row_at_key}
+use Rattle.srcp_rules.specs.State.{functions_in}
+use Rattle.srcp_rules.specs.Effect.{first_refusal, functions_after}
+use Rattle.srcp_rules.proofs.CommandLaws.{NoneApplies, unless_made}
+use Rattle.srcp_rules.proofs.StateLaws.{placed}
 use Rattle.srcp_rules.proofs.AddsNoRowLaws.{gl_count}
-use Rattle.srcp_rules.proofs.StepLaws.{IsRowOf-put}
+use Rattle.srcp_rules.proofs.StepLaws.{IsRowOf-put, lock_group-is_lock}
+use Rattle.srcp_rules.proofs.WholeLaws.{functions_at}
 
 -- ---- refusals
 
+decided : (refusals : List (Bool × Code)) (updates : List Update)
+    → unless_refused refusals updates ≡ option_map_or Err (first_refusal refusals) (Ok updates)
+decided [] updates = refl
+decided (refusal ∷ others) updates = by refusal.0 (decided others updates)
+  where
+    by : (b : Bool) → unless_refused others updates ≡ option_map_or Err (first_refusal others) (Ok updates)
+        → cond b (Err refusal.1) (unless_refused others updates)
+        ≡ option_map_or Err (result_err (cond b (Err refusal.1) (unless_refused others []))) (Ok updates)
+    by true later = refl
+    by false later = later
+
 pub refused_done : (refusals : List (Bool × Code)) (updates : List Update) (code : Code) → Some code ≡ first_refusal refusals
     → refused code ≡ done (unless_refused refusals updates)
-refused_done [] updates code e = let bad : Some code ≡ None = e in absurd (let f : ⊥ = cc in f)
-refused_done (refusal ∷ others) updates code e = by refusal.0 (refused_done others updates code) e
-  where
-    by : (b : Bool) → (Some code ≡ first_refusal others → refused code ≡ done (unless_refused others updates))
-        → Some code ≡ result_err (cond b (Err refusal.1) (unless_refused others []))
-        → refused code ≡ done (cond b (Err refusal.1) (unless_refused others updates))
-    by true later e = let same : code ≡ refusal.1 = cc in ap refused same
-    by false later e = later e
+refused_done refusals updates code e =
+    ap (λ o. done (option_map_or Err o (Ok updates))) e ∙ ap done (sym (decided refusals updates))
 
 pub accepted_done : (refusals : List (Bool × Code)) (updates : List Update) → None ≡ first_refusal refusals
     → accepted updates ≡ done (unless_refused refusals updates)
-accepted_done [] updates e = refl
-accepted_done (refusal ∷ others) updates e = by refusal.0 (accepted_done others updates) e
-  where
-    by : (b : Bool) → (None ≡ first_refusal others → accepted updates ≡ done (unless_refused others updates))
-        → None ≡ result_err (cond b (Err refusal.1) (unless_refused others []))
-        → accepted updates ≡ done (cond b (Err refusal.1) (unless_refused others updates))
-    by true later e = cc
-    by false later e = later e
+accepted_done refusals updates e =
+    ap (λ o. done (option_map_or Err o (Ok updates))) e ∙ ap done (sym (decided refusals updates))
 
 pub none_applies : (refusals : List (Bool × Code)) → None ≡ first_refusal refusals → NoneApplies refusals
-none_applies [] e = tt
-none_applies (refusal ∷ others) e = by refusal.0 refl (none_applies others) e
-  where
-    by : (b : Bool) → refusal.0 ≡ b → (None ≡ first_refusal others → NoneApplies others)
-        → None ≡ result_err (cond b (Err refusal.1) (unless_refused others [])) → (refusal.0 ≡ false) × NoneApplies others
-    by true t later e = absurd (let f : ⊥ = cc in f)
-    by false t later e = (t, later e)
+none_applies refusals e =
+    unless_made (λ did. did.reply ≡ Accepted → NoneApplies refusals) (λ code f. absurd (let bad : ⊥ = cc in bad)) refusals []
+    (λ none f. none) (ap (λ (did : Effect). did.reply) (sym (accepted_done refusals [] e)))
 
 -- ---- a locomotive is there if its state row is
-
--- a row that is found is one of the layout
-placed : (buses : List Bus) (state : State) → IsWhole buses state
-    → (key : Key) (o : Option Row) → row_at key state ≡ o → is_some o ≡ true → IsKeyOf buses key
-placed buses state whole key None e h = absurd (let f : ⊥ = cc in f)
-placed buses state whole key (Some row) e h = subst (IsKeyOf buses) (row_at_key key state row e) (whole.rows key row e).place
 
 -- each of two tests passes if the other does
 alike : (a b : Bool) → (a ≡ true → b ≡ true) → (b ≡ true → a ≡ true) → a ≡ b
@@ -85,30 +68,56 @@ gl_there buses state whole bus address =
     let device = device_in devices.Gl bus address in
     alike (has_row (key_at device 1) state) (is_there device state)
     (λ here.
-    let place : 1 < row_count buses device = placed buses state whole (key_at device 1) (row_at (key_at device 1) state) refl here in
+    let place : 1 < row_count buses device = placed buses state whole (key_at device 1) here in
     whole.complete (key_at device 1) here 0 (omega arith))
     (λ here.
-    let place : 0 < row_count buses device = placed buses state whole (first_key device) (row_at (first_key device) state) refl here in
-    let two : row_count buses device ≡ 2 = gl_count buses bus address place in
+    let two = gl_count buses bus address (placed buses state whole (first_key device) here) in
     whole.complete (first_key device) here 1 (omega arith))
 
 -- ---- rows that are set
 
+pub is_not : (b : Bool) → not b ≡ false → b ≡ true
+is_not true e = refl
+is_not false e = cc
+
+greatest : (n : ℕ) → IsMoment (min n 18446744073709551615)
+greatest n = let h = min-le_right n 18446744073709551615 in omega (arith, h)
+
+timed : (P : Type 0) (n : ℕ) (b : Bool) → P → IfSome (cond b (Some (min n 18446744073709551615)) None) (λ m. IsMoment m × P)
+timed P n true p = (greatest n, p)
+timed P n false p = tt
+
+port_end_fits : (moment : ℕ) (on : Bool) (time : Option ℕ)
+    → IfSome (port_end moment on time) (λ m. IsMoment m × MayFall (value.GaPort on))
+port_end_fits moment false time = tt
+port_end_fits moment true None = tt
+port_end_fits moment true (Some n) = timed _ (moment + n) (nat_lt 0 n) tt
+
+-- the functions of a locomotive's state are few
+functions_few : (g : Group) (port : ℕ) (shows : Value) → IsValueAt g port shows → length (functions_in shows) ≤ 29
+functions_few g port (value.GlState mode v vmax functions) h = h.3
+functions_few g port other h = omega arith
+
+-- as many functions as before
+pub as_many : (given before : List Bool) → length given ≤ length before → length (functions_after given before) ≡ length before
+as_many given before h = simp (length-append, length-drop) (omega arith)
+
 module _ (buses : List Bus) (state : State) (session moment : ℕ) (now : IsMoment moment) where
-  -- the row of a lock
+  found_few : IsWhole buses state → (key : Key) (o : Option Row) → row_at key state ≡ o → length (functions_at o) ≤ 29
+  found_few whole key None e = omega arith
+  found_few whole key (Some row) e = functions_few row.shown.key.group row.shown.key.port row.shown.value (whole.rows key row e).shown.value
+
+  -- the row of a lock, whose session's id is in range, since it has a row
   pub lock_row : (lock : TimedLock) → MayObey buses state session (SetLock lock)
       → IsRowOf buses
       (row_put moment (first_key (lock_at lock.target)) (value.Lock lock.seconds session) (lock_end moment lock.seconds))
   lock_row lock may =
+      let key = first_key (session_device session) in
+      let range = (key_address buses may.whole.laid_out key (placed buses state may.whole key may.begun)).1 in
       IsRowOf-put buses may.whole.laid_out (first_key (lock_at lock.target)) moment
       (value.Lock lock.seconds session) (lock_end moment lock.seconds) may.of.0 now
-      (lock_value buses state may.whole session moment may.begun now lock.target.group lock.seconds may.of.1)
-      (lock_end_fits moment lock.seconds session)
-
-  -- all rows of a device that is there are there
-  pub port_there : (device : Device) → IsWhole buses state → is_there device state ≡ true → (port : ℕ) → IsKeyOf buses (key_at device port)
-      → has_row (key_at device port) state ≡ true
-  port_there device whole there port place = whole.complete (first_key device) there port place
+      (lock_group-is_lock lock.target.group, refl, may.of.1, range)
+      (timed _ (moment + 1000 * lock.seconds) (nat_lt 0 lock.seconds) tt)
 
   -- the row of an accessory's port
   pub ga_row : (switch : Switch) → MayObey buses state session (SetGa switch)
@@ -120,12 +129,7 @@ module _ (buses : List Bus) (state : State) (session moment : ℕ) (now : IsMome
       (value.GaPort switch.on) (port_end moment switch.on switch.time) may.of.0.0 now may.of.0.1
       (port_end_fits moment switch.on switch.time)
 
-  -- a device that may be set is there
-  pub set_there : (device : Device) (others : List (Bool × Code)) → None ≡ first_refusal ((not (is_there device state), C416) ∷ others)
-      → is_there device state ≡ true
-  set_there device others e = is_not (is_there device state) (none_applies ((not (is_there device state), C416) ∷ others) e).0
-
-  -- the row of a locomotive's state
+  -- the row of a locomotive's state, which has as many functions as before
   pub gl_row : (drive : Drive) → MayObey buses state session (SetGl drive)
       → length drive.functions ≤ length (functions_of drive.bus drive.address state)
       → IsRowOf buses
@@ -133,15 +137,14 @@ module _ (buses : List Bus) (state : State) (session moment : ℕ) (now : IsMome
       (value.GlState drive.mode (kept_speed drive.mode drive.v) drive.vmax
       (functions_after drive.functions (functions_of drive.bus drive.address state))) None)
   gl_row drive may short =
-      let device = device_in devices.Gl drive.bus drive.address in
+      let key = key_at (device_in devices.Gl drive.bus drive.address) 1 in
       let before = functions_of drive.bus drive.address state in
       let after = functions_after drive.functions before in
-      let same : length after ≡ length before = as_many buses state may.whole session moment may.begun now drive.functions before short in
-      let most : length before ≤ 29 =
-      found_few buses state may.whole session moment may.begun now (key_at device 1) (row_at (key_at device 1) state) refl in
+      let same = as_many drive.functions before short in
+      let most : length before ≤ 29 = found_few may.whole key (row_at key state) refl in
       let few : length after ≤ 29 = omega (arith, most, same) in
       let fits = may.of.1 in
-      IsRowOf-put buses may.whole.laid_out (key_at device 1) moment
+      IsRowOf-put buses may.whole.laid_out key moment
       (value.GlState drive.mode (kept_speed drive.mode drive.v) drive.vmax after) None may.of.0 now
       (fits.0, fits.1, fits.2, few) tt
 

@@ -1,36 +1,25 @@
 -- Looking through two lists of rows, one after the other, and changing one of them.
-use Rattle.std.specs.Prelude.{◌≡◌, ℕ, zero, suc, ◌<◌, length, take, slice_set, Bool, true, false, not, cond, List, [], ◌∷◌, ◌++◌, filter}
-use Rattle.std.specs.Prelude.{find, Some, None}
-use Rattle.std.proofs.Common.{refl, sym, ap, ◌∙◌, append_assoc, arith}
-use Rattle.std.proofs.lemmas.List.{append-nil}
+use Rattle.srcp_rules.proofs.Names
+use Names.{◌≡◌, Bool, true, false, not, List, [], ◌∷◌, ◌++◌, filter, find, None, refl, sym, ap, ◌∙◌, append_assoc, append-nil, find-append}
+use Names.{AllByRecursion, option_or, is_gt, Less, Device, Row, key_cmp, is_after, owns, after_from_less, filter_every, State, IsRising}
+use Names.{put_row, without, put_rows, weaken}
 use Rattle.std.proofs.lemmas.List.Elements.{filter-append}
-use Rattle.std.proofs.lemmas.List.Folds.{find-append}
-use Rattle.std.specs.List.{AllByRecursion}
-use Rattle.std.specs.Option.{option_or}
-use Rattle.std.specs.Ordering.{is_gt}
-use Rattle.std.specs.declared.cmp.Ordering.TheVariants.{Less}
-use Rattle.srcp_info.specs.declared.key.Device.{Device}
-use Rattle.srcp_info.specs.declared.change.Row.{Row}
-use Rattle.srcp_info.specs.Key.{key_cmp, is_after, owns}
-use Rattle.srcp_info.proofs.ClientLaws.{after_from_less, filter_every, filter_no_one}
-use Rattle.srcp_rules.specs.State.{State, IsRising, put_row, without}
-use Rattle.srcp_rules.specs.Rows.{put_rows}
-use Rattle.srcp_grammar.proofs.FindLaws.{each-weaken}
+use Rattle.srcp_info.proofs.ClientLaws.{filter_no_one}
 
 module _ {X : Type 0} (t : X → Bool) where
   -- nothing is found in the first list
   pub find_past : (xs ys : List X) → AllByRecursion (λ x. t x ≡ false) xs → find t (xs ++ ys) ≡ find t ys
   find_past [] ys h = refl
-  find_past (x ∷ xs) ys h = ap (λ b. cond b (Some x) (find t (xs ++ ys))) h.0 ∙ find_past xs ys h.1
+  find_past (x ∷ xs) ys h = rw h.0 (find_past xs ys h.1)
 
   pub find_none : (xs : List X) → AllByRecursion (λ x. t x ≡ false) xs → find t xs ≡ None
   find_none [] h = refl
-  find_none (x ∷ xs) h = ap (λ b. cond b (Some x) (find t xs)) h.0 ∙ find_none xs h.1
+  find_none (x ∷ xs) h = rw h.0 (find_none xs h.1)
 
   -- or in the second
   pub find_before : (xs ys : List X) → AllByRecursion (λ x. t x ≡ false) ys → find t (xs ++ ys) ≡ find t xs
   find_before [] ys h = find_none ys h
-  find_before (x ∷ xs) ys h = ap (λ o. cond (t x) (Some x) o) (find_before xs ys h)
+  find_before (x ∷ xs) ys h = rw (find_before xs ys h)
 
   -- what is found depends on what is found behind the first list
   pub find_behind : (xs ys zs : List X) → find t ys ≡ find t zs → find t (xs ++ ys) ≡ find t (xs ++ zs)
@@ -52,10 +41,10 @@ module _ (row : Row) where
       (λ i. filter-append lower xs ys i ++ row ∷ filter-append higher xs ys i)
       ∙ (λ i.
       (filter_every lower xs
-      (each-weaken {P = λ x. key_cmp x.shown.key row.shown.key ≡ Less} (λ x e. after_from_less row.shown.key x.shown.key e) xs h) i
+      (weaken xs h (λ x e. after_from_less row.shown.key x.shown.key e)) i
       ++ filter lower ys)
       ++ row
-      ∷ (filter_no_one higher xs (each-weaken {P = λ x. key_cmp x.shown.key row.shown.key ≡ Less} (λ x e. ap is_gt e) xs h) i
+      ∷ (filter_no_one higher xs (weaken xs h (λ x e. ap is_gt e)) i
       ++ filter higher ys))
       ∙ append_assoc xs (filter lower ys) (row ∷ filter higher ys)
 
@@ -66,12 +55,11 @@ module _ (row : Row) where
       (λ i. filter-append lower xs ys i ++ row ∷ filter-append higher xs ys i)
       ∙ (λ i.
       (filter lower xs
-      ++ filter_no_one lower ys (each-weaken {P = λ y. key_cmp row.shown.key y.shown.key ≡ Less} (λ y e. ap is_gt e) ys h) i)
+      ++ filter_no_one lower ys (weaken ys h (λ y e. ap is_gt e)) i)
       ++ row
       ∷ (filter higher xs
       ++ filter_every higher ys
-      (each-weaken {P = λ y. key_cmp row.shown.key y.shown.key ≡ Less}
-      (λ y e. after_from_less y.shown.key row.shown.key e) ys h) i))
+      (weaken ys h (λ y e. after_from_less y.shown.key row.shown.key e)) i))
       ∙ ap (λ zs. zs ++ row ∷ (filter higher xs ++ ys)) (append-nil (filter lower xs))
       ∙ sym (append_assoc (filter lower xs) (row ∷ filter higher xs) ys)
 
@@ -89,7 +77,7 @@ put_rows-before (row ∷ rows) xs ys h = ap (put_rows rows) (put_row-before row 
 pub put_rows-new : (rows : State) → IsRising rows → put_rows rows [] ≡ rows
 put_rows-new [] h = refl
 put_rows-new (row ∷ rows) h =
-    put_rows-past rows (row ∷ []) [] (each-weaken {P = λ y. key_cmp row.shown.key y.shown.key ≡ Less} (λ y e. (e, tt)) rows h.0)
+    put_rows-past rows (row ∷ []) [] (weaken rows h.0 (λ y e. (e, tt)))
     ∙ ap (λ ys. row ∷ ys) (put_rows-new rows h.1)
 
 -- ---- taking out the rows of a device
@@ -103,23 +91,15 @@ module _ (device : Device) where
   without-past xs ys h =
       filter-append stays xs ys
       ∙ ap (λ zs. zs ++ filter stays ys)
-      (filter_every stays xs (each-weaken {P = λ x. owns device x.shown.key ≡ false} (λ x e. ap not e) xs h))
+      (filter_every stays xs (weaken xs h (λ x e. ap not e)))
 
   pub without-before : (xs ys : State) → AllByRecursion (λ y. owns device y.shown.key ≡ false) ys
       → without device (xs ++ ys) ≡ without device xs ++ ys
   without-before xs ys h =
       filter-append stays xs ys
       ∙ ap (λ zs. filter stays xs ++ zs)
-      (filter_every stays ys (each-weaken {P = λ y. owns device y.shown.key ≡ false} (λ y e. ap not e) ys h))
+      (filter_every stays ys (weaken ys h (λ y e. ap not e)))
 
   -- if all are the device's, none is left
   pub without-all : (xs : State) → AllByRecursion (λ x. owns device x.shown.key ≡ true) xs → without device xs ≡ []
-  without-all xs h = filter_no_one stays xs (each-weaken {P = λ x. owns device x.shown.key ≡ true} (λ x e. ap not e) xs h)
-
--- a write among the first items
-pub take-set : {X : Type 0} (n : ℕ) (xs : List X) (i : ℕ) (x : X) → i < length (take n xs)
-    → take n (slice_set xs i x) ≡ slice_set (take n xs) i x
-take-set zero xs i x h = refl
-take-set (suc n) [] i x h = refl
-take-set (suc n) (y ∷ xs) zero x h = refl
-take-set (suc n) (y ∷ xs) (suc i) x h = ap (λ zs. y ∷ zs) (take-set n xs i x (omega (arith, h)))
+  without-all xs h = filter_no_one stays xs (weaken xs h (λ x e. ap not e))

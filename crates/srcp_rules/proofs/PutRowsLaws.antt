@@ -1,44 +1,27 @@
 -- Several rows that are put one after another, and a device that is made afresh in place.
-use Rattle.std.specs.Prelude.{◌≡◌, ℕ, zero, suc, ◌+◌, ◌<◌, ◌≤◌, Bool, true, false, not, ◌||◌, cond, List, [], ◌∷◌, map, Option, Some, None}
-use Rattle.std.specs.Prelude.{Result, Ok, Err, OnOk, OnErr}
-use Rattle.std.proofs.Common.{refl, sym, ap, subst, ◌∙◌, true≢false, arith}
-use Rattle.std.specs.List.{AllByRecursion, list_any, range_with_len}
-use Rattle.std.specs.Ordering.{ordering_reverse}
-use Rattle.std.specs.declared.cmp.Ordering.TheVariants.{Less, Greater}
-use Rattle.srcp_info.specs.declared.key.Key.{Key}
-use Rattle.srcp_info.specs.declared.key.Device.{Device}
-use Rattle.srcp_info.specs.declared.change.Row.{Row}
-use Rattle.srcp_info.specs.Key.{key_cmp, device_of, first_key, owns}
-use Rattle.srcp_info.proofs.KeyLaws.{key_cmp_total, device_from_owns}
-use Rattle.srcp_info.proofs.ClientLaws.{rising_put, rising_filter}
-use Rattle.srcp_grammar.specs.declared.layout.Bus.{Bus}
-use Rattle.srcp_grammar.specs.Layout.{row_count}
-use Rattle.srcp_grammar.specs.Devices.{key_at}
-use Rattle.srcp_rules.specs.State.{State, IsRising, IsWhole, IsRowOf, row_at, has_row, is_there, put_row, put_of, without, updated_all}
-use Rattle.srcp_rules.specs.Rows.{AreRowsOf, put_rows}
+use Rattle.srcp_rules.proofs.Names
+use Names.{◌≡◌, ℕ, zero, suc, ◌+◌, ◌<◌, ◌≤◌, Bool, true, false, not, cond, List, [], ◌∷◌, map, Option, Some, None, Result, Ok, Err, OnOk}
+use Names.{OnErr, refl, sym, ap, subst, ◌∙◌, true≢false, arith, AllByRecursion, range_with_len, ordering_reverse, Less, Greater, Key}
+use Names.{Device, Row, key_cmp, device_of, first_key, owns, key_cmp_total, device_from_owns, rising_put, rising_filter, Bus, row_count}
+use Names.{key_at, State, IsRising, IsWhole, IsRowOf, row_at, has_row, is_there, put_row, put_of, without, updated_all, AreRowsOf, put_rows}
+use Names.{found_holds, each_and, none-some, same_Some, is_eq, weaken}
+use Rattle.std.specs.Prelude.{◌||◌}
+use Rattle.std.specs.List.{list_any}
 use Rattle.srcp_rules.proofs.KeyLaws.{same_key, same_key-itself, same_key-true}
-use Rattle.srcp_grammar.proofs.FindLaws.{found_holds}
 use Rattle.srcp_rules.proofs.StateLaws.{row_key, row_at_key, row_at-first, row_at-put_row, row_at-without, has_row-put_row}
 use Rattle.srcp_grammar.proofs.BusLaws.{each_unmapped}
-use Rattle.srcp_rules.proofs.OpeningLaws.{each_and, strict}
+use Rattle.srcp_rules.proofs.PutLaws.{find_none}
 
 -- ---- two registries with the same rows
-
-module _ where
-  none-some : (row : Row) → None ≡ Some row → ⊥
-  none-some row e = cc
-
-  some_same : (x y : Row) → Some x ≡ Some y → x ≡ y
-  some_same x y e = cc
 
 -- a row that is found is the first, or stands above it
 first_or_above : (row other : Row) (state : State) → IsRising (row ∷ state) → (key : Key) → row_at key (row ∷ state) ≡ Some other
     → (b : Bool) → same_key row.shown.key key ≡ b
     → cond b (row ≡ other) (key_cmp row.shown.key other.shown.key ≡ Less)
-first_or_above row other state rising key e true s = some_same row other (sym (ap (λ b. cond b (Some row) (row_at key state)) s) ∙ e)
+first_or_above row other state rising key e true s = same_Some row other (rw s at e)
 first_or_above row other state rising key e false s =
     found_holds (λ later. key_cmp row.shown.key later.shown.key ≡ Less) (λ later. same_key later.shown.key key) state rising.0 other
-    (sym (ap (λ b. cond b (Some row) (row_at key state)) s) ∙ e)
+    (rw s at e)
 
 below_both : (a b : Key) → key_cmp a b ≡ Less → key_cmp b a ≡ Less → ⊥
 below_both a b e f = let bad : Less ≡ Greater = sym e ∙ key_cmp_total.antisymm a b ∙ ap ordering_reverse f in cc
@@ -60,17 +43,10 @@ same_first x y xs ys rx ry same =
 
 -- no row of a key stands above that key
 none_above : (row : Row) (state : State) → IsRising (row ∷ state) → row_at row.shown.key state ≡ None
-none_above row state rising = by (row_at row.shown.key state) refl
-  where
-    by : (o : Option Row) → row_at row.shown.key state ≡ o → o ≡ None
-    by None e = refl
-    by (Some other) e =
-        let above =
-        found_holds (λ later. key_cmp row.shown.key later.shown.key ≡ Less)
-        (λ later. same_key later.shown.key row.shown.key) state rising.0 other e in
-        let same : other.shown.key ≡ row.shown.key = row_at_key row.shown.key state other e in
-        absurd (below_both row.shown.key row.shown.key (ap (key_cmp row.shown.key) (sym same) ∙ above)
-        (ap (key_cmp row.shown.key) (sym same) ∙ above))
+none_above row state rising =
+    find_none (λ other. same_key other.shown.key row.shown.key) state
+    (weaken state rising.0 (λ other less.
+    ap is_eq (key_cmp_total.antisymm other.shown.key row.shown.key ∙ ap ordering_reverse less)))
 
 pub same_rows : (xs ys : State) → IsRising xs → IsRising ys → ((key : Key) → row_at key xs ≡ row_at key ys) → xs ≡ ys
 same_rows [] [] rx ry same = refl
@@ -86,8 +62,8 @@ same_rows (x ∷ xs) (y ∷ ys) rx ry same =
         subst (λ k. row_at k xs ≡ row_at k ys) mine
         (none_above x xs rx ∙ sym (ap (λ (r : Row). row_at r.shown.key ys) first ∙ none_above y ys ry))
     rest first key false s =
-        sym (ap (λ b. cond b (Some x) (row_at key xs)) s) ∙ same key
-        ∙ ap (λ b. cond b (Some y) (row_at key ys)) (sym (ap (λ (r : Row). same_key r.shown.key key) first) ∙ s)
+        let other : same_key y.shown.key key ≡ false = sym (ap (λ (r : Row). same_key r.shown.key key) first) ∙ s in
+        rw (s, other) at (same key)
 
 -- ---- rows that are put
 
@@ -119,7 +95,7 @@ still_alike key [] a b e = e
 still_alike key (row ∷ rows) a b e = still_alike key rows (put_row row a) (put_row row b) (alike key row a b e)
 
 -- and the same it is at each key that is put
-abbrev puts_at : Key → List Row → Bool
+abbrev pub puts_at : Key → List Row → Bool
 puts_at key rows = list_any (λ row. same_key row.shown.key key) rows
 
 put_alike : (key : Key) (rows : List Row) (a b : State) → puts_at key rows ≡ true
@@ -131,9 +107,20 @@ put_alike key (row ∷ rows) a b e = by (same_key row.shown.key key) refl e (put
         → (puts_at key rows ≡ true → row_at key (put_rows rows (put_row row a)) ≡ row_at key (put_rows rows (put_row row b)))
         → row_at key (put_rows (row ∷ rows) a) ≡ row_at key (put_rows (row ∷ rows) b)
     by true s e later =
-        still_alike key rows (put_row row a) (put_row row b)
-        (row_at-put_row key row a ∙ ap (λ t. cond t (Some row) (row_at key a)) s
-        ∙ sym (row_at-put_row key row b ∙ ap (λ t. cond t (Some row) (row_at key b)) s))
+        still_alike key rows (put_row row a) (put_row row b) (rw (row_at-put_row key row a, row_at-put_row key row b, s))
+    by false s e later = later e
+
+-- which is there afterwards
+pub put_there : (key : Key) (rows : List Row) (state : State) → puts_at key rows ≡ true → has_row key (put_rows rows state) ≡ true
+put_there key [] state e = absurd (true≢false (sym e))
+put_there key (row ∷ rows) state e = by (same_key row.shown.key key) refl e (put_there key rows (put_row row state))
+  where
+    by : (t : Bool) → same_key row.shown.key key ≡ t → (t || puts_at key rows) ≡ true
+        → (puts_at key rows ≡ true → has_row key (put_rows rows (put_row row state)) ≡ true)
+        → has_row key (put_rows (row ∷ rows) state) ≡ true
+    by true s e later =
+        has_row-put_rows key rows (put_row row state)
+        (rw (row_at-put_row key row state, s))
     by false s e later = later e
 
 -- ---- all the rows of a device
@@ -155,25 +142,36 @@ range_any device port first (suc n) low high =
         → (t || list_any (λ key. same_key key (key_at device port)) (map (key_at device) (range_with_len (first + 1) n))) ≡ true
     by true s later = refl
     by false s later =
-        later (strict first port low
-        (λ e.
+        let apart : first ≡ port → ⊥ = λ e.
         true≢false (sym (same_key-itself (key_at device port))
-        ∙ ap (λ p. same_key (key_at device p) (key_at device port)) (sym e) ∙ s)))
+        ∙ ap (λ p. same_key (key_at device p) (key_at device port)) (sym e) ∙ s) in
+        later (omega (arith, low, apart))
 
 any-keys : (key : Key) (rows : List Row) → puts_at key rows ≡ list_any (λ k. same_key k key) (map row_key rows)
 any-keys key [] = refl
 any-keys key (row ∷ rows) = ap (λ b. same_key row.shown.key key || b) (any-keys key rows)
+
+module _ (buses : List Bus) (device : Device) (rows : List Row) (all : AreRowsOf buses device rows) where
+  -- what holds of the keys of the device holds of theirs
+  pub each_key : (P : Key → Type 0) → ((port : ℕ) → port < row_count buses device → P (key_at device port))
+      → AllByRecursion (λ row. P row.shown.key) rows
+  each_key P h =
+      each_unmapped P row_key rows
+      (subst (AllByRecursion P) (sym all.keys)
+      (range_each P device 0 (row_count buses device) (λ port less. h port (omega (arith, less)))))
+
+  pub puts_all : (port : ℕ) → port < row_count buses device → puts_at (key_at device port) rows ≡ true
+  puts_all port h =
+      any-keys (key_at device port) rows ∙ ap (list_any (λ k. same_key k (key_at device port))) all.keys
+      ∙ range_any device port 0 (row_count buses device) (omega arith) (omega (arith, h))
 
 module _ (buses : List Bus) (device : Device) (rows : List Row) (all : AreRowsOf buses device rows) (state : State)
     (whole : IsWhole buses state) where
   -- each of them is there if the device is
   pub each_there : is_there device state ≡ true → AllByRecursion (λ row. IsRowOf buses row × (has_row row.shown.key state ≡ true)) rows
   each_there there =
-      each_and (IsRowOf buses) (λ row. has_row row.shown.key state ≡ true) rows all.each
-      (each_unmapped (λ key. has_row key state ≡ true) row_key rows
-      (subst (AllByRecursion (λ key. has_row key state ≡ true)) (sym all.keys)
-      (range_each (λ key. has_row key state ≡ true) device 0 (row_count buses device)
-      (λ port less. whole.complete (first_key device) there port (omega (arith, less))))))
+      each_and _ _ rows all.each
+      (each_key buses device rows all (λ key. has_row key state ≡ true) (whole.complete (first_key device) there))
 
   -- no other row of the device is
   covered : (key : Key) → owns device key ≡ true → (o : Option Row) → row_at key state ≡ o → (puts_at key rows ≡ true → ⊥) → o ≡ None
@@ -184,10 +182,7 @@ module _ (buses : List Bus) (device : Device) (rows : List Row) (all : AreRowsOf
       let within : key.port < row_count buses device = subst (λ d. key.port < row_count buses d) same place in
       let at : key_at device key.port ≡ key =
       λ i. record { bus = (sym same i).bus; group = (sym same i).group; address = (sym same i).address; port = key.port } in
-      absurd (apart
-      (any-keys key rows ∙ ap (list_any (λ k. same_key k key)) all.keys
-      ∙ subst (λ k. list_any (λ q. same_key q k) (map (key_at device) (range_with_len 0 (row_count buses device))) ≡ true) at
-      (range_any device key.port 0 (row_count buses device) (omega arith) (omega (arith, within)))))
+      absurd (apart (subst (λ k. puts_at k rows ≡ true) at (puts_all buses device rows all key.port within)))
 
   look : (key : Key) (t : Bool) → puts_at key rows ≡ t
       → row_at key (put_rows rows (without device state)) ≡ row_at key (put_rows rows state)

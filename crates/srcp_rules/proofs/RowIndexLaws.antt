@@ -1,34 +1,22 @@
 -- Where a key is among rows by rising key, and what a write or an insert there gives.
-use Rattle.std.specs.Prelude.{◌≡◌, ℕ, zero, suc, ◌<◌, ◌≤◌, Bool, false, cond, List, [], ◌∷◌, ◌++◌, length, take, drop, find, insert}
-use Rattle.std.specs.Prelude.{slice_set, slice_index_or, Some, None, Result, Ok, Err, IfOk, IfErr}
-use Rattle.std.proofs.Common.{refl, sym, ap, subst, ◌∙◌, arith}
-use Rattle.std.proofs.lemmas.List.{take-append-drop, set_split}
-use Rattle.std.proofs.lemmas.List.Folds.{find-append}
-use Rattle.std.specs.Option.{option_or}
-use Rattle.std.specs.List.{AllByRecursion}
+use Rattle.srcp_rules.proofs.Names
+use Names.{◌≡◌, ℕ, zero, suc, ◌<◌, ◌≤◌, Bool, [], ◌∷◌, ◌++◌, length, take, drop, insert, slice_set, slice_index_or, Some, None, Result, Ok}
+use Names.{Err, refl, sym, ap, subst, ◌∙◌, arith, take-append-drop, find-append, option_or, AllByRecursion, is_eq, ordering_reverse}
+use Names.{Ordering, Less, Equal, Greater, Key, Row, Cursor, key_cmp, has_reached, key_tie, key_cmp_total, reached_below, State, IsRising}
+use Names.{row_at, put_row, HasKeyAt, each_at, weaken}
+use Rattle.std.specs.Prelude.{IfOk, IfErr}
+use Rattle.std.proofs.lemmas.List.{set_split}
 use Rattle.std.specs.List.Sorted.{IsSearchInRange, IsBinarySearchResult, IsNonDecreasingBy, IsPartitionedBy}
-use Rattle.std.specs.Ordering.{ordering_index, is_eq, ordering_reverse}
-use Rattle.std.specs.declared.cmp.Ordering.{Ordering}
-use Rattle.std.specs.declared.cmp.Ordering.TheVariants.{Less, Equal, Greater}
-use Rattle.srcp_info.specs.declared.key.Key.{Key}
-use Rattle.srcp_info.specs.declared.change.Row.{Row}
-use Rattle.srcp_info.specs.declared.change.Cursor.{Cursor}
-use Rattle.srcp_info.specs.Key.{key_cmp, has_reached}
-use Rattle.srcp_info.proofs.KeyLaws.{key_tie, key_cmp_total}
-use Rattle.srcp_info.proofs.ClientLaws.{put_between, put_over, reached_below}
-use Rattle.srcp_rules.specs.State.{State, IsRising, row_at, put_row}
-use Rattle.srcp_rules.specs.KeyIndex.{HasKeyAt, IsGapAt}
+use Rattle.std.specs.Ordering.{ordering_index}
+use Rattle.srcp_info.proofs.ClientLaws.{put_between, put_over}
+use Rattle.srcp_rules.specs.KeyIndex.{IsGapAt}
 use Rattle.srcp_rules.proofs.KeyLaws.{same_key, not_after}
-use Rattle.srcp_grammar.proofs.FindLaws.{each-weaken}
 use Rattle.srcp_rules.proofs.StateLaws.{row_key, row_at-first, row_at-later}
-use Rattle.srcp_grammar.proofs.PlaceLaws.{front_each, back_each, each_at, Follows, partitioned, non_decreasing}
+use Rattle.srcp_grammar.proofs.PlaceLaws.{front_each, back_each, Follows, partitioned, non_decreasing}
+use Rattle.srcp_rules.proofs.PutLaws.{find_none}
 
 abbrev Below : Row → Row → Type 0
 Below a b = key_cmp a.shown.key b.shown.key ≡ Less
-
-follows : (state : State) → IsRising state → Follows Below state
-follows [] h = tt
-follows (row ∷ state) h = (h.0, follows state h.1)
 
 -- ---- searching
 
@@ -51,7 +39,7 @@ module _ (state : State) (rising : IsRising state) (key : Key) where
   compared : IsNonDecreasingBy (λ row. ordering_index (key_cmp row.shown.key key)) state
   compared =
       non_decreasing Below (λ row. ordering_index (key_cmp row.shown.key key))
-      (λ a b less. index_step key a.shown.key b.shown.key less (key_cmp b.shown.key key) refl) state (follows state rising)
+      (λ a b less. index_step key a.shown.key b.shown.key less (key_cmp b.shown.key key) refl) state rising
 
   -- what a binary search by the key answers
   pub searched : (r : Result ℕ ℕ) → IsSearchInRange r (length state) → IsBinarySearchResult (λ row. key_cmp row.shown.key key) state r
@@ -81,21 +69,16 @@ row_at-here (row ∷ state) rising key (suc index) at d =
     row_at-later row state rising key (slice_index_or state index d)
     (row_at-here state rising.1 key index (record { within = omega (arith, within); here = at.here }) d)
 
-none_tie : (t : Row → Bool) (rows : List Row) → AllByRecursion (λ row. t row ≡ false) rows → find t rows ≡ None
-none_tie t [] h = refl
-none_tie t (row ∷ rows) h = ap (λ b. cond b (Some row) (find t rows)) h.0 ∙ none_tie t rows h.1
-
 -- a key that belongs between two rows has none
 pub row_at-gap : (state : State) (key : Key) (index : ℕ) → IsGapAt state key index → row_at key state ≡ None
 row_at-gap state key index gap =
     ap (row_at key) (sym (take-append-drop index state))
     ∙ find-append (λ row. same_key row.shown.key key) (take index state) (drop index state)
     ∙ (λ i.
-    option_or (none_tie (λ row. same_key row.shown.key key) (take index state)
-    (each-weaken {P = λ row. key_cmp row.shown.key key ≡ Less} (λ row h. ap is_eq h) (take index state) gap.below) i)
-    (none_tie (λ row. same_key row.shown.key key) (drop index state)
-    (each-weaken {P = λ row. key_cmp key row.shown.key ≡ Less}
-    (λ row h. ap is_eq (key_cmp_total.antisymm row.shown.key key ∙ ap ordering_reverse h)) (drop index state) gap.above)
+    option_or (find_none (λ row. same_key row.shown.key key) (take index state)
+    (weaken (take index state) gap.below (λ row h. ap is_eq h)) i)
+    (find_none (λ row. same_key row.shown.key key) (drop index state)
+    (weaken (drop index state) gap.above (λ row h. ap is_eq (key_cmp_total.antisymm row.shown.key key ∙ ap ordering_reverse h)))
     i))
 
 -- ---- writing
@@ -115,13 +98,13 @@ around (row ∷ state) f (suc i) h d =
 pub set-put_row : (state : State) → IsRising state → (row : Row) (index : ℕ) → HasKeyAt state row.shown.key index
     → slice_set state index row ≡ put_row row state
 set-put_row state rising row index at =
-    let parts = around state (follows state rising) index at.within row in
+    let parts = around state rising index at.within row in
     let old = slice_index_or state index row in
     let same : old.shown.key ≡ row.shown.key = at.here row in
     set_split state index row at.within
     ∙ sym (put_over row_key row (take index state) old (drop (suc index) state) same
-    (each-weaken {P = λ other. Below other old} (λ other h. ap (key_cmp other.shown.key) (sym same) ∙ h) (take index state) parts.0)
-    (each-weaken {P = Below old} (λ other h. ap (λ k. key_cmp k other.shown.key) (sym same) ∙ h) (drop (suc index) state) parts.1))
+    (weaken (take index state) parts.0 (λ other h. ap (key_cmp other.shown.key) (sym same) ∙ h))
+    (weaken (drop (suc index) state) parts.1 (λ other h. ap (λ k. key_cmp k other.shown.key) (sym same) ∙ h)))
     ∙ ap (put_row row) (sym parts.2)
 
 -- an insert where a key belongs
@@ -140,4 +123,4 @@ module _ (cursor : Cursor) where
   pub passed_partitioned : (state : State) → IsRising state → IsPartitionedBy passed state
   passed_partitioned state rising =
       partitioned Below passed (λ a b less e. reached_below cursor a.shown.key b.shown.key (not_after a.shown.key b.shown.key less) e) state
-      (follows state rising)
+      rising

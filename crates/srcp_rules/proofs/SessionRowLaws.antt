@@ -1,17 +1,11 @@
 -- The row of a session that begins, whatever its id.
-use Rattle.std.specs.Prelude.{ℕ, ◌≤◌, ◌<◌, ◌^◌, List}
-use Rattle.std.proofs.Common.{refl, arith}
-use Rattle.srcp_info.specs.declared.value.Mode.{Mode}
-use Rattle.srcp_info.specs.Key.{first_key}
-use Rattle.srcp_info.specs.WellFormed.{IsMoment, IsWellFormed}
-use Rattle.srcp_grammar.specs.declared.layout.Bus.{Bus}
-use Rattle.srcp_grammar.specs.Layout.{IsKeyOf}
-use Rattle.srcp_grammar.specs.Devices.{session_device}
-use Rattle.srcp_rules.specs.State.{State, AddsNoRow, IsWhole, updated}
-use Rattle.srcp_rules.specs.Due.{began}
+use Rattle.srcp_rules.proofs.Names
+use Names.{ℕ, ◌≤◌, ◌<◌, List, refl, arith, Mode, first_key, IsMoment, IsWellFormed, Bus, IsKeyOf, session_device, State, AddsNoRow, IsWhole}
+use Names.{updated, began}
+use Rattle.std.specs.Prelude.{◌^◌}
 use Rattle.srcp_rules.proofs.AddingLaws.{session_rows}
 use Rattle.srcp_rules.proofs.AddsNoRowLaws.{began-adds_no_row}
-use Rattle.srcp_rules.proofs.DueLaws.{began_kept}
+use Rattle.srcp_rules.proofs.DueRowLaws.{began_kept}
 
 session_key : (buses : List Bus) (session : ℕ) → 1 ≤ session → session < 2 ^ 32 → IsKeyOf buses (first_key (session_device session))
 session_key buses session low high = let count = session_rows buses session low (omega (arith, high)) in omega (arith, count)

@@ -1,20 +1,9 @@
 -- Rows in entries by rising number, if keys go by that number: the entries after a row is set, a device added or taken out.
-use Rattle.std.specs.Prelude.{◌≡◌, ℕ, ◌<◌, false, List, [], ◌∷◌, ◌++◌, Some, None}
-use Rattle.std.proofs.Common.{refl, sym, subst, arith}
-use Rattle.std.specs.List.{AllByRecursion}
+use Rattle.srcp_rules.proofs.Names
+use Names.{◌≡◌, ℕ, ◌<◌, false, List, [], ◌∷◌, ◌++◌, Some, None, refl, sym, subst, arith, AllByRecursion, set_value, remove_entry, nat_cmp}
+use Names.{is_at, insert_entry, Less, Key, Device, Row, key_cmp, owns, State, IsRising, put_row, without, put_rows, AreSorted, entry_at}
+use Names.{listed, weaken}
 use Rattle.std.specs.List.Sorted.{IsStrictlySortedBy}
-use Rattle.std.specs.Map.{set_value, remove_entry}
-use Rattle.std.specs.Ordering.{nat_cmp}
-use Rattle.std.specs.BTreeMap.{is_at, insert_entry}
-use Rattle.std.specs.declared.cmp.Ordering.TheVariants.{Less}
-use Rattle.srcp_info.specs.declared.key.Key.{Key}
-use Rattle.srcp_info.specs.declared.key.Device.{Device}
-use Rattle.srcp_info.specs.declared.change.Row.{Row}
-use Rattle.srcp_info.specs.Key.{key_cmp, owns}
-use Rattle.srcp_rules.specs.State.{State, IsRising, put_row, without}
-use Rattle.srcp_rules.specs.Rows.{put_rows}
-use Rattle.srcp_rules.specs.Nested.{AreSorted, entry_at, listed}
-use Rattle.srcp_grammar.proofs.FindLaws.{each-weaken}
 use Rattle.srcp_rules.proofs.PutLaws.{put_row-before, put_row-past, put_rows-before, put_rows-past, without-before, without-past}
 use Rattle.srcp_rules.proofs.ListedLaws.{IsTagged, Above, Below, listed-absent, listed-insert_entry, listed-remove_entry, listed-set_value}
 use Rattle.srcp_rules.proofs.ListedLaws.{listed_above, unequal}
@@ -28,14 +17,12 @@ module _ {X : Type 0} (rows : X → State) (tag : Key → ℕ) (P : Key → Type
     put_left : (xs ys : State) → Above rows tag P (tag row.shown.key) ys → put_row row (xs ++ ys) ≡ put_row row xs ++ ys
     put_left xs ys h =
         put_row-before row xs ys
-        (each-weaken {P = λ y. P y.shown.key × (tag row.shown.key < tag y.shown.key)}
-        (λ y t. order row.shown.key y.shown.key here t.0 t.1) ys h)
+        (weaken ys h (λ y t. order row.shown.key y.shown.key here t.0 t.1))
 
     put_right : (xs ys : State) → Below rows tag P (tag row.shown.key) xs → put_row row (xs ++ ys) ≡ xs ++ put_row row ys
     put_right xs ys h =
         put_row-past row xs ys
-        (each-weaken {P = λ x. P x.shown.key × (tag x.shown.key < tag row.shown.key)}
-        (λ x t. order x.shown.key row.shown.key t.0 here t.1) xs h)
+        (weaken xs h (λ x t. order x.shown.key row.shown.key t.0 here t.1))
 
     pub listed-put_row : (es : List (ℕ × X)) → AllByRecursion (IsTagged rows tag P) es → AreSorted es → (x w : X)
         → entry_at (tag row.shown.key) es ≡ Some x → rows w ≡ put_row row (rows x)
@@ -48,14 +35,12 @@ module _ {X : Type 0} (rows : X → State) (tag : Key → ℕ) (P : Key → Type
     drop_left : (xs ys : State) → Above rows tag P n ys → without device (xs ++ ys) ≡ without device xs ++ ys
     drop_left xs ys h =
         without-before device xs ys
-        (each-weaken {P = λ y. P y.shown.key × (n < tag y.shown.key)}
-        (λ y t. apart y.shown.key t.0 (λ e. unequal n (tag y.shown.key) t.1 e)) ys h)
+        (weaken ys h (λ y t. apart y.shown.key t.0 (λ e. unequal n (tag y.shown.key) t.1 e)))
 
     drop_right : (xs ys : State) → Below rows tag P n xs → without device (xs ++ ys) ≡ xs ++ without device ys
     drop_right xs ys h =
         without-past device xs ys
-        (each-weaken {P = λ x. P x.shown.key × (tag x.shown.key < n)}
-        (λ x t. apart x.shown.key t.0 (λ e. unequal (tag x.shown.key) n t.1 (sym e))) xs h)
+        (weaken xs h (λ x t. apart x.shown.key t.0 (λ e. unequal (tag x.shown.key) n t.1 (sym e))))
 
     pub listed-without : (es : List (ℕ × X)) → AllByRecursion (IsTagged rows tag P) es → AreSorted es → (x w : X) → entry_at n es ≡ Some x
         → rows w ≡ without device (rows x)
@@ -77,11 +62,8 @@ module _ {X : Type 0} (rows : X → State) (tag : Key → ℕ) (P : Key → Type
     add_left : (xs ys : State) → Above rows tag P n ys → put_rows added (xs ++ ys) ≡ put_rows added xs ++ ys
     add_left xs ys h =
         put_rows-before added xs ys
-        (each-weaken {P = λ row. P row.shown.key × (tag row.shown.key ≡ n)}
-        (λ row r.
-        each-weaken {P = λ y. P y.shown.key × (n < tag y.shown.key)}
-        (λ y t. order row.shown.key y.shown.key r.0 t.0 (below (tag row.shown.key) n (tag y.shown.key) r.1 t.1)) ys h)
-        added new)
+        (weaken added new (λ row r.
+        weaken ys h (λ y t. order row.shown.key y.shown.key r.0 t.0 (below (tag row.shown.key) n (tag y.shown.key) r.1 t.1))))
       where
         below : (l m n : ℕ) → l ≡ m → m < n → l < n
         below l m n e h = omega (arith, e, h)
@@ -89,11 +71,8 @@ module _ {X : Type 0} (rows : X → State) (tag : Key → ℕ) (P : Key → Type
     add_right : (xs ys : State) → Below rows tag P n xs → put_rows added (xs ++ ys) ≡ xs ++ put_rows added ys
     add_right xs ys h =
         put_rows-past added xs ys
-        (each-weaken {P = λ row. P row.shown.key × (tag row.shown.key ≡ n)}
-        (λ row r.
-        each-weaken {P = λ x. P x.shown.key × (tag x.shown.key < n)}
-        (λ x t. order x.shown.key row.shown.key t.0 r.0 (below (tag x.shown.key) n (tag row.shown.key) t.1 r.1)) xs h)
-        added new)
+        (weaken added new (λ row r.
+        weaken xs h (λ x t. order x.shown.key row.shown.key t.0 r.0 (below (tag x.shown.key) n (tag row.shown.key) t.1 r.1))))
       where
         below : (l m n : ℕ) → l < m → n ≡ m → l < n
         below l m n h e = omega (arith, h, e)
@@ -123,7 +102,5 @@ module _ {X : Type 0} (rows : X → State) (tag : Key → ℕ) (P : Key → Type
   listed-rising (e ∷ es) a s r =
       let above = listed_above rows tag P e.0 es a.1 s.0 in
       rising-append row_key (rows e.1) (listed rows es) r.0 (listed-rising es a.1 s.1 r.1)
-      (each-weaken {P = λ row. P row.shown.key × (tag row.shown.key ≡ e.0)}
-      (λ x t. each-weaken {P = λ y. P y.shown.key × (e.0 < tag y.shown.key)}
-      (λ y u. order x.shown.key y.shown.key t.0 u.0 (subst (λ n. n < tag y.shown.key) (sym t.1) u.1)) (listed rows es) above)
-      (rows e.1) a.0)
+      (weaken (rows e.1) a.0 (λ x t. weaken (listed rows es) above
+      (λ y u. order x.shown.key y.shown.key t.0 u.0 (subst (λ n. n < tag y.shown.key) (sym t.1) u.1))))

@@ -1,43 +1,29 @@
 -- A line brings at most its weight.
-use Rattle.std.specs.Prelude.{codes, ◌≡◌, ℕ, ◌+◌, ◌≤◌, Bool, true, false, cond, ◌&&◌, ◌==◌, length, find, List, []}
-use Rattle.std.specs.Prelude.{◌∷◌, Option, Some, None, Result, Ok, Err, IfOk}
-use Rattle.std.proofs.Common.{refl, sym, ap, subst, ◌∙◌, arith}
-use Rattle.std.proofs.lemmas.Bool.{false_from_ne_true}
+use Rattle.srcp_rules.proofs.Names
+use Names.{◌≡◌, ℕ, ◌≤◌, Bool, true, false, cond, ◌&&◌, length, find, List, [], ◌∷◌, Option, Some, None, Result, Ok, Err, refl, sym, ap}
+use Names.{subst, ◌∙◌, arith, false_from_ne_true, second_so, option_map, Code, Bus, Command, SetPower, SetGl, CheckGl, SetGa, CheckGa}
+use Names.{SetFb, SetLock, CheckLock, bus_at, State, Update, IsCommandOf, effect}
+use Rattle.std.specs.Prelude.{codes, IfOk}
 use Rattle.std.proofs.lemmas.List.{length-map}
 use Rattle.std.proofs.lemmas.Slice.Eq.{bytes_eq-Decides}
 use Rattle.std.specs.Char.{to_ascii_lowercase}
-use Rattle.std.specs.Cmp.{second_so}
-use Rattle.std.specs.Option.{ok_or, option_map, option_and_then, unwrap_or}
+use Rattle.std.specs.Option.{ok_or, option_and_then, unwrap_or}
 use Rattle.std.specs.Str.{bytes_eq, str_to_ascii_lowercase}
-use Rattle.srcp_info.specs.declared.key.Key.{Key}
-use Rattle.srcp_info.specs.declared.change.Reply.TheVariants.{Accepted}
-use Rattle.srcp_info.specs.Key.{first_key}
-use Rattle.srcp_info.specs.declared.change.Code.{Code}
-use Rattle.srcp_info.specs.declared.change.Code.TheVariants.{C410, C412, C415, C421, C422}
+use Rattle.srcp_info.specs.declared.change.Code.TheVariants.{C410, C412, C421, C422}
 use Rattle.srcp_text.specs.Words.{number_of, is_keyword, words_of}
-use Rattle.srcp_grammar.specs.declared.layout.Bus.{Bus}
 use Rattle.srcp_grammar.specs.declared.command.Operation.{Operation}
 use Rattle.srcp_grammar.specs.declared.command.Operation.TheVariants.{Get, Set, Check, Init, Term, Wait, Verify, Reset}
 use Rattle.srcp_grammar.specs.declared.command.CommandGroup.{CommandGroup}
 use Rattle.srcp_grammar.specs.declared.command.CommandGroup.TheVariants.{Session, Power, Gl, Ga, Fb, Lock}
-use Rattle.srcp_grammar.specs.declared.command.DeviceGroup.TheVariants as devices
-use Rattle.srcp_grammar.specs.declared.command.Command.{Command}
-use Rattle.srcp_grammar.specs.declared.command.Command.TheVariants.{GetSession, TermSession, GetPower, SetPower, CheckPower, GetGl, SetGl}
-use Rattle.srcp_grammar.specs.declared.command.Command.TheVariants.{CheckGl, GetGa, SetGa, CheckGa, GetFb, SetFb, CheckFb, GetLock, SetLock}
-use Rattle.srcp_grammar.specs.declared.command.Command.TheVariants.{CheckLock}
-use Rattle.srcp_grammar.specs.Layout.{bus_at, has_group}
-use Rattle.srcp_grammar.specs.Devices.{key_at, session_device, power_device, fb_device, device_in, lock_at}
-use Rattle.srcp_rules.specs.State.{State, Update, row_at}
-use Rattle.srcp_grammar.specs.Command.{IsCommandOf}
-use Rattle.srcp_grammar.specs.Grammar.{◌>>=◌, number_in, groups, named_in, alone, addressed, get_session, term_session}
-use Rattle.srcp_grammar.specs.Grammar.{powered, driven, ga_port, get_ga, switched, sensed, named_lock, timed_lock, asked, directed}
-use Rattle.srcp_grammar.specs.Grammar.{parsed}
-use Rattle.srcp_rules.specs.Effect.{effect, refused, done, checked, shown_at, unless_refused, refusals, gl_refusals}
-use Rattle.srcp_rules.specs.Effect.{ga_put, gl_put, set_gl, set_ga, lock_put, set_lock}
+use Rattle.srcp_grammar.specs.declared.command.Command.TheVariants.{GetSession, TermSession, GetPower, CheckPower, GetGl, GetGa, GetFb}
+use Rattle.srcp_grammar.specs.declared.command.Command.TheVariants.{CheckFb, GetLock}
+use Rattle.srcp_grammar.specs.Layout.{has_group}
+use Rattle.srcp_grammar.specs.Grammar.{◌>>=◌, number_in, groups, named_in, alone, addressed, get_session, term_session, powered, driven}
+use Rattle.srcp_grammar.specs.Grammar.{ga_port, get_ga, switched, sensed, named_lock, timed_lock, asked, directed, parsed}
 use Rattle.srcp_rules.specs.Weight.{names_session, weight_of, weight, LinesWeighEnough, WeightsAreSmall, GoesWeighOne}
 use Rattle.srcp_grammar.proofs.GrammarLaws.{read_any, then_ok, reads_fits}
 use Rattle.srcp_rules.proofs.CountLaws.{effect_few}
-use Rattle.srcp_rules.proofs.EffectLaws.{accepted_updates, checked_updates, showing_updates}
+use Rattle.srcp_rules.proofs.CommandLaws.{changes_of, of_changes}
 
 -- ---- what a line makes, whatever its values
 
@@ -98,66 +84,45 @@ module _ (state : State) (session moment : ℕ) where
   abbrev Brings : ℕ → Command → Type 0
   Brings n command = AtMost n (effect state session moment command).updates
 
-  none : (n : ℕ) → AtMost n []
-  none n = omega arith
-
-  shown : (key : Key) → AtMost 0 (shown_at key state).updates
-  shown key = showing_updates (AtMost 0) (none 0) (row_at key state)
+  brings : (n : ℕ) (command : Command) → AtMost n (changes_of state session moment command) → Brings n command
+  brings n command h = of_changes state session moment (AtMost n) (omega arith) command (λ none. h)
 
   gets_none : (g : CommandGroup) (bus : Bus) (words : List (List ℕ)) → IfOk (asked Get g bus words) (Brings 0)
-  gets_none Session bus words = get_session_all (Brings 0) words (λ n. shown (first_key (session_device n)))
-  gets_none Power bus words = alone_all (Brings 0) (GetPower bus.number) words (shown (first_key (power_device bus.number)))
-  gets_none Gl bus words = addressed_all (Brings 0) bus.gl_max (GetGl bus.number) words
-      (λ a. shown (key_at (device_in devices.Gl bus.number a) 1))
-  gets_none Ga bus words = get_ga_all (Brings 0) bus words (λ a p. shown (key_at (device_in devices.Ga bus.number a) (1 + p)))
-  gets_none Fb bus words = addressed_all (Brings 0) bus.fb_ports (GetFb bus.number) words (λ p. shown (first_key (fb_device bus.number p)))
+  gets_none Session bus words = get_session_all (Brings 0) words (λ n. brings 0 (GetSession n) (omega arith))
+  gets_none Power bus words = alone_all (Brings 0) (GetPower bus.number) words (brings 0 (GetPower bus.number) (omega arith))
+  gets_none Gl bus words =
+      addressed_all (Brings 0) bus.gl_max (GetGl bus.number) words (λ a. brings 0 (GetGl bus.number a) (omega arith))
+  gets_none Ga bus words = get_ga_all (Brings 0) bus words (λ a p. brings 0 (GetGa bus.number a p) (omega arith))
+  gets_none Fb bus words =
+      addressed_all (Brings 0) bus.fb_ports (GetFb bus.number) words (λ p. brings 0 (GetFb bus.number p) (omega arith))
   gets_none Lock bus words =
-      read_any (Brings 0) (named_lock bus words) (λ place. Ok (GetLock place))
-      (λ place. shown (first_key (lock_at place)))
-
-  tried : (r : Result (List Update) Code) → AtMost 0 (checked r).updates
-  tried r = checked_updates (AtMost 0) (none 0) r
+      read_any (Brings 0) (named_lock bus words) (λ place. Ok (GetLock place)) (λ place. brings 0 (GetLock place) (omega arith))
 
   checks_none : (g : CommandGroup) (bus : Bus) (words : List (List ℕ)) → IfOk (asked Check g bus words) (Brings 0)
   checks_none Session bus words = tt
-  checks_none Power bus words = read_any (Brings 0) (powered bus words) (λ power. Ok (CheckPower power)) (λ power. none 0)
+  checks_none Power bus words = read_any (Brings 0) (powered bus words) (λ power. Ok (CheckPower power)) (λ power. omega arith)
   checks_none Gl bus words =
-      read_any (Brings 0) (driven bus words) (λ drive. Ok (CheckGl drive)) (λ drive. tried (set_gl state session moment drive))
+      read_any (Brings 0) (driven bus words) (λ drive. Ok (CheckGl drive)) (λ drive. brings 0 (CheckGl drive) (omega arith))
   checks_none Ga bus words =
-      read_any (Brings 0) (switched bus words) (λ switch. Ok (CheckGa switch)) (λ switch. tried (set_ga state session moment switch))
-  checks_none Fb bus words = read_any (Brings 0) (sensed bus words) (λ sensor. Ok (CheckFb sensor)) (λ sensor. none 0)
+      read_any (Brings 0) (switched bus words) (λ switch. Ok (CheckGa switch)) (λ switch. brings 0 (CheckGa switch) (omega arith))
+  checks_none Fb bus words = read_any (Brings 0) (sensed bus words) (λ sensor. Ok (CheckFb sensor)) (λ sensor. omega arith)
   checks_none Lock bus words =
-      read_any (Brings 0) (timed_lock bus words) (λ lock. Ok (CheckLock lock)) (λ lock. tried (set_lock state session moment lock))
-
-  one : (refused : List (Bool × Code)) (update : Update) → AtMost 1 (done (unless_refused refused (update ∷ []))).updates
-  one refused update = accepted_updates (AtMost 1) (none 1) refused (update ∷ []) (λ applies. omega arith)
+      read_any (Brings 0) (timed_lock bus words) (λ lock. Ok (CheckLock lock)) (λ lock. brings 0 (CheckLock lock) (omega arith))
 
   sets_one : (g : CommandGroup) (bus : Bus) (words : List (List ℕ)) → IfOk (asked Set g bus words) (Brings 1)
   sets_one Session bus words = tt
   sets_one Power bus words = read_any (Brings 1) (powered bus words) (λ power. Ok (SetPower power)) (λ power. omega arith)
   sets_one Gl bus words =
-      read_any (Brings 1) (driven bus words) (λ drive. Ok (SetGl drive))
-      (λ drive. one (gl_refusals state session drive) (gl_put state moment drive))
+      read_any (Brings 1) (driven bus words) (λ drive. Ok (SetGl drive)) (λ drive. brings 1 (SetGl drive) (omega arith))
   sets_one Ga bus words =
-      read_any (Brings 1) (switched bus words) (λ switch. Ok (SetGa switch))
-      (λ switch. one (refusals state session devices.Ga switch.bus switch.address) (ga_put moment switch))
+      read_any (Brings 1) (switched bus words) (λ switch. Ok (SetGa switch)) (λ switch. brings 1 (SetGa switch) (omega arith))
   sets_one Fb bus words = read_any (Brings 1) (sensed bus words) (λ sensor. Ok (SetFb sensor)) (λ sensor. omega arith)
   sets_one Lock bus words =
-      read_any (Brings 1) (timed_lock bus words) (λ lock. Ok (SetLock lock))
-      (λ lock. one (refusals state session lock.target.group lock.target.bus lock.target.address) (lock_put session moment lock))
-
-  -- a session's command shows its row, or ends it
-  ended : (id : Option ℕ) → Brings 0 (TermSession id)
-  ended None = none 0
-  ended (Some id) = by_id (id == session)
-    where
-      by_id : (b : Bool) → AtMost 0 (cond b (record { reply = Accepted; updates = []; ends = true }) (refused C415)).updates
-      by_id true = none 0
-      by_id false = none 0
+      read_any (Brings 1) (timed_lock bus words) (λ lock. Ok (SetLock lock)) (λ lock. brings 1 (SetLock lock) (omega arith))
 
   of_session : (operation : Operation) (bus : Bus) (words : List (List ℕ)) → IfOk (asked operation Session bus words) (Brings 0)
   of_session Get bus words = gets_none Session bus words
-  of_session Term bus words = term_session_all (Brings 0) words ended
+  of_session Term bus words = term_session_all (Brings 0) words (λ id. brings 0 (TermSession id) (omega arith))
   of_session operation bus words = tt
 
   module _ (buses : List Bus) where

@@ -1,9 +1,9 @@
-use Rattle.std.proofs.Common.{◌≡◌, true, false, sym, ◌∙◌, true≢false, rules}
+use Rattle.srcp_rules.proofs.Names.{◌≡◌, true, false, sym, ◌∙◌, true≢false, rules, IsPartitionPoint-from_clause}
 use Rattle.std.proofs.lemmas.Bool.{true_from_ne_false}
-use Rattle.std.proofs.lemmas.List.Sorted.{IsPartitionPoint-from_clause}
 use Rattle.srcp_index.specs.Pairs.{before}
 use Rattle.srcp_index.proofs.Pairs.{before_weak}
-use Rattle.srcp_index.proofs.Splits.{front_each, back_each, partitioned}
+use Rattle.srcp_grammar.proofs.PlaceLaws.{front_each, back_each}
+use Rattle.srcp_index.proofs.Splits.{partitioned}
 use Rattle.srcp_index.proofs.index.count_before.Goals as goal
 
 pub returns-clause-front : goal.returns-clause-front

@@ -1,9 +1,10 @@
-use Rattle.std.proofs.Common.{◌≡◌, ◌<◌, ◌≤◌, true, false, sym, ap, ◌∙◌, rules, drop, take, length}
+use Rattle.srcp_rules.proofs.Names
+use Names.{◌≡◌, ◌<◌, ◌≤◌, true, false, sym, ap, ◌∙◌, rules, drop, take, length, IsPartitionPoint-from_clause, weaken}
 use Rattle.std.specs.Bool.{then_some}
-use Rattle.std.proofs.lemmas.List.Sorted.{IsPartitionPoint-from_clause}
 use Rattle.srcp_index.specs.Pairs.{before, is_due_beyond}
-use Rattle.srcp_index.proofs.Ordered.{all_weaker, ranked_drop}
-use Rattle.srcp_index.proofs.Splits.{front_each, back_each, partitioned, find_at, find_past}
+use Rattle.srcp_index.proofs.Ordered.{ranked_drop}
+use Rattle.srcp_grammar.proofs.PlaceLaws.{front_each, back_each}
+use Rattle.srcp_index.proofs.Splits.{partitioned, find_at, find_past}
 use Rattle.srcp_index.proofs.Pairs.{is_passed, passed_first, not_ripe_from_passed, ripe_stops}
 use Rattle.srcp_index.proofs.index.first_due_in.Goals as goal
 
@@ -18,8 +19,7 @@ returns-in_err-pair c =
     let past : length pairs ≤ index = search rules in
     let parted = IsPartitionPoint-from_clause p pairs index c.partition_point-index.ensures.partitioned
     (partitioned (before since) p (passed_first since cursor) pairs c.requires) (λ a r f' called. search rules) in
-    let front = all_weaker (λ x. p x ≡ true) (λ x. is_due_beyond since cursor x ≡ false) (not_ripe_from_passed since cursor)
-    (take index pairs) (front_each (λ x. p x ≡ true) pairs index bound parted.0) in
+    let front = weaken (take index pairs) (front_each (λ x. p x ≡ true) pairs index bound parted.0) (not_ripe_from_passed since cursor) in
     c.from_residual.ensures ∙ sym (find_past (is_due_beyond since cursor) pairs index front past)
 
 pub returns : goal.returns
@@ -34,8 +34,7 @@ returns c =
     let within : index < length pairs = search rules in
     let parted = IsPartitionPoint-from_clause p pairs index c.partition_point-index.ensures.partitioned
     (partitioned (before since) p (passed_first since cursor) pairs c.requires) (λ a r f' called. search rules) in
-    let front = all_weaker (λ x. p x ≡ true) (λ x. is_due_beyond since cursor x ≡ false) (not_ripe_from_passed since cursor)
-    (take index pairs) (front_each (λ x. p x ≡ true) pairs index bound parted.0) in
+    let front = weaken (take index pairs) (front_each (λ x. p x ≡ true) pairs index bound parted.0) (not_ripe_from_passed since cursor) in
     let stops = ripe_stops since cursor (drop index pairs) (ranked_drop (before since) index pairs c.requires)
     (back_each (λ x. p x ≡ false) pairs index parted.1) in
     c.then_some.ensures ∙ ap (λ b. then_some b pair) c.is_due_beyond.ensures

@@ -1,9 +1,9 @@
-use Rattle.std.proofs.Common.{◌≡◌, ◌++◌, ap, ◌∙◌, subst, rules, arith, true, false, nat_le}
+use Rattle.srcp_rules.proofs.Names.{◌≡◌, ◌++◌, ap, ◌∙◌, subst, rules, arith, true, false, nat_le, IsPartitionPoint-from_clause}
 use Rattle.std.specs.List.Sorted.{IsPermutation}
-use Rattle.std.proofs.lemmas.List.Sorted.{IsPartitionPoint-from_clause}
 use Rattle.srcp_index.specs.declared.index.Pair.{Pair}
 use Rattle.srcp_index.specs.Pairs.{before}
-use Rattle.srcp_index.proofs.Splits.{front_each, back_each, partitioned}
+use Rattle.srcp_grammar.proofs.PlaceLaws.{front_each, back_each}
+use Rattle.srcp_index.proofs.Splits.{partitioned}
 use Rattle.srcp_index.proofs.Pairs.{arranged, come_first}
 use Rattle.srcp_index.proofs.index.reorder.Goals as goal
 

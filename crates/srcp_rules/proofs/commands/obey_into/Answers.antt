@@ -1,5 +1,5 @@
 use Rattle.srcp_rules.specs.Obeyed.{MayObey}
-use Rattle.srcp_rules.proofs.TookLaws.{obeyed_whole, obeyed_reply, obeyed_changes, obeyed_few}
+use Rattle.srcp_rules.proofs.TookLaws.{obeyed_all}
 use Rattle.srcp_rules.proofs.commands.obey_into.Goals as goal
 
 pub returns : goal.returns
@@ -10,16 +10,13 @@ returns g c =
     let may : MayObey buses state c.args.session c.args.command.now =
     record { whole = c.requires.whole; begun = c.requires.begun; of = c.requires.command } in
     let did = c.answer.ensures.obeyed in
+    let all =
+    obeyed_all buses state after c.args.session c.args.moment c.ranges.moment.fits c.args.command.now may c.answer.new.obeyed did in
     record {
       obeyed = did;
       layout = c.answer.ensures.layout;
-      whole =
-          rw c.answer.ensures.layout
-          (obeyed_whole buses state after c.args.session c.args.moment c.ranges.moment.fits c.args.command.now may c.answer.new.obeyed
-          did);
-      reply =
-          obeyed_reply buses state after c.args.session c.args.moment c.ranges.moment.fits c.args.command.now may c.answer.new.obeyed did;
-      changes =
-          obeyed_changes buses state after c.args.session c.args.moment c.ranges.moment.fits c.args.command.now may c.answer.new.obeyed did;
-      few = obeyed_few buses state after c.args.session c.args.moment c.ranges.moment.fits c.args.command.now may c.answer.new.obeyed did;
+      whole = rw c.answer.ensures.layout all.0;
+      reply = all.1;
+      changes = all.2;
+      few = all.3;
     }

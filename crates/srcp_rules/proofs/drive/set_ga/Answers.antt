@@ -1,25 +1,20 @@
-use Rattle.std.proofs.Common.{[], ◌∷◌, ◌+◌, refl, subst}
-use Rattle.srcp_grammar.specs.declared.command.DeviceGroup.TheVariants as devices
-use Rattle.srcp_info.specs.declared.change.Code.TheVariants.{C414}
-use Rattle.srcp_rules.specs.Effect.{Effect, ga_put, is_locked, refusals}
-use Rattle.srcp_rules.specs.Obeyed.{Took}
-use Rattle.srcp_grammar.specs.Devices.{device_in}
-use Rattle.srcp_rules.proofs.ObeyLaws.{ga_row, port_there, refused_done, set_there}
+use Rattle.srcp_rules.proofs.Names
+use Names.{first_key, [], ◌∷◌, ◌+◌, refl, subst, Effect, refusals, Took, device_in, is_there}
+use Names.devices
+use Rattle.srcp_rules.specs.Effect.{ga_put}
+use Rattle.srcp_rules.proofs.ObeyLaws.{ga_row, is_not, none_applies, refused_done}
 use Rattle.srcp_rules.proofs.drive.set_ga.Goals as goal
 
 pub set_one-requires-clause-there : goal.set_one-requires-clause-there
 set_one-requires-clause-there g c =
-    let buses = g.R.Rows.buses c.args.rows.now in
     let state = g.R.Rows.state c.args.rows.now in
-    let device = device_in devices.Ga c.args.switch.now.bus c.args.switch.now.address in
+    let switch = c.args.switch.now in
+    let device = device_in devices.Ga switch.bus switch.address in
     let free = c.in_default.ensures in
-    let there =
-    set_there buses state c.args.sender.session c.args.sender.moment c.args.sender.fits device
-    ((is_locked state c.args.sender.session devices.Ga c.args.switch.now.bus c.args.switch.now.address, C414) ∷ [])
-    (rw (c.ga-target.ensures) at free) in
+    let none =
+    none_applies (refusals state c.args.sender.session devices.Ga switch.bus switch.address) (rw (c.ga-target.ensures) at free) in
     rw (c.key_at-key.ensures, c.device_at.ensures, c.ga-target.ensures)
-    (port_there buses state c.args.sender.session c.args.sender.moment c.args.sender.fits device c.requires.may.whole there
-    (1 + c.args.switch.now.port) c.requires.may.of.0.0)
+    (c.requires.may.whole.complete (first_key device) (is_not (is_there device state) none.0) (1 + switch.port) c.requires.may.of.0.0)
 
 pub set_one-requires-clause-fits : goal.set_one-requires-clause-fits
 set_one-requires-clause-fits g c =

@@ -1,11 +1,7 @@
-use Rattle.std.proofs.Common.{ℕ, List, ◌+◌, ◌++◌, [], ◌∷◌, map, false, sym, ap, ◌∙◌, append_assoc, arith}
-use Rattle.std.specs.List.{range_with_len}
+use Rattle.srcp_rules.proofs.Names
+use Names.{ℕ, List, ◌+◌, ◌++◌, [], ◌∷◌, map, false, sym, ap, ◌∙◌, append_assoc, arith, range_with_len, Device, Row, fb_device, first_row}
+use Names.value
 use Rattle.std.proofs.lemmas.List.FromFn.{map-range_with_len_more}
-use Rattle.srcp_info.specs.declared.key.Device.{Device}
-use Rattle.srcp_info.specs.declared.change.Row.{Row}
-use Rattle.srcp_info.specs.declared.value.Value.TheVariants as value
-use Rattle.srcp_grammar.specs.Devices.{fb_device}
-use Rattle.srcp_rules.specs.State.{first_row}
 use Rattle.srcp_rules.proofs.first_rows.push_ports.Goals as goal
 
 pub loop-below-preserved : goal.loop-below-preserved

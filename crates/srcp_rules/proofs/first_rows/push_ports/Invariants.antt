@@ -1,8 +1,6 @@
-use Rattle.std.proofs.Common.{◌≡◌, ◌++◌, map, false}
-use Rattle.std.specs.List.{range_with_len}
-use Rattle.srcp_info.specs.declared.value.Value.TheVariants as value
-use Rattle.srcp_grammar.specs.Devices.{fb_device}
-use Rattle.srcp_rules.specs.State.{first_row}
+use Rattle.srcp_rules.proofs.Names
+use Names.{◌≡◌, ◌++◌, map, false, range_with_len, fb_device, first_row}
+use Names.value
 use Rattle.srcp_rules.proofs.first_rows.push_ports.Given as goal
 
 abbrev pub invariant-loop-below : goal.invariant-loop-below

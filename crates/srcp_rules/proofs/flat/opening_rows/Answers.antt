@@ -1,15 +1,8 @@
-use Rattle.std.proofs.Common.{sym, ap, subst, ◌∙◌, lit<}
-use Rattle.std.specs.List.{flat_map}
+use Rattle.srcp_rules.proofs.Names.{sym, ap, subst, ◌∙◌, flat_map, IsRising, opening_on}
+use Rattle.std.proofs.Common.{lit<}
 use Rattle.std.proofs.lemmas.List.{take_all}
-use Rattle.srcp_rules.specs.State.{IsRising, opening_on}
 use Rattle.srcp_rules.proofs.OpeningLaws.{opening_whole}
 use Rattle.srcp_rules.proofs.flat.opening_rows.Goals as goal
-
-pub returns-clause-rows : goal.returns-clause-rows
-returns-clause-rows c =
-    c.loop-bus.invariant
-    ∙ ap (flat_map (opening_on 0))
-    (take_all c.loop-bus.bus-index c.buses-bus-items.result.now c.loop-bus-test.false ∙ c.buses-bus-items.ensures.all)
 
 pub returns-clause-rising : goal.returns-clause-rising
 returns-clause-rising c =

@@ -1,6 +1,4 @@
-use Rattle.std.proofs.Common.{◌≡◌, take}
-use Rattle.std.specs.List.{flat_map}
-use Rattle.srcp_rules.specs.State.{opening_on}
+use Rattle.srcp_rules.proofs.Names.{◌≡◌, take, flat_map, opening_on}
 use Rattle.srcp_rules.proofs.flat.opening_rows.Given as goal
 
 abbrev pub invariant-loop-bus : goal.invariant-loop-bus

@@ -1,13 +1,8 @@
-use Rattle.std.proofs.Common.{◌≡◌, List, Result, Ok, Err, OnOk, is_ok, not, true, false, inl, map, ◌++◌, true≢false, sym, ap, subst, ◌∙◌}
-use Rattle.std.proofs.Common.{rules}
-use Rattle.srcp_info.specs.declared.key.Device.{Device}
-use Rattle.srcp_info.specs.declared.change.Row.{Row}
-use Rattle.srcp_info.specs.declared.change.Change.{Change}
+use Rattle.srcp_rules.proofs.Names
+use Names.{◌≡◌, List, Result, Ok, Err, OnOk, not, true, false, inl, map, ◌++◌, true≢false, sym, ap, subst, ◌∙◌, rules, Device, Row, Change}
+use Names.{Effect, Took, device_at, is_there, put_of}
+use Rattle.std.proofs.Common.{is_ok}
 use Rattle.srcp_rules.specs.declared.obeyed.Memory.{Memory}
-use Rattle.srcp_rules.specs.Effect.{Effect}
-use Rattle.srcp_rules.specs.Obeyed.{Took}
-use Rattle.srcp_grammar.specs.Devices.{device_at}
-use Rattle.srcp_rules.specs.State.{is_there, put_of}
 use Rattle.srcp_rules.proofs.InitLaws.{added, changes_made, rows_made, init_accepted}
 use Rattle.srcp_rules.proofs.init.init_device.Goals as goal
 

@@ -1,5 +1,4 @@
-use Rattle.std.proofs.Common.{◌≡◌, ◌++◌, map, take}
-use Rattle.srcp_rules.specs.State.{put_of}
+use Rattle.srcp_rules.proofs.Names.{◌≡◌, ◌++◌, map, take, put_of}
 use Rattle.srcp_rules.proofs.init.push_puts.Given as goal
 
 abbrev pub invariant-loop-row : goal.invariant-loop-row

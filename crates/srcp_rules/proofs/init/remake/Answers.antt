@@ -1,4 +1,4 @@
-use Rattle.srcp_grammar.specs.Devices.{device_at}
+use Rattle.srcp_rules.proofs.Names.{device_at}
 use Rattle.srcp_rules.proofs.PutRowsLaws.{each_there}
 use Rattle.srcp_rules.proofs.InitLaws.{unlocked, unlocked_whole, unlocked_there, changes_remade, rows_remade}
 use Rattle.srcp_rules.proofs.init.remake.Goals as goal

@@ -1,7 +1,4 @@
-use Rattle.std.proofs.Common.{◌≡◌, true, take, ap, ◌∙◌}
-use Rattle.srcp_info.specs.declared.change.Row.{Row}
-use Rattle.srcp_rules.specs.State.{State, IsRowOf, has_row}
-use Rattle.srcp_grammar.proofs.PlaceLaws.{each_at}
+use Rattle.srcp_rules.proofs.Names.{◌≡◌, true, take, ap, ◌∙◌, Row, State, IsRowOf, has_row, each_at}
 use Rattle.srcp_rules.proofs.PutRowsLaws.{has_row-put_rows}
 use Rattle.srcp_rules.proofs.init.set_all.Goals as goal
 

@@ -1,5 +1,4 @@
-use Rattle.std.proofs.Common.{◌≡◌, take}
-use Rattle.srcp_rules.specs.Rows.{put_rows}
+use Rattle.srcp_rules.proofs.Names.{◌≡◌, take, put_rows}
 use Rattle.srcp_rules.proofs.init.set_all.Given as goal
 
 abbrev pub invariant-loop-row : goal.invariant-loop-row

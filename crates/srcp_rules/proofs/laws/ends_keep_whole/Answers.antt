@@ -1,4 +1,4 @@
-use Rattle.srcp_rules.proofs.FrontLaws.{freed_front}
+use Rattle.srcp_rules.proofs.DueLaws.{freed_front}
 use Rattle.srcp_rules.proofs.laws.ends_keep_whole.Goals as goal
 
 pub returns : goal.returns

@@ -1,4 +1,4 @@
-use Rattle.srcp_rules.proofs.FrontLaws.{due_front}
+use Rattle.srcp_rules.proofs.DueLaws.{due_front}
 use Rattle.srcp_rules.proofs.laws.moments_keep_whole.Goals as goal
 
 pub returns : goal.returns

@@ -1,12 +1,9 @@
-use Rattle.std.proofs.Common.{◌≡◌, false, [], ◌∷◌, refl, sym, ap, subst, inl, ◌∙◌}
-use Rattle.srcp_info.specs.declared.key.Device.{Device}
-use Rattle.srcp_info.specs.declared.value.Value.TheVariants as value
-use Rattle.srcp_rules.specs.Effect.{Effect, lock_end, lock_put, refusals}
-use Rattle.srcp_rules.specs.Obeyed.{Took}
-use Rattle.srcp_grammar.specs.Devices.{lock_at}
-use Rattle.srcp_rules.specs.State.{is_there}
+use Rattle.srcp_rules.proofs.Names
+use Names.{◌≡◌, false, [], ◌∷◌, refl, sym, ap, subst, inl, ◌∙◌, Device, Effect, lock_end, refusals, Took, lock_at, is_there}
+use Names.value
+use Rattle.srcp_rules.specs.Effect.{lock_put}
 use Rattle.srcp_rules.proofs.AddingLaws.{single_added}
-use Rattle.srcp_rules.proofs.EffectLaws.{one_lock}
+use Rattle.srcp_rules.proofs.AddsNoRowLaws.{one_lock}
 use Rattle.srcp_rules.proofs.ObeyLaws.{lock_row, refused_done}
 use Rattle.srcp_rules.proofs.lock.set_lock.Goals as goal
 

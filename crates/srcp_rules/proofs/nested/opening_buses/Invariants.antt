@@ -1,10 +1,5 @@
-use Rattle.std.proofs.Common.{◌≡◌, ◌∷◌, map, take}
-use Rattle.std.specs.List.{AllByRecursion, flat_map}
-use Rattle.std.specs.Map.{keys_of}
-use Rattle.srcp_grammar.specs.declared.layout.Bus.{Bus}
-use Rattle.srcp_grammar.specs.Layout.{server}
-use Rattle.srcp_rules.specs.State.{opening_on}
-use Rattle.srcp_rules.specs.Nested.{AreRowsOfBus, AreSorted, bus_rows, listed}
+use Rattle.srcp_rules.proofs.Names
+use Names.{◌≡◌, ◌∷◌, map, take, AllByRecursion, flat_map, keys_of, Bus, server, opening_on, AreRowsOfBus, AreSorted, bus_rows, listed}
 use Rattle.srcp_rules.proofs.nested.opening_buses.Given as goal
 
 abbrev pub invariant-loop-bus : goal.invariant-loop-bus

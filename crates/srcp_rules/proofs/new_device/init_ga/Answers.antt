@@ -1,27 +1,22 @@
-use Rattle.std.proofs.Common.{◌≡◌, ℕ, ◌+◌, ◌≤◌, List, map, not, take, sym, ap, subst, ◌∙◌}
-use Rattle.srcp_info.specs.declared.key.Device.{Device}
-use Rattle.srcp_info.specs.declared.change.Row.{Row}
+use Rattle.srcp_rules.proofs.Names
+use Names.{◌≡◌, ℕ, ◌+◌, ◌≤◌, List, map, not, take, sym, ap, subst, ◌∙◌, Device, Row, device_in, device_at, Update, is_there, put_of, done}
+use Names.{AreRowsOf}
+use Names.value
+use Names.devices
 use Rattle.srcp_info.specs.declared.value.Letter.{Letter}
-use Rattle.srcp_info.specs.declared.value.Value.TheVariants as value
-use Rattle.srcp_info.specs.WellFormed.{IsMoment}
-use Rattle.srcp_grammar.specs.declared.layout.Bus.{Bus}
-use Rattle.srcp_grammar.specs.declared.command.DeviceGroup.TheVariants as devices
-use Rattle.srcp_grammar.specs.Devices.{device_in, device_at}
-use Rattle.srcp_rules.specs.State.{State, Update, is_there, put_of}
-use Rattle.srcp_rules.specs.Effect.{done, init_device}
+use Rattle.srcp_rules.specs.Effect.{init_device}
 use Rattle.srcp_rules.specs.Obeyed.{TookUnless}
-use Rattle.srcp_rules.specs.Rows.{AreRowsOf}
 use Rattle.srcp_rules.proofs.NewRowLaws.{ga_fresh, ga_taken, ga_rows, ga_puts}
 use Rattle.srcp_rules.proofs.new_device.init_ga.Goals as goal
 
-module _ (buses : List Bus) (state : State) (session moment : ℕ) (now : IsMoment moment) where
+module _ (moment : ℕ) where
   -- the rows that are handed on are those of an accessory with that many ports
   handed : (most : List Row) (device made : Device) (letter : Letter) (ports n : ℕ) → ports ≤ 8
-      → most ≡ ga_fresh buses state session moment now device letter 8 → device ≡ made → n ≡ ports
-      → take (1 + n) most ≡ ga_fresh buses state session moment now made letter ports
+      → most ≡ ga_fresh moment device letter 8 → device ≡ made → n ≡ ports
+      → take (1 + n) most ≡ ga_fresh moment made letter ports
   handed most device made letter ports n few e same count =
-      ap (take (1 + n)) (e ∙ ap (λ d. ga_fresh buses state session moment now d letter 8) same)
-      ∙ ga_taken buses state session moment now made letter ports (1 + n) few (ap (λ k. 1 + k) count)
+      ap (take (1 + n)) (e ∙ ap (λ d. ga_fresh moment d letter 8) same)
+      ∙ ga_taken moment made letter ports (1 + n) few (ap (λ k. 1 + k) count)
 
 pub init_device-requires-clause-fresh : goal.init_device-requires-clause-fresh
 init_device-requires-clause-fresh g c =
@@ -31,7 +26,7 @@ init_device-requires-clause-fresh g c =
     let device = device_in devices.Ga ga.bus ga.address in
     let made : c.device_at.result ≡ device = c.device_at.ensures ∙ ap device_at c.ga-target.ensures in
     let rows =
-    handed buses state c.args.sender.session c.args.sender.moment c.args.sender.fits c.ga_rows-most.result c.device_at.result device
+    handed c.args.sender.moment c.ga_rows-most.result c.device_at.result device
     ga.letter ga.ports c.from.result c.requires.may.of.1 c.ga_rows-most.ensures made c.from.ensures in
     rw (c.ga-target.ensures)
     (subst (λ (rows : List Row). AreRowsOf buses device rows) (sym rows)
@@ -45,7 +40,7 @@ returns-clause-obeyed g c =
     let device = device_in devices.Ga ga.bus ga.address in
     let made : c.device_at.result ≡ device = c.device_at.ensures ∙ ap device_at c.ga-target.ensures in
     let rows =
-    handed buses state c.args.sender.session c.args.sender.moment c.args.sender.fits c.ga_rows-most.result c.device_at.result device
+    handed c.args.sender.moment c.ga_rows-most.result c.device_at.result device
     ga.letter ga.ports c.from.result c.requires.may.of.1 c.ga_rows-most.ensures made c.from.ensures in
     let took = c.init_device.ensures.took in
     subst
@@ -55,6 +50,5 @@ returns-clause-obeyed g c =
     (init_device state c.args.sender.session c.args.sender.moment devices.Ga ga.bus ga.address
     (value.GaInit ga.letter) updates)) state
     (g.R.Rows.state c.init_device.new.rows) c.init_device.new.obeyed)
-    (ap (map put_of) rows
-    ∙ ga_puts buses state c.args.sender.session c.args.sender.moment c.args.sender.fits ga)
+    (ap (map put_of) rows ∙ ga_puts c.args.sender.moment ga)
     (rw (c.ga-target.ensures) at took)

@@ -1,9 +1,7 @@
-use Rattle.std.proofs.Common.{◌<◌, ◌≤◌, arith}
-use Rattle.srcp_grammar.specs.Layout.{row_count}
-use Rattle.srcp_grammar.specs.Devices.{session_device}
+use Rattle.srcp_rules.proofs.Names.{◌<◌, ◌≤◌, arith, row_count, session_device}
 use Rattle.srcp_rules.proofs.AddingLaws.{session_added, session_rows}
 use Rattle.srcp_rules.proofs.AddsNoRowLaws.{began-adds_no_row}
-use Rattle.srcp_rules.proofs.DueLaws.{began_kept}
+use Rattle.srcp_rules.proofs.DueRowLaws.{began_kept}
 use Rattle.srcp_rules.proofs.session.begin_session.Goals as goal
 
 pub add-requires : goal.add-requires

@@ -1,7 +1,5 @@
-use Rattle.std.proofs.Common.{sym, subst, ◌∙◌, arith}
+use Rattle.srcp_rules.proofs.Names.{sym, subst, ◌∙◌, arith, rising_put, IsRising, put_row}
 use Rattle.std.proofs.lemmas.List.Sums.{fold_more}
-use Rattle.srcp_info.proofs.ClientLaws.{rising_put}
-use Rattle.srcp_rules.specs.State.{IsRising, put_row}
 use Rattle.srcp_rules.proofs.StateLaws.{row_key}
 use Rattle.srcp_rules.proofs.sorted_rows.add_all.Goals as goal
 

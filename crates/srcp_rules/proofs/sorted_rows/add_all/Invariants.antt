@@ -1,6 +1,5 @@
-use Rattle.std.proofs.Common.{◌≡◌, ◌+◌, ◌≤◌, length, take, vec_len, vec_capacity}
-use Rattle.srcp_rules.specs.Rows.{put_rows}
-use Rattle.srcp_rules.specs.State.{IsRising}
+use Rattle.srcp_rules.proofs.Names.{◌≡◌, ◌+◌, ◌≤◌, length, take, put_rows, IsRising}
+use Rattle.std.proofs.Common.{vec_len, vec_capacity}
 use Rattle.srcp_rules.proofs.sorted_rows.add_all.Given as goal
 
 abbrev pub invariant-loop-row : goal.invariant-loop-row

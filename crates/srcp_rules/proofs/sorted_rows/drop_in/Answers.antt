@@ -1,6 +1,5 @@
-use Rattle.std.proofs.Common.{not, rules}
+use Rattle.srcp_rules.proofs.Names.{not, rules, owns}
 use Rattle.std.proofs.lemmas.Fn.{filter_same}
-use Rattle.srcp_info.specs.Key.{owns}
 use Rattle.srcp_rules.proofs.sorted_rows.drop_in.Goals as goal
 
 pub returns : goal.returns

@@ -1,6 +1,5 @@
-use Rattle.std.proofs.Common.{rules}
+use Rattle.srcp_rules.proofs.Names.{rules, key_cmp}
 use Rattle.std.proofs.lemmas.Fn.{always_returns_same}
-use Rattle.srcp_info.specs.Key.{key_cmp}
 use Rattle.srcp_rules.proofs.RowIndexLaws.{searched}
 use Rattle.srcp_rules.proofs.sorted_rows.index_of.Goals as goal
 

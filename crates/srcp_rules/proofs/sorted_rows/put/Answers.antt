@@ -1,6 +1,5 @@
-use Rattle.std.proofs.Common.{cond, ap, subst, ◌∙◌}
-use Rattle.std.specs.List.{insert}
-use Rattle.srcp_rules.specs.KeyIndex.{HasKeyAt, IsGapAt}
+use Rattle.srcp_rules.proofs.Names.{cond, ap, subst, ◌∙◌, insert, HasKeyAt}
+use Rattle.srcp_rules.specs.KeyIndex.{IsGapAt}
 use Rattle.srcp_rules.proofs.RowIndexLaws.{set-put_row, insert-put_row}
 use Rattle.srcp_rules.proofs.sorted_rows.put.Goals as goal
 

@@ -1,10 +1,10 @@
-use Rattle.std.proofs.Common.{◌≡◌, refl, ℕ, ◌<◌, ◌≤◌, List, length, slice_get, Option, Some, None, option_copied, MatchOption, true, false}
-use Rattle.std.proofs.Common.{sym, ◌∙◌, rules}
-use Rattle.std.proofs.lemmas.List.Sorted.{IsPartitionPoint-from_clause}
+use Rattle.srcp_rules.proofs.Names
+use Names.{◌≡◌, refl, ℕ, ◌<◌, ◌≤◌, List, length, slice_get, Option, Some, None, option_copied, true, false, sym, ◌∙◌, rules}
+use Names.{IsPartitionPoint-from_clause, Row}
+use Rattle.std.proofs.Common.{MatchOption}
 use Rattle.std.proofs.lemmas.Option.{slice_get_past, slice_get_read}
 use Rattle.std.specs.List.{HoldsAt}
 use denote.Ref.{Bor}
-use Rattle.srcp_info.specs.declared.change.Row.{Row}
 use Rattle.srcp_grammar.proofs.PlaceLaws.{front_each, back_each, find-parted}
 use Rattle.srcp_rules.proofs.RowIndexLaws.{passed, passed_partitioned}
 use Rattle.srcp_rules.proofs.sorted_rows.row_after_in.Goals as goal

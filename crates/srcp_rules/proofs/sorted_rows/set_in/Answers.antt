@@ -1,6 +1,4 @@
-use Rattle.std.proofs.Common.{is_some, sym, ap, subst, ◌∙◌, true≢false}
-use Rattle.srcp_rules.specs.State.{row_at}
-use Rattle.srcp_rules.specs.KeyIndex.{HasKeyAt}
+use Rattle.srcp_rules.proofs.Names.{is_some, sym, ap, subst, ◌∙◌, true≢false, row_at, HasKeyAt}
 use Rattle.srcp_rules.proofs.RowIndexLaws.{set-put_row, row_at-gap}
 use Rattle.srcp_rules.proofs.sorted_rows.set_in.Goals as goal
 

@@ -1,5 +1,4 @@
-use Rattle.std.proofs.Common.{◌+◌, length, sym, ap, subst, arith}
-use Rattle.srcp_rules.specs.Rows.{AreNewRowsOf, put_rows}
+use Rattle.srcp_rules.proofs.Names.{◌+◌, length, sym, ap, subst, arith, AreNewRowsOf, put_rows}
 use Rattle.std.proofs.lemmas.List.Sums.{count_by-le-length}
 use Rattle.srcp_index.specs.Indexed.{IsIndexed, is_removable, with_rows}
 use Rattle.srcp_index.proofs.AddedRowsLaws.{added_indexed}

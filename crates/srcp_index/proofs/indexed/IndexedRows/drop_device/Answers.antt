@@ -1,6 +1,4 @@
-use Rattle.std.proofs.Common.{◌+◌, ◌-◌, option_copied, refl, sym, ap, subst, ◌∙◌, arith}
-use Rattle.srcp_grammar.specs.Devices.{key_at}
-use Rattle.srcp_rules.specs.State.{without, row_at}
+use Rattle.srcp_rules.proofs.Names.{◌+◌, ◌-◌, option_copied, refl, sym, ap, subst, ◌∙◌, arith, key_at, without, row_at}
 use Rattle.srcp_index.specs.Indexed.{IsIndexed}
 use Rattle.srcp_index.proofs.DroppedDeviceLaws.{but_below, but_below-none, none_next, next_goes, dropped_next, dropped_all}
 use Rattle.srcp_index.proofs.indexed.IndexedRows.drop_device.Goals.{in-Some, in_default}

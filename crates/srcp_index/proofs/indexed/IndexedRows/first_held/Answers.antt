@@ -1,5 +1,4 @@
-use Rattle.std.proofs.Common.{ap, ◌∙◌, Some, None}
-use Rattle.srcp_rules.specs.Due.{first_held}
+use Rattle.srcp_rules.proofs.Names.{ap, ◌∙◌, Some, None, first_held}
 use Rattle.srcp_index.proofs.PairsOfRows.{held_row}
 use Rattle.srcp_index.proofs.indexed.IndexedRows.first_held.Goals as goal
 

@@ -1,5 +1,4 @@
-use Rattle.std.proofs.Common.{ap, ◌∙◌, Some, None}
-use Rattle.srcp_rules.specs.Due.{first_due}
+use Rattle.srcp_rules.proofs.Names.{ap, ◌∙◌, Some, None, first_due}
 use Rattle.srcp_index.proofs.IndexedLaws.{settled}
 use Rattle.srcp_index.proofs.PairsOfRows.{due_row}
 use Rattle.srcp_index.proofs.indexed.IndexedRows.next_due.Goals as goal

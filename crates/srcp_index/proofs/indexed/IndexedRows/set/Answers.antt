@@ -1,6 +1,4 @@
-use Rattle.std.proofs.Common.{IsSome, IsTrue, sym, ap, subst, ◌∙◌}
-use Rattle.std.specs.Option.{option_copied}
-use Rattle.srcp_rules.specs.State.{has_row, holder_of, put_row}
+use Rattle.srcp_rules.proofs.Names.{IsSome, IsTrue, sym, ap, subst, ◌∙◌, option_copied, has_row, holder_of, put_row}
 use Rattle.srcp_index.specs.declared.indexes.Indexes.{Indexes}
 use Rattle.srcp_index.specs.Indexed.{IsIndexed, HasRoom, due_of, with_row}
 use Rattle.srcp_index.proofs.SetRowLaws.{room_for_due, room_for_held, passed_by, set_indexed}

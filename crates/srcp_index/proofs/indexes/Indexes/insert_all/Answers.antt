@@ -1,6 +1,5 @@
-use Rattle.std.proofs.Common.{sym, ap, ◌∙◌, length, arith}
+use Rattle.srcp_rules.proofs.Names.{sym, ap, ◌∙◌, length, arith, holder_of}
 use Rattle.std.proofs.lemmas.List.Sums.{fold_more}
-use Rattle.srcp_rules.specs.State.{holder_of}
 use Rattle.srcp_index.specs.declared.indexes.Indexes.{Indexes}
 use Rattle.srcp_index.specs.Indexed.{due_of, with_row}
 use Rattle.srcp_index.proofs.RankLaws.{longer}

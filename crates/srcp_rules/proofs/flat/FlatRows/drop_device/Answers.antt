@@ -1,7 +1,4 @@
-use Rattle.std.proofs.Common.{not, sym, subst}
-use Rattle.srcp_info.specs.Key.{owns}
-use Rattle.srcp_info.proofs.ClientLaws.{rising_filter}
-use Rattle.srcp_rules.specs.State.{IsRising}
+use Rattle.srcp_rules.proofs.Names.{not, sym, subst, owns, rising_filter, IsRising}
 use Rattle.srcp_rules.proofs.StateLaws.{row_key}
 use Rattle.srcp_rules.proofs.flat.FlatRows.drop_device.Goals as goal
 

@@ -1,6 +1,4 @@
-use Rattle.std.proofs.Common.{sym, subst}
-use Rattle.srcp_info.proofs.ClientLaws.{rising_put}
-use Rattle.srcp_rules.specs.State.{IsRising}
+use Rattle.srcp_rules.proofs.Names.{sym, subst, rising_put, IsRising}
 use Rattle.srcp_rules.proofs.StateLaws.{row_key}
 use Rattle.srcp_rules.proofs.flat.FlatRows.set.Goals as goal
 

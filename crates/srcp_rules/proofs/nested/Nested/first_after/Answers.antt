@@ -1,6 +1,4 @@
-use Rattle.std.proofs.Common.{sym, subst, ◌∙◌}
-use Rattle.srcp_rules.specs.State.{IsRising}
-use Rattle.srcp_rules.specs.Rows.{Kept}
+use Rattle.srcp_rules.proofs.Names.{sym, subst, ◌∙◌, IsRising, Kept}
 use Rattle.srcp_rules.proofs.NestedLaws.{rising-buses}
 use Rattle.srcp_rules.proofs.CursorLaws.{fewer_beyond, passed_here, passed_later, passed_none}
 use Rattle.srcp_rules.proofs.nested.Nested.first_after.Goals as goal

@@ -1,5 +1,4 @@
-use Rattle.std.proofs.Common.{◌≡◌, not, filter, length}
-use Rattle.srcp_info.specs.Key.{has_reached}
+use Rattle.srcp_rules.proofs.Names.{◌≡◌, not, filter, length, has_reached}
 use Rattle.srcp_rules.specs.Filter.{first_passed}
 use Rattle.srcp_rules.proofs.nested.Nested.first_after.Given as goal
 

@@ -1,10 +1,7 @@
-use Rattle.std.specs.Prelude.{IfSome, Option, Some, None, option_copied}
-use Rattle.std.proofs.Common.{◌≡◌, sym, ap, subst, ◌∙◌, Bor}
-use Rattle.srcp_info.specs.declared.change.Row.{Row}
-use Rattle.srcp_info.specs.declared.change.Cursor.{Cursor}
-use Rattle.srcp_info.specs.declared.change.Cursor.TheVariants as cursor
-use Rattle.srcp_rules.specs.State.{State, row_after}
-use Rattle.srcp_rules.specs.Rows.{Kept}
+use Rattle.srcp_rules.proofs.Names
+use Names.{IfSome, Option, Some, None, option_copied, ◌≡◌, sym, ap, subst, ◌∙◌, Row, Cursor, State, row_after, Kept}
+use Names.cursor
+use Rattle.std.proofs.Common.{Bor}
 use Rattle.srcp_rules.specs.Nested.{group_rows}
 use Rattle.srcp_rules.proofs.NestedLaws.{found_bus, row_after-own_bus}
 use Rattle.srcp_rules.proofs.nested.Nested.row_after_in_own_group.Goals as goal

@@ -1,15 +1,7 @@
-use Rattle.std.proofs.Common.{◌≡◌, List, Some, is_some, slice_get, sym, ap, subst, ◌∙◌, true≢false}
-use Rattle.std.specs.List.{AllByRecursion}
-use Rattle.srcp_info.specs.declared.key.Device.{Device}
-use Rattle.srcp_info.specs.declared.change.Row.{Row}
-use Rattle.srcp_info.specs.Key.{device_of}
-use Rattle.srcp_grammar.specs.declared.layout.Bus.{Bus}
-use Rattle.srcp_grammar.specs.Devices.{key_at}
-use Rattle.srcp_rules.specs.State.{State}
-use Rattle.srcp_rules.specs.Rows.{AreNewRowsOf, Kept, put_rows}
-use Rattle.srcp_rules.specs.Nested.{IsIn, bus_rows, listed}
+use Rattle.srcp_rules.proofs.Names
+use Names.{◌≡◌, List, Some, is_some, slice_get, sym, ap, subst, ◌∙◌, true≢false, AllByRecursion, Device, Row, device_of, Bus, key_at, State}
+use Names.{AreNewRowsOf, Kept, put_rows, IsIn, bus_rows, listed, weaken}
 use Rattle.srcp_rules.proofs.BusRowsLaws.{on_ok, on_err}
-use Rattle.srcp_grammar.proofs.FindLaws.{each-weaken}
 use Rattle.srcp_rules.proofs.NewDeviceLaws.{IsNew, is_new}
 use Rattle.srcp_rules.proofs.NestedLaws.{comes, found_bus, has_record, layout-set, put_rows-bus, row_at-bus, same-bus, stays-added}
 use Rattle.srcp_rules.proofs.nested.NestedRows.add.Goals as goal
@@ -26,7 +18,7 @@ on_bus : {buses : List Bus} {state : State} {first : Row} {added : State} → Is
 on_bus {first} {added} new =
     let key = first.shown.key in
     let Of : Row → Type 0 = λ row. IsIn key.bus key.group row.shown.key × (row.shown.key.address ≡ key.address) in
-    each-weaken {P = Of} (λ row t. t.0.0) added new.device.each
+    weaken added new.device.each (λ row t. t.0.0)
 
 pub add-requires-clause-bus : goal.add-requires-clause-bus
 add-requires-clause-bus c = found_bus c.self.invariant c.in-Some-get_mut.ensures.value

@@ -1,7 +1,4 @@
-use Rattle.std.proofs.Common.{ap, ◌∙◌}
-use Rattle.srcp_rules.specs.State.{without}
-use Rattle.srcp_rules.specs.Rows.{Kept}
-use Rattle.srcp_rules.specs.Nested.{bus_rows, listed}
+use Rattle.srcp_rules.proofs.Names.{ap, ◌∙◌, without, Kept, bus_rows, listed}
 use Rattle.srcp_rules.proofs.NestedLaws.{found_bus, layout-set, stays-without, without-bus, without-no_bus}
 use Rattle.srcp_rules.proofs.nested.NestedRows.drop_device.Goals as goal
 

@@ -1,7 +1,4 @@
-use Rattle.std.proofs.Common.{◌<◌, ◌∷◌, map, sym, ap, subst, ◌∙◌}
-use Rattle.srcp_grammar.specs.declared.layout.Bus.{Bus}
-use Rattle.srcp_grammar.specs.Layout.{IsLayout, row_count, server}
-use Rattle.srcp_rules.specs.State.{is_there}
+use Rattle.srcp_rules.proofs.Names.{◌<◌, ◌∷◌, map, sym, ap, subst, ◌∙◌, Bus, IsLayout, row_count, server, is_there}
 use Rattle.srcp_rules.proofs.NestedLaws.{stays-opening}
 use Rattle.srcp_rules.proofs.nested.NestedRows.empty.Goals as goal
 

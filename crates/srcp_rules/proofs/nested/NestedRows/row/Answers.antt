@@ -1,7 +1,4 @@
-use Rattle.std.specs.Prelude.{option_copied}
-use Rattle.std.proofs.Common.{ap, ◌∙◌}
-use Rattle.srcp_rules.specs.State.{row_at}
-use Rattle.srcp_rules.specs.Rows.{Kept}
+use Rattle.srcp_rules.proofs.Names.{option_copied, ap, ◌∙◌, row_at, Kept}
 use Rattle.srcp_rules.proofs.NestedLaws.{found_bus, row_at-bus, row_at-no_bus}
 use Rattle.srcp_rules.proofs.nested.NestedRows.row.Goals as goal
 

@@ -1,11 +1,6 @@
-use Rattle.std.proofs.Common.{◌≡◌, sym, ap, subst, ◌∙◌}
-use Rattle.std.specs.List.{AllByRecursion}
-use Rattle.std.specs.Ordering.{nat_cmp}
-use Rattle.std.specs.BTreeMap.Range.{entries_between}
-use Rattle.std.specs.declared.ops.Bound.TheVariants.{Included, Unbounded}
-use Rattle.srcp_rules.specs.State.{row_after}
-use Rattle.srcp_rules.specs.Rows.{Kept}
-use Rattle.srcp_rules.specs.Nested.{AreRowsOfBus, bus_rows, listed}
+use Rattle.srcp_rules.proofs.Names
+use Names.{◌≡◌, sym, ap, subst, ◌∙◌, AllByRecursion, nat_cmp, entries_between, Included, Unbounded, row_after, Kept, AreRowsOfBus, bus_rows}
+use Names.{listed}
 use Rattle.srcp_rules.proofs.ListedLaws.{each-between, first_has, first_has_none}
 use Rattle.srcp_rules.proofs.NestedLaws.{row_after-buses}
 use Rattle.srcp_rules.proofs.nested.NestedRows.row_after.Goals as goal
@@ -30,9 +25,6 @@ loop-number-init c =
           ∙ row_after-buses c.self.invariant cursor from c.first_bus.ensures
           ∙ ap (λ fs. row_after cursor (listed bus_rows fs)) (sym is);
     }
-
-pub row_after-requires : goal.row_after-requires
-row_after-requires c = (subst (AllByRecursion (λ e. AreRowsOfBus e.0 e.1)) c.in-Some-2.ensures.steps c.loop-number.invariant.each).0
 
 pub returns-in-Some-row_after : goal.returns-in-Some-row_after
 returns-in-Some-row_after c =

@@ -1,7 +1,4 @@
-use Rattle.std.proofs.Common.{◌≡◌}
-use Rattle.std.specs.List.{AllByRecursion}
-use Rattle.srcp_rules.specs.State.{row_after}
-use Rattle.srcp_rules.specs.Nested.{AreRowsOfBus, bus_rows, listed}
+use Rattle.srcp_rules.proofs.Names.{◌≡◌, AllByRecursion, row_after, AreRowsOfBus, bus_rows, listed}
 use Rattle.srcp_rules.proofs.nested.NestedRows.row_after.Given as goal
 
 abbrev pub invariant-loop-number : goal.invariant-loop-number

@@ -1,7 +1,4 @@
-use Rattle.std.proofs.Common.{is_some, sym, ap, ◌∙◌, true≢false}
-use Rattle.srcp_rules.specs.State.{has_row, put_row}
-use Rattle.srcp_rules.specs.Rows.{Kept}
-use Rattle.srcp_rules.specs.Nested.{bus_rows, listed}
+use Rattle.srcp_rules.proofs.Names.{is_some, sym, ap, ◌∙◌, true≢false, has_row, put_row, Kept, bus_rows, listed}
 use Rattle.srcp_rules.proofs.NestedLaws.{found_bus, layout-set, put_row-bus, row_at-bus, row_at-no_bus, stays-put_row}
 use Rattle.srcp_rules.proofs.nested.NestedRows.set.Goals as goal
 

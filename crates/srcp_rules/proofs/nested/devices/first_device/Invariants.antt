@@ -1,6 +1,4 @@
-use Rattle.std.proofs.Common.{◌≡◌, drop}
-use Rattle.std.specs.Box.{box_value}
-use Rattle.srcp_rules.specs.Numbered.{numbered}
+use Rattle.srcp_rules.proofs.Names.{◌≡◌, drop, box_value, numbered}
 use Rattle.srcp_rules.proofs.nested.devices.first_device.Given as goal
 
 abbrev pub invariant-loop-slot : goal.invariant-loop-slot

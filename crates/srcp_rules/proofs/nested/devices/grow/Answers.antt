@@ -1,8 +1,5 @@
-use Rattle.std.specs.Prelude.{List, [], ◌∷◌, ◌++◌, Option, None, if◌then◌else◌}
-use Rattle.std.proofs.Common.{Box, Global, ap, ◌∙◌}
-use Rattle.std.specs.Box.{box_value}
-use Rattle.srcp_rules.specs.State.{State}
-use Rattle.srcp_rules.specs.Numbered.{numbered}
+use Rattle.srcp_rules.proofs.Names.{List, [], ◌∷◌, ◌++◌, Option, None, if◌then◌else◌, ap, ◌∙◌, box_value, State, numbered}
+use Rattle.std.proofs.Common.{Box, Global}
 use Rattle.srcp_rules.proofs.NumberedLaws.{numbered-append_none}
 use Rattle.srcp_rules.proofs.nested.devices.grow.Goals as goal
 

@@ -1,6 +1,4 @@
-use Rattle.std.proofs.Common.{◌≡◌, ◌+◌, ◌-◌}
-use Rattle.std.specs.Box.{box_value}
-use Rattle.srcp_rules.specs.Numbered.{numbered}
+use Rattle.srcp_rules.proofs.Names.{◌≡◌, ◌+◌, ◌-◌, box_value, numbered}
 use Rattle.srcp_rules.proofs.nested.devices.grow.Given as goal
 
 abbrev pub invariant-loop-slots : goal.invariant-loop-slots

@@ -1,8 +1,7 @@
-use Rattle.std.proofs.Common.{◌<◌, length, take, slice_set, is_some, sym, ap, subst, ◌∙◌, true≢false}
-use Rattle.srcp_rules.specs.State.{State, row_at}
-use Rattle.srcp_rules.specs.KeyIndex.{HasKeyAt}
+use Rattle.srcp_rules.proofs.Names.{arith, ◌<◌, length, take, slice_set, is_some, sym, ap, subst, ◌∙◌, true≢false, State, row_at, HasKeyAt}
 use Rattle.srcp_rules.proofs.RowIndexLaws.{set-put_row, row_at-gap}
-use Rattle.srcp_rules.proofs.PutLaws.{take-set}
+use Rattle.std.proofs.Math.Seq.{take-set-lt}
+use Rattle.std.proofs.lemmas.List.{length-take}
 use Rattle.srcp_rules.proofs.nested.device_rows.DeviceRows.set.Goals as goal
 
 pub returns-in-Ok : goal.returns-in-Ok
@@ -15,7 +14,8 @@ returns-in-Ok g c =
     subst (λ state. HasKeyAt state row.shown.key index) c.as_slice.ensures c.in-Ok.ensures.at in
     let within : index < length (take inside.count inside.rows) =
     subst (λ (state : State). index < length state) (sym c.self.view_is) at.within in
-    take-set inside.count inside.rows index row within
+    let count = length-take inside.count inside.rows in
+    take-set-lt inside.count inside.rows index row (omega (arith, within, count))
     ∙ ap (λ (state : State). slice_set state index row) c.self.view_is
     ∙ set-put_row kept c.requires.rising row index at
 

@@ -1,10 +1,5 @@
-use Rattle.std.specs.Prelude.{Some, slice_set}
-use Rattle.std.specs.Box.{box_value}
-use Rattle.std.proofs.Common.{refl, sym, ap, subst, ◌∙◌, arith}
-use Rattle.std.specs.List.{AllByRecursion}
-use Rattle.std.specs.BTreeMap.{insert_entry}
-use Rattle.std.specs.Ordering.{nat_cmp}
-use Rattle.srcp_rules.specs.Nested.{AreOfDevice, device_rows}
+use Rattle.srcp_rules.proofs.Names
+use Names.{Some, slice_set, box_value, refl, sym, ap, subst, ◌∙◌, arith, AllByRecursion, insert_entry, nat_cmp, AreOfDevice, device_rows}
 use Rattle.srcp_rules.proofs.ListedLaws.{each-insert_entry}
 use Rattle.srcp_rules.proofs.NumberedLaws.{insert_entry-numbered, numbered-sorted}
 use Rattle.srcp_rules.proofs.DeviceLaws.{devices-insert}

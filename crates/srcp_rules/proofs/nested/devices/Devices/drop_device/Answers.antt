@@ -1,11 +1,6 @@
-use Rattle.std.specs.Prelude.{None, slice_set}
-use Rattle.std.specs.Box.{box_value}
-use Rattle.std.proofs.Common.{refl, sym, ap, subst, ◌∙◌, arith}
-use Rattle.std.specs.List.{AllByRecursion}
-use Rattle.std.specs.Map.{remove_entry}
-use Rattle.std.specs.BTreeMap.{is_at}
-use Rattle.std.specs.Ordering.{nat_cmp}
-use Rattle.srcp_rules.specs.Nested.{AreOfDevice, device_rows}
+use Rattle.srcp_rules.proofs.Names
+use Names.{None, slice_set, box_value, refl, sym, ap, subst, ◌∙◌, arith, AllByRecursion, remove_entry, is_at, nat_cmp, AreOfDevice}
+use Names.{device_rows}
 use Rattle.srcp_rules.proofs.ListedLaws.{each-remove_entry}
 use Rattle.srcp_rules.proofs.NumberedLaws.{numbered-sorted, remove_entry-numbered, remove_entry-past}
 use Rattle.srcp_rules.proofs.DeviceLaws.{devices-remove}

@@ -1,9 +1,4 @@
-use Rattle.std.specs.Prelude.{option_copied, slice_get}
-use Rattle.std.specs.Box.{box_value}
-use Rattle.std.proofs.Common.{ℕ, ap, ◌∙◌}
-use Rattle.std.specs.Option.{option_map}
-use Rattle.srcp_rules.specs.Numbered.{numbered}
-use Rattle.srcp_rules.specs.State.{State}
+use Rattle.srcp_rules.proofs.Names.{option_copied, slice_get, box_value, ℕ, ap, ◌∙◌, option_map, numbered, State}
 use Rattle.srcp_rules.proofs.DeviceLaws.{first_device, no_first_device}
 use Rattle.srcp_rules.proofs.nested.devices.Devices.first.Goals as goal
 

@@ -1,5 +1,4 @@
-use Rattle.std.specs.Prelude.{option_copied}
-use Rattle.std.proofs.Common.{sym, ap, ◌∙◌}
+use Rattle.srcp_rules.proofs.Names.{option_copied, sym, ap, ◌∙◌}
 use Rattle.srcp_rules.proofs.DeviceLaws.{found_device, row_at-device, row_at-no_device}
 use Rattle.srcp_rules.proofs.nested.devices.Devices.row.Goals as goal
 

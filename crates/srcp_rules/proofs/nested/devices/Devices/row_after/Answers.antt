@@ -1,7 +1,5 @@
-use Rattle.std.proofs.Common.{◌≡◌, rules, sym, ◌∙◌}
-use Rattle.srcp_info.specs.declared.key.Key.{Key}
+use Rattle.srcp_rules.proofs.Names.{◌≡◌, rules, sym, ◌∙◌, Key, IsIn}
 use Rattle.srcp_info.specs.declared.change.Cursor.TheVariants.{After}
-use Rattle.srcp_rules.specs.Nested.{IsIn}
 use Rattle.srcp_rules.proofs.DeviceLaws.{first_after, none_after}
 use Rattle.srcp_rules.proofs.nested.devices.Devices.row_after.Goals as goal
 

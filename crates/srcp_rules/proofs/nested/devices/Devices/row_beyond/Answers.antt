@@ -1,14 +1,9 @@
-use Rattle.std.specs.Prelude.{option_copied, slice_get}
-use Rattle.std.specs.Box.{box_value}
-use Rattle.std.proofs.Common.{◌≡◌, ℕ, ◌+◌, List, Option, Box, Global, None, drop, sym, ap, subst, ◌∙◌, arith}
-use Rattle.std.specs.List.{AllByRecursion}
-use Rattle.std.specs.Option.{option_map, option_map_or, option_or}
-use Rattle.srcp_info.specs.declared.key.Key.{Key}
-use Rattle.srcp_info.specs.declared.change.Row.{Row}
+use Rattle.srcp_rules.proofs.Names
+use Names.{option_copied, slice_get, box_value, ◌≡◌, ℕ, ◌+◌, List, Option, None, drop, sym, ap, subst, ◌∙◌, arith, AllByRecursion}
+use Names.{option_map, option_map_or, option_or, Key, Row, numbered, State, row_after, AreOfDevice, device_rows, entry_at}
+use Rattle.std.proofs.Common.{Box, Global}
 use Rattle.srcp_info.specs.declared.change.Cursor.TheVariants.{After}
-use Rattle.srcp_rules.specs.Numbered.{numbered}
-use Rattle.srcp_rules.specs.State.{State, row_after}
-use Rattle.srcp_rules.specs.Nested.{AreDevices, AreOfDevice, device_rows, entry_at}
+use Rattle.srcp_rules.specs.Nested.{AreDevices}
 use Rattle.srcp_rules.proofs.NumberedLaws.{each-from_place}
 use Rattle.srcp_rules.proofs.DeviceLaws.{first_device, no_first_device, row_after-slots}
 use Rattle.srcp_rules.proofs.nested.devices.Devices.row_beyond.Goals as goal

@@ -1,11 +1,7 @@
-use Rattle.std.specs.Prelude.{Some, None, is_some, slice_set}
-use Rattle.std.specs.Box.{box_value, with_value}
-use Rattle.std.proofs.Common.{◌≡◌, refl, sym, ap, subst, ◌∙◌, arith, true≢false}
-use Rattle.std.specs.List.{AllByRecursion}
-use Rattle.std.specs.Map.{set_value}
-use Rattle.std.specs.BTreeMap.{is_at}
-use Rattle.std.specs.Ordering.{nat_cmp}
-use Rattle.srcp_rules.specs.Nested.{AreOfDevice, device_rows, entry_at}
+use Rattle.srcp_rules.proofs.Names
+use Names.{Some, None, is_some, slice_set, box_value, ◌≡◌, refl, sym, ap, subst, ◌∙◌, arith, true≢false, AllByRecursion, set_value, is_at}
+use Names.{nat_cmp, AreOfDevice, device_rows, entry_at}
+use Rattle.std.specs.Box.{with_value}
 use Rattle.srcp_rules.proofs.ListedLaws.{each-set_value}
 use Rattle.srcp_rules.proofs.NumberedLaws.{entry_at-past, entry_at-slot, numbered-sorted, set_value-numbered}
 use Rattle.srcp_rules.proofs.DeviceLaws.{device-put_row, devices-set_row, found_device, row_at-device, row_at-no_device}
@@ -16,9 +12,8 @@ set-requires g c =
     let key = c.args.row.now.shown.key in
     let found : Some c.deref_mut.result.now ≡ entry_at key.address c.args.self.now =
     ap Some c.deref_mut.ensures.value
-    ∙ entry_at-slot box_value key.address c.self.inside.slots.items
-    (sym c.in-Some-slot.is ∙ c.in-Some.ensures.item.3.1 None)
-    ∙ ap (entry_at key.address) c.self.view_is in (
+    ∙ entry_at-slot box_value key.address c.self.inside.slots.items c.self.view_is
+    (sym c.in-Some-slot.is ∙ c.in-Some.ensures.item.3.1 None) in (
       c.requires.fits,
       (
         (found_device key.bus key.group c.args.self.now c.requires.devices key.address _ (sym found)).rising,
@@ -35,8 +30,7 @@ returns-clause-rows g c =
     let after = c.set.new.self in
     let found : Some c.deref_mut.result.now ≡ entry_at key.address c.args.self.now =
     ap Some c.deref_mut.ensures.value
-    ∙ entry_at-slot box_value key.address slots (sym c.in-Some-slot.is ∙ c.in-Some.ensures.item.3.1 None)
-    ∙ ap (entry_at key.address) c.self.view_is in
+    ∙ entry_at-slot box_value key.address slots c.self.view_is (sym c.in-Some-slot.is ∙ c.in-Some.ensures.item.3.1 None) in
     ap device_rows
     (sym (set_value-numbered box_value key.address 0 key.address (omega arith) slots device (with_value device after)
     (sym (c.in-Some.ensures.item.3.1 None) ∙ c.in-Some-slot.is))
@@ -54,8 +48,7 @@ returns-clause-devices g c =
     let after = c.set.new.self in
     let found : Some c.deref_mut.result.now ≡ entry_at key.address c.args.self.now =
     ap Some c.deref_mut.ensures.value
-    ∙ entry_at-slot box_value key.address slots (sym c.in-Some-slot.is ∙ c.in-Some.ensures.item.3.1 None)
-    ∙ ap (entry_at key.address) c.self.view_is in
+    ∙ entry_at-slot box_value key.address slots c.self.view_is (sym c.in-Some-slot.is ∙ c.in-Some.ensures.item.3.1 None) in
     record {
       each = subst (AllByRecursion (λ e. of e.0 e.1))
           (sym (ap (λ es. set_value (is_at (nat_cmp key.address)) es after) c.self.view_is)
@@ -77,8 +70,7 @@ returns-in_default-clause-rows g c =
     (sym c.requires.there
     ∙ sym (ap is_some
     (row_at-no_device key.bus key.group c.args.self.now c.requires.devices key
-    (entry_at-past box_value key.address c.self.inside.slots.items c.in_default.ensures.item.3
-    ∙ ap (entry_at key.address) c.self.view_is)))))
+    (entry_at-past box_value key.address c.self.inside.slots.items c.self.view_is c.in_default.ensures.item.3)))))
 
 pub returns-in_default-slot-clause-rows : goal.returns-in_default-slot-clause-rows
 returns-in_default-slot-clause-rows g c =
@@ -87,6 +79,5 @@ returns-in_default-slot-clause-rows g c =
     (sym c.requires.there
     ∙ sym (ap is_some
     (row_at-no_device key.bus key.group c.args.self.now c.requires.devices key
-    (entry_at-slot box_value key.address c.self.inside.slots.items
-    (sym c.in_default-slot.is ∙ c.in-Some.ensures.item.3.1 None)
-    ∙ ap (entry_at key.address) c.self.view_is)))))
+    (entry_at-slot box_value key.address c.self.inside.slots.items c.self.view_is
+    (sym c.in_default-slot.is ∙ c.in-Some.ensures.item.3.1 None))))))
