@@ -26,8 +26,8 @@ use Rattle.srcp_text.specs.declared.reader.Fed.{Fed}
 use Rattle.srcp_text.specs.declared.reader.Fed.TheVariants.{Line as FoundLine, TooLong as FoundTooLong, More}
 use Rattle.srcp_feed.specs.Cursor.{concerns}
 use Rattle.srcp_feed.specs.Feed.{Feed, beginning, is_full, told, next_of, after_next}
-use Rattle.srcp_feed.specs.declared.next.Next.{Next}
-use Rattle.srcp_feed.specs.declared.next.Next.TheVariants.{Told, Listed, Settled}
+use Rattle.srcp_feed.specs.declared.answers.Next.{Next}
+use Rattle.srcp_feed.specs.declared.answers.Next.TheVariants.{Told, Listed, Settled}
 use Rattle.srcp_core.specs.Connection.{is_nil, line_of}
 use Rattle.srcp_core.specs.Course.{welcome, command_of}
 use Rattle.srcp_core.specs.Handshake.{Greeting, Speaks, Chooses, Goes, Refuses, greets}

@@ -2,8 +2,8 @@
 use Rattle.std.specs.Prelude.{◌≡◌, ℕ, zero, suc, Bool, true, false, if◌then◌else◌, List, [], ◌∷◌, ◌++◌, map, length}
 use Rattle.std.specs.Prelude.{Option, Some, None, fold}
 use Rattle.std.specs.Prelude.{slice_get, slice_set, slice_index_or}
-use Rattle.srcp_feed.specs.declared.next.Next.{Next}
-use Rattle.srcp_feed.specs.declared.next.Next.TheVariants.{Told, Listed, Settled}
+use Rattle.srcp_feed.specs.declared.answers.Next.{Next}
+use Rattle.srcp_feed.specs.declared.answers.Next.TheVariants.{Told, Listed, Settled}
 use Rattle.srcp_core.specs.Connection.{Connection, is_open, sent}
 use Rattle.srcp_core.specs.Course.{is_info}
 use Rattle.srcp_core.specs.Held.{Held}

@@ -46,10 +46,6 @@ module _ (buses : List Bus) where
   Happened event None r held w = (fault buses w event ≡ None) × Runs r held (accepted buses event w)
   Happened event (Some cause) r held w = (fault buses w event ≡ Some cause) × Runs r held w
 
--- if no memory was refused by then, each answer gave
-abbrev pub GivesAll : List Bool → Held → Type 0
-GivesAll grants held = held.denied ≡ 0 → AllByRecursion IsTrue grants
-
 -- whatever the events were before, what was refused in the event is what was asked for in their course
 abbrev pub CountsAsked : Recording → Held → Held → Event → Type 0
 CountsAsked r held later event =
@@ -105,11 +101,12 @@ CountsAt key event old new =
     → key_of n keys ≡ Some key → StandsFor buses keys old (course buses events)
     → new.denied ≡ denied_in buses old.denied (counted (course buses events)) (event n)
 
--- the same of a piece, with what memory answered to its lines: what it refused is what was asked for in the course
+-- the same of a piece, with what memory answered to its lines: if it refused nothing by then, each answer gave; what it
+-- refused is what was asked for in the course
 pub record LeadsOn (key : ℕ) (piece : List ℕ) (old new : Held) : Type 0 where
   pub grants : List Bool
   pub counted : new.denied ≡ denied_by old.denied grants
-  pub given : GivesAll grants new
+  pub given : new.denied ≡ 0 → AllByRecursion IsTrue grants
   pub asked : CountsAt key (λ n. Bytes n (record { bytes = piece; grants = grants })) old new
   pub leads : LeadsAt key (λ n. Bytes n (record { bytes = piece; grants = grants })) old new
 

@@ -1,25 +1,14 @@
 -- What the answers of a core's calls say of the course that it stands for.
-use Rattle.std.proofs.Common.{◌≡◌, ℕ, suc, ◌+◌, Bool, true, false, List, [], ◌∷◌, ◌++◌, length, refl, ap, sym, ◌∙◌, arith}
-use Rattle.std.proofs.lemmas.Option.{none-some}
-use Rattle.std.proofs.lemmas.Bool.{le-ltb}
-use Rattle.std.specs.List.{filter}
-use Rattle.std.specs.Option.{option_map_or}
-use Rattle.std.specs.Prelude.{Option, Some, None, is_none, is_some, count_by, nat_lt, slice_get, slice_index_or, not, ◌||◌, if◌then◌else◌}
+use Rattle.srcp_core.proofs.Names.{◌≡◌, ℕ, suc, ◌+◌, Bool, true, false, List, [], ◌∷◌, ◌++◌, length, refl, sym, ◌∙◌, arith, none-some}
+use Rattle.srcp_core.proofs.Names.{le-ltb, filter, Option, Some, None, is_none, is_some, count_by, nat_lt, slice_get, slice_index_or, not}
+use Rattle.srcp_core.proofs.Names.{if◌then◌else◌, Bus, IsLayout, opening, shown_rows, Event, Open, Bytes, Room, Shut, Piece, OfCourse}
+use Rattle.srcp_core.proofs.Names.{OfConnection, lent, Connection, is_open, overran, unsent, World, course, fault, absent_fault, history}
+use Rattle.srcp_core.proofs.Names.{open_connection, Place, Held, at, IsAdmitted, IsNotAdmitted, bytes_fault, bytes_fault_from, finish_at}
+use Rattle.srcp_core.proofs.Names.{unsent_at, let_out, key_of, StandsFor, place_of, CoreFault, Full, Busy, PieceTooLong}
 use Rattle.std.specs.Prelude.{IsSome}
-use Rattle.srcp_grammar.specs.declared.layout.Bus.{Bus}
-use Rattle.srcp_grammar.specs.Layout.{IsLayout}
-use Rattle.srcp_rules.specs.State.{opening, shown_rows}
-use Rattle.srcp_core.specs.Under.{Event, Open, Bytes, Room, Shut, Piece}
-use Rattle.srcp_core.specs.Agrees.{OfCourse, OfConnection, NamesNewest, CountsOpen, TakesPieces, closes, lent_of, lent}
-use Rattle.srcp_core.specs.Connection.{Connection, is_open, is_nil, overran, unsent, finish, is_last}
-use Rattle.srcp_core.specs.Course.{World, course, fault, absent_fault, history, open_connection}
-use Rattle.srcp_core.specs.Held.{Place, Held, at}
-use Rattle.srcp_core.specs.Machine.{IsAdmitted, IsNotAdmitted, bytes_fault, bytes_fault_from, finish_at, unsent_at, unsent_of, let_out}
-use Rattle.srcp_core.specs.Machine.{has_overrun}
-use Rattle.srcp_core.specs.Recording.{key_of}
-use Rattle.srcp_core.specs.Stands.{StandsFor, place_of}
-use Rattle.srcp_core.specs.declared.record.CoreFault.{CoreFault}
-use Rattle.srcp_core.specs.declared.record.CoreFault.TheVariants.{Full, Memory as MemoryFault, Busy, PieceTooLong, Closing as ClosingFault}
+use Rattle.srcp_core.specs.Agrees.{NamesNewest, CountsOpen, TakesPieces, closes}
+use Rattle.srcp_core.specs.Connection.{is_last}
+use Rattle.srcp_core.specs.declared.record.CoreFault.TheVariants.{Memory as MemoryFault, Closing as ClosingFault}
 use Rattle.srcp_core.proofs.Agreement.LinesAgree.{IsFine}
 use Rattle.srcp_core.proofs.Agreement.EventsAgree.{over_is, fault_same, full_fault, free_fault}
 use Rattle.srcp_core.proofs.Agreement.CallsFollowTheCourse.{out_stands}
@@ -40,18 +29,18 @@ fine buses layout events = sound buses (opening_in_order buses layout) Anything 
 
 pub accepts_agrees : (key : ℕ) (old new : Held) → IsAdmitted key old new
     → OfCourse old (λ buses events. fault buses (course buses events) (Open true) ≡ None)
-accepts_agrees key old new a buses events keys layout s = free_fault buses keys old (course buses events) s a.room true
+accepts_agrees key old new a buses events keys layout s = free_fault buses keys old _ s a.room true
 
 pub refuses_agrees : (cause : CoreFault) (old new : Held) → IsNotAdmitted cause old new
     → OfCourse old (λ buses events. fault buses (course buses events) (Open false) ≡ Some cause)
-refuses_agrees Full old new is buses events keys layout s = full_fault buses keys old (course buses events) s is.0 false
-refuses_agrees MemoryFault old new is buses events keys layout s = free_fault buses keys old (course buses events) s is.0 false
+refuses_agrees Full old new is buses events keys layout s = full_fault buses keys old _ s is.0 false
+refuses_agrees MemoryFault old new is buses events keys layout s = free_fault buses keys old _ s is.0 false
 refuses_agrees other old new is buses events keys layout s = absurd is
 
 pub names_newest : (key : ℕ) (held : Held) → NamesNewest key held
 names_newest key held buses events keys s =
     let last : length (course buses events).connections + 1 ≡ suc (length keys) = omega (arith, s.long) in
-    ap (λ k. key_of k (keys ++ Some key ∷ [])) last ∙ key_push_last keys (Some key)
+    cc (key_push_last keys _)
 
 -- keys and connections side by side
 count_keys : (keys : List (Option ℕ)) (conns : List Connection) → length keys ≡ length conns
@@ -63,8 +52,7 @@ count_keys (key ∷ keys) [] l law = absurd (omega (arith, l))
 count_keys (key ∷ keys) (conn ∷ conns) l law =
     let less : length keys ≡ length conns = omega (arith, l) in
     let more = count_keys keys conns less (λ k other e. law (suc k) other e) in
-    count_by_cons is_some key keys ∙ ap (λ n. (if is_some key then 1 else 0) + n) more
-    ∙ ap (λ t. (if t then 1 else 0) + length (filter is_open conns)) (law 0 conn refl) ∙ sym (opens_cons conn conns)
+    cc (count_by_cons is_some key keys, law 0 conn refl, opens_cons conn conns)
 
 pub counts_open : (held : Held) → CountsOpen held
 counts_open held buses events keys s =
@@ -72,8 +60,8 @@ counts_open held buses events keys s =
   where
     by : (k : ℕ) (conn : Connection) → slice_get (course buses events).connections k ≡ Some conn → (o : Bool) → is_open conn ≡ o
         → is_some (key_of (suc k) keys) ≡ is_open conn
-    by k conn e true o = ap is_some (s.opens (suc k) conn e o).named ∙ sym o
-    by k conn e false o = ap is_some (s.closed (suc k) conn e o) ∙ sym o
+    by k conn e true o = cc (s.opens (suc k) conn e o).named
+    by k conn e false o = cc (s.closed (suc k) conn e o)
 
 -- ---- a connection that has a key
 
@@ -87,18 +75,18 @@ module _ (buses : List Bus) (layout : IsLayout buses) (events : List Event) (key
 
   its_over : overran its.conn (history buses w) ≡ is_over_place (history buses w) its.conn
   its_over =
-      over_is buses (history buses w) its.conn its.shut
+      over_is buses _ its.conn its.shut
       (at_number (Fine buses (history buses w)) n w.connections its.conn (fine buses layout events) its.there)
 
   fault_is : (piece : Piece) → bytes_fault key piece.bytes held ≡ fault buses w (Bytes n piece)
   fault_is piece =
-      fault_same buses (opening_in_order buses layout) (λ n fed. fed) keys held w n key piece.bytes (fine buses layout events) s named
+      fault_same buses (opening_in_order buses layout) (λ n fed. fed) keys held w n key _ (fine buses layout events) s named
 
   there_is : absent_fault buses (open_connection w n) ≡ None
-  there_is = ap (absent_fault buses) its.opened
+  there_is = cc its.opened
 
   is_there : at held key ≡ None → ⊥
-  is_there gone = none-some (place_of its.reader (history buses w) its.conn) (sym gone ∙ its.place)
+  is_there gone = none-some _ (sym gone ∙ its.place)
 
   abbrev its_place : Place
   its_place = place_of its.reader (history buses w) its.conn
@@ -108,14 +96,11 @@ module _ (buses : List Bus) (layout : IsLayout buses) (events : List Event) (key
 
   closing_is : is_last (finish_at key held) ≡ closes buses w n
   closing_is =
-      ap is_last (finish_is buses layout keys held events s n key its.reader its.conn its.there its.up its.place)
-      ∙ ap (λ o. option_map_or (λ (conn : Connection). is_last (finish conn (history buses w))) o false) (sym its.opened)
+      cc (finish_is buses layout keys held events s n key its.reader its.conn its.there its.up its.place, its.opened)
 
   lent_is : unsent_at key held ≡ lent buses w n
   lent_is =
-      ap unsent_of its.place
-      ∙ by (overran its.conn (history buses w)) refl
-      ∙ ap (λ o. option_map_or (lent_of buses w) o []) (sym its.opened)
+      cc (its.place, by _ refl, its.opened)
     where
       by : (t : Bool) → overran its.conn (history buses w) ≡ t → its_place.unsent ≡ (if t then [] else unsent its.conn)
       by true e = place_given_up its.reader (history buses w) its.conn (sym its_over ∙ e)
@@ -124,7 +109,7 @@ module _ (buses : List Bus) (layout : IsLayout buses) (events : List Event) (key
 -- ---- what is held of a connection
 
 pub there_agrees : (key : ℕ) (held : Held) → OfConnection key held (λ buses events n. IsSome (at held key))
-there_agrees key held buses events keys n layout named s = by (at held key) (is_there buses layout events keys n key named held s)
+there_agrees key held buses events keys n layout named s = by _ (is_there buses layout events keys n key named held s)
   where
     by : (o : Option Place) → (o ≡ None → ⊥) → IsSome o
     by None h = absurd (h refl)
@@ -138,11 +123,11 @@ bytes_agree key piece held buses events keys n layout named s = fault_is buses l
 pub takes_agrees : (key : ℕ) (held : Held) → is_none (bytes_fault key [] held) ≡ true
     → OfConnection key held (λ buses events n. TakesPieces buses (course buses events) n)
 takes_agrees key held accepts buses events keys n layout named s piece few =
-    sym (bytes_agree key piece held buses events keys n layout named s) ∙ from (at held key) accepts
+    sym (bytes_agree key piece held buses events keys n layout named s) ∙ from _ accepts
   where
     from : (o : Option Place) → is_none (bytes_fault_from [] o) ≡ true → bytes_fault_from piece.bytes o ≡ None
     from None e = cc
-    from (Some p) e = by (p.ended || has_overrun p.panel) (is_nil p.unsent) e
+    from (Some p) e = by _ _ e
       where
         by : (over idle : Bool) → is_none (if over then Some ClosingFault else (if not idle then Some Busy else None)) ≡ true
             → (if over then Some ClosingFault
@@ -150,7 +135,7 @@ takes_agrees key held accepts buses events keys n layout named s piece few =
             ≡ None
         by true idle e = cc
         by false false e = cc
-        by false true e = ap (λ t. if t then Some PieceTooLong else None) (le-ltb 256 (length piece.bytes) few)
+        by false true e = cc (le-ltb 256 _ few)
 
 pub closes_agrees : (key : ℕ) (held : Held)
     → OfConnection key held (λ buses events n. is_last (finish_at key held) ≡ closes buses (course buses events) n)

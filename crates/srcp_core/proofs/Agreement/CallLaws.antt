@@ -1,10 +1,7 @@
 -- What a core's calls make of the course that it stands for.
-use Rattle.std.proofs.Common.{◌≡◌, refl, ap, sym, ◌∙◌}
+use Rattle.srcp_core.proofs.Names.{◌≡◌, refl, ap, sym, ◌∙◌, Held, IsNotAdmitted, CoreFault, Full}
 use Rattle.srcp_core.specs.Calls.{CallsLead, CallsAgree, CallsCount}
-use Rattle.srcp_core.specs.Held.{Held}
-use Rattle.srcp_core.specs.Machine.{IsNotAdmitted}
-use Rattle.srcp_core.specs.declared.record.CoreFault.{CoreFault}
-use Rattle.srcp_core.specs.declared.record.CoreFault.TheVariants.{Full, Memory as MemoryFault}
+use Rattle.srcp_core.specs.declared.record.CoreFault.TheVariants.{Memory as MemoryFault}
 use Rattle.srcp_core.proofs.Agreement.AnswersAgree.{there_agrees, accepts_agrees, refuses_agrees, names_newest, counts_open, bytes_agree}
 use Rattle.srcp_core.proofs.Agreement.AnswersAgree.{takes_agrees}
 use Rattle.srcp_core.proofs.Agreement.AnswersAgree.{closes_agrees, lends_agrees, shuts_agrees}
@@ -51,13 +48,13 @@ calls_agree = record {
 }
 
 not_opened_counts : (cause : CoreFault) (old new : Held) → IsNotAdmitted cause old new → new.denied ≡ 0 → old.denied ≡ 0
-not_opened_counts Full old new is d = ap (λ (h : Held). h.denied) (sym is.1) ∙ d
-not_opened_counts MemoryFault old new is d = absurd (counts old.denied (ap (λ (h : Held). h.denied) (sym is.1) ∙ d))
+not_opened_counts Full old new is d = cc is.1
+not_opened_counts MemoryFault old new is d = absurd (counts _ (ap (λ (h : Held). h.denied) (sym is.1) ∙ d))
 not_opened_counts other old new is d = absurd is
 
 -- cores that are the same have the same count
 same_count : (old new other : Held) → new ≡ other → other.denied ≡ old.denied → new.denied ≡ old.denied
-same_count old new other is same = ap (λ (h : Held). h.denied) is ∙ same
+same_count old new other is same = cc
 
 pub calls_count : CallsCount
 calls_count = record {

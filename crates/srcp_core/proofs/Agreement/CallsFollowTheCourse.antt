@@ -1,20 +1,13 @@
 -- Each call of the core leads from the course of any events to that with its event.
-use Rattle.std.proofs.Common.{◌≡◌, ℕ, ◌+◌, ◌<◌, ◌≤◌, List, [], ◌∷◌, ◌++◌, map, length, min, ◌-◌, refl, ap, sym, ◌∙◌, subst, arith, inl}
-use Rattle.std.proofs.Common.{true, false}
-use Rattle.std.specs.Prelude.{Option, Some, None}
-use Rattle.srcp_grammar.specs.declared.layout.Bus.{Bus}
-use Rattle.srcp_grammar.specs.Layout.{IsLayout}
-use Rattle.srcp_core.specs.Under.{Event, Open, Room, At, Shut, recorded_step}
+use Rattle.srcp_core.proofs.Names.{◌≡◌, ℕ, ◌+◌, ◌<◌, ◌≤◌, List, [], ◌∷◌, ◌++◌, map, length, min, ◌-◌, refl, ap, sym, subst, arith, inl}
+use Rattle.srcp_core.proofs.Names.{false, Option, Some, None, Bus, IsLayout, Event, Open, Room, At, Shut, recorded_step, World, counted}
+use Rattle.srcp_core.proofs.Names.{fault, accepted, course, Place, Held, at, open_count, IsAdmitted, IsNotAdmitted, opening_held}
+use Rattle.srcp_core.proofs.Names.{one_denied, advanced, hung_up, let_out, unsent_at, changed_at, changed_in, without_sent, live_session}
+use Rattle.srcp_core.proofs.Names.{Recording, key_of, record_of, stepped, shut, Runs, count_at, taken_at, taking, StandsFor, CoreFault}
+use Rattle.srcp_core.proofs.Names.{Full}
 use Rattle.srcp_core.specs.declared.record.Step.TheVariants as recorded
-use Rattle.srcp_core.specs.Course.{World, counted, fault, absent_fault, accepted, course}
-use Rattle.srcp_core.specs.Held.{Place, Held, at, open_count}
-use Rattle.srcp_core.specs.Machine.{IsAdmitted, IsNotAdmitted, opening_held, one_denied, advanced, hung_up, let_out, unsent_at, changed_at}
-use Rattle.srcp_core.specs.Machine.{changed_in, without_sent, live_session}
-use Rattle.srcp_core.specs.Recording.{Recording, nothing_recorded, key_of, record_of, opened, stepped, shut}
-use Rattle.srcp_core.specs.Run.{Runs, count_at, taken_at, taking, LeadsTo, LeadsAt, LeadsToFree, LeadsToOpen}
-use Rattle.srcp_core.specs.Stands.{StandsFor}
-use Rattle.srcp_core.specs.declared.record.CoreFault.{CoreFault}
-use Rattle.srcp_core.specs.declared.record.CoreFault.TheVariants.{Full, Memory as MemoryFault}
+use Rattle.srcp_core.specs.Run.{LeadsTo, LeadsAt, LeadsToFree, LeadsToOpen}
+use Rattle.srcp_core.specs.declared.record.CoreFault.TheVariants.{Memory as MemoryFault}
 use Rattle.srcp_core.proofs.Agreement.EventsAgree.{stands_counted, full_fault}
 use Rattle.srcp_core.proofs.Agreement.PiecesAgree.{set_same}
 use Rattle.srcp_core.proofs.Agreement.RecordIsOfTheCourse.{runs_on, runs_start}
@@ -36,18 +29,19 @@ pub at_leads : (moment : ℕ) (old new : Held) → new ≡ advanced moment old �
 at_leads moment old new is buses events keys layout s =
     let w = course buses events in
     let h = (at_happens moment (telling keys w) old new new.moment is refl).happens buses events layout (runs_telling buses keys old w s) in
-    let r = stepped (recorded.Moment new.moment ∷ []) (telling keys w) in
-    (runs_on buses events (At moment) None (length events + 1) r new refl h).stands
+    let later = stepped (recorded.Moment new.moment ∷ []) (telling keys w) in
+    let r = runs_on buses events (At moment) None (length events + 1) later new refl h in
+    r.stands
 
 pub open_leads : (key : ℕ) (old new : Held) → IsAdmitted key old new → LeadsToOpen key old new
 open_leads key old new a buses events keys layout s =
     let w = course buses events in
     let h = open_with key (telling keys w) old new a buses events layout (runs_telling buses keys old w s) in
-    (runs_on buses events (Open true) None (length events + 1) (opened key (telling keys w)) new refl h).stands
+    (runs_on buses events _ None _ _ new refl h).stands
 
 -- before all events
 pub first_stands : (buses : List Bus) (held : Held) → held ≡ opening_held buses 0 0 → StandsFor buses [] held (course buses [])
-first_stands buses held first = (runs_start buses nothing_recorded held refl first).stands
+first_stands buses held first = (runs_start buses _ held refl first).stands
 
 full_leads : (old new : Held) → open_count old ≡ 64 → new ≡ old → LeadsTo (Open false) old new
 full_leads old new full same buses events keys layout s =
@@ -59,7 +53,7 @@ full_leads old new full same buses events keys layout s =
 memory_leads : (old new : Held) → open_count old < 64 → new ≡ one_denied old → LeadsTo (Open false) old new
 memory_leads old new room same buses events keys layout s =
     let w = course buses events in
-    (runs_on buses events (Open false) (Some MemoryFault) (length events + 1) (telling keys w) new refl
+    (runs_on buses events _ (Some MemoryFault) _ (telling keys w) new refl
     (memory_with (telling keys w) old new room same buses events layout (runs_telling buses keys old w s))).stands
 
 -- no connection is opened
@@ -74,8 +68,7 @@ shut_leads key old new is buses events keys n layout named s =
     let h =
     (shut_happens n key (telling keys w) old new new.moment named is refl).happens buses events layout
     (runs_telling buses keys old w s) in
-    subst (λ (ks : List (Option ℕ)). StandsFor buses ks new (course buses (events ++ Shut n ∷ [])))
-    (shut_keys n (live_session key old) new.moment (telling keys w))
+    rw (← (shut_keys n (live_session key old) new.moment (telling keys w)))
     (runs_on buses events (Shut n) None (length events + 1)
     (with_end (live_session key old) new.moment (shut n (telling keys w))) new refl h).stands
 
@@ -87,7 +80,7 @@ kept_of : (buses : List Bus) (layout : IsLayout buses) (events : List Event) (ke
     (counted (course buses events))
 kept_of buses layout events keys n key named held s = record {
   fine = fine_course buses layout events;
-  stands = stands_counted buses keys held (course buses events) s;
+  stands = stands_counted buses keys held _ s;
   tells = record { steps = refl; refused = refl; connections = refl };
 }
 
@@ -97,7 +90,7 @@ room_free buses events keys n key bytes held named s =
     let h =
     found_at buses (λ n fed. fed) keys held (counted (course buses events)) n key
     (stands_counted buses keys held (course buses events) s) named in
-    ap (absent_fault buses) h.opened
+    cc h.opened
 
 room_leads : (buses : List Bus) (events : List Event) (keys : List (Option ℕ)) (n bytes : ℕ) (new : Held)
     → fault buses (counted (course buses events)) (Room n bytes) ≡ None
@@ -105,7 +98,7 @@ room_leads : (buses : List Bus) (events : List Event) (keys : List (Option ℕ))
     → StandsFor buses keys new (course buses (events ++ Room n bytes ∷ []))
 room_leads buses events keys n bytes new free s =
     let w = accepted buses (Room n bytes) (counted (course buses events)) in
-    (runs_on buses events (Room n bytes) None (length events + 1) (telling keys w) new refl (free, runs_telling buses keys new w s)).stands
+    (runs_on buses events _ None _ _ new refl (free, runs_telling buses keys new w s)).stands
 
 -- room for no bytes, whatever memory was refused before
 pub out_stands : (key : ℕ) (old : Held) (buses : List Bus) (events : List Event) (keys : List (Option ℕ)) (n : ℕ) → IsLayout buses
@@ -132,11 +125,11 @@ sent_leads key count old new few is some buses events keys n layout named s =
 -- ---- bytes that were lent, and then sent
 
 pub sent_none : (key count : ℕ) (old new : Held) → new ≡ changed_at key (without_sent count) old → count ≡ 0 → new ≡ old
-sent_none key count old new is none = is ∙ ap (λ k. changed_at key (without_sent k) old) none ∙ by (at old key) refl
+sent_none key count old new is none = cc (by _ refl)
   where
     by : (o : Option Place) → at old key ≡ o → record old { places = changed_in key (without_sent 0) old.places o } ≡ old
     by None e = refl
-    by (Some p) e = ap (λ places. record old { places = places }) (set_same old.places key p e)
+    by (Some p) e = ap (λ places. record old { places = places }) (set_same _ key p e)
 
 pub lent_leads : (key count : ℕ) (old new held : Held) → count ≤ length (unsent_at key old) → new ≡ changed_at key (without_sent count) old
     → old ≡ let_out key held → LeadsAt key (λ n. Room n count) held new
@@ -146,14 +139,13 @@ lent_leads key count old new held few is lent buses events keys n layout named s
     let now : min (length (unsent_at key (let_out key held))) count ≡ count =
     let most = subst (λ (x : Held). count ≤ length (unsent_at key x)) lent few in omega (arith, most) in
     let taken : new ≡ taken_at key count held =
-    is ∙ ap (changed_at key (without_sent count)) lent ∙ ap (λ k. changed_at key (without_sent k) (let_out key held)) (sym now) in
+    cc in
     let all : count - count_at key count held ≡ 0 = omega (arith, now) in
     let h =
     (room_happens n key count first_r held count first_r held (inl all) refl
     (gives_first n key count first_r held named)).happens buses events layout
     (runs_telling buses keys held w s) in
-    subst (λ (x : Held). StandsFor buses keys x (course buses (events ++ Room n count ∷ []))) (sym taken)
-    (subst (λ (ks : List (Option ℕ)). StandsFor buses ks (taken_at key count held) (course buses (events ++ Room n count ∷ [])))
-    (taking_keys n key count held first_r)
+    rw taken
+    (rw (← (taking_keys n key count held first_r))
     (runs_on buses events (Room n count) None (length events + 1) (taking n key count held first_r)
     (taken_at key count held) refl h).stands)

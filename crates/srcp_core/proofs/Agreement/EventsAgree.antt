@@ -1,26 +1,14 @@
 -- A core that stands for a course, and the events of connections and moments.
-use Rattle.std.proofs.Common.{◌≡◌, ◌≢◌, ⊎_elim, inl, inr, ◌⊎◌, ℕ, zero, suc, ◌+◌, ◌<◌, max, Bool, true, false, cond, List, [], ◌∷◌, ◌++◌}
-use Rattle.std.proofs.Common.{length, length-append, refl, ap, sym, ◌∙◌, subst, arith}
-use Rattle.std.proofs.lemmas.Bool.Decides.{nat_tests}
-use Rattle.std.proofs.lemmas.Bool.{false≢true}
-use Rattle.std.specs.List.{filter}
-use Rattle.std.specs.Prelude.{Option, Some, None, not, ◌&&◌, ◌||◌, ◌==◌, nat_lt, slice_set, is_some, count_by, if◌then◌else◌}
-use Rattle.srcp_text.specs.Reading.{nothing_read}
-use Rattle.srcp_grammar.specs.declared.layout.Bus.{Bus}
-use Rattle.srcp_rules.specs.State.{opening, shown_rows}
-use Rattle.srcp_info.proofs.ClientLaws.{key_at}
-use Rattle.srcp_info.specs.Client.{IsRisingBy}
-use Rattle.srcp_core.specs.Under.{Open, At, Shut, Moment, Ended}
-use Rattle.srcp_core.specs.Connection.{Connection, History, is_open, is_nil, overran, unsent, untold}
-use Rattle.srcp_core.specs.Course.{World, numbered, at_connection, open_connection, if_open, did, history, fresh, counted, fault}
-use Rattle.srcp_core.specs.Course.{bytes_fault as course_fault, accepted, shut_as}
-use Rattle.srcp_core.specs.Held.{Place, Held, at, place_at, open_count}
-use Rattle.srcp_core.specs.Machine.{IsAdmitted, bytes_fault, bytes_fault_from, freed_place, freed_of, hung_up, hung_up_from, advanced}
-use Rattle.srcp_core.specs.Machine.{has_overrun}
-use Rattle.srcp_core.specs.Recording.{key_of, without_key}
-use Rattle.srcp_core.specs.Stands.{StandsBy, StandsFor, IsAt, IsOwned, place_of}
-use Rattle.srcp_core.specs.declared.record.CoreFault.TheVariants.{Full, Memory as MemoryFault, Busy, PieceTooLong, Closing}
-use Rattle.srcp_core.specs.declared.record.Refusal.{Refusal}
+use Rattle.srcp_core.proofs.Names.{◌≡◌, ◌≢◌, ⊎_elim, inl, inr, ◌⊎◌, ℕ, zero, suc, ◌+◌, ◌<◌, Bool, true, false, cond, List, [], ◌∷◌, ◌++◌}
+use Rattle.srcp_core.proofs.Names.{length, length-append, refl, ap, sym, ◌∙◌, subst, arith, nat_tests, false≢true, filter, Option, Some}
+use Rattle.srcp_core.proofs.Names.{None, not, ◌&&◌, ◌||◌, ◌==◌, nat_lt, slice_set, is_some, count_by, if◌then◌else◌, nothing_read, Bus}
+use Rattle.srcp_core.proofs.Names.{opening, shown_rows, key_at, IsRisingBy, Open, At, Shut, Ended, Connection, History, is_open, is_nil}
+use Rattle.srcp_core.proofs.Names.{overran, unsent, untold, World, numbered, at_connection, open_connection, if_open, did, history, fresh}
+use Rattle.srcp_core.proofs.Names.{counted, fault, accepted, shut_as, Place, Held, at, place_at, open_count, IsAdmitted, bytes_fault}
+use Rattle.srcp_core.proofs.Names.{bytes_fault_from, freed_place, freed_of, hung_up, hung_up_from, advanced, has_overrun, key_of}
+use Rattle.srcp_core.proofs.Names.{without_key, StandsBy, StandsFor, IsAt, IsOwned, place_of, Full, Busy, PieceTooLong, Closing}
+use Rattle.srcp_core.specs.Course.{bytes_fault as course_fault}
+use Rattle.srcp_core.specs.declared.record.CoreFault.TheVariants.{Memory as MemoryFault}
 use Rattle.srcp_core.proofs.Agreement.LinesAgree.{IsFine}
 use Rattle.srcp_core.proofs.Invariants.PlacesCover.{Where, Here, Away, where_is, place_set, place_set_here, no_place}
 use Rattle.srcp_core.proofs.Agreement.NumbersAndKeys.{opens, one_if, opens_with, opens_push, length_with, length_without, without_here}
@@ -28,9 +16,8 @@ use Rattle.srcp_core.proofs.Agreement.NumbersAndKeys.{without_other, key_within,
 use Rattle.srcp_core.proofs.Agreement.NumbersAndKeys.{numbered_within, Source, look_with}
 use Rattle.srcp_core.proofs.Agreement.PlacesChange.{is_over_place, untold_shut, place_overran, place_unsent}
 use Rattle.srcp_core.proofs.CourseLaws.ShownRegistry.{length_history}
-use Rattle.srcp_core.proofs.CourseLaws.SessionsOfACourse.{anything, at_number}
-use Rattle.srcp_core.proofs.CourseLaws.ClientHoldsPassedRows.{untold_by}
-use Rattle.srcp_core.proofs.Agreement.StandsAfterAChange.{Anything, Fine, AllFine, Found, found_at, stands_did, other_key}
+use Rattle.srcp_core.proofs.CourseLaws.SessionsOfACourse.{at_number}
+use Rattle.srcp_core.proofs.Agreement.StandsAfterAChange.{stands_as, Anything, Fine, AllFine, Found, found_at, stands_did, other_key}
 use Rattle.srcp_core.proofs.Invariants.EveryPlaceIsTold.{count_by_cons}
 use Rattle.srcp_core.proofs.CourseLaws.SessionsAreKept.{sound_at, stands_shut, concerning_start}
 
@@ -39,15 +26,13 @@ use Rattle.srcp_core.proofs.CourseLaws.SessionsAreKept.{sound_at, stands_shut, c
 -- a connection that is no information session never overran
 pub over_is : (buses : List Bus) (history : History) (conn : Connection) → conn.shut ≡ None → Fine buses history conn
     → overran conn history ≡ is_over_place history conn
-over_is buses history conn shut f = by conn.info refl
+over_is buses history conn shut f = by _ refl
   where
     by : (info : Bool) → conn.info ≡ info → nat_lt 256 (length (untold conn history)) ≡ (info && nat_lt 256 (length (untold conn history)))
     by true e = refl
     by false e =
         let p = f.plain e in
-        ap (λ cs. nat_lt 256 (length cs))
-        (untold_shut conn history shut ∙ ap (λ d. untold_by conn.go_step conn.items d history) p.1
-        ∙ ap (λ is. untold_by conn.go_step is None history) p.0 ∙ concerning_start conn.go_step 0 history)
+        cc (untold_shut conn history shut, p.1, p.0, concerning_start _ 0 history)
 
 module _ (buses : List Bus) where
   -- ---- what is refused
@@ -55,7 +40,7 @@ module _ (buses : List Bus) where
   -- a number that has no key is of no open connection
   pub absent_at : (read : ℕ → List ℕ → List ℕ) (keys : List (Option ℕ)) (held : Held) (w : World) (n : ℕ) → StandsBy buses read keys held w
       → key_of n keys ≡ None → open_connection w n ≡ None
-  absent_at read keys held w n s k = by (numbered n w.connections) refl
+  absent_at read keys held w n s k = by _ refl
     where
       with : (conn : Connection) (o : Bool) → numbered n w.connections ≡ Some conn → is_open conn ≡ o → cond o (Some conn) None ≡ None
       with conn true e o = let a = s.opens n conn e o in let bad : Some a.key ≡ None = sym a.named ∙ k in cc
@@ -63,7 +48,7 @@ module _ (buses : List Bus) where
 
       by : (o : Option Connection) → numbered n w.connections ≡ o → if_open o ≡ None
       by None e = refl
-      by (Some conn) e = with conn (is_open conn) e refl
+      by (Some conn) e = with conn _ e refl
 
   pub fault_same : (order : IsRisingBy key_at (shown_rows (opening buses 0))) (read : ℕ → List ℕ → List ℕ) (keys : List (Option ℕ))
       (held : Held) (w : World) (n key : ℕ) (piece : List ℕ)
@@ -71,16 +56,16 @@ module _ (buses : List Bus) where
       → bytes_fault key piece held ≡ course_fault buses w (open_connection w n) piece
   fault_same order read keys held w n key piece a s k =
       let h = found_at buses read keys held w n key s k in
-      let f : Fine buses (history buses w) h.conn = at_number (Fine buses (history buses w)) n w.connections h.conn a h.there in
-      let over = over_is buses (history buses w) h.conn h.shut f in
-      let p = place_of h.reader (history buses w) h.conn in
+      let f : Fine buses (history buses w) h.conn = at_number _ n _ h.conn a h.there in
+      let over = over_is buses _ h.conn h.shut f in
+      let p = place_of h.reader _ h.conn in
       ap (bytes_fault_from piece) h.place
       ∙ ap (λ t. if t || has_overrun p.panel then Some Closing
       else (if not (is_nil p.unsent) then Some Busy else (if nat_lt 256 (length piece) then Some PieceTooLong else None)))
       refl
       ∙ ap (λ t. if h.conn.ended || t then Some Closing
       else (if not (is_nil p.unsent) then Some Busy else (if nat_lt 256 (length piece) then Some PieceTooLong else None)))
-      (place_overran h.reader (history buses w) h.conn)
+      (place_overran h.reader _ h.conn)
       ∙ by h.conn.ended (is_over_place (history buses w) h.conn) (λ e. place_unsent h.reader (history buses w) h.conn e) refl
       ∙ ap (λ t. if h.conn.ended || t then Some Closing
       else (if not (is_nil (unsent h.conn)) then Some Busy else (if nat_lt 256 (length piece) then Some PieceTooLong else None)))
@@ -95,11 +80,11 @@ module _ (buses : List Bus) where
       by true over h e = refl
       by false true h e = refl
       by false false h e =
-          ap (λ bytes. if not (is_nil bytes) then Some Busy else (if nat_lt 256 (length piece) then Some PieceTooLong else None)) (h refl)
+          cc (h refl)
 
   pub full_fault : (keys : List (Option ℕ)) (held : Held) (w : World) → StandsFor buses keys held w → open_count held ≡ 64
       → (granted : Bool) → fault buses w (Open granted) ≡ Some Full
-  full_fault keys held w s e granted = ap (λ t. if t then (if granted then None else Some MemoryFault) else Some Full) many
+  full_fault keys held w s e granted = cc
     where
       many : nat_lt (length (filter is_open w.connections)) 64 ≡ false
       many = let c = s.count in grind (arith, nat_tests)
@@ -112,77 +97,40 @@ module _ (buses : List Bus) where
   pub free_fault : (keys : List (Option ℕ)) (held : Held) (w : World) → StandsFor buses keys held w → open_count held < 64
       → (granted : Bool) → fault buses w (Open granted) ≡ (if granted then None else Some MemoryFault)
   free_fault keys held w s e granted =
-      ap (λ t. if t then (if granted then None else Some MemoryFault) else Some Full) (free_room keys held w s e)
+      cc (free_room keys held w s e)
 
   -- ---- one more event, and what is refused
 
   pub stands_counted : (keys : List (Option ℕ)) (held : Held) (w : World) → StandsFor buses keys held w
       → StandsFor buses keys held (counted w)
-  stands_counted keys held w s = record {
-    layout = s.layout;
-    rows = s.rows;
-    moment = s.moment;
-    last_id = s.last_id;
-    count = s.count;
-    long = s.long;
-    opens = s.opens;
-    closed = s.closed;
-    apart = s.apart;
-    owned = s.owned;
-  }
-
-  pub stands_refused : (keys : List (Option ℕ)) (held : Held) (w : World) (more : List Refusal) → StandsFor buses keys held w
-      → StandsFor buses keys held (record w { refused = more })
-  stands_refused keys held w more s = record {
-    layout = s.layout;
-    rows = s.rows;
-    moment = s.moment;
-    last_id = s.last_id;
-    count = s.count;
-    long = s.long;
-    opens = s.opens;
-    closed = s.closed;
-    apart = s.apart;
-    owned = s.owned;
-  }
+  stands_counted keys held w s = stands_as buses (λ n fed. fed) keys held w _ _ _ _ _ _ _ s.moment s.last_id s
 
   -- ---- a moment
 
   pub stands_advanced : (keys : List (Option ℕ)) (held : Held) (w : World) (moment : ℕ) → AllFine buses w → StandsFor buses keys held w
       → StandsFor buses keys (advanced moment held) (accepted buses (At moment) w)
   stands_advanced keys held w moment fine s =
-      subst (λ m. StandsFor buses keys (advanced moment held) (did (Moment (max m moment)) (record w { moment = max m moment }))) s.moment
-      (stands_did buses (λ n fed. fed) keys (record held { moment = max held.moment moment }) (record w { moment = max held.moment moment })
-      (Moment (max held.moment moment)) fine
-      (record {
-        layout = s.layout;
-        rows = s.rows;
-        moment = refl;
-        last_id = s.last_id;
-        count = s.count;
-        long = s.long;
-        opens = s.opens;
-        closed = s.closed;
-        apart = s.apart;
-        owned = s.owned;
-      }))
+      rw (← s.moment)
+      (stands_did buses (λ n fed. fed) keys _ _
+      _ fine
+      (stands_as buses (λ n fed. fed) keys held w _ _ _ _ _ _ _ refl s.last_id s))
 
   -- ---- a connection is opened
 
   pub stands_opened : (keys : List (Option ℕ)) (key : ℕ) (old new : Held) (w : World) → IsAdmitted key old new → StandsFor buses keys old w
       → StandsFor buses (keys ++ Some key ∷ []) new (accepted buses (Open true) w)
   stands_opened keys key old new w a s = record {
-    layout = ap (λ (h : Held). h.buses) a.rest ∙ s.layout;
-    rows = ap (λ (h : Held). h.rows) a.rest ∙ s.rows;
-    moment = ap (λ (h : Held). h.moment) a.rest ∙ s.moment;
-    last_id = ap (λ (h : Held). h.last_id) a.rest ∙ s.last_id;
-    count = a.count ∙ ap (λ k. k + 1) s.count ∙ sym (opens_push w.connections fresh refl);
-    long = length-append keys (Some key ∷ []) ∙ ap (λ k. k + 1) s.long ∙ sym (length-append w.connections (fresh ∷ []));
-    opens = λ m conn e o. ⊎_elim (λ h. before m conn h o) (λ h. last m conn h.0 h.1) (numbered_push_is m w.connections fresh conn e);
+    layout = cc (a.rest, s.layout);
+    rows = cc (a.rest, s.rows);
+    moment = cc (a.rest, s.moment);
+    last_id = cc (a.rest, s.last_id);
+    count = cc (a.count, s.count, opens_push w.connections fresh refl);
+    long = cc (length-append keys _, s.long, length-append _ _);
+    opens = λ m conn e o. ⊎_elim (λ h. before m conn h o) (λ h. last m conn h.0 h.1) (numbered_push_is m _ fresh conn e);
     closed =
         λ m conn e o.
-        ⊎_elim (λ h. shuts m conn h o) (λ h. let bad : true ≡ false = ap is_open h.1 ∙ o in cc)
-        (numbered_push_is m w.connections fresh conn e);
+        ⊎_elim (λ h. shuts m conn h o) (λ h. let bad : true ≡ false = cc h.1 in cc)
+        (numbered_push_is m _ fresh conn e);
     apart = λ m n other e f. apart m n other (key_push_is m keys key other e) (key_push_is n keys key other f);
     owned = λ other p e. owner other p e (where_is other key);
   }
@@ -191,7 +139,7 @@ module _ (buses : List Bus) where
       used : (m other : ℕ) → key_of m keys ≡ Some other → other ≢ key
       used m other e z =
           let h = found_at buses (λ n fed. fed) keys old w m other s e in
-          let bad : Some (place_of h.reader (history buses w) h.conn) ≡ None = sym h.place ∙ ap (at old) z ∙ a.was_free in
+          let bad : Some (place_of h.reader (history buses w) h.conn) ≡ None = cc (h.place, a.was_free) in
           cc
 
       before : (m : ℕ) (conn : Connection) → numbered m w.connections ≡ Some conn → is_open conn ≡ true
@@ -202,7 +150,7 @@ module _ (buses : List Bus) where
           record {
             key = b.key;
             reader = b.reader;
-            named = key_push m keys (Some key) l ∙ b.named;
+            named = key_push m keys _ l ∙ b.named;
             place = a.others b.key (used m b.key b.named) ∙ b.place;
             reads = b.reads;
           }
@@ -210,11 +158,11 @@ module _ (buses : List Bus) where
       last : (m : ℕ) (conn : Connection) → m ≡ suc (length w.connections) → fresh ≡ conn
           → IsAt (keys ++ Some key ∷ []) new.places (history buses w) m conn conn.fed
       last m conn e same =
-          subst (λ (c : Connection). IsAt (keys ++ Some key ∷ []) new.places (history buses w) m c c.fed) same
+          rw (← same)
           (record {
             key = key;
             reader = nothing_read;
-            named = ap (λ j. key_of j (keys ++ Some key ∷ [])) (e ∙ ap (λ k. suc k) (sym s.long)) ∙ key_push_last keys (Some key);
+            named = ap (λ j. key_of j (keys ++ Some key ∷ [])) (e ∙ ap (λ k. suc k) (sym s.long)) ∙ key_push_last keys _;
             place = a.fresh;
             reads = refl;
           })
@@ -222,9 +170,9 @@ module _ (buses : List Bus) where
       shuts : (m : ℕ) (conn : Connection) → numbered m w.connections ≡ Some conn → is_open conn ≡ false
           → key_of m (keys ++ Some key ∷ []) ≡ None
       shuts m conn e o =
-          let l = (numbered_within m w.connections conn e).1 in
+          let l = (numbered_within m _ conn e).1 in
           let g = s.long in
-          key_push m keys (Some key) (omega (arith, l, g)) ∙ s.closed m conn e o
+          key_push m keys _ (omega (arith, l, g)) ∙ s.closed m conn e o
 
       apart : (m n other : ℕ) → (key_of m keys ≡ Some other) ⊎ ((m ≡ suc (length keys)) × (other ≡ key))
           → (key_of n keys ≡ Some other) ⊎ ((n ≡ suc (length keys)) × (other ≡ key)) → m ≡ n
@@ -234,11 +182,11 @@ module _ (buses : List Bus) where
       apart m n other (inr e) (inr f) = e.0 ∙ sym f.0
 
       owner : (other : ℕ) (p : Place) → at new other ≡ Some p → Where other key → IsOwned (keys ++ Some key ∷ []) other
-      owner other p e (Here z) = record { number = suc (length keys); named = key_push_last keys (Some key) ∙ ap Some (sym z) }
+      owner other p e (Here z) = record { number = suc (length keys); named = cc (key_push_last keys _) }
       owner other p e (Away d) =
           let o = s.owned other p (sym (a.others other d) ∙ e) in
           let l = (key_within o.number keys other o.named).1 in
-          record { number = o.number; named = key_push o.number keys (Some key) l ∙ o.named }
+          record { number = o.number; named = key_push o.number keys _ l ∙ o.named }
 
   -- ---- a connection is shut
 
@@ -264,7 +212,7 @@ module _ (buses : List Bus) where
     moment = s.moment;
     last_id = s.last_id;
     count = fewer;
-    long = length_without n keys ∙ s.long ∙ sym (length_with n f w.connections);
+    long = length_without n keys ∙ s.long ∙ sym (length_with n f _);
     opens = λ m conn e o. at_all m conn o (look_with m n f w.connections conn e);
     closed = λ m conn e o. shuts m conn o (look_with m n f w.connections conn e);
     apart = λ m l other a b. s.apart m l other (was m other a (where_is m n)) (was l other b (where_is l n));
@@ -296,45 +244,45 @@ module _ (buses : List Bus) where
       at_all m conn o from =
           ⊎_elim
           (λ h.
-          let a = s.opens m from.x from.there (ap is_open (sym h.1) ∙ o) in
-          subst (λ (c : Connection). IsAt (without_key n keys) (slice_set held.places key None) (history buses w) m c c.fed) (sym h.1)
+          let a = s.opens m from.x from.there (cc h.1) in
+          rw h.1
           (record {
             key = a.key;
             reader = a.reader;
             named = without_other n m keys h.0 ∙ a.named;
             place =
-                place_set held.places key a.key None (other_key buses (λ n fed. fed) keys held w n key s named m a.key h.0 a.named)
+                place_set _ key a.key None (other_key buses (λ n fed. fed) keys held w n key s named m a.key h.0 a.named)
                 ∙ a.place;
             reads = a.reads;
           }))
-          (λ h. let bad : false ≡ true = ap is_open (sym h.1) ∙ o in absurd (false≢true bad))
+          (λ h. let bad : false ≡ true = cc h.1 in absurd (false≢true bad))
           from.from
 
       shuts : (m : ℕ) (conn : Connection) → is_open conn ≡ false → Source m n f w.connections conn → key_of m (without_key n keys) ≡ None
       shuts m conn o from =
           ⊎_elim
-          (λ h. without_other n m keys h.0 ∙ s.closed m from.x from.there (ap is_open (sym h.1) ∙ o))
-          (λ h. ap (λ j. key_of j (without_key n keys)) h.0 ∙ without_here n keys)
+          (λ h. without_other n m keys h.0 ∙ s.closed m from.x from.there (cc h.1))
+          (λ h. cc (h.0, without_here n keys))
           from.from
 
       was : (m other : ℕ) → key_of m (without_key n keys) ≡ Some other → Where m n → key_of m keys ≡ Some other
       was m other e (Here z) =
-          let bad : None ≡ Some other = sym (without_here n keys) ∙ ap (λ j. key_of j (without_key n keys)) (sym z) ∙ e in cc
+          let bad : None ≡ Some other = cc (without_here n keys) in cc
       was m other e (Away d) = sym (without_other n m keys d) ∙ e
 
       owner : (other : ℕ) (p : Place) → place_at (slice_set held.places key None) other ≡ Some p → Where other key
           → IsOwned (without_key n keys) other
       owner other p e (Here z) =
           let bad : None ≡ Some p =
-          sym (place_set_here held.places key old None there) ∙ ap (place_at (slice_set held.places key None)) (sym z) ∙ e in
+          cc (place_set_here _ key old None there) in
           cc
       owner other p e (Away d) =
-          let o = s.owned other p (sym (place_set held.places key other None d) ∙ e) in
+          let o = s.owned other p (sym (place_set _ key other None d) ∙ e) in
           record {
             number = o.number;
             named =
                 without_other n o.number keys
-                (λ z. d (let both : Some other ≡ Some key = sym o.named ∙ ap (λ j. key_of j keys) z ∙ named in cc))
+                (λ z. d (let both : Some other ≡ Some key = cc o.named in cc))
                 ∙ o.named;
           }
 
@@ -345,22 +293,21 @@ module _ (buses : List Bus) where
   stands_hung_up order keys held w n key a s named =
       let h = found_at buses (λ n fed. fed) keys held w n key s named in
       let p = place_of h.reader (history buses w) h.conn in
-      subst (λ (o : Option Place). StandsFor buses (without_key n keys) (hung_up_from key held o) (accepted buses (Shut n) w)) (sym h.place)
-      (subst (λ (o : Option Connection). StandsFor buses (without_key n keys) (hung_up_from key held (Some p)) (shut_as buses n o w))
-      (sym h.opened)
-      (by h.conn h.there h.shut p (h.conn.session == 0) h.conn.ended (ap (λ k. k == 0) refl) refl refl refl refl))
+      rw h.place
+      (rw h.opened
+      (by h.conn h.there h.shut p (h.conn.session == 0) h.conn.ended (cc) refl refl refl refl))
     where
       closed : World
       closed = at_connection n (λ c. record c { shut = Some (length w.steps) }) w
 
       fine : (conn : Connection) → numbered n w.connections ≡ Some conn → conn.shut ≡ None → IsFine buses order closed
       fine conn e shut =
-          sound_at buses order Anything (anything (shown_rows (opening buses 0))) n (λ c. record c { shut = Some (length w.steps) }) w
+          sound_at buses order Anything _ n (λ c. record c { shut = Some (length w.steps) }) w
           (λ other k g.
           let same : conn ≡ other = let both : Some conn ≡ Some other = sym e ∙ k in cc in
-          stands_shut (shown_rows (opening buses 0)) order Anything (anything (shown_rows (opening buses 0))) (history buses w)
-          (length w.steps) other (sym (length_history (opening buses 0) w.steps))
-          (ap (λ (c : Connection). c.shut) (sym same) ∙ shut) g)
+          stands_shut _ order Anything _ _
+          _ other (sym (length_history _ w.steps))
+          (cc) g)
           a
 
       by : (conn : Connection) → numbered n w.connections ≡ Some conn → conn.shut ≡ None → (p : Place) (first ended : Bool)
@@ -405,4 +352,4 @@ module _ (buses : List Bus) where
           ]))))
         where
           freed : StandsFor buses (without_key n keys) (freed_place key held) closed
-          freed = stands_freed keys held w n key (length w.steps) s named
+          freed = stands_freed keys held w n key _ s named

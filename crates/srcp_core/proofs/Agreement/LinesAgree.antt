@@ -1,46 +1,31 @@
 -- A core that stands for a course answers a line as the course does.
-use Rattle.std.proofs.Common.{◌≡◌, ℕ, ◌+◌, ◌≤◌, Bool, true, false, List, [], ◌∷◌, ◌++◌, length, refl, ap, sym, ◌∙◌, subst}
-use Rattle.std.proofs.Math.Bool.{and-false}
-use Rattle.std.specs.Option.{option_map}
-use Rattle.std.specs.Prelude.{Option, Some, None, ◌&&◌, ◌||◌, ◌==◌, nat_lt, Result, Ok, Err, not, if◌then◌else◌}
-use Rattle.srcp_info.specs.Line.{reply_line}
-use Rattle.srcp_info.specs.declared.change.Code.{Code}
-use Rattle.srcp_info.specs.declared.change.Code.TheVariants.{C500}
-use Rattle.srcp_info.specs.declared.change.Reply.{Reply}
-use Rattle.srcp_info.specs.declared.change.Reply.TheVariants.{Protocol, Mode as ModeReply, Go, Refused}
-use Rattle.srcp_text.specs.Marks.{Mark}
-use Rattle.srcp_text.specs.Reading.{Reading}
-use Rattle.srcp_grammar.specs.declared.command.Command.{Command}
-use Rattle.srcp_grammar.specs.declared.layout.Bus.{Bus}
-use Rattle.srcp_rules.specs.Effect.{Effect, effect as effect_of, refused}
-use Rattle.srcp_rules.specs.Due.{began}
-use Rattle.srcp_rules.specs.State.{State, Update, opening, shown_rows}
-use Rattle.srcp_info.proofs.ClientLaws.{key_at}
-use Rattle.srcp_info.specs.Client.{IsRisingBy}
-use Rattle.srcp_core.specs.Under.{Obeyed, Began, Ended, Order, effect, greeting_under, wants_memory}
-use Rattle.srcp_core.specs.Connection.{Connection, is_open, given, untold}
-use Rattle.srcp_core.specs.Course.{World, numbered, at_connection, did, is_info, state, history, command_of, ordered}
-use Rattle.srcp_core.specs.Course.{replied as course_replied, entered, goes as course_goes, greeted as course_greeted}
-use Rattle.srcp_core.specs.Course.{ended as course_ended, obeyed as course_obeyed, commanded as course_commanded, answered_as}
-use Rattle.srcp_core.specs.Course.{answered as course_answered, open_connection}
-use Rattle.srcp_core.specs.Handshake.{Greeting, Speaks, Chooses, Goes, Refuses, greets as greets_of}
-use Rattle.srcp_core.specs.Held.{Place, Held, at}
-use Rattle.srcp_core.specs.Machine.{with_unsent, entered_place, carried, changed_at, replied, session_begun, goes, greeted, freed_of}
-use Rattle.srcp_core.specs.Machine.{finished, obeyed, one_denied, denied_line, commanded, asked_of, answered, panel_for}
-use Rattle.srcp_core.specs.Recording.{key_of}
-use Rattle.srcp_core.specs.Stands.{StandsBy, place_of}
-use Rattle.srcp_core.specs.declared.line.Asked.{Asked}
-use Rattle.srcp_core.specs.declared.line.Asked.TheVariants.{Dropped, Greets, Commands}
+use Rattle.srcp_core.proofs.Names.{cond_both, ◌≡◌, ℕ, ◌+◌, ◌≤◌, Bool, true, false, List, [], ◌∷◌, ◌++◌, length, refl, ap, sym, ◌∙◌, subst}
+use Rattle.srcp_core.proofs.Names.{and-false, Option, Some, None, ◌&&◌, ◌||◌, ◌==◌, nat_lt, Result, Ok, Err, not, if◌then◌else◌, reply_line}
+use Rattle.srcp_core.proofs.Names.{Code, C500, Reply, Protocol, Go, Refused, Mark, Reading, Command, Bus, Effect, refused, began, State}
+use Rattle.srcp_core.proofs.Names.{Update, opening, shown_rows, key_at, IsRisingBy, Obeyed, Began, Ended, Order, greeting_under}
+use Rattle.srcp_core.proofs.Names.{wants_memory, Connection, is_open, given, untold, World, numbered, at_connection, did, is_info, state}
+use Rattle.srcp_core.proofs.Names.{history, command_of, ordered, entered, open_connection, Greeting, Speaks, Chooses, Goes, Refuses, Place}
+use Rattle.srcp_core.proofs.Names.{Held, at, with_unsent, entered_place, carried, changed_at, session_begun, freed_of, one_denied}
+use Rattle.srcp_core.proofs.Names.{denied_line, asked_of, panel_for, key_of, StandsBy, place_of, Asked, Dropped, Greets, Commands}
+use Rattle.srcp_info.specs.declared.change.Reply.TheVariants.{Mode as ModeReply}
+use Rattle.srcp_rules.specs.Effect.{effect as effect_of}
+use Rattle.srcp_core.specs.Under.{effect}
+use Rattle.srcp_core.specs.Course.{replied as course_replied, goes as course_goes, greeted as course_greeted}
+use Rattle.srcp_core.specs.Course.{ended as course_ended, obeyed as course_obeyed, commanded as course_commanded}
+use Rattle.srcp_core.specs.Course.{answered as course_answered}
+use Rattle.srcp_core.specs.Handshake.{greets as greets_of}
+use Rattle.srcp_core.specs.Machine.{replied, goes, greeted}
+use Rattle.srcp_core.specs.Machine.{finished, obeyed, commanded, answered}
 use Rattle.srcp_core.proofs.Agreement.PlacesChange.{replied_still, chosen_place, ended_place, entered_place_of, is_over_place, untold_shut}
 use Rattle.srcp_core.proofs.Agreement.PlacesChange.{place_info}
 use Rattle.srcp_core.proofs.CourseLaws.SessionsOfACourse.{anything, at_number}
 use Rattle.srcp_core.proofs.CourseLaws.ClientHoldsPassedRows.{untold_by}
 use Rattle.srcp_core.proofs.Agreement.NumbersAndKeys.{numbered_with}
-use Rattle.srcp_core.proofs.Agreement.StandsAfterAChange.{Anything, Fine, AllFine, found_at, stands_at, stands_did}
+use Rattle.srcp_core.proofs.Agreement.StandsAfterAChange.{stands_as, Anything, AllFine, found_at, stands_at, stands_did}
 use Rattle.srcp_core.proofs.CourseLaws.SessionsAreKept.{IsSound, sound_did, sound_at, sound_replied, concerning_start}
 
 abbrev pub IsFine : (buses : List Bus) → IsRisingBy key_at (shown_rows (opening buses 0)) → World → Type 0
-IsFine buses order w = IsSound buses order Anything (anything (shown_rows (opening buses 0))) w
+IsFine buses order w = IsSound buses order Anything _ w
 
 -- what a line asks for, by how its connection stands
 abbrev pub asked_as : List Bus → Connection → Mark → Asked
@@ -62,24 +47,20 @@ pub asks_of : (buses : List Bus) (read : ℕ → List ℕ → List ℕ) (keys : 
     → AsksOf buses held.buses w n p mark
 asks_of buses read keys held w n key mark p s named here =
     let h = found_at buses read keys held w n key s named in
-    let q : Place = place_of h.reader (history buses w) h.conn in
+    let q : Place = place_of h.reader _ h.conn in
     let same : q ≡ p = let both : Some q ≡ Some p = sym h.place ∙ here in cc in
     record {
       conn = h.conn;
       there = h.there;
       shut = h.shut;
       opened = h.opened;
-      asks = sym (ap (λ (p : Place). asked_of held.buses p mark) same) ∙ ap (λ b. asked_of b q mark) s.layout
-          ∙ ap (λ t. if t || h.conn.ended then Dropped
-          else (if h.conn.session == 0 then Greets h.conn.mode (greets_of mark)
-          else Commands h.conn.session (command_of buses mark)))
-          (place_info h.reader (history buses w) h.conn);
+      asks = cc (s.layout, place_info h.reader _ h.conn);
     }
 
 module _ (buses : List Bus) (order : IsRisingBy key_at (shown_rows (opening buses 0))) (read : ℕ → List ℕ → List ℕ) (keys : List (Option ℕ))
     (n key : ℕ) (named : key_of n keys ≡ Some key) where
   pub fine_of : (w : World) → IsFine buses order w → AllFine buses w
-  fine_of w a m conn e = at_number (Fine buses (history buses w)) m w.connections conn a e
+  fine_of w a m conn e = at_number _ m _ conn a e
 
   -- the place and the connection of the number change alike
   pub stands_of : (held : Held) (w : World) (conn : Connection) (f : Connection → Connection) (change : Place → Place)
@@ -91,15 +72,13 @@ module _ (buses : List Bus) (order : IsRisingBy key_at (shown_rows (opening buse
   stands_of held w conn f change s there up fed law =
       stands_at buses read keys held w n key f change s named
       (λ other reader e shut.
-      let same : conn ≡ other = let both : Some conn ≡ Some other = sym there ∙ e in cc in
-      subst (λ (c : Connection). (is_open (f c) ≡ is_open c)
-      × (((f c).fed ≡ c.fed) × (change (place_of reader (history buses w) c) ≡ place_of reader (history buses w) (f c))))
-      same
-      (up, (fed, law reader (ap (λ (c : Connection). c.shut) same ∙ shut))))
+      let same : conn ≡ other = let both : Some conn ≡ Some other = cc in cc in
+      rw (← same)
+      (up, (fed, law reader (cc))))
 
   numbered_at : (w : World) (conn : Connection) (f : Connection → Connection) → numbered n w.connections ≡ Some conn
       → numbered n (at_connection n f w).connections ≡ Some (f conn)
-  numbered_at w conn f e = numbered_with n f w.connections ∙ ap (option_map f) e
+  numbered_at w conn f e = cc (numbered_with n f _)
 
   -- ---- a reply
 
@@ -126,18 +105,7 @@ module _ (buses : List Bus) (order : IsRisingBy key_at (shown_rows (opening buse
 
   stands_last : (held : Held) (w : World) (id : ℕ) → StandsBy buses read keys held w
       → StandsBy buses read keys (record held { last_id = id }) (record w { last_id = id })
-  stands_last held w id s = record {
-    layout = s.layout;
-    rows = s.rows;
-    moment = s.moment;
-    last_id = refl;
-    count = s.count;
-    long = s.long;
-    opens = s.opens;
-    closed = s.closed;
-    apart = s.apart;
-    owned = s.owned;
-  }
+  stands_last held w id s = stands_as buses read keys held w _ _ _ _ _ _ _ s.moment refl s
 
   -- the world with the moment and the id that the core has
   abbrev timed : Held → World → World
@@ -147,18 +115,7 @@ module _ (buses : List Bus) (order : IsRisingBy key_at (shown_rows (opening buse
   timed_is held w s = ap (λ m. record w { moment = m; last_id = held.last_id }) s.moment ∙ ap (λ l. record w { last_id = l }) s.last_id
 
   stands_timed : (held : Held) (w : World) → StandsBy buses read keys held w → StandsBy buses read keys held (timed held w)
-  stands_timed held w s = record {
-    layout = s.layout;
-    rows = s.rows;
-    moment = refl;
-    last_id = refl;
-    count = s.count;
-    long = s.long;
-    opens = s.opens;
-    closed = s.closed;
-    apart = s.apart;
-    owned = s.owned;
-  }
+  stands_timed held w s = stands_as buses read keys held w _ _ _ _ _ _ _ refl refl s
 
   stands_begun : (held : Held) (w : World) (conn : Connection) (id : ℕ) → IsFine buses order w → StandsBy buses read keys held w
       → numbered n w.connections ≡ Some conn → conn.shut ≡ None → conn.info ≡ false
@@ -167,10 +124,10 @@ module _ (buses : List Bus) (order : IsRisingBy key_at (shown_rows (opening buse
   stands_begun held w conn id a s there shut plain =
       let f = fine_of w a n conn there in
       let p = f.plain plain in
-      let w2 = did (Began id held.moment conn.mode) (record (timed held w) { last_id = id }) in
+      let w2 = did _ _ in
       let d : StandsBy buses read keys (carried (updates held) (record held { last_id = id })) w2 =
-      stands_did buses read keys (record held { last_id = id }) (record (timed held w) { last_id = id })
-      (Began id held.moment conn.mode) (fine_of w a) (stands_last held (timed held w) id (stands_timed held w s)) in
+      stands_did buses read keys (record held { last_id = id }) _
+      _ (fine_of w a) (stands_last held (timed held w) id (stands_timed held w s)) in
       let e : StandsBy buses read keys (session_begun key id conn.mode held) (entered buses n id w2) =
       stands_of (carried (updates held) (record held { last_id = id })) w2 conn
       (λ conn. record conn { session = id; info = is_info conn.mode; go_step = length w2.steps })
@@ -192,7 +149,7 @@ module _ (buses : List Bus) (order : IsRisingBy key_at (shown_rows (opening buse
       → numbered n w.connections ≡ Some conn → conn.shut ≡ None → conn.info ≡ false
       → StandsBy buses read keys (goes true key conn.mode held) (course_goes buses n conn.mode w)
   stands_goes held w conn a s there shut plain =
-      subst (λ (v : World). StandsBy buses read keys (goes true key conn.mode held) (course_goes buses n conn.mode v)) (timed_is held w s)
+      rw (← (timed_is held w s))
       (elim (nat_lt held.last_id 4294967295)
       as (λ t.
       StandsBy buses read keys
@@ -233,13 +190,13 @@ module _ (buses : List Bus) (order : IsRisingBy key_at (shown_rows (opening buse
       stands_of held w conn (λ conn. record conn { ended = true }) (λ p. record p { ended = true }) s there refl refl
       (λ reader up. ended_place reader (history buses w) conn plain) in
       let b =
-      sound_at buses order Anything (anything (shown_rows (opening buses 0))) n (λ conn. record conn { ended = true }) w
+      sound_at buses order Anything _ n (λ conn. record conn { ended = true }) w
       (λ other k f. record { fits = f.fits; before = f.before; plain = f.plain; within = f.within }) a in
       subst (λ m.
       StandsBy buses read keys (freed_of session (changed_at key (λ p. record p { ended = true }) held))
       (did (Ended session m) ends))
       s.moment
-      (stands_did buses read keys (changed_at key (λ p. record p { ended = true }) held) ends (Ended session held.moment)
+      (stands_did buses read keys (changed_at key (λ p. record p { ended = true }) held) ends _
       (fine_of ends b) e)
 
   stands_obeyed : (held : Held) (w : World) (conn : Connection) (session : ℕ) (command : Order) → IsFine buses order w
@@ -278,7 +235,7 @@ module _ (buses : List Bus) (order : IsRisingBy key_at (shown_rows (opening buse
           else course_replied n result.reply (did (Obeyed session m command) w)
 
       sound_one : IsFine buses order (did (Obeyed session held.moment command) w)
-      sound_one = sound_did buses order Anything (anything (shown_rows (opening buses 0))) (Obeyed session held.moment command) w a
+      sound_one = sound_did buses order Anything _ _ w a
 
       one : StandsBy buses read keys (carried result.updates held) (did (Obeyed session held.moment command) w)
       one = stands_did buses read keys held w (Obeyed session held.moment command) (fine_of w a) s
@@ -298,18 +255,7 @@ module _ (buses : List Bus) (order : IsRisingBy key_at (shown_rows (opening buse
 
   -- a growth that was refused is nothing to the course
   stands_denied : (held : Held) (w : World) → StandsBy buses read keys held w → StandsBy buses read keys (one_denied held) w
-  stands_denied held w s = record {
-    layout = s.layout;
-    rows = s.rows;
-    moment = s.moment;
-    last_id = s.last_id;
-    count = s.count;
-    long = s.long;
-    opens = s.opens;
-    closed = s.closed;
-    apart = s.apart;
-    owned = s.owned;
-  }
+  stands_denied held w s = stands_as buses read keys held w _ _ _ _ _ _ _ s.moment s.last_id s
 
   stands_commanded : (granted : Bool) (held : Held) (w : World) (conn : Connection) (session : ℕ) (command : Result Command Code)
       → IsFine buses order w → StandsBy buses read keys held w → numbered n w.connections ≡ Some conn → conn.info ≡ false
@@ -327,7 +273,7 @@ module _ (buses : List Bus) (order : IsRisingBy key_at (shown_rows (opening buse
           (if t then obeyed key session (effect_of held.rows session held.moment command) held else denied_line key held)
           (course_commanded buses n session (ordered buses granted (Ok command)) w)
       by true h = h
-      by false h = stands_denied (replied key (Refused C500) held) _ h
+      by false h = stands_denied _ _ h
 
   stands_greeted_under : (granted : Bool) (held : Held) (w : World) (conn : Connection) (greeting : Greeting) → IsFine buses order w
       → StandsBy buses read keys held w → numbered n w.connections ≡ Some conn → conn.shut ≡ None → conn.info ≡ false
@@ -340,13 +286,10 @@ module _ (buses : List Bus) (order : IsRisingBy key_at (shown_rows (opening buse
   stands_greeted_under false held w conn (Refuses code) a s there shut plain =
       stands_greeted held w conn (Refuses code) a s there shut plain
   stands_greeted_under false held w conn Goes a s there shut plain =
-      elim (nat_lt held.last_id 4294967295)
-      as (λ t.
-      StandsBy buses read keys (if t then denied_line key held else replied key (Refused C500) held)
-      (course_replied n (Refused C500) w)) [
-        | true ↦ stands_denied (replied key (Refused C500) held) _ refuses
-        | false ↦ refuses
-      ]
+      cond_both _ _ _ (λ it. StandsBy buses read keys it
+      (course_replied n (Refused C500) w))
+      (λ _. stands_denied (replied key (Refused C500) held) _ refuses)
+      (λ _. refuses)
     where
       refuses : StandsBy buses read keys (replied key (Refused C500) held) (course_replied n (Refused C500) w)
       refuses = stands_plainly held w conn (Refused C500) a s there plain
@@ -377,12 +320,6 @@ module _ (buses : List Bus) (order : IsRisingBy key_at (shown_rows (opening buse
       (course_answered buses n w (record { mark = mark; granted = granted }))
   stands_answered held w granted mark p a s here =
       let h = asks_of buses read keys held w n key mark p s named here in
-      subst (λ (o : Option Connection).
-      StandsBy buses read keys (answered granted key (asked_of held.buses p mark) held)
-      (answered_as buses n o (record { mark = mark; granted = granted }) w))
-      (sym h.opened)
-      (subst (λ (asked : Asked).
-      StandsBy buses read keys (answered granted key asked held)
-      (answered_as buses n (Some h.conn) (record { mark = mark; granted = granted }) w))
-      (sym h.asks)
+      rw h.opened
+      (rw h.asks
       (stands_asked held w h.conn granted mark h.conn.info h.conn.ended (h.conn.session == 0) a s h.there h.shut refl))

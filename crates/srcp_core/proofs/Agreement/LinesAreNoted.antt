@@ -1,37 +1,21 @@
 -- What the recorder notes of the answer to a line is what the course gains.
-use Rattle.std.proofs.Common.{◌≡◌, ℕ, zero, suc, ◌+◌, ◌≤◌, Bool, true, false, List, [], ◌∷◌, ◌++◌, map, take, length, refl, ap, sym, ◌∙◌}
-use Rattle.std.proofs.Common.{subst}
-use Rattle.std.proofs.lemmas.List.{take-append-le, map-append, length-map}
-use Rattle.std.specs.Option.{option_map}
-use Rattle.std.specs.Prelude.{Option, Some, None, not, ◌||◌, ◌&&◌, ◌==◌, nat_lt, slice_get, Result, Ok, Err, if◌then◌else◌}
-use Rattle.srcp_info.specs.Line.{reply_line}
-use Rattle.srcp_info.specs.declared.change.Code.{Code}
-use Rattle.srcp_info.specs.declared.change.Code.TheVariants.{C500}
-use Rattle.srcp_info.specs.declared.change.Reply.{Reply}
-use Rattle.srcp_info.specs.declared.change.Reply.TheVariants.{Protocol, Mode as ModeReply, Go, Refused}
-use Rattle.srcp_grammar.specs.declared.layout.Bus.{Bus}
-use Rattle.srcp_rules.specs.Effect.{Effect}
-use Rattle.srcp_rules.specs.State.{State, opening, shown_rows}
-use Rattle.srcp_info.proofs.ClientLaws.{key_at}
-use Rattle.srcp_info.specs.Client.{IsRisingBy}
-use Rattle.srcp_text.specs.Marks.{Mark}
-use Rattle.srcp_grammar.specs.declared.command.Command.{Command}
-use Rattle.srcp_rules.specs.Effect.{effect as effect_of, refused}
-use Rattle.srcp_core.specs.Under.{Step, Obeyed, Began, Ended, Order, greeting_under, recorded_step, wants_memory}
+use Rattle.srcp_core.proofs.Names.{◌≡◌, ℕ, zero, suc, ◌+◌, ◌≤◌, Bool, true, false, List, [], ◌∷◌, ◌++◌, map, length, refl, ap, sym, ◌∙◌}
+use Rattle.srcp_core.proofs.Names.{take-append-le, map-append, length-map, option_map, Option, Some, None, not, ◌||◌, ◌&&◌, ◌==◌, nat_lt}
+use Rattle.srcp_core.proofs.Names.{Result, Ok, Err, if◌then◌else◌, reply_line, Code, C500, Reply, Protocol, Go, Refused, Bus, Effect, State}
+use Rattle.srcp_core.proofs.Names.{opening, shown_rows, key_at, IsRisingBy, Mark, Command, refused, Step, Obeyed, Began, Ended, Order}
+use Rattle.srcp_core.proofs.Names.{greeting_under, recorded_step, wants_memory, Connection, given, sent, World, numbered, with_numbered}
+use Rattle.srcp_core.proofs.Names.{at_connection, did, is_info, state, history, command_of, ordered, replied, entered, goes, greeted, ended}
+use Rattle.srcp_core.proofs.Names.{obeyed, commanded, answered, Greeting, Speaks, Chooses, Goes, Refuses, Place, Held, at, asked_of}
+use Rattle.srcp_core.proofs.Names.{steps_answered, Recording, key_of, record_of, changed_record, noted, stepped, StandsBy, Dropped, Greets}
+use Rattle.srcp_core.proofs.Names.{Commands, ConnRecord}
+use Rattle.srcp_info.specs.declared.change.Reply.TheVariants.{Mode as ModeReply}
+use Rattle.srcp_rules.specs.Effect.{effect as effect_of}
 use Rattle.srcp_core.specs.declared.record.Step.{Step as PlainStep}
 use Rattle.srcp_core.specs.declared.record.Step.TheVariants as recorded
-use Rattle.srcp_core.specs.Connection.{Connection, given, sent}
-use Rattle.srcp_core.specs.Course.{World, numbered, with_numbered, at_connection, did, is_info, state, history, command_of, ordered}
-use Rattle.srcp_core.specs.Course.{replied, entered, goes, greeted, ended, obeyed, commanded, answered_as, answered}
-use Rattle.srcp_core.specs.Handshake.{Greeting, Speaks, Chooses, Goes, Refuses, greets as greets_of}
-use Rattle.srcp_core.specs.Held.{Place, Held, at}
-use Rattle.srcp_core.specs.Machine.{asked_of, steps_gone, steps_greeted, steps_commanded, steps_answered}
-use Rattle.srcp_core.specs.Recording.{Recording, key_of, record_of, changed_record, changed_in, noted, stepped}
+use Rattle.srcp_core.specs.Handshake.{greets as greets_of}
+use Rattle.srcp_core.specs.Machine.{steps_gone, steps_greeted, steps_commanded}
+use Rattle.srcp_core.specs.Recording.{changed_in}
 pub use Rattle.srcp_core.specs.Run.{Tells}
-use Rattle.srcp_core.specs.Stands.{StandsBy}
-use Rattle.srcp_core.specs.declared.line.Asked.{Asked}
-use Rattle.srcp_core.specs.declared.line.Asked.TheVariants.{Dropped, Greets, Commands}
-use Rattle.srcp_core.specs.declared.record.ConnRecord.{ConnRecord}
 use Rattle.srcp_core.proofs.Agreement.LinesAgree.{IsFine, asks_of}
 use Rattle.srcp_core.proofs.Agreement.PlacesChange.{given_reply}
 use Rattle.srcp_core.proofs.CourseLaws.SessionsOfACourse.{at_number}
@@ -47,9 +31,9 @@ told_with zero f g xs conn e h = cc
 told_with (suc n) f g [] conn e h = cc
 told_with (suc zero) f g (x ∷ xs) conn e h =
     let same : conn ≡ x = cc in
-    ap (λ t. t ∷ map record_of xs) (subst (λ (c : Connection). record_of (f c) ≡ g (record_of c)) same h)
+    ap (λ t. t ∷ map record_of xs) (rw (← same) h)
 told_with (suc (suc n)) f g (x ∷ xs) conn e h =
-    ap (λ ts. record_of x ∷ ts) (told_with (suc n) f g xs conn e h) ∙ front (slice_get (map record_of xs) n)
+    cc (told_with (suc n) f g xs conn e h, front _)
   where
     front : (o : Option ConnRecord) → record_of x ∷ changed_in n g (map record_of xs) o ≡ changed_in (suc n) g (map record_of (x ∷ xs)) o
     front None = refl
@@ -60,28 +44,28 @@ pub told_same : (n : ℕ) (f : Connection → Connection) (xs : List Connection)
     → map record_of (with_numbered n f xs) ≡ map record_of xs
 told_same n f [] h = refl
 told_same zero f (x ∷ xs) h = refl
-told_same (suc zero) f (x ∷ xs) h = ap (λ t. t ∷ map record_of xs) (h x refl)
-told_same (suc (suc n)) f (x ∷ xs) h = ap (λ ts. record_of x ∷ ts) (told_same (suc n) f xs h)
+told_same (suc zero) f (x ∷ xs) h = cc (h x refl)
+told_same (suc (suc n)) f (x ∷ xs) h = cc (told_same (suc n) f xs h)
 
 -- a reply does not change what was sent
 pub sent_reply : (conn : Connection) (line : List ℕ) → conn.items ≡ [] → conn.taken ≤ length (given conn)
     → sent (record conn { out = conn.out ++ line }) ≡ sent conn
-sent_reply conn line none within = ap (take conn.taken) (given_reply conn line none) ∙ take-append-le conn.taken (given conn) line within
+sent_reply conn line none within = cc (given_reply conn line none, take-append-le _ _ line within)
 
 told_reply : (conn : Connection) (line : List ℕ) → conn.items ≡ [] → conn.taken ≤ length (given conn)
     → record_of (record conn { out = conn.out ++ line }) ≡ record_of conn
-told_reply conn line none within = ap (λ bytes. record (record_of conn) { sent = bytes }) (sent_reply conn line none within)
+told_reply conn line none within = cc (sent_reply conn line none within)
 
 -- ---- what a run has told of a course
 
 pub tells_same : (r : Recording) (w : World) (n : ℕ) (f : Connection → Connection)
     → ((conn : Connection) → numbered n w.connections ≡ Some conn → record_of (f conn) ≡ record_of conn) → Tells r w
     → Tells r (at_connection n f w)
-tells_same r w n f h t = record { steps = t.steps; refused = t.refused; connections = t.connections ∙ sym (told_same n f w.connections h) }
+tells_same r w n f h t = record { steps = t.steps; refused = t.refused; connections = t.connections ∙ sym (told_same n f _ h) }
 
 pub tells_did : (r : Recording) (w : World) (step : Step) → Tells r w → Tells (stepped (recorded_step step ∷ []) r) (did step w)
 tells_did r w step t = record {
-  steps = ap (λ steps. steps ++ recorded_step step ∷ []) t.steps ∙ sym (map-append recorded_step w.steps (step ∷ []));
+  steps = cc (t.steps, map-append _ w.steps _);
   refused = t.refused;
   connections = t.connections;
 }
@@ -92,7 +76,7 @@ pub tells_changed : (r : Recording) (w : World) (n : ℕ) (conn : Connection) (f
 tells_changed r w n conn f g e h t = record {
   steps = t.steps;
   refused = t.refused;
-  connections = ap (changed_record n g) t.connections ∙ sym (told_with n f g w.connections conn e h);
+  connections = cc (t.connections, told_with n f g _ conn e h);
 }
 
 -- ---- the answer to a line
@@ -113,17 +97,17 @@ module _ (buses : List Bus) (n : ℕ) (r : Recording) where
       → (other.items ≡ []) × (other.taken ≤ length (given other))
   plain_at w conn p other e =
       let there = p.0 in
-      let same : conn ≡ other = let both : Some conn ≡ Some other = sym there ∙ e in cc in
-      subst (λ (c : Connection). (c.items ≡ []) × (c.taken ≤ length (given c))) same p.1
+      let same : conn ≡ other = let both : Some conn ≡ Some other = cc in cc in
+      rw (← same) p.1
 
   tells_begun : (w : World) (conn : Connection) (id moment : ℕ) → IsPlain w conn → Tells r w
       → Tells (noted n (recorded.Began id moment conn.mode ∷ []) r)
-          (replied n (Go id) (entered buses n id (did (Began id moment conn.mode) w)))
+      (replied n (Go id) (entered buses n id (did (Began id moment conn.mode) w)))
   tells_begun w conn id moment p t =
-      let step = Began id moment conn.mode in
+      let step = Began id moment _ in
       let d = tells_did r w step t in
-      let f : Connection → Connection = λ c. record c { session = id; info = is_info c.mode; go_step = length (w.steps ++ step ∷ []) } in
-      let there_after = numbered_with n f w.connections ∙ ap (option_map f) p.0 in
+      let f : Connection → Connection = λ c. record c { session = id; info = is_info c.mode; go_step = length _ } in
+      let there_after = numbered_with n f _ ∙ ap (option_map f) p.0 in
       tells_replied (noted n (recorded_step step ∷ []) r) (entered buses n id (did step w)) (Go id)
       (plain_at (entered buses n id (did step w)) (f conn) (there_after, p.1))
       (tells_changed (stepped (recorded_step step ∷ []) r) (did step w) n conn f
@@ -135,22 +119,16 @@ module _ (buses : List Bus) (n : ℕ) (r : Recording) where
   tells_goes : (w : World) (conn : Connection) (held : Held) → held.moment ≡ w.moment → held.last_id ≡ w.last_id → IsPlain w conn
       → Tells r w → Tells (noted n (steps_gone true conn.mode held) r) (goes buses n conn.mode w)
   tells_goes w conn held m l p t =
-      subst (λ k.
-      Tells (noted n (if nat_lt k 4294967295 && true then recorded.Began (k + 1) held.moment conn.mode ∷ [] else []) r)
-      (goes buses n conn.mode w))
-      (sym l)
-      (subst (λ k.
-      Tells (noted n (if nat_lt w.last_id 4294967295 && true then recorded.Began (w.last_id + 1) k conn.mode ∷ [] else []) r)
-      (goes buses n conn.mode w))
-      (sym m)
-      (elim (nat_lt w.last_id 4294967295)
+      rw l
+      (rw m
+      (elim (nat_lt _ _)
       as (λ b. Tells (noted n (if b && true then recorded.Began (w.last_id + 1) w.moment conn.mode ∷ [] else []) r)
       (if b
       then replied n (Go (w.last_id + 1))
       (entered buses n (w.last_id + 1) (did (Began (w.last_id + 1) w.moment conn.mode) (record w { last_id = w.last_id + 1 })))
       else replied n (Refused C500) w)) [
         | true ↦
-            tells_begun (record w { last_id = w.last_id + 1 }) conn (w.last_id + 1) w.moment p
+            tells_begun _ conn _ w.moment p
             (record { steps = t.steps; refused = t.refused; connections = t.connections })
         | false ↦ tells_replied r w (Refused C500) (plain_at w conn p) t
       ]))
@@ -174,7 +152,7 @@ module _ (buses : List Bus) (n : ℕ) (r : Recording) where
   tells_greeted_under false w conn held (Chooses chosen) m l p t = tells_greeted w conn held (Chooses chosen) m l p t
   tells_greeted_under false w conn held (Refuses code) m l p t = tells_greeted w conn held (Refuses code) m l p t
   tells_greeted_under false w conn held Goes m l p t =
-      elim (nat_lt held.last_id 4294967295)
+      elim (nat_lt _ _)
       as (λ b.
       Tells (noted n (if b && false then recorded.Began (held.last_id + 1) held.moment conn.mode ∷ [] else []) r)
       (replied n (Refused C500) w)) [
@@ -187,9 +165,9 @@ module _ (buses : List Bus) (n : ℕ) (r : Recording) where
       → Tells (noted n (steps_commanded granted session command held) r) (commanded buses n session (ordered buses granted command) w)
   tells_commanded granted w conn held session (Err code) m s p t = tells_replied r w (Refused code) (plain_at w conn p) t
   tells_commanded granted w conn held session (Ok command) m s p t =
-      subst (λ (k : State). Tells (noted n (steps_by k held.moment) r) (commanded buses n session (Ok ordering) w)) (sym s)
-      (subst (λ k. Tells (noted n (steps_by (state buses w) k) r) (commanded buses n session (Ok ordering) w)) (sym m)
-      (split (granted || not (wants_memory (state buses w) session w.moment command))))
+      rw s
+      (rw m
+      (split _))
     where
       ordering : Order
       ordering = record { command = command; granted = granted }
@@ -255,14 +233,8 @@ pub tells_answered : (buses : List Bus) (order : IsRisingBy key_at (shown_rows (
     (answered buses n w (record { mark = mark; granted = granted }))
 tells_answered buses order read keys n key r held w granted mark p a s named here t =
     let h = asks_of buses read keys held w n key mark p s named here in
-    let f : Fine buses (history buses w) h.conn = at_number (Fine buses (history buses w)) n w.connections h.conn a h.there in
-    subst (λ (o : Option Connection).
-    Tells (noted n (steps_answered granted (asked_of held.buses p mark) held) r)
-    (answered_as buses n o (record { mark = mark; granted = granted }) w))
-    (sym h.opened)
-    (subst (λ (asked : Asked).
-    Tells (noted n (steps_answered granted asked held) r)
-    (answered_as buses n (Some h.conn) (record { mark = mark; granted = granted }) w))
-    (sym h.asks)
+    let f : Fine buses (history buses w) h.conn = at_number _ n _ h.conn a h.there in
+    rw h.opened
+    (rw h.asks
     (tells_asked buses n r w h.conn held granted mark h.conn.info h.conn.ended (h.conn.session == 0) s.moment s.last_id s.rows
     (λ plain. (h.there, ((f.plain plain).0, f.within))) t))

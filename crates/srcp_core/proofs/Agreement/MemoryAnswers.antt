@@ -1,35 +1,24 @@
 -- What memory answers: each line and each order has its answer, and what a denied order does is nothing.
-use Rattle.std.proofs.Common.{◌≡◌, ℕ, suc, ◌+◌, min, Bool, true, false, List, [], ◌∷◌, ◌++◌, length, refl, ap, sym, ◌∙◌, arith}
-use Rattle.std.proofs.lemmas.List.Sums.{fold-append}
-use Rattle.std.specs.Prelude.{not, ◌&&◌, ◌||◌, if◌then◌else◌, IsTrue, Option, Some, None, Result, Ok, Err, IfOk}
-use Rattle.std.specs.List.{AllByRecursion, fold}
-use Rattle.srcp_info.specs.declared.change.Code.{Code}
-use Rattle.srcp_info.specs.declared.change.Code.TheVariants.{C500}
-use Rattle.srcp_grammar.specs.declared.command.Command.{Command}
-use Rattle.srcp_rules.specs.Effect.{Effect, effect as effect_of, adds_rows, refused}
-use Rattle.srcp_rules.specs.State.{State}
-use Rattle.srcp_core.specs.Connection.{Connection}
-use Rattle.srcp_core.specs.Course.{World, start, at_connection, open_connection, counted, ordered, new_marks, fed_to, answered, bytes_fault}
-use Rattle.srcp_core.specs.Course.{or_refused, happens, course, replied, goes, greeted}
-use Rattle.srcp_core.specs.Laws.{HasMoment, AllMoments}
-use Rattle.srcp_core.specs.Run.{HasPlainMoment, PlainMoments}
+use Rattle.srcp_core.proofs.Names.{cond_both, ◌≡◌, ℕ, ◌+◌, min, Bool, true, false, List, [], ◌∷◌, ◌++◌, length, refl, ap, sym, ◌∙◌, arith}
+use Rattle.srcp_core.proofs.Names.{fold-append, not, ◌&&◌, ◌||◌, if◌then◌else◌, IsTrue, Option, Some, None, Result, Ok, Err, IfOk}
+use Rattle.srcp_core.proofs.Names.{AllByRecursion, fold, Code, C500, Command, Effect, refused, State, Connection, World, start}
+use Rattle.srcp_core.proofs.Names.{at_connection, open_connection, counted, ordered, fed_to, or_refused, happens, course, replied, goes}
+use Rattle.srcp_core.proofs.Names.{greeted, HasMoment, AllMoments, HasPlainMoment, PlainMoments, CoreFault, Mark, Order, Heard, greets}
+use Rattle.srcp_core.proofs.Names.{lines_under, under, all_under, giving, denied_by, Bus, Protocol, Refused, Mode, Greeting, Speaks}
+use Rattle.srcp_core.proofs.Names.{Chooses, Goes, Refuses}
+use Rattle.srcp_rules.specs.Effect.{effect as effect_of, adds_rows}
 use Rattle.srcp_core.specs.declared.event.Event.TheVariants as plain
-use Rattle.srcp_core.specs.declared.record.CoreFault.{CoreFault}
-use Rattle.srcp_text.specs.Marks.{Mark}
-use Rattle.srcp_core.specs.Under.{Order, Heard, greets, effect, wants_memory, is_accepted, Open, lines_under, under, all_under, first_of}
-use Rattle.srcp_core.specs.Under.{giving, denied_by}
+use Rattle.srcp_core.specs.Under.{effect, is_accepted, first_of}
 use Rattle.srcp_core.specs.declared.event.Event.{Event as PlainEvent}
-use Rattle.srcp_grammar.specs.declared.layout.Bus.{Bus}
-use Rattle.srcp_info.specs.declared.change.Reply.TheVariants.{Protocol, Mode as ModeReply, Refused}
-use Rattle.srcp_info.specs.declared.value.Mode.{Mode}
-use Rattle.srcp_core.specs.Handshake.{Greeting, Speaks, Chooses, Goes, Refuses}
+use Rattle.srcp_info.specs.declared.change.Reply.TheVariants.{Mode as ModeReply}
 
 -- what holds of the command's effect and of a refusal holds of what the order does
 pub effect_law : (P : Effect → Type 0) (state : State) (session moment : ℕ) (order : Order)
     → P (effect_of state session moment order.command) → P (refused C500) → P (effect state session moment order)
 effect_law P state session moment order e r =
-    elim (order.granted || not (wants_memory state session moment order.command))
-    as (λ t. P (if t then effect_of state session moment order.command else refused C500)) [ true ↦ e | false ↦ r ]
+    cond_both _ _ _ P
+    (λ _. e)
+    (λ _. r)
 
 -- what holds of the command holds of the order
 -- a command that another rule refuses has that refusal
@@ -60,7 +49,7 @@ lines_push [] (m ∷ marks) granted mark e = absurd (omega (arith, e))
 lines_push (g ∷ grants) [] granted mark e = absurd (omega (arith, e))
 lines_push (g ∷ grants) (m ∷ marks) granted mark e =
     let less : length grants ≡ length marks = omega (arith, e) in
-    ap (λ lines. record { mark = m; granted = g } ∷ lines) (lines_push grants marks granted mark less)
+    cc (lines_push grants marks granted mark less)
 
 -- one event more with its answers
 pub under_push : (grants : List (List Bool)) (events : List PlainEvent) (more : List Bool) (event : PlainEvent)
@@ -70,12 +59,12 @@ under_push [] [] more event e = refl
 under_push [] (x ∷ events) more event e = absurd (omega (arith, e))
 under_push (g ∷ grants) [] more event e = absurd (omega (arith, e))
 under_push (g ∷ grants) (x ∷ events) more event e =
-    let less : length grants ≡ length events = omega (arith, e) in ap (λ es. under g x ∷ es) (under_push grants events more event less)
+    let less : length grants ≡ length events = omega (arith, e) in cc (under_push grants events more event less)
 
 pub under_length : (grants : List (List Bool)) (events : List PlainEvent) → length (all_under grants events) ≡ length events
 under_length grants [] = refl
-under_length [] (x ∷ events) = ap (λ k. suc k) (under_length [] events)
-under_length (g ∷ grants) (x ∷ events) = ap (λ k. suc k) (under_length grants events)
+under_length [] (x ∷ events) = cc (under_length [] events)
+under_length (g ∷ grants) (x ∷ events) = cc (under_length grants events)
 
 -- ---- the count of what memory refused
 
@@ -88,20 +77,20 @@ pub counted_more : (first now later : ℕ) (grants : List Bool) (granted : Bool)
     → later ≡ denied_by now (granted ∷ []) → later ≡ denied_by first (grants ++ granted ∷ [])
 counted_more first now later grants granted e f =
     f ∙ ap (λ k. denied_by k (granted ∷ [])) e
-    ∙ sym (fold-append (λ count granted. if granted then count else min (count + 1) 18446744073709551615) first grants (granted ∷ []))
+    ∙ sym (fold-append (λ count granted. if granted then count else min _ _) first grants _)
 
 -- where the count is 0, it was 0 before and each answer gave
 pub none_denied : (grants : List Bool) (k : ℕ) → denied_by k grants ≡ 0 → (k ≡ 0) × AllByRecursion IsTrue grants
 none_denied [] k e = (e, tt)
 none_denied (true ∷ grants) k e = let n = none_denied grants k e in (n.0, (refl, n.1))
-none_denied (false ∷ grants) k e = absurd (counts k (none_denied grants (min (k + 1) 18446744073709551615) e).0)
+none_denied (false ∷ grants) k e = absurd (counts k (none_denied grants _ e).0)
 
 -- and so in each event
 pub none_of_all : (grants : List (List Bool)) (k : ℕ) → fold denied_by k grants ≡ 0
     → (k ≡ 0) × AllByRecursion (AllByRecursion IsTrue) grants
 none_of_all [] k e = (e, tt)
 none_of_all (g ∷ grants) k e =
-    let later = none_of_all grants (denied_by k g) e in
+    let later = none_of_all grants _ e in
     let now = none_denied g k later.0 in
     (now.0, (now.1, later.1))
 
@@ -128,26 +117,24 @@ pub lines_all : (grants : List Bool) (marks : List Mark) → AllByRecursion IsTr
 lines_all [] marks a = refl
 lines_all (g ∷ grants) [] a = refl
 lines_all (g ∷ grants) (mark ∷ marks) a =
-    ap (λ t. record { mark = mark; granted = t } ∷ lines_under grants marks) a.0
-    ∙ ap (λ lines. record { mark = mark; granted = true } ∷ lines) (lines_all grants marks a.1)
+    cc (a.0, lines_all grants marks a.1)
 
 fed_all : (buses : List Bus) (n : ℕ) (bytes : List ℕ) (grants : List Bool) (o : Option Connection) (w : World)
     → AllByRecursion IsTrue grants → fed_to buses n (record { bytes = bytes; grants = grants }) o w ≡ fed_to buses n (giving bytes) o w
 fed_all buses n bytes grants None w a = refl
 fed_all buses n bytes grants (Some conn) w a =
-    ap (λ lines. fold (answered buses n) (at_connection n (λ c. record c { fed = c.fed ++ bytes }) w) lines)
-    (lines_all grants (new_marks buses conn.fed bytes) a)
+    cc (lines_all grants _ a)
 
 -- an event happens as where memory gives all
 pub happens_all : (buses : List Bus) (w : World) (grants : List Bool) (event : PlainEvent) → AllByRecursion IsTrue grants
     → happens buses w (under grants event) ≡ happens buses w (under [] event)
-happens_all buses w grants plain.Open a = ap (λ t. happens buses w (Open t)) (all_first grants a)
-happens_all buses w grants (plain.Bytes n piece) a = by (bytes_fault buses (counted w) (open_connection (counted w) n) piece)
+happens_all buses w grants plain.Open a = cc (all_first grants a)
+happens_all buses w grants (plain.Bytes n piece) a = by _
   where
     by : (o : Option CoreFault)
         → or_refused buses o (under grants (plain.Bytes n piece)) (counted w)
         ≡ or_refused buses o (under [] (plain.Bytes n piece)) (counted w)
-    by None = fed_all buses n piece grants (open_connection (counted w) n) (counted w) a
+    by None = fed_all buses n piece grants (open_connection (counted w) n) _ a
     by (Some cause) = refl
 happens_all buses w grants (plain.Room n bytes) a = refl
 happens_all buses w grants (plain.At moment) a = refl
@@ -160,8 +147,7 @@ course_all : (buses : List Bus) (grants : List (List Bool)) (events : List Plain
 course_all buses grants [] w a = refl
 course_all buses [] (event ∷ events) w a = refl
 course_all buses (g ∷ grants) (event ∷ events) w a =
-    ap (λ v. fold (happens buses) v (all_under grants events)) (happens_all buses w g event a.0)
-    ∙ course_all buses grants events (happens buses w (under [] event)) a.1
+    cc (happens_all buses w g event a.0, course_all buses grants events _ a.1)
 
 pub gives_as_if : (buses : List Bus) (grants : List (List Bool)) (events : List PlainEvent) → AllByRecursion (AllByRecursion IsTrue) grants
     → course buses (all_under grants events) ≡ course buses (all_under [] events)
@@ -180,4 +166,4 @@ greeting_law P buses n mode (Refuses code) w speaks chooses begins refuses = ref
 pub line_law : (P : World → Type 0) (buses : List Bus) (n : ℕ) (mode : Mode) (line : Heard) (w : World) → P (replied n Protocol w)
     → ((chosen : Mode) → P (replied n ModeReply (at_connection n (λ conn. record conn { mode = chosen }) w)))
     → P (goes buses n mode w) → ((code : Code) → P (replied n (Refused code) w)) → P (greeted buses n mode (greets line) w)
-line_law P buses n mode line w speaks chooses begins refuses = greeting_law P buses n mode (greets line) w speaks chooses begins refuses
+line_law P buses n mode line w speaks chooses begins refuses = greeting_law P buses n mode _ w speaks chooses begins refuses

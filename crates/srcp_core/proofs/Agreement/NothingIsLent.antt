@@ -1,24 +1,13 @@
 -- Where nothing is lent of a connection.
-use Rattle.std.proofs.Common.{◌≡◌, ℕ, ◌+◌, ◌-◌, ◌<◌, Bool, true, false, List, [], ◌∷◌, ◌++◌, length, map, take, refl, ap, sym, ◌∙◌, arith}
-use Rattle.std.proofs.Common.{append-nil, length-append, length-drop}
-use Rattle.std.proofs.lemmas.Bool.{le-leb, lt-leb}
-use Rattle.std.proofs.lemmas.List.Sums.{fold-append}
-use Rattle.std.specs.List.{flat_map}
-use Rattle.std.specs.Option.{option_map_or}
-use Rattle.std.specs.Prelude.{nat_le, not, ◌&&◌, ◌||◌, if◌then◌else◌, Some, None, option_map}
-use Rattle.srcp_feed.specs.Cursor.{beyond}
+use Rattle.srcp_core.proofs.Names.{◌≡◌, ℕ, ◌+◌, ◌-◌, ◌<◌, Bool, true, false, List, [], ◌∷◌, ◌++◌, length, take, refl, ap, sym, ◌∙◌, arith}
+use Rattle.srcp_core.proofs.Names.{append-nil, length-append, length-drop, le-leb, lt-leb, fold-append, flat_map, option_map_or, nat_le}
+use Rattle.srcp_core.proofs.Names.{not, ◌&&◌, ◌||◌, if◌then◌else◌, Some, None, Bus, IsLayout, Event, Room, OfConnection, lent, Connection}
+use Rattle.srcp_core.proofs.Names.{fitting, given, given_room, is_nil, is_open, is_settled, line_of, overran, owed, text, took, unsent}
+use Rattle.srcp_core.proofs.Names.{World, accepted, counted, course, history, if_open, numbered, open_connection, rows, start, Held}
+use Rattle.srcp_core.proofs.Names.{let_out, unsent_at}
+use Rattle.std.specs.Prelude.{option_map}
 use Rattle.srcp_feed.specs.declared.Next.{Next}
-use Rattle.srcp_feed.specs.declared.Next.TheVariants.{Told, Listed}
-use Rattle.srcp_grammar.specs.declared.layout.Bus.{Bus}
-use Rattle.srcp_grammar.specs.Layout.{IsLayout}
-use Rattle.srcp_core.specs.Under.{Event, Room}
-use Rattle.srcp_core.specs.Agrees.{OfConnection, lent, lent_of, lends_none, lends_none_of}
-use Rattle.srcp_core.specs.Connection.{Connection, cursor_at, fitting, given, given_room, is_nil, is_open, is_settled, line_of, overran}
-use Rattle.srcp_core.specs.Connection.{owed, text, took, unsent, untold}
-use Rattle.srcp_core.specs.Course.{World, absent_fault, accepted, counted, course, happens, history, if_open, numbered, open_connection}
-use Rattle.srcp_core.specs.Course.{or_refused, rows, start}
-use Rattle.srcp_core.specs.Held.{Held}
-use Rattle.srcp_core.specs.Machine.{let_out, unsent_at}
+use Rattle.srcp_core.specs.Agrees.{lent_of, lends_none, lends_none_of}
 use Rattle.srcp_core.proofs.Agreement.AnswersAgree.{lends_agrees}
 use Rattle.srcp_core.proofs.CourseLaws.RoomAfterRoom.{left_after}
 use Rattle.srcp_core.proofs.CourseLaws.RoomsAddUp.{rooms_add_up, takes_within}
@@ -34,24 +23,24 @@ some_bytes (x ∷ xs) ys h = refl
 -- the next line is empty only where there is none
 next_nil : (nexts : List Next) → AreFull nexts → is_nil (flat_map line_of (take 1 nexts)) ≡ is_nil nexts
 next_nil [] full = refl
-next_nil (what ∷ nexts) full = some_bytes (line_of what) [] full.0
+next_nil (what ∷ nexts) full = some_bytes _ [] full.0
 
 -- where no item was given, replies are left exactly where bytes are
 replies_left : (conn : Connection) (byte : ℕ) (bytes : List ℕ) → conn.items ≡ [] → unsent conn ≡ byte ∷ bytes
     → nat_le (length conn.out) conn.taken ≡ false
 replies_left conn byte bytes items u =
-    let all : given conn ≡ conn.out = ap (λ is. conn.out ++ text is) items ∙ append-nil conn.out in
-    let size : length (given conn) ≡ length conn.out = ap (λ (xs : List ℕ). length xs) all in
-    let left : length (unsent conn) ≡ length (given conn) - conn.taken = length-drop conn.taken (given conn) in
-    let some : length (unsent conn) ≡ length (byte ∷ bytes) = ap (λ (xs : List ℕ). length xs) u in
-    lt-leb (length conn.out) conn.taken (omega (arith, size, left, some))
+    let all : given conn ≡ conn.out = cc (append-nil conn.out) in
+    let size : length (given conn) ≡ length conn.out = cc in
+    let left : length (unsent conn) ≡ length (given conn) - conn.taken = length-drop _ _ in
+    let some : length (unsent conn) ≡ length (byte ∷ bytes) = cc in
+    lt-leb _ _ (omega (arith, size, left, some))
 
 replies_taken : (conn : Connection) → unsent conn ≡ [] → nat_le (length conn.out) conn.taken ≡ true
 replies_taken conn u =
-    let left : length (unsent conn) ≡ length (given conn) - conn.taken = length-drop conn.taken (given conn) in
-    let none : length (unsent conn) ≡ 0 = ap (λ (xs : List ℕ). length xs) u in
-    let size : length (given conn) ≡ length conn.out + length (text conn.items) = length-append conn.out (text conn.items) in
-    le-leb (length conn.out) conn.taken (omega (arith, left, none, size))
+    let left : length (unsent conn) ≡ length (given conn) - conn.taken = length-drop _ _ in
+    let none : length (unsent conn) ≡ 0 = cc in
+    let size : length (given conn) ≡ length conn.out + length (text conn.items) = length-append conn.out _ in
+    le-leb _ _ (omega (arith, left, none, size))
 
 module _ (buses : List Bus) (w : World) (conn : Connection) (up : is_open conn ≡ true) where
   abbrev nexts : List Next
@@ -71,8 +60,7 @@ module _ (buses : List Bus) (w : World) (conn : Connection) (up : is_open conn �
 
   some_left : (conn.info ≡ false → conn.items ≡ []) → (byte : ℕ) (bytes : List ℕ) → unsent conn ≡ byte ∷ bytes → Rests
   some_left plain byte bytes u =
-      ap (λ left. is_nil (left ++ flat_map line_of (fitting 0 left nexts))) u
-      ∙ by conn.info refl
+      cc (by _ refl)
     where
       by : (info : Bool) → conn.info ≡ info → false ≡ (nat_le (length conn.out) conn.taken && (not conn.info || settled))
       by true i =
@@ -82,31 +70,20 @@ module _ (buses : List Bus) (w : World) (conn : Connection) (up : is_open conn �
           (ap (λ left. is_open conn && (conn.info && (is_nil left && is_nil nexts))) u ∙ ap (λ t. t && (conn.info && false)) up
           ∙ ap (λ t. t && false) i))
           ∙ ap (λ t. nat_le (length conn.out) conn.taken && (not t || settled)) (sym i)
-      by false i = ap (λ t. t && (not conn.info || settled)) (sym (replies_left conn byte bytes (plain i) u))
+      by false i = cc (replies_left conn byte bytes (plain i) u)
 
   none_left : unsent conn ≡ [] → Rests
   none_left u =
-      ap (λ left. is_nil (left ++ flat_map line_of (fitting 0 left nexts))) u
-      ∙ next_nil nexts (owed_full conn (history buses w) (rows buses w))
-      ∙ by conn.info refl
-      ∙ ap (λ t. t && (not conn.info || settled)) (sym (replies_taken conn u))
+      cc (next_nil nexts (owed_full conn (history buses w) (rows buses w)), by _ refl, replies_taken conn u)
     where
       by : (info : Bool) → conn.info ≡ info → is_nil nexts ≡ (not conn.info || settled)
       by true i =
-          sym (ap (λ left. is_open conn && (conn.info && (is_nil left && is_nil nexts))) u ∙ ap (λ t. t && (conn.info && is_nil nexts)) up
-          ∙ ap (λ t. t && is_nil nexts) i)
-          ∙ ap (λ t. not t || settled) (sym i)
+          cc
       by false i =
-          ap (λ t.
-          is_nil (if t
-          then map Told (untold conn (history buses w))
-          ++ map Listed (beyond (cursor_at conn (length (history buses w))) (rows buses w))
-          else []))
-          (ap (λ t. t && conn.info) up ∙ i)
-          ∙ ap (λ t. not t || settled) (sym i)
+          cc
 
   rests : (conn.info ≡ false → conn.items ≡ []) → Rests
-  rests plain = by (unsent conn) refl
+  rests plain = by _ refl
     where
       by : (left : List ℕ) → unsent conn ≡ left → Rests
       by [] u = none_left u
@@ -121,7 +98,7 @@ module _ (buses : List Bus) (layout : IsLayout buses) (events : List Event) (n :
   room = given_room 0 (history buses w) (rows buses w)
 
   stays_open : is_open (room conn) ≡ true
-  stays_open = by (overran conn (history buses w)) ∙ up
+  stays_open = by _ ∙ up
     where
       by : (t : Bool)
           → is_open (if t then conn else took 0 (length (history buses w)) (owed conn (history buses w) (rows buses w)) conn) ≡ is_open conn
@@ -129,21 +106,20 @@ module _ (buses : List Bus) (layout : IsLayout buses) (events : List Event) (n :
       by false = refl
 
   pub opened : open_connection w n ≡ Some conn
-  opened = ap if_open there ∙ ap (λ t. if t then Some conn else None) up
+  opened = cc
 
   -- after a room for no bytes
   next_is : course buses (events ++ Room n 0 ∷ []) ≡ accepted buses (Room n 0) (counted w)
   next_is =
-      fold-append (happens buses) start events (Room n 0 ∷ [])
-      ∙ ap (λ o. or_refused buses (absent_fault buses o) (Room n 0) (counted w)) opened
+      cc (fold-append _ start events _)
 
   pub found : numbered n (course buses (events ++ Room n 0 ∷ [])).connections ≡ Some (room conn)
-  found = ap (λ (v : World). numbered n v.connections) next_is ∙ numbered_with n room w.connections ∙ ap (option_map room) there
+  found = ap (λ (v : World). numbered n v.connections) next_is ∙ numbered_with n room _ ∙ ap (option_map room) there
 
   pub lent_is : lent buses (course buses (events ++ Room n 0 ∷ [])) n ≡ lent_of buses w (room conn)
   lent_is =
       ap (λ (v : World). lent buses v n) next_is
-      ∙ ap (λ o. option_map_or (lent_of buses w) (if_open o) []) (numbered_with n room w.connections ∙ ap (option_map room) there)
+      ∙ ap (λ o. option_map_or (lent_of buses w) (if_open o) []) (numbered_with n room _ ∙ ap (option_map room) there)
       ∙ ap (λ t. option_map_or (lent_of buses w) (if t then Some (room conn) else None) []) stays_open
 
   nothing : is_nil (lent_of buses w (room conn)) ≡ lends_none_of buses w conn
@@ -177,4 +153,4 @@ pub none_agrees : (key : ℕ) (held : Held)
     → OfConnection key held (λ buses events n. is_nil (unsent_at key (let_out key held)) ≡ lends_none buses (course buses events) n)
 none_agrees key held buses events keys n layout named s =
     let its = found_at buses (λ n fed. fed) keys held (course buses events) n key s named in
-    ap is_nil (lends_agrees key held buses events keys n layout named s) ∙ lends_none_is buses layout events n its.conn its.there its.up
+    cc (lends_agrees key held buses events keys n layout named s, lends_none_is buses layout events n its.conn its.there its.up)

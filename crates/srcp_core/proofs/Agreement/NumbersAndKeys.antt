@@ -1,13 +1,9 @@
 -- Keys and connections by their numbers, the first being 1.
-use Rattle.std.proofs.Common.{◌≡◌, ◌≢◌, ℕ, zero, suc, ◌+◌, ◌<◌, ◌≤◌, ⊎_elim, inl, inr, ◌⊎◌, Bool, true, false, cond, List, [], ◌∷◌, ◌++◌}
-use Rattle.std.proofs.Common.{length, length-append, refl, ap, sym, ◌∙◌, arith}
-use Rattle.std.proofs.lemmas.List.Elements.{filter-append}
-use Rattle.std.proofs.Math.Nat.{suc-ne-zero, suc_inj}
-use Rattle.std.specs.List.{filter}
-use Rattle.std.specs.Prelude.{Option, Some, None, option_map}
-use Rattle.srcp_core.specs.Connection.{Connection, is_open}
-use Rattle.srcp_core.specs.Course.{numbered, with_numbered}
-use Rattle.srcp_core.specs.Recording.{key_of, without_key}
+use Rattle.srcp_core.proofs.Names.{◌≡◌, ◌≢◌, ℕ, zero, suc, ◌+◌, ◌<◌, ◌≤◌, ⊎_elim, inl, inr, ◌⊎◌, Bool, true, false, cond, List, [], ◌∷◌}
+use Rattle.srcp_core.proofs.Names.{◌++◌, length, length-append, refl, ap, sym, ◌∙◌, arith, subst, filter-append, suc-ne-zero, suc_inj}
+use Rattle.srcp_core.proofs.Names.{filter, Option, Some, None, is_none, if◌then◌else◌, Connection, is_open, numbered, with_numbered}
+use Rattle.srcp_core.proofs.Names.{if_open, key_of, without_key}
+use Rattle.std.specs.Prelude.{option_map}
 
 -- ---- connections
 
@@ -15,7 +11,7 @@ pub length_with : (n : ℕ) (f : Connection → Connection) (xs : List Connectio
 length_with n f [] = refl
 length_with zero f (x ∷ xs) = refl
 length_with (suc zero) f (x ∷ xs) = refl
-length_with (suc (suc n)) f (x ∷ xs) = ap (λ k. suc k) (length_with (suc n) f xs)
+length_with (suc (suc n)) f (x ∷ xs) = cc (length_with (suc n) f xs)
 
 pub numbered_with : (n : ℕ) (f : Connection → Connection) (xs : List Connection)
     → numbered n (with_numbered n f xs) ≡ option_map f (numbered n xs)
@@ -30,7 +26,7 @@ pub with_itself : (n : ℕ) (xs : List Connection) → with_numbered n (λ c. c)
 with_itself n [] = refl
 with_itself zero (x ∷ xs) = refl
 with_itself (suc zero) (x ∷ xs) = refl
-with_itself (suc (suc n)) (x ∷ xs) = ap (λ ys. x ∷ ys) (with_itself (suc n) xs)
+with_itself (suc (suc n)) (x ∷ xs) = cc (with_itself (suc n) xs)
 
 pub no_connection : (n : ℕ) (conn : Connection) → numbered n [] ≡ Some conn → ⊥
 no_connection zero conn e = cc
@@ -44,7 +40,7 @@ abbrev pub one_if : Bool → ℕ
 one_if t = cond t 1 0
 
 pub opens_cons : (x : Connection) (xs : List Connection) → opens (x ∷ xs) ≡ one_if (is_open x) + opens xs
-opens_cons x xs = by (is_open x) refl
+opens_cons x xs = by _ refl
   where
     by : (t : Bool) → is_open x ≡ t → length (cond (is_open x) (x ∷ filter is_open xs) (filter is_open xs)) ≡ one_if (is_open x) + opens xs
     by true e = rw e (omega arith)
@@ -76,7 +72,7 @@ opens_same n f xs x e o =
 
 pub opens_push : (xs : List Connection) (x : Connection) → is_open x ≡ true → opens (xs ++ x ∷ []) ≡ opens xs + 1
 opens_push xs x o =
-    ap length (filter-append is_open xs (x ∷ [])) ∙ length-append (filter is_open xs) (filter is_open (x ∷ []))
+    ap length (filter-append is_open xs (x ∷ [])) ∙ length-append _ _
     ∙ ap (λ k. opens xs + k) (opens_cons x [] ∙ ap (λ t. one_if t + 0) o)
 
 pub numbered_within : (n : ℕ) (xs : List Connection) (x : Connection) → numbered n xs ≡ Some x → (0 < n) × (n ≤ length xs)
@@ -108,7 +104,7 @@ pub length_without : (n : ℕ) (keys : List (Option ℕ)) → length (without_ke
 length_without zero keys = refl
 length_without (suc n) [] = refl
 length_without (suc zero) (k ∷ keys) = refl
-length_without (suc (suc n)) (k ∷ keys) = ap (λ k. suc k) (length_without (suc n) keys)
+length_without (suc (suc n)) (k ∷ keys) = cc (length_without (suc n) keys)
 
 pub without_here : (n : ℕ) (keys : List (Option ℕ)) → key_of n (without_key n keys) ≡ None
 without_here zero keys = refl
@@ -124,7 +120,7 @@ without_other (suc n) (suc m) [] d = refl
 without_other (suc zero) (suc zero) (k ∷ keys) d = absurd (d refl)
 without_other (suc zero) (suc (suc m)) (k ∷ keys) d = refl
 without_other (suc (suc n)) (suc zero) (k ∷ keys) d = refl
-without_other (suc (suc n)) (suc (suc m)) (k ∷ keys) d = without_other (suc n) (suc m) keys (λ e. d (ap (λ k. suc k) e))
+without_other (suc (suc n)) (suc (suc m)) (k ∷ keys) d = without_other (suc n) (suc m) keys (λ e. d (cc))
 
 -- a key that is put at the end
 pub key_push : (n : ℕ) (keys : List (Option ℕ)) (key : Option ℕ) → n ≤ length keys → key_of n (keys ++ key ∷ []) ≡ key_of n keys
@@ -144,7 +140,7 @@ key_push_is (suc zero) [] key other e = let same : key ≡ other = cc in inr (re
 key_push_is (suc (suc n)) [] key other e = absurd (no_key (suc n) other e)
 key_push_is (suc zero) (k ∷ keys) key other e = inl e
 key_push_is (suc (suc n)) (k ∷ keys) key other e =
-    ⊎_elim (λ h. inl h) (λ h. inr (ap (λ k. suc k) h.0, h.1)) (key_push_is (suc n) keys key other e)
+    ⊎_elim (λ h. inl h) (λ h. inr (cc h.0, h.1)) (key_push_is (suc n) keys key other e)
 
 pub numbered_push_is : (n : ℕ) (xs : List Connection) (x y : Connection) → numbered n (xs ++ x ∷ []) ≡ Some y
     → (numbered n xs ≡ Some y) ⊎ ((n ≡ suc (length xs)) × (x ≡ y))
@@ -153,7 +149,7 @@ numbered_push_is (suc zero) [] x y e = let same : x ≡ y = cc in inr (refl, sam
 numbered_push_is (suc (suc n)) [] x y e = cc
 numbered_push_is (suc zero) (z ∷ xs) x y e = inl e
 numbered_push_is (suc (suc n)) (z ∷ xs) x y e =
-    ⊎_elim (λ h. inl h) (λ h. inr (ap (λ k. suc k) h.0, h.1)) (numbered_push_is (suc n) xs x y e)
+    ⊎_elim (λ h. inl h) (λ h. inr (cc h.0, h.1)) (numbered_push_is (suc n) xs x y e)
 
 -- ---- the connection of a number after a change of one
 
@@ -184,7 +180,7 @@ look_with (suc (suc m)) (suc (suc n)) f (x ∷ xs) y e =
     record {
       x = s.x;
       there = s.there;
-      from = ⊎_elim (λ h. inl (λ z. h.0 (suc_inj {m = suc m} {n = suc n} z), h.1)) (λ h. inr (ap (λ k. suc k) h.0, h.1)) s.from;
+      from = ⊎_elim (λ h. inl (λ z. h.0 (suc_inj {m = suc m} {n = suc n} z), h.1)) (λ h. inr (cc h.0, h.1)) s.from;
     }
 
 -- and after one more was opened
@@ -194,3 +190,15 @@ look_push (suc zero) [] x y e = let same : x ≡ y = cc in inr (sym same)
 look_push (suc (suc m)) [] x y e = cc
 look_push (suc zero) (z ∷ xs) x y e = inl e
 look_push (suc (suc m)) (z ∷ xs) x y e = look_push (suc m) xs x y e
+
+-- an open connection of that number
+pub opened : (o : Option Connection) (conn : Connection) → if_open o ≡ Some conn → (o ≡ Some conn) × (conn.shut ≡ None)
+opened None conn e = cc
+opened (Some other) conn e = by _ refl
+  where
+    by : (s : Option ℕ) → other.shut ≡ s → (Some other ≡ Some conn) × (conn.shut ≡ None)
+    by None p =
+        let k : Some other ≡ Some conn = subst (λ s. (if is_none s then Some other else None) ≡ Some conn) p e in
+        let same : other ≡ conn = cc in
+        (k, cc)
+    by (Some m) p = let k : None ≡ Some conn = subst (λ s. (if is_none s then Some other else None) ≡ Some conn) p e in cc

@@ -1,25 +1,12 @@
 -- Once all replies of a connection are taken, at most one line is lent of it.
-use Rattle.std.proofs.Common.{◌≡◌, ℕ, ◌≤◌, Bool, true, false, List, [], ◌∷◌, ◌++◌, length, refl, ap, sym, ◌∙◌, subst, arith, length-append}
-use Rattle.std.proofs.lemmas.Bool.{leb-true}
-use Rattle.std.specs.List.{AllByRecursion}
-use Rattle.std.specs.Option.{option_map_or}
-use Rattle.std.specs.Prelude.{nat_le, Some, if◌then◌else◌}
-use Rattle.srcp_info.specs.WellFormed.{IsWellFormed}
-use Rattle.srcp_info.specs.declared.change.Change.TheVariants.{Put}
+use Rattle.srcp_core.proofs.Names.{◌≡◌, ℕ, ◌≤◌, Bool, true, false, List, [], ◌∷◌, ◌++◌, length, refl, ap, arith, length-append, leb-true}
+use Rattle.srcp_core.proofs.Names.{AllByRecursion, nat_le, Some, if◌then◌else◌, IsWellFormed, Put, Bus, IsLayout, said, OfConnection, lent}
+use Rattle.srcp_core.proofs.Names.{Connection, History, is_open, line_of, overran, owed, tells, took, unsent, course, history, numbered}
+use Rattle.srcp_core.proofs.Names.{rows, Held, AllMoments, HasMoment, last_line, let_out, unsent_at, Event, Room, Item}
 use Rattle.srcp_info.proofs.LineLaws.{length-line-le}
-use Rattle.srcp_grammar.specs.declared.layout.Bus.{Bus}
-use Rattle.srcp_grammar.specs.Layout.{IsLayout}
 use Rattle.srcp_feed.specs.declared.Next.TheVariants.{Told, Listed, Settled}
 use Rattle.srcp_feed.specs.declared.Next.{Next}
-use Rattle.srcp_feed.specs.Cursor.{said}
-use Rattle.srcp_core.specs.Agrees.{OfConnection, lent, replies_taken}
-use Rattle.srcp_core.specs.Connection.{Connection, History, is_open, line_of, overran, owed, tells, took, unsent}
-use Rattle.srcp_core.specs.Course.{course, history, numbered, rows}
-use Rattle.srcp_core.specs.Held.{Held}
-use Rattle.srcp_core.specs.Laws.{AllMoments, HasMoment, last_line}
-use Rattle.srcp_core.specs.Machine.{let_out, unsent_at}
-use Rattle.srcp_core.specs.Under.{Event, Room}
-use Rattle.srcp_core.specs.declared.record.Item.{Item}
+use Rattle.srcp_core.specs.Agrees.{replies_taken}
 use Rattle.srcp_core.proofs.Agreement.AnswersAgree.{lends_agrees}
 use Rattle.srcp_core.proofs.Agreement.NothingIsLent.{found, lent_is, opened, room}
 use Rattle.srcp_core.proofs.Agreement.StandsAfterAChange.{found_at}
@@ -35,7 +22,7 @@ IsTaken conn = length conn.out ≤ conn.taken
 -- the last line of changes that can be told
 last_short : (items : List Item) → AllByRecursion IsWellFormed (tells items) → length (last_line items) ≤ 126
 last_short [] told = omega arith
-last_short (item ∷ []) told = by item.what told
+last_short (item ∷ []) told = by _ told
   where
     by : (what : Next) → AllByRecursion IsWellFormed (said what ++ []) → length (line_of what) ≤ 126
     by (Told change) told = length-line-le change told.0
@@ -53,13 +40,13 @@ module _ (buses : List Bus) (layout : IsLayout buses) (events : List Event) (mom
     (there : numbered number (course buses events).connections ≡ Some conn) where
   -- no line that it was given is longer
   lines_short : length (last_line conn.items) ≤ 126
-  lines_short = by conn.info refl
+  lines_short = by _ refl
     where
       by : (t : Bool) → conn.info ≡ t → length (last_line conn.items) ≤ 126
       by true e = last_short conn.items (given_told buses layout events number conn (record { there = there; info = e }) moments)
       by false e =
           let none = (sends_replies buses layout events number conn there e).no_items in
-          subst (λ items. length (last_line items) ≤ 126) (sym none) (omega arith)
+          rw none (omega arith)
 
   -- so what is unsent of it is short
   unsent_short : IsTaken conn → length (unsent conn) ≤ 126
@@ -74,7 +61,7 @@ module _ (buses : List Bus) (layout : IsLayout buses) (events : List Event) (mom
     (there : numbered n (course buses events).connections ≡ Some conn) (up : is_open conn ≡ true) where
   lent_short : IsTaken conn → length (lent buses (course buses (events ++ Room n 0 ∷ [])) n) ≤ 126
   lent_short taken =
-      subst (λ bytes. length bytes ≤ 126) (sym (lent_is buses layout events n conn there up))
+      rw (lent_is buses layout events n conn there up)
       (by (overran after (history buses (course buses events))))
     where
       after : Connection
@@ -102,7 +89,6 @@ pub line_agrees : (key : ℕ) (held : Held)
 line_agrees key held buses events keys n layout named s moments taken =
     let its = found_at buses (λ n fed. fed) keys held (course buses events) n key s named in
     let all : nat_le (length its.conn.out) its.conn.taken ≡ true =
-    sym (ap (λ o. option_map_or (λ (conn : Connection). nat_le (length conn.out) conn.taken) o true)
-    (opened buses layout events n its.conn its.there its.up)) ∙ taken in
-    subst (λ bytes. length bytes ≤ 126) (sym (lends_agrees key held buses events keys n layout named s))
+    cc (opened buses layout events n its.conn its.there its.up) in
+    rw (lends_agrees key held buses events keys n layout named s)
     (lent_short buses layout events moments n its.conn its.there its.up (leb-true (length its.conn.out) its.conn.taken all))

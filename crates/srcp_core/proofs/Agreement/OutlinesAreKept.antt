@@ -1,21 +1,15 @@
 -- A recorder that keeps an outline keeps of each change what that makes of the outline.
-use Rattle.std.proofs.Common.{◌≡◌, ℕ, zero, suc, Bool, true, false, List, [], ◌∷◌, ◌++◌, map, refl, ap, sym, ◌∙◌, subst}
+use Rattle.srcp_core.proofs.Names.{◌≡◌, ℕ, zero, suc, Bool, true, false, List, [], ◌∷◌, ◌++◌, map, refl, ap, sym, ◌∙◌, option_map, Option}
+use Rattle.srcp_core.proofs.Names.{Some, None, Result, Ok, Err, IfOk, slice_get, slice_set, Next, Told, Listed, Settled, Bus, IsLayout}
+use Rattle.srcp_core.proofs.Names.{Held, IsPromised, Recording, Keeps, kept, changed_record, shut, gave, finished, finished_by}
+use Rattle.srcp_core.proofs.Names.{nothing_recorded, PlainMoments, ConnRecord, Record}
 use Rattle.std.proofs.lemmas.Option.{slice_get-map}
-use Rattle.std.specs.Option.{option_map}
-use Rattle.std.specs.Prelude.{Option, Some, None, Result, Ok, Err, IfOk, slice_get, slice_set}
-use Rattle.srcp_feed.specs.declared.next.Next.{Next}
-use Rattle.srcp_feed.specs.declared.next.Next.TheVariants.{Told, Listed, Settled}
-use Rattle.srcp_grammar.specs.declared.layout.Bus.{Bus}
-use Rattle.srcp_grammar.specs.Layout.{IsLayout}
-use Rattle.srcp_core.specs.Held.{Held}
-use Rattle.srcp_core.specs.Promised.{connection_outline, IsPromised, IsPromisedOutline}
-use Rattle.srcp_core.specs.Recording.{Recording, Keeps, Becomes, recording_outline, kept, changed_in, changed_record, shut, began, gave}
-use Rattle.srcp_core.specs.Recording.{took, finished, finished_by, nothing_recorded}
-use Rattle.srcp_core.specs.Run.{RunsTold, PlainMoments, recorded_in}
+use Rattle.srcp_core.specs.Promised.{connection_outline, IsPromisedOutline}
+use Rattle.srcp_core.specs.Recording.{Becomes, recording_outline, changed_in, began}
+use Rattle.srcp_core.specs.Recording.{took}
+use Rattle.srcp_core.specs.Run.{RunsTold, recorded_in}
 use Rattle.srcp_core.specs.declared.event.Event.{Event as PlainEvent}
-use Rattle.srcp_core.specs.declared.record.ConnRecord.{ConnRecord}
 use Rattle.srcp_core.specs.declared.record.Finish.TheVariants.{Shut as ShutFinish}
-use Rattle.srcp_core.specs.declared.record.Record.{Record}
 use Rattle.srcp_core.specs.declared.record.Step.{Step}
 use Rattle.srcp_core.specs.declared.record.Step.TheVariants as recorded
 use Rattle.srcp_core.proofs.Agreement.RunPromises.{promised}
@@ -24,20 +18,20 @@ use Rattle.srcp_core.proofs.Agreement.RunPromises.{promised}
 
 -- the keys are kept in any case
 keys_kept : (in_full : Bool) (old r : Recording) → old ≡ kept in_full r → old.keys ≡ r.keys
-keys_kept true old r e = ap (λ (x : Recording). x.keys) e
-keys_kept false old r e = ap (λ (x : Recording). x.keys) e
+keys_kept true old r e = cc
+keys_kept false old r e = cc
 
 -- what the change makes of what is kept is kept of what it makes of all
 pub becomes : {in_full : Bool} (change : Recording → Recording) (old new : Recording)
     → ((in_full : Bool) (r : Recording) → change (kept in_full r) ≡ kept in_full (change r))
     → new ≡ change old → Becomes in_full change old new
-becomes {in_full = in_full} change old new law is = record { each = λ r e. (change r, is ∙ ap change e ∙ law in_full r, refl) }
+becomes {in_full = in_full} change old new law is = record { each = λ r e. (change r, cc (law in_full r), refl) }
 
 -- nothing is kept of the change
 pub stays : {in_full : Bool} (change : Recording → Recording) (old : Recording) → in_full ≡ false
     → ((r : Recording) → recording_outline (change r) ≡ recording_outline r) → Becomes in_full change old old
 stays change old off law = record {
-  each = λ r e. (change r, e ∙ subst (λ h. kept h r ≡ kept h (change r)) (sym off) (sym (law r)), refl);
+  each = λ r e. (change r, e ∙ rw off (sym (law r)), refl);
 }
 
 module _ {in_full : Bool} {P : Recording → Recording → Type 0} where
@@ -61,7 +55,7 @@ module _ {in_full : Bool} {P : Recording → Recording → Type 0} where
   pub keeps_changed : (change : Recording → Recording) (old new : Recording)
       → ((r : Recording) → old.keys ≡ r.keys → P r (change r)) → Becomes in_full change old new → Keeps in_full P old new
   keeps_changed change old new law b = record {
-    each = λ r e. let one = b.each r e in (change r, one.1 ∙ ap (kept in_full) one.2, law r (keys_kept in_full old r e));
+    each = λ r e. let one = b.each r e in (change r, cc (one.1, one.2), law r (keys_kept in_full old r e));
   }
 
   -- what holds of a recording to which nothing happens
@@ -81,33 +75,31 @@ set_kept : (tolds : List ConnRecord) (n : ℕ) (one : ConnRecord)
     → slice_set (map connection_outline tolds) n (connection_outline one) ≡ map connection_outline (slice_set tolds n one)
 set_kept [] n one = refl
 set_kept (x ∷ tolds) zero one = refl
-set_kept (x ∷ tolds) (suc n) one = ap (λ ts. connection_outline x ∷ ts) (set_kept tolds n one)
+set_kept (x ∷ tolds) (suc n) one = cc (set_kept tolds n one)
 
 changed_kept : (n : ℕ) (f : ConnRecord → ConnRecord) → ((one : ConnRecord) → f (connection_outline one) ≡ connection_outline (f one))
     → (tolds : List ConnRecord)
     → changed_record n f (map connection_outline tolds) ≡ map connection_outline (changed_record n f tolds)
 changed_kept zero f law tolds = refl
-changed_kept (suc n) f law tolds = ap (changed_in n f (map connection_outline tolds)) (slice_get-map connection_outline tolds n)
-    ∙ by (slice_get tolds n)
+changed_kept (suc n) f law tolds = cc (slice_get-map _ tolds n, by _)
   where
     by : (o : Option ConnRecord)
         → changed_in n f (map connection_outline tolds) (option_map connection_outline o) ≡ map connection_outline (changed_in n f tolds
         o)
     by None = refl
-    by (Some one) = ap (slice_set (map connection_outline tolds) n) (law one) ∙ set_kept tolds n (f one)
+    by (Some one) = cc (law one, set_kept tolds n (f one))
 
 changed_aside : (n : ℕ) (f : ConnRecord → ConnRecord) → ((one : ConnRecord) → connection_outline (f one) ≡ connection_outline one)
     → (tolds : List ConnRecord)
     → map connection_outline (changed_record n f tolds) ≡ map connection_outline tolds
 changed_aside zero f law tolds = refl
-changed_aside (suc n) f law tolds = by (slice_get tolds n) refl
+changed_aside (suc n) f law tolds = by _ refl
   where
     same : (tolds : List ConnRecord) (k : ℕ) (one : ConnRecord) → slice_get tolds k ≡ Some one
         → map connection_outline (slice_set tolds k (f one)) ≡ map connection_outline tolds
     same [] k one e = refl
-    same (x ∷ tolds) zero one e = let is : x ≡ one = cc in ap (λ y. y ∷ map connection_outline tolds) (law one
-        ∙ ap connection_outline (sym is))
-    same (x ∷ tolds) (suc k) one e = ap (λ ys. connection_outline x ∷ ys) (same tolds k one e)
+    same (x ∷ tolds) zero one e = let is : x ≡ one = cc in cc (law one)
+    same (x ∷ tolds) (suc k) one e = cc (same tolds k one e)
 
     by : (o : Option ConnRecord) → slice_get tolds n ≡ o
         → map connection_outline (changed_in n f tolds o) ≡ map connection_outline tolds
@@ -119,25 +111,25 @@ with_connections r tolds = record { keys = r.keys; steps = []; connections = tol
 
 pub shut_kept : (n : ℕ) (in_full : Bool) (r : Recording) → shut n (kept in_full r) ≡ kept in_full (shut n r)
 shut_kept n true r = refl
-shut_kept n false r = ap (with_connections (shut n r)) (changed_kept n (λ one. record one { finish = ShutFinish }) (λ one. refl)
-    r.connections)
+shut_kept n false r = cc (changed_kept n (λ one. record one { finish = ShutFinish }) (λ one. refl)
+    _)
 
 pub took_kept : (n : ℕ) (bytes : List ℕ) (in_full : Bool) (r : Recording)
     → took n bytes (kept in_full r) ≡ kept in_full (took n bytes r)
 took_kept n bytes true r = refl
-took_kept n bytes false r = ap (with_connections r) (changed_kept n (λ one. record one { sent = one.sent ++ bytes }) (λ one. refl)
-    r.connections)
+took_kept n bytes false r = cc (changed_kept n (λ one. record one { sent = one.sent ++ bytes }) (λ one. refl)
+    _)
 
 pub began_aside : (n : ℕ) (step : Step) (r : Recording) → recording_outline (began n step r) ≡ recording_outline r
 began_aside n (recorded.Obeyed session moment command) r = refl
-began_aside n (recorded.Began session moment mode) r = ap (with_connections r) (changed_aside n _ (λ one. refl) r.connections)
+began_aside n (recorded.Began session moment mode) r = ap (with_connections r) (changed_aside n _ (λ one. refl) _)
 began_aside n (recorded.Moment moment) r = refl
 began_aside n (recorded.Ended session moment) r = refl
 
 pub gave_aside : (n : ℕ) (item : Option Next) (r : Recording) → recording_outline (gave n item r) ≡ recording_outline r
 gave_aside n None r = refl
-gave_aside n (Some (Told change)) r = ap (with_connections r) (changed_aside n _ (λ one. refl) r.connections)
-gave_aside n (Some (Listed row)) r = ap (with_connections r) (changed_aside n _ (λ one. refl) r.connections)
+gave_aside n (Some (Told change)) r = ap (with_connections r) (changed_aside n _ (λ one. refl) _)
+gave_aside n (Some (Listed row)) r = ap (with_connections r) (changed_aside n _ (λ one. refl) _)
 gave_aside n (Some Settled) r = refl
 
 -- ---- the record
@@ -146,8 +138,7 @@ finished_kept : (held : Held) (keys : List (Option ℕ)) (tolds : List ConnRecor
     → finished held keys (map connection_outline tolds) ≡ map connection_outline (finished held keys tolds)
 finished_kept held [] tolds = refl
 finished_kept held (key ∷ keys) [] = refl
-finished_kept held (key ∷ keys) (one ∷ tolds) = ap (λ x. x ∷ finished held keys (map connection_outline tolds)) (by key)
-    ∙ ap (λ xs. connection_outline (finished_by held key one) ∷ xs) (finished_kept held keys tolds)
+finished_kept held (key ∷ keys) (one ∷ tolds) = cc (by key, finished_kept held keys tolds)
   where
     by : (key : Option ℕ) → finished_by held key (connection_outline one) ≡ connection_outline (finished_by held key one)
     by None = refl
@@ -192,21 +183,14 @@ nothing_kept false = refl
 
 pub record_kept : (in_full : Bool) (r : Recording) (held : Held) → record_at (kept in_full r) held ≡ recorded_in in_full (record_at r held)
 record_kept true r held = refl
-record_kept false r held = ap (λ tolds. record {
-  steps = [];
-  connections = tolds;
-  refused = r.refused;
-  rows = held.rows;
-  denied =
-      held.denied;
-}) (finished_kept held r.keys r.connections)
+record_kept false r held = cc (finished_kept held r.keys _)
 
 -- ---- what a run promises
 
 pub promised_whole : {E : Type 0} (buses : List Bus) (events : List PlainEvent) (result : Result Record E)
     → IfOk result (λ run. RunsTold true buses events run) → IfOk result (λ _. PlainMoments events) → IfOk result (λ _. IsLayout buses)
     → IfOk result (λ run. IsPromised buses events run)
-promised_whole buses events (Ok run) t moments layout = subst (λ (x : Record). IsPromised buses events x) (sym t.is) (promised {E = ℕ}
+promised_whole buses events (Ok run) t moments layout = rw t.is (promised {E = ℕ}
     buses events (Ok t.whole) t.runs moments layout)
 promised_whole buses events (Err fault) t moments layout = tt
 

@@ -1,42 +1,20 @@
 -- A core that stands for a course takes a piece as the course does.
-use Rattle.std.proofs.Common.{◌≡◌, ◌≢◌, ℕ, zero, suc, ◌+◌, ◌<◌, ◌≤◌, Bool, true, false, List, [], ◌∷◌, ◌++◌, take, drop, length, refl, ap}
-use Rattle.std.proofs.Common.{sym, ◌∙◌, subst, arith, append-nil, length-append}
-use Rattle.std.proofs.lemmas.Bool.{eqb-true, eq-eqb}
-use Rattle.std.proofs.lemmas.List.{drop_all}
-use Rattle.std.proofs.lemmas.List.Sums.{fold-append}
-use Rattle.std.proofs.lemmas.Option.{none-some}
-use Rattle.std.proofs.Math.Nat.{le_refl}
-use Rattle.std.specs.List.{fold}
-use Rattle.std.specs.Option.{option_map}
-use Rattle.std.specs.Prelude.{Option, Some, None, ◌||◌, ◌==◌, nat_lt, slice_set, slice_range, Result, Ok, Err, if◌then◌else◌}
-use Rattle.srcp_info.specs.Line.{reply_line}
-use Rattle.srcp_info.specs.declared.change.Code.{Code}
-use Rattle.srcp_info.specs.declared.change.Code.TheVariants.{C500}
-use Rattle.srcp_info.specs.declared.change.Reply.{Reply}
-use Rattle.srcp_info.specs.declared.change.Reply.TheVariants.{Protocol, Mode as ModeReply, Go, Refused}
-use Rattle.srcp_info.specs.declared.value.Mode.{Mode}
-use Rattle.srcp_text.specs.Marks.{Mark, Line, TooLong, marks}
-use Rattle.srcp_text.specs.Reading.{Reading, StandsAt}
+use Rattle.srcp_core.proofs.Names.{◌≡◌, ◌≢◌, ℕ, zero, suc, ◌+◌, ◌<◌, ◌≤◌, Bool, true, false, List, [], ◌∷◌, ◌++◌, take, drop, length, refl}
+use Rattle.srcp_core.proofs.Names.{ap, sym, ◌∙◌, subst, arith, append-nil, length-append, eqb-true, drop_all, fold-append, none-some}
+use Rattle.srcp_core.proofs.Names.{le_refl, fold, option_map, Option, Some, None, ◌==◌, slice_set, if◌then◌else◌, Mark, Line, TooLong}
+use Rattle.srcp_core.proofs.Names.{Reading, StandsAt, Bus, opening, shown_rows, key_at, IsRisingBy, Heard, lines_under, Connection, World}
+use Rattle.srcp_core.proofs.Names.{numbered, at_connection, history, entered, open_connection, new_marks, wants_as, denied_lines, Place}
+use Rattle.srcp_core.proofs.Names.{Held, at, place_at, asked_of, heard_from, heard_at, line_answered, steps_of_line, steps_answered}
+use Rattle.srcp_core.proofs.Names.{Recording, key_of, noted, StandsBy, StandsFor, place_of, Asked}
+use Rattle.std.proofs.lemmas.Bool.{eq-eqb}
+use Rattle.std.specs.Prelude.{slice_range}
+use Rattle.srcp_text.specs.Marks.{marks}
 use Rattle.srcp_text.specs.Feeding.{feed_of}
 use Rattle.srcp_text.specs.declared.reader.Fed.{Fed}
 use Rattle.srcp_text.specs.declared.reader.Fed.TheVariants.{Line as FoundLine, TooLong as FoundTooLong, More}
 use Rattle.srcp_text.proofs.ReadingLaws.{marks-fed, stands-fed, fed_to_stop, fed_to_end, later_marks}
-use Rattle.srcp_grammar.specs.declared.layout.Bus.{Bus}
-use Rattle.srcp_rules.specs.Effect.{Effect}
-use Rattle.srcp_rules.specs.State.{opening, shown_rows}
-use Rattle.srcp_info.proofs.ClientLaws.{key_at}
-use Rattle.srcp_info.specs.Client.{IsRisingBy}
-use Rattle.srcp_core.specs.Under.{Obeyed, Began, Heard, Order, effect, greets, lines_under}
-use Rattle.srcp_core.specs.Connection.{Connection}
-use Rattle.srcp_core.specs.Course.{World, numbered, at_connection, did, is_info, state, history, order_of, replied, entered, goes, greeted}
-use Rattle.srcp_core.specs.Course.{ended, obeyed, commanded, answered_as, answered as course_answered, open_connection, new_marks, wants_as}
-use Rattle.srcp_core.specs.Course.{denied_lines}
-use Rattle.srcp_core.specs.Handshake.{Greeting, Speaks, Chooses, Goes, Refuses}
-use Rattle.srcp_core.specs.Held.{Place, Held, at, place_at}
-use Rattle.srcp_core.specs.Machine.{asked_of, heard_from, heard_in, heard_at, line_answered, steps_of_line, answered, steps_answered}
-use Rattle.srcp_core.specs.Recording.{Recording, key_of, noted}
-use Rattle.srcp_core.specs.Stands.{StandsBy, StandsFor, place_of}
-use Rattle.srcp_core.specs.declared.line.Asked.{Asked}
+use Rattle.srcp_core.specs.Course.{answered as course_answered}
+use Rattle.srcp_core.specs.Machine.{answered}
 use Rattle.srcp_core.proofs.Agreement.LinesAgree.{IsFine, stands_answered}
 use Rattle.srcp_core.proofs.Agreement.RefusalsAreCounted.{after, denied_answered, denied_push, denied_none}
 use Rattle.srcp_core.proofs.Invariants.PlacesCover.{Where, Here, Away, where_is, place_set_here}
@@ -46,6 +24,7 @@ use Rattle.srcp_core.proofs.CourseLaws.SessionsOfACourse.{anything}
 use Rattle.srcp_core.proofs.Agreement.NumbersAndKeys.{numbered_with, with_itself}
 use Rattle.srcp_core.proofs.Agreement.StandsAfterAChange.{Anything, found_at, stands_changed}
 use Rattle.srcp_core.proofs.CourseLaws.SessionsAreKept.{sound_answered, sound_at}
+use Rattle.srcp_core.proofs.CourseLaws.EventsKeep.{IsAnswered, kept_answered}
 
 -- ---- the bytes that were accepted
 
@@ -59,7 +38,7 @@ abbrev pub partly : ℕ → List ℕ → ℕ → List ℕ → List ℕ
 partly n bytes m fed = if m == n then bytes else fed
 
 partly_here : (n : ℕ) (bytes fed : List ℕ) → partly n bytes n fed ≡ bytes
-partly_here n bytes fed = ap (λ t. if t then bytes else fed) (eq-eqb n n refl)
+partly_here n bytes fed = cc (eq-eqb n n refl)
 
 partly_other : (n m : ℕ) (bytes fed : List ℕ) → m ≢ n → partly n bytes m fed ≡ fed
 partly_other n m bytes fed d = by (m == n) refl
@@ -78,99 +57,33 @@ module _ (buses : List Bus) (keys : List (Option ℕ)) (n key : ℕ) (named : ke
   stands_read read later held w p reader s here reads others =
       let h = found_at buses read keys held w n key s named in
       let same : place_of h.reader (history buses w) h.conn ≡ p =
-      let both : Some (place_of h.reader (history buses w) h.conn) ≡ Some p = sym h.place ∙ here in cc in
+      let both : Some (place_of h.reader (history buses w) h.conn) ≡ Some p = cc h.place in cc in
       subst (λ (conns : List Connection).
       StandsBy buses later keys (record held { places = slice_set held.places key (Some (record p { reader = reader })) })
       (record w { connections = conns }))
-      (with_itself n w.connections)
-      (stands_changed buses read later keys held w n key h.conn (λ c. c) (record p { reader = reader }) reader s named h.there h.up h.up
-      (ap (λ (q : Place). record q { reader = reader }) (sym same)) (reads h.conn h.there) others)
+      (with_itself n _)
+      (stands_changed buses read later keys held w n key h.conn (λ c. c) _ reader s named h.there h.up h.up
+      (cc) (reads h.conn h.there) others)
 
 -- ---- the accepted bytes stay while lines are answered
 
 module _ (buses : List Bus) (n : ℕ) where
-  fed_at : (f : Connection → Connection) (w : World) → ((c : Connection) → (f c).fed ≡ c.fed) → fed_of n (at_connection n f w) ≡ fed_of n w
-  fed_at f w law = ap (option_map (λ (c : Connection). c.fed)) (numbered_with n f w.connections) ∙ by (numbered n w.connections)
+  fed_at : (f : Connection → Connection) (w : World) (o : Option (List ℕ)) → ((c : Connection) → (f c).fed ≡ c.fed) → fed_of n w ≡ o
+      → fed_of n (at_connection n f w) ≡ o
+  fed_at f w o law e = cc (numbered_with n f _, by _)
     where
       by : (o : Option Connection) → option_map (λ (c : Connection). c.fed) (option_map f o) ≡ option_map (λ (c : Connection). c.fed) o
       by None = refl
       by (Some c) = ap Some (law c)
 
-  fed_replied : (reply : Reply) (w : World) → fed_of n (replied n reply w) ≡ fed_of n w
-  fed_replied reply w = fed_at (λ conn. record conn { out = conn.out ++ reply_line w.moment reply }) w (λ c. refl)
-
-  fed_goes : (mode : Mode) (w : World) → fed_of n (goes buses n mode w) ≡ fed_of n w
-  fed_goes mode w =
-      elim (nat_lt w.last_id 4294967295)
-      as (λ t.
-      fed_of n
-      (if t
-      then replied n (Go (w.last_id + 1))
-      (entered buses n (w.last_id + 1)
-      (did (Began (w.last_id + 1) w.moment mode) (record w { last_id = w.last_id + 1 })))
-      else replied n (Refused C500) w)
-      ≡ fed_of n w) [
-        | true ↦
-            fed_replied (Go (w.last_id + 1))
-            (entered buses n (w.last_id + 1) (did (Began (w.last_id + 1) w.moment mode) (record w { last_id = w.last_id + 1 })))
-            ∙ fed_at (λ conn.
-            record conn {
-              session = w.last_id + 1;
-              info = is_info conn.mode;
-              go_step = length (did (Began (w.last_id + 1) w.moment mode) (record w { last_id = w.last_id + 1 })).steps;
-            })
-            (did (Began (w.last_id + 1) w.moment mode) (record w { last_id = w.last_id + 1 })) (λ c. refl)
-        | false ↦ fed_replied (Refused C500) w
-      ]
-
-  fed_greeted : (mode : Mode) (greeting : Greeting) (w : World) → fed_of n (greeted buses n mode greeting w) ≡ fed_of n w
-  fed_greeted mode Speaks w = fed_replied Protocol w
-  fed_greeted mode (Chooses chosen) w =
-      fed_replied ModeReply (at_connection n (λ conn. record conn { mode = chosen }) w)
-      ∙ fed_at (λ conn. record conn { mode = chosen }) w (λ c. refl)
-  fed_greeted mode Goes w = fed_goes mode w
-  fed_greeted mode (Refuses code) w = fed_replied (Refused code) w
-
-  fed_obeyed : (session : ℕ) (command : Order) (result : Effect) (w : World)
-      → fed_of n (obeyed buses n session command result w) ≡ fed_of n w
-  fed_obeyed session command result w =
-      elim result.ends as (λ t.
-      fed_of n
-      (if t then ended buses n session (replied n result.reply (did (Obeyed session w.moment command) w))
-      else replied n result.reply (did (Obeyed session w.moment command) w))
-      ≡ fed_of n w) [
-        | true ↦
-            fed_at (λ conn. record conn { ended = true }) (replied n result.reply (did (Obeyed session w.moment command) w)) (λ c. refl)
-            ∙ fed_replied result.reply (did (Obeyed session w.moment command) w)
-        | false ↦ fed_replied result.reply (did (Obeyed session w.moment command) w)
-      ]
-
-  fed_commanded : (session : ℕ) (command : Result Order Code) (w : World) → fed_of n (commanded buses n session command w) ≡ fed_of n w
-  fed_commanded session (Err code) w = fed_replied (Refused code) w
-  fed_commanded session (Ok command) w = fed_obeyed session command (effect (state buses w) session w.moment command) w
-
-  fed_answered_as : (o : Option Connection) (mark : Heard) (w : World) → fed_of n (answered_as buses n o mark w) ≡ fed_of n w
-  fed_answered_as None mark w = refl
-  fed_answered_as (Some conn) mark w =
-      elim (conn.info || conn.ended)
-      as (λ t.
-      fed_of n
-      (if t then w
-      else (if conn.session == 0 then greeted buses n conn.mode (greets mark) w
-      else commanded buses n conn.session (order_of buses mark) w))
-      ≡ fed_of n w) [
-        | true ↦ refl
-        | false ↦
-            elim (conn.session == 0)
-            as (λ t.
-            fed_of n
-            (if t then greeted buses n conn.mode (greets mark) w
-            else commanded buses n conn.session (order_of buses mark) w)
-            ≡ fed_of n w) [
-              | true ↦ fed_greeted conn.mode (greets mark) w
-              | false ↦ fed_commanded conn.session (order_of buses mark) w
-            ]
-      ]
+  fed_kept : (o : Option (List ℕ)) → IsAnswered buses n (λ w. fed_of n w ≡ o)
+  fed_kept o = record {
+    step = λ step w e. e;
+    numbers = λ id w e. e;
+    says = λ mode ends w e. fed_at _ w o (λ c. refl) e;
+    answers = λ reply w plain e. fed_at _ w o (λ c. refl) e;
+    enters = λ id reply w plain e. fed_at _ (entered buses n id w) o (λ c. refl) (fed_at _ w o (λ c. refl) e);
+  }
 
 -- ---- the lines of a piece
 
@@ -209,10 +122,10 @@ module _ (buses : List Bus) (order : IsRisingBy key_at (shown_rows (opening buse
   line_is_answered grants granted start stop mark held p reader r onward here adds moves u t =
       let h = found_at buses (partly n (fed ++ take start piece)) keys held (world_upto grants start) n key u.stands named in
       let same : place_of h.reader (history buses (world_upto grants start)) h.conn ≡ p =
-      let both : Some (place_of h.reader (history buses (world_upto grants start)) h.conn) ≡ Some p = sym h.place ∙ here in cc in
-      let its : h.reader ≡ p.reader = ap (λ (q : Place). q.reader) same in
+      let both : Some (place_of h.reader (history buses (world_upto grants start)) h.conn) ≡ Some p = cc h.place in cc in
+      let its : h.reader ≡ p.reader = cc in
       let stood : StandsAt (fed ++ take start piece) p.reader =
-      subst (λ r. StandsAt (fed ++ take start piece) r) its
+      rw (← its)
       (subst (λ bytes. StandsAt bytes h.reader) (partly_here n (fed ++ take start piece) h.conn.fed) h.reads) in
       let le : start ≤ stop = omega (arith, onward) in
       let both = fed_to_stop fed piece start stop (mark ∷ []) p.reader reader le adds moves stood in
@@ -220,10 +133,9 @@ module _ (buses : List Bus) (order : IsRisingBy key_at (shown_rows (opening buse
       later_marks fed (take start piece) (marks (fed ++ take stop piece)) (mark ∷ []) both.0 in
       let line : Heard = record { mark = mark; granted = granted } in
       let lines : lines_under (grants ++ granted ∷ []) (marks_upto stop) ≡ lines_under grants (marks_upto start) ++ line ∷ [] =
-      ap (lines_under (grants ++ granted ∷ [])) more ∙ lines_push grants (marks_upto start) granted mark u.count in
+      cc (lines_push grants (marks_upto start) granted mark u.count) in
       let next : world_upto (grants ++ granted ∷ []) stop ≡ course_answered buses n (world_upto grants start) line =
-      ap (fold (course_answered buses n) w) lines
-      ∙ fold-append (course_answered buses n) w (lines_under grants (marks_upto start)) (line ∷ []) in
+      cc (fold-append (course_answered buses n) w (lines_under grants (marks_upto start)) (line ∷ [])) in
       let mid = record held { places = slice_set held.places key (Some (record p { reader = reader })) } in
       let reads : StandsBy buses (partly n (fed ++ take stop piece)) keys mid (world_upto grants start) =
       stands_read buses keys n key named (partly n (fed ++ take start piece)) (partly n (fed ++ take stop piece)) held
@@ -240,8 +152,8 @@ module _ (buses : List Bus) (order : IsRisingBy key_at (shown_rows (opening buse
               subst (λ (v : World). IsFine buses order v) (sym next)
               (sound_answered buses order Anything (anything (shown_rows (opening buses 0))) n (world_upto grants start) line u.fine);
           fed_is =
-              ap (fed_of n) next ∙ fed_answered_as buses n (open_connection (world_upto grants start) n) line (world_upto grants start)
-              ∙ u.fed_is;
+              ap (fed_of n) next
+              ∙ kept_answered buses n _ (fed_kept buses n (Some (fed ++ piece))) line (world_upto grants start) u.fed_is;
           stands =
               subst (λ (v : World).
               StandsBy buses (partly n (fed ++ take stop piece)) keys (answered granted key (asked_of held.buses p mark) mid) v)
@@ -290,13 +202,11 @@ module _ (buses : List Bus) (order : IsRisingBy key_at (shown_rows (opening buse
       line_is_answered grants granted start s mark held p reading r (subst (λ k. start < k) stop_is onward) here adds moves u t in
       record {
         upto =
-            subst (λ k. IsUpTo (grants ++ granted ∷ []) k new) (sym stop_is)
-            (subst (λ (x : Held). IsUpTo (grants ++ granted ∷ []) s x) (sym (ap (λ (x : ℕ × Held). x.1) is)) both.0);
+            rw stop_is
+            (rw (ap (λ (x : ℕ × Held). x.1) is) both.0);
         tells =
-            subst (λ k. Tells (noted n (steps_of_line granted (heard_at key piece start held)) r) (world_upto (grants ++ granted ∷ []) k))
-            (sym stop_is)
-            (subst (λ steps. Tells (noted n steps r) (world_upto (grants ++ granted ∷ []) s))
-            (sym (ap (steps_of_line granted) finding)) both.1);
+            rw stop_is
+            (rw (ap (steps_of_line granted) finding) both.1);
       }
     where
       stop_is : stop ≡ s
@@ -306,7 +216,7 @@ module _ (buses : List Bus) (order : IsRisingBy key_at (shown_rows (opening buse
       → ◌≡◌ {A = ℕ × Held} (stop, new) (line_answered key granted (start, held) (heard_at key piece start held))
       → IsUpTo grants start held → Tells r (world_upto grants start) → IsLined grants start stop granted held new r
   lined grants start stop granted held new r onward is u t =
-      let h = found_at buses (partly n (fed ++ take start piece)) keys held (world_upto grants start) n key u.stands named in
+      let h = found_at buses _ keys held _ n key u.stands named in
       from (place_of h.reader (history buses (world_upto grants start)) h.conn) h.place
       (feed_of (place_of h.reader (history buses (world_upto grants start)) h.conn).reader piece start).0
       (feed_of (place_of h.reader (history buses (world_upto grants start)) h.conn).reader piece start).1 refl
@@ -314,14 +224,13 @@ module _ (buses : List Bus) (order : IsRisingBy key_at (shown_rows (opening buse
       from : (p : Place) → at held key ≡ Some p → (result : Fed) (reading : Reading)
           → ◌≡◌ {A = Fed × Reading} (feed_of p.reader piece start) (result, reading) → IsLined grants start stop granted held new r
       from p here result reading e = by result reading e
-          (ap (λ (o : Option Place). heard_in key piece start held o) here
-          ∙ ap (λ (x : Fed × Reading). let y : Option (ℕ × Asked) × Held = finds held p x.0 x.1 in y) e)
+          (cc)
         where
           by : (result : Fed) (reading : Reading) → ◌≡◌ {A = Fed × Reading} (feed_of p.reader piece start) (result, reading)
               → ◌≡◌ {A = Option (ℕ × Asked) × Held} (heard_at key piece start held) (finds held p result reading)
               → IsLined grants start stop granted held new r
           by More reading e finding =
-              let both : ◌≡◌ {A = ℕ × Held} (stop, new) (start, held) = is ∙ ap (line_answered key granted (start, held)) finding in
+              let both : ◌≡◌ {A = ℕ × Held} (stop, new) (start, held) = cc in
               let same : stop ≡ start = ap (λ (x : ℕ × Held). x.0) both in
               absurd (omega (arith, onward, same))
           by (FoundLine s) reading e finding =
@@ -364,9 +273,9 @@ module _ (buses : List Bus) (order : IsRisingBy key_at (shown_rows (opening buse
       read_is : (m : ℕ) (conn : Connection) → numbered m v.connections ≡ Some conn → Where m n → partly n bytes m conn.fed ≡ conn.fed
       read_is m conn e (Here same) =
           let its : Some conn.fed ≡ Some bytes =
-          sym (ap (option_map (λ (c : Connection). c.fed)) (ap (λ j. numbered j v.connections) (sym same) ∙ e)) ∙ whole in
+          cc in
           let equal : conn.fed ≡ bytes = cc in
-          ap (λ j. partly n bytes j conn.fed) same ∙ partly_here n bytes conn.fed ∙ sym equal
+          cc (partly_here n bytes conn.fed)
       read_is m conn e (Away d) = partly_other n m bytes conn.fed d
 
   pub record IsEnded (grants : List Bool) (new : Held) (v : World) : Type 0 where
@@ -379,17 +288,16 @@ module _ (buses : List Bus) (order : IsRisingBy key_at (shown_rows (opening buse
       → ◌≡◌ {A = Option (ℕ × Asked) × Held} (None, new) (heard_at key piece start held) → IsUpTo grants start held
       → IsEnded grants new (world_upto grants start)
   lines_ended grants start held new is u =
-      let h = found_at buses (partly n (fed ++ take start piece)) keys held (world_upto grants start) n key u.stands named in
-      let p = place_of h.reader (history buses (world_upto grants start)) h.conn in
+      let h = found_at buses _ keys held _ n key u.stands named in
+      let p = place_of h.reader _ h.conn in
       let stood : StandsAt (fed ++ take start piece) p.reader =
-      subst (λ bytes. StandsAt bytes h.reader) (partly_here n (fed ++ take start piece) h.conn.fed) h.reads in
+      subst (λ bytes. StandsAt bytes h.reader) (partly_here n _ _) h.reads in
       from p h.place stood (feed_of p.reader piece start).0 (feed_of p.reader piece start).1 refl
     where
       from : (p : Place) → at held key ≡ Some p → StandsAt (fed ++ take start piece) p.reader → (result : Fed) (reading : Reading)
           → ◌≡◌ {A = Fed × Reading} (feed_of p.reader piece start) (result, reading) → IsEnded grants new (world_upto grants start)
       from p here stood result reading e = by result reading e
-          (is ∙ ap (λ (o : Option Place). heard_in key piece start held o) here
-          ∙ ap (λ (x : Fed × Reading). let y : Option (ℕ × Asked) × Held = finds held p x.0 x.1 in y) e)
+          (cc)
         where
           by : (result : Fed) (reading : Reading) → ◌≡◌ {A = Fed × Reading} (feed_of p.reader piece start) (result, reading)
               → ◌≡◌ {A = Option (ℕ × Asked) × Held} (None, new) (finds held p result reading) → IsEnded grants new (world_upto grants start)
@@ -405,9 +313,9 @@ module _ (buses : List Bus) (order : IsRisingBy key_at (shown_rows (opening buse
               (λ bytes stood. marks-fed bytes p.reader reading piece start More (sym e) stood)
               (λ bytes stood. stands-fed bytes p.reader reading piece start More (sym e) stood) stood in
               let last : new_marks buses fed piece ≡ marks_upto start =
-              later_marks fed (take start piece) (marks (fed ++ piece)) [] both.0 ∙ append-nil (marks_upto start) in
+              later_marks fed _ _ [] both.0 ∙ append-nil _ in
               let world : world_upto grants start ≡ fold (course_answered buses n) w (lines_under grants (new_marks buses fed piece)) =
-              ap (λ ms. fold (course_answered buses n) w (lines_under grants ms)) (sym last) in
+              cc in
               let reads : StandsBy buses (partly n (fed ++ piece)) keys
               (record held { places = slice_set held.places key (Some (record p { reader = reading })) }) (world_upto grants start) =
               stands_read buses keys n key named (partly n (fed ++ take start piece)) (partly n (fed ++ piece)) held
@@ -415,24 +323,23 @@ module _ (buses : List Bus) (order : IsRisingBy key_at (shown_rows (opening buse
               (λ conn e. subst (λ bytes. StandsAt bytes reading) (sym (partly_here n (fed ++ piece) conn.fed)) both.1)
               (λ m bytes d. partly_other n m (fed ++ piece) bytes d ∙ sym (partly_other n m (fed ++ take start piece) bytes d)) in
               record {
-                fine = subst (λ (v : World). IsFine buses order v) world u.fine;
+                fine = rw (← world) u.fine;
                 stands =
-                    subst (λ (v : World). StandsFor buses keys new v) world
-                    (subst (λ (x : Held). StandsFor buses keys x (world_upto grants start)) (sym new_is)
+                    rw (← world)
+                    (rw new_is
                     (stands_all (record held { places = slice_set held.places key (Some (record p { reader = reading })) })
                     (world_upto grants start) (fed ++ piece) u.fed_is reads));
                 world_is = world;
                 counts =
-                    ap (λ (x : Held). x.denied) new_is ∙ u.counts
-                    ∙ ap (λ ms. denied_lines buses n w before (lines_under grants ms)) (sym last);
+                    cc u.counts;
               }
 
 -- ---- the beginning of a piece
 
 pub set_same : (places : List (Option Place)) (key : ℕ) (p : Place) → place_at places key ≡ Some p → slice_set places key (Some p) ≡ places
 set_same [] key p h = refl
-set_same (x ∷ places) zero p h = ap (λ y. y ∷ places) (sym h)
-set_same (x ∷ places) (suc key) p h = ap (λ ys. x ∷ ys) (set_same places key p h)
+set_same (x ∷ places) zero p h = cc
+set_same (x ∷ places) (suc key) p h = cc (set_same places key p h)
 
 -- the world with all of the piece accepted
 abbrev pub accepting : ℕ → List ℕ → World → World
@@ -446,35 +353,31 @@ pub piece_begun : (buses : List Bus) (order : IsRisingBy key_at (shown_rows (ope
 piece_begun buses order keys n key named piece held w conn a s there =
     let h = found_at buses (λ n fed. fed) keys held w n key s named in
     let f : Connection → Connection = λ c. record c { fed = c.fed ++ piece } in
-    let same : h.conn ≡ conn = let both : Some h.conn ≡ Some conn = sym h.there ∙ there in cc in
+    let same : h.conn ≡ conn = let both : Some h.conn ≡ Some conn = cc h.there in cc in
     let none : drop (length (marks conn.fed)) (marks (conn.fed ++ [])) ≡ [] =
-    ap (λ bytes. drop (length (marks conn.fed)) (marks bytes)) (append-nil conn.fed)
-    ∙ drop_all (length (marks conn.fed)) (marks conn.fed) (le_refl (length (marks conn.fed))) in
+    cc (append-nil conn.fed, drop_all (length (marks conn.fed)) (marks conn.fed) (le_refl (length (marks conn.fed)))) in
     let world : fold (course_answered buses n) (accepting n piece w)
     (lines_under [] (drop (length (marks conn.fed)) (marks (conn.fed ++ []))))
     ≡ accepting n piece w =
-    ap (λ ms. fold (course_answered buses n) (accepting n piece w) (lines_under [] ms)) none in
-    let p = place_of h.reader (history buses w) h.conn in
+    cc in
+    let p = place_of h.reader _ h.conn in
     let changed : StandsBy buses (partly n (conn.fed ++ [])) keys (record held { places = slice_set held.places key (Some p) })
     (accepting n piece w) =
-    stands_changed buses (λ n fed. fed) (partly n (conn.fed ++ [])) keys held w n key h.conn f p h.reader s named h.there h.up h.up refl
-    (subst (λ bytes. StandsAt bytes h.reader)
-    (ap (λ (c : Connection). c.fed) same ∙ sym (append-nil conn.fed) ∙ sym (partly_here n (conn.fed ++ []) (f h.conn).fed)) h.reads)
-    (λ m bytes d. partly_other n m (conn.fed ++ []) bytes d) in
+    stands_changed buses (λ n fed. fed) _ keys held w n key h.conn f p h.reader s named h.there h.up h.up refl
+    (rw (← (ap (λ (c : Connection). c.fed) same ∙ sym (append-nil conn.fed) ∙ sym (partly_here n (conn.fed ++ []) (f h.conn).fed))) h.reads)
+    (λ m bytes d. partly_other n m _ bytes d) in
     let stands : StandsBy buses (partly n (conn.fed ++ [])) keys held (accepting n piece w) =
-    subst (λ (places : List (Option Place)).
-    StandsBy buses (partly n (conn.fed ++ [])) keys (record held { places = places }) (accepting n piece w))
-    (set_same held.places key p h.place) changed in
+    rw (← (set_same _ key p h.place)) changed in
     let fine : IsFine buses order (accepting n piece w) =
-    sound_at buses order Anything (anything (shown_rows (opening buses 0))) n f w
+    sound_at buses order Anything _ n f w
     (λ other k g. record { fits = g.fits; before = g.before; plain = g.plain; within = g.within }) a in (
       record {
-        count = sym (ap length none);
-        fine = subst (λ (v : World). IsFine buses order v) (sym world) fine;
+        count = cc;
+        fine = rw world fine;
         fed_is =
-            ap (fed_of n) world ∙ ap (option_map (λ (c : Connection). c.fed)) (numbered_with n f w.connections ∙ ap (option_map f) there);
-        stands = subst (λ (v : World). StandsBy buses (partly n (conn.fed ++ [])) keys held v) (sym world) stands;
-        counts = sym (denied_none buses n (accepting n piece w) held.denied (drop (length (marks conn.fed)) (marks (conn.fed ++ []))));
+            cc (numbered_with n f _);
+        stands = rw world stands;
+        counts = sym (denied_none buses n (accepting n piece w) _ (drop (length (marks conn.fed)) (marks (conn.fed ++ []))));
       },
       world,
     )

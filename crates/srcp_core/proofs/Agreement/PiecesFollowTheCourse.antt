@@ -1,17 +1,10 @@
 -- A piece leads from the course of any events to that with its bytes.
-use Rattle.std.proofs.Common.{◌≡◌, ℕ, ◌+◌, Bool, List, [], ◌∷◌, ◌++◌, length, refl, ap, sym, ◌∙◌, subst}
-use Rattle.std.specs.List.{fold}
-use Rattle.std.specs.Prelude.{Option, Some, None}
-use Rattle.srcp_core.specs.Under.{Bytes, Piece, giving, denied_by}
-use Rattle.srcp_core.specs.Course.{counted, course}
+use Rattle.srcp_core.proofs.Names.{◌≡◌, ℕ, ◌+◌, Bool, List, [], ◌∷◌, ◌++◌, length, refl, ap, sym, ◌∙◌, fold, Option, Some, None, Bytes}
+use Rattle.srcp_core.proofs.Names.{Piece, giving, denied_by, counted, course, Held, at, CountsEach, bytes_fault, heard_at, line_answered}
+use Rattle.srcp_core.proofs.Names.{lines_answered, steps_of_line, Recording, key_of, noted, Asked, CoreFault}
 use Rattle.srcp_core.specs.declared.event.Event.TheVariants as plain
-use Rattle.srcp_core.specs.Held.{Held, at}
-use Rattle.srcp_core.specs.Machine.{IsReceived, CountsEach, bytes_fault, heard_at, line_answered, lines_answered, steps_of_line, answered}
-use Rattle.srcp_core.specs.Recording.{Recording, key_of, noted}
+use Rattle.srcp_core.specs.Machine.{IsReceived, answered}
 use Rattle.srcp_core.specs.Run.{LeadsOn}
-use Rattle.srcp_core.specs.Stands.{StandsFor}
-use Rattle.srcp_core.specs.declared.line.Asked.{Asked}
-use Rattle.srcp_core.specs.declared.record.CoreFault.{CoreFault}
 use Rattle.srcp_core.proofs.Invariants.LinesAreFound.{line_found, heard_denied}
 use Rattle.srcp_core.proofs.Agreement.CallsFollowTheCourse.{telling, runs_telling}
 use Rattle.srcp_core.proofs.Agreement.RecordIsOfTheCourse.{runs_on}
@@ -46,18 +39,18 @@ line_read key piece first before granted counted a =
     by : (found : Option (ℕ × Asked)) (mid : Held) → ◌≡◌ {A = Option (ℕ × Asked) × Held} (heard_at key piece before.0 before.1) (found, mid)
         → AreRead key piece first (line_on key piece before granted)
     by None mid e =
-        let same : ◌≡◌ {A = ℕ × Held} (line_on key piece before granted) before = ap (line_answered key granted before) e in
-        subst (λ (reached : ℕ × Held). AreRead key piece first reached) (sym same) a
+        let same : ◌≡◌ {A = ℕ × Held} (line_on key piece before granted) before = cc in
+        rw same a
     by (Some (stop, asked)) mid e =
         let new : Held = answered granted key asked mid in
-        let is : ◌≡◌ {A = ℕ × Held} (stop, new) (line_on key piece before granted) = sym (ap (line_answered key granted before) e) in
+        let is : ◌≡◌ {A = ℕ × Held} (stop, new) (line_on key piece before granted) = cc in
         let steps = steps_of_line granted (heard_at key piece before.0 before.1) in
-        subst (λ (reached : ℕ × Held). AreRead key piece first reached) is
+        rw (← is)
         (record {
           grants = a.grants ++ granted ∷ [];
           counted =
               counted_more first.denied before.1.denied new.denied a.grants granted a.counted
-              (ap (λ (x : ℕ × Held). x.1.denied) is ∙ counted);
+              (cc);
           is = λ n first_r named.
               let i = a.is n first_r named in
               record {
@@ -96,7 +89,7 @@ accepted_leads key piece old new free received =
     record {
       grants = a.grants;
       counted = counted;
-      given = λ d. (none_denied a.grants old.denied (sym counted ∙ d)).1;
+      given = λ d. (none_denied a.grants old.denied (cc)).1;
       asked = λ buses events keys n layout named s.
           let first_r = telling keys (course buses events) in
           let i = a.is n first_r named in
@@ -109,7 +102,7 @@ accepted_leads key piece old new free received =
           let h =
           bytes_with a.grants n key piece first_r old reached.0 i.told reached.1 new received.rest i.reads buses events layout
           (runs_telling buses keys old (course buses events) s) in
-          subst (λ (ks : List (Option ℕ)). StandsFor buses ks new (course buses (events ++ Bytes n p ∷ []))) i.keys
+          rw (← i.keys)
           (runs_on buses events (Bytes n p) None (length events + 1) i.told new refl h).stands;
     }
 
@@ -117,20 +110,19 @@ pub refused_leads : (key : ℕ) (piece : List ℕ) (old new : Held) (cause : Cor
     → LeadsOn key piece old new
 refused_leads key piece old new cause e same = record {
   grants = [];
-  counted = ap (λ (x : Held). x.denied) same;
+  counted = cc;
   given = λ d. tt;
   asked =
-      λ buses events keys n layout named s. ap (λ (x : Held). x.denied) same
-      ∙ sym (denied_in_none buses (counted (course buses events)) old.denied (plain.Bytes n piece));
+      λ buses events keys n layout named s. cc (denied_in_none buses (counted (course buses events)) old.denied (plain.Bytes n piece));
   leads = λ buses events keys n layout named s.
       let first_r = telling keys (course buses events) in
       let h =
       (bytes_refused n key piece first_r old cause named e).happens buses events layout
       (runs_telling buses keys old (course buses events) s) in
-      subst (λ (x : Held). StandsFor buses keys x (course buses (events ++ Bytes n (giving piece) ∷ []))) (sym same)
+      rw same
       (runs_on buses events (Bytes n (giving piece)) (Some cause) (length events + 1) first_r old refl h).stands;
 }
 
 -- memory that was refused before stays refused
 pub received_denied : (key : ℕ) (piece : List ℕ) (old new : Held) → LeadsOn key piece old new → new.denied ≡ 0 → old.denied ≡ 0
-received_denied key piece old new l d = (none_denied l.grants old.denied (sym l.counted ∙ d)).0
+received_denied key piece old new l d = (none_denied l.grants _ (sym l.counted ∙ d)).0

@@ -1,25 +1,11 @@
 -- What a call makes of the place of one connection.
-use Rattle.std.proofs.Common.{◌≡◌, ℕ, ◌+◌, ◌≤◌, Bool, true, false, List, [], ◌∷◌, ◌++◌, length, length-append, drop, refl, ap, sym, ◌∙◌}
-use Rattle.std.proofs.Common.{arith, append-nil, append_assoc}
-use Rattle.std.proofs.lemmas.Bool.Decides.{nat_tests}
-use Rattle.std.proofs.lemmas.List.{length_push, drop-append-le}
-use Rattle.std.specs.List.{filter, fold}
-use Rattle.std.specs.Option.{option_map}
-use Rattle.std.specs.Prelude.{◌&&◌, nat_lt, if◌then◌else◌, Option, Some, None}
-use Rattle.srcp_info.specs.declared.change.Change.{Change}
-use Rattle.srcp_info.specs.declared.change.Cursor.{Cursor}
-use Rattle.srcp_info.specs.declared.change.Cursor.TheVariants.{Start}
-use Rattle.srcp_info.specs.declared.change.Shown.{Shown}
-use Rattle.srcp_info.specs.declared.value.Mode.{Mode}
-use Rattle.srcp_info.specs.declared.value.Mode.TheVariants.{Command as CommandMode, Info}
-use Rattle.srcp_text.specs.Reading.{Reading}
-use Rattle.srcp_feed.specs.Cursor.{concerns}
-use Rattle.srcp_core.specs.Connection.{Connection, History, cursor_at, untold, unsent, heard, text, given}
-use Rattle.srcp_core.specs.Course.{is_info}
-use Rattle.srcp_core.specs.Held.{Place, place_at}
-use Rattle.srcp_core.specs.Machine.{told_place, told_all, told_each, with_unsent, entered_place, panel_for, has_overrun, is_panel}
-use Rattle.srcp_core.specs.declared.connection.Panel.TheVariants.{Absent}
-use Rattle.srcp_core.specs.Stands.{placed, place_of, panel_at}
+use Rattle.srcp_core.proofs.Names.{◌≡◌, ℕ, ◌+◌, ◌≤◌, Bool, true, false, List, [], ◌∷◌, ◌++◌, length, length-append, drop, refl, ap, sym}
+use Rattle.srcp_core.proofs.Names.{◌∙◌, arith, append-nil, append_assoc, nat_tests, length_push, drop-append-le, filter, fold, option_map}
+use Rattle.srcp_core.proofs.Names.{◌&&◌, nat_lt, Option, Some, None, Change, Cursor, Start, Shown, Mode, Info, Reading, concerns}
+use Rattle.srcp_core.proofs.Names.{Connection, History, cursor_at, untold, unsent, text, given, is_info, Place, place_at, told_place}
+use Rattle.srcp_core.proofs.Names.{told_all, told_each, with_unsent, entered_place, panel_for, has_overrun, is_panel, Absent, placed}
+use Rattle.srcp_core.proofs.Names.{place_of, panel_at}
+use Rattle.srcp_info.specs.declared.value.Mode.TheVariants.{Command as CommandMode}
 use Rattle.srcp_core.proofs.CourseLaws.Histories.{concerning_by, concerning_push, cursor_by, cursor_later}
 use Rattle.srcp_core.proofs.CourseLaws.ClientHoldsPassedRows.{Fits, tolds, untold_by}
 use Rattle.srcp_core.proofs.Invariants.EveryPlaceIsTold.{told_all_at}
@@ -61,7 +47,7 @@ told_places changes p = fold (λ p change. told_place change p) p changes
 
 pub told_each_at : (changes : List Change) (places : List (Option Place)) (key : ℕ)
     → place_at (told_each changes places) key ≡ option_map (told_places changes) (place_at places key)
-told_each_at [] places key = sym (same (place_at places key))
+told_each_at [] places key = sym (same _)
   where
     same : (o : Option Place) → option_map (told_places []) o ≡ o
     same None = refl
@@ -80,13 +66,14 @@ told_places_placed : (changes : List Change) (reader : Reading) (mode : Mode) (s
     → told_places changes (placed reader mode session info ended bytes cursor queue)
     ≡ placed reader mode session info ended bytes cursor (queue ++ filter (concerns cursor) changes)
 told_places_placed [] reader mode session info ended bytes cursor queue =
-    ap (placed reader mode session info ended bytes cursor) (sym (append-nil queue))
+    cc (append-nil queue)
 told_places_placed (change ∷ changes) reader mode session info ended bytes cursor queue =
-    ap (told_places changes) (told_placed change reader mode session info ended bytes cursor queue)
-    ∙ told_places_placed changes reader mode session info ended bytes cursor (queue ++ one cursor change)
-    ∙ ap (placed reader mode session info ended bytes cursor)
-    (append_assoc queue (one cursor change) (filter (concerns cursor) changes)
-    ∙ ap (λ cs. queue ++ cs) (joined (concerns cursor change) refl))
+    cc (
+      told_placed change reader mode session info ended bytes cursor queue,
+      told_places_placed changes reader mode session info ended bytes cursor _,
+      append_assoc queue _ _,
+      joined _ refl,
+    )
   where
     joined : (t : Bool) → concerns cursor change ≡ t
         → one cursor change ++ filter (concerns cursor) changes ≡ filter (concerns cursor) (change ∷ changes)
@@ -98,7 +85,7 @@ told_places_placed (change ∷ changes) reader mode session info ended bytes cur
 pub untold_shut : (conn : Connection) (history : History) → conn.shut ≡ None
     → untold conn history ≡ untold_by conn.go_step conn.items conn.done history
 untold_shut conn history e =
-    ap (λ s. drop (length (tolds conn.items)) (concerning_by conn.go_step (cursor_by conn.done conn.items) (heard s history))) e
+    cc
 
 untold_push : (first : List Shown) (conn : Connection) (history : History) (changes : List Change) → conn.shut ≡ None
     → Fits first history conn.go_step conn.items conn.done
@@ -118,7 +105,7 @@ told_place_of first reader conn history changes shut f =
     let len : length (history ++ changes ∷ []) ≡ length history + 1 = length_push history changes in
     let up : length history ≤ length (history ++ changes ∷ []) = omega arith in
     let cur : cursor_at conn (length (history ++ changes ∷ [])) ≡ cursor_at conn (length history) =
-    cursor_later (length history) (length (history ++ changes ∷ [])) conn.done conn.items up f.finished f.numbers in
+    cursor_later _ _ _ _ up f.finished f.numbers in
     told_places_placed changes reader conn.mode conn.session conn.info conn.ended (unsent conn) (cursor_at conn (length history))
     (untold conn history)
     ∙ ap (λ q. placed reader conn.mode conn.session conn.info conn.ended (unsent conn) (cursor_at conn (length history)) q)
@@ -141,32 +128,30 @@ plain_place reader mode session ended bytes = record {
 pub plain_is : (reader : Reading) (history : History) (conn : Connection) → conn.info ≡ false
     → place_of reader history conn ≡ plain_place reader conn.mode conn.session conn.ended (unsent conn)
 plain_is reader history conn e =
-    ap (λ i. placed reader conn.mode conn.session i conn.ended (unsent conn) (cursor_at conn (length history)) (untold conn history)) e
+    cc
 
 -- a reply to a connection that was given no lines is put at the end of what was given to it
 pub given_reply : (conn : Connection) (line : List ℕ) → conn.items ≡ []
     → given (record conn { out = conn.out ++ line }) ≡ given conn ++ line
 given_reply conn line none =
-    let bare : text conn.items ≡ [] = ap text none in
-    let before : given conn ≡ conn.out = ap (λ t. conn.out ++ t) bare ∙ append-nil conn.out in
-    ap (λ t. (conn.out ++ line) ++ t) bare ∙ append-nil (conn.out ++ line) ∙ ap (λ bytes. bytes ++ line) (sym before)
+    let bare : text conn.items ≡ [] = cc in
+    let before : given conn ≡ conn.out = cc (append-nil conn.out) in
+    cc (append-nil _)
 
 -- and of what is unsent
 pub unsent_reply : (conn : Connection) (line : List ℕ) → conn.items ≡ [] → conn.taken ≤ length (given conn)
     → unsent (record conn { out = conn.out ++ line }) ≡ unsent conn ++ line
-unsent_reply conn line none within = ap (drop conn.taken) (given_reply conn line none) ∙ drop-append-le conn.taken (given conn) line within
+unsent_reply conn line none within = cc (given_reply conn line none, drop-append-le _ _ line within)
 
 pub chosen_place : (reader : Reading) (history : History) (conn : Connection) (mode : Mode) → conn.info ≡ false
     → record (place_of reader history conn) { mode = mode } ≡ place_of reader history (record conn { mode = mode })
 chosen_place reader history conn mode plain =
-    ap (λ (p : Place). record p { mode = mode }) (plain_is reader history conn plain)
-    ∙ sym (plain_is reader history (record conn { mode = mode }) plain)
+    cc (plain_is reader history conn plain, plain_is reader history (record conn { mode = mode }) plain)
 
 pub ended_place : (reader : Reading) (history : History) (conn : Connection) → conn.info ≡ false
     → record (place_of reader history conn) { ended = true } ≡ place_of reader history (record conn { ended = true })
 ended_place reader history conn plain =
-    ap (λ (p : Place). record p { ended = true }) (plain_is reader history conn plain)
-    ∙ sym (plain_is reader history (record conn { ended = true }) plain)
+    cc (plain_is reader history conn plain, plain_is reader history (record conn { ended = true }) plain)
 
 -- a session begins
 entered_plain : (reader : Reading) (mode : Mode) (session id : ℕ) (ended : Bool) (bytes : List ℕ)
@@ -181,7 +166,7 @@ pub entered_place_of : (reader : Reading) (history : History) (conn : Connection
     ≡ place_of reader history (record conn { session = id; info = is_info conn.mode; go_step = go })
 entered_place_of reader history conn id go shut plain none undone =
     ap (entered_place id (panel_for conn.mode)) (plain_is reader history conn plain)
-    ∙ entered_plain reader conn.mode conn.session id conn.ended (unsent conn)
+    ∙ entered_plain reader _ conn.session id _ _
     ∙ ap (λ c. placed reader conn.mode id (is_info conn.mode) conn.ended (unsent conn) c [])
     (sym (ap (λ d. cursor_by d conn.items (length history)) undone ∙ ap (λ is. cursor_by None is (length history)) none))
     ∙ ap (placed reader conn.mode id (is_info conn.mode) conn.ended (unsent conn) (cursor_at conn (length history))) (sym nothing)
@@ -203,7 +188,7 @@ module _ (reader : Reading) (history : History) (conn : Connection) where
   over = nat_lt 256 (length (untold conn history))
 
   pub place_info : is_panel (place_of reader history conn).panel ≡ conn.info
-  place_info = by conn.info over refl refl
+  place_info = by _ over refl refl
     where
       by : (info o : Bool) → conn.info ≡ info → over ≡ o
           → is_panel (panel_at conn.info (cursor_at conn (length history)) (untold conn history)) ≡ conn.info
@@ -212,7 +197,7 @@ module _ (reader : Reading) (history : History) (conn : Connection) where
       by true false i e = rw (i, e) refl
 
   pub place_overran : has_overrun (place_of reader history conn).panel ≡ is_over_place history conn
-  place_overran = by conn.info over refl refl
+  place_overran = by _ over refl refl
     where
       by : (info o : Bool) → conn.info ≡ info → over ≡ o
           → has_overrun (panel_at conn.info (cursor_at conn (length history)) (untold conn history)) ≡ conn.info && over
@@ -230,7 +215,4 @@ module _ (reader : Reading) (history : History) (conn : Connection) where
   pub replied_still : (line : List ℕ) → is_over_place history conn ≡ false → conn.items ≡ [] → conn.taken ≤ length (given conn)
       → with_unsent line (place_of reader history conn) ≡ place_of reader history (record conn { out = conn.out ++ line })
   replied_still line still none within =
-      ap (λ t. record (place_of reader history conn) { unsent = (if t then [] else unsent conn) ++ line }) still
-      ∙ ap (λ bytes. record (place_of reader history conn) { unsent = bytes }) (sym (unsent_reply conn line none within))
-      ∙ ap (λ t. record (place_of reader history conn) { unsent = if t then [] else unsent (record conn { out = conn.out ++ line }) })
-      (sym still)
+      cc (unsent_reply conn line none within)

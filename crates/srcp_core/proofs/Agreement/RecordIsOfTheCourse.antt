@@ -1,46 +1,26 @@
 -- The record of a run is that of the course of its events.
-use Rattle.std.proofs.Common.{◌≡◌, ℕ, zero, suc, ◌+◌, ◌<◌, ◌≤◌, Bool, true, false, List, [], ◌∷◌, ◌++◌, map, take, length, refl, ap, sym}
-use Rattle.std.proofs.Common.{◌∙◌, subst, arith, add-one, length-append}
-use Rattle.std.proofs.lemmas.List.{take_all}
-use Rattle.std.proofs.lemmas.List.Sums.{fold-append}
-use Rattle.std.specs.List.{fold}
-use Rattle.std.specs.Prelude.{Option, Some, None, ◌&&◌, ◌||◌, ◌==◌, nat_lt, slice_get, slice_index_or, Result, Ok, Err, if◌then◌else◌}
-use Rattle.srcp_info.specs.declared.change.Code.{Code}
-use Rattle.srcp_info.specs.declared.change.Code.TheVariants.{C500}
-use Rattle.srcp_info.specs.declared.change.Reply.TheVariants.{Go, Refused}
-use Rattle.srcp_info.specs.declared.value.Mode.{Mode}
-use Rattle.srcp_grammar.specs.declared.layout.Bus.{Bus}
-use Rattle.srcp_grammar.specs.Layout.{IsLayout}
-use Rattle.srcp_rules.specs.State.{opening, shown_rows}
-use Rattle.srcp_rules.specs.Effect.{Effect}
-use Rattle.srcp_core.specs.Under.{Event, Open, Bytes, Room, At, Shut, Obeyed, Began, Ended, Heard, Order, effect, greets, Piece, under}
-use Rattle.srcp_core.specs.Under.{all_under, denied_by}
+use Rattle.srcp_core.proofs.Names.{◌≡◌, ℕ, zero, suc, ◌+◌, ◌<◌, ◌≤◌, Bool, true, false, List, [], ◌∷◌, ◌++◌, map, take, length, refl, ap}
+use Rattle.srcp_core.proofs.Names.{sym, ◌∙◌, arith, add-one, length-append, take_all, fold-append, fold, Option, Some, None, ◌&&◌}
+use Rattle.srcp_core.proofs.Names.{slice_get, slice_index_or, if◌then◌else◌, Bus, IsLayout, opening, shown_rows, Event, Open, Bytes, Room}
+use Rattle.srcp_core.proofs.Names.{At, Shut, under, all_under, denied_by, Connection, History, is_open, is_nil, overran, unsent, finish}
+use Rattle.srcp_core.proofs.Names.{World, start, numbered, history, counted, open_connection, accepted, or_refused, happens, course}
+use Rattle.srcp_core.proofs.Names.{denied_in, denied_over, Reading, Held, at, IsRecordOf, opening_held, finish_at, Recording, key_of}
+use Rattle.srcp_core.proofs.Names.{record_of, changed_record, finished, finished_by, nothing_recorded, Runs, Happened, HappensAs, RunsUnder}
+use Rattle.srcp_core.proofs.Names.{StandsFor, place_of, ConnRecord, CoreFault, Record}
 use Rattle.srcp_core.specs.declared.event.Event.{Event as PlainEvent}
-use Rattle.srcp_core.specs.Connection.{Connection, History, is_open, is_nil, overran, unsent, finish, recorded}
-use Rattle.srcp_core.specs.Course.{World, start, numbered, at_connection, did, state, history, counted, fault, open_connection, order_of}
-use Rattle.srcp_core.specs.Course.{replied, entered, goes, greeted, ended, obeyed, commanded, answered_as, answered, new_lines, fed_to}
-use Rattle.srcp_core.specs.Course.{shut_as, accepted, or_refused, happens, course, denied_in, denied_over}
-use Rattle.srcp_text.specs.Reading.{Reading}
-use Rattle.srcp_core.specs.Handshake.{Greeting, Speaks, Chooses, Goes, Refuses}
-use Rattle.srcp_core.specs.Held.{Held, at}
-use Rattle.srcp_core.specs.Laws.{IsRecordOf}
-use Rattle.srcp_core.specs.Machine.{opening_held, finish_at, finish_from}
-use Rattle.srcp_core.specs.Recording.{Recording, key_of, record_of, changed_record, changed_in, finished, finished_by, with_refusal}
-use Rattle.srcp_core.specs.Recording.{nothing_recorded}
-use Rattle.srcp_core.specs.Run.{Runs, Happened, HappensAs, FollowsAs, RunsUnder}
+use Rattle.srcp_core.specs.Connection.{recorded}
+use Rattle.srcp_core.specs.Recording.{changed_in, with_refusal}
+use Rattle.srcp_core.specs.Run.{FollowsAs}
 use Rattle.srcp_core.proofs.Agreement.RefusalsAreCounted.{denied_over_push}
 use Rattle.srcp_core.proofs.Agreement.MemoryAnswers.{under_push, under_length}
-use Rattle.srcp_core.specs.Stands.{StandsFor, place_of}
-use Rattle.srcp_core.specs.declared.record.ConnRecord.{ConnRecord}
-use Rattle.srcp_core.specs.declared.record.CoreFault.{CoreFault}
 use Rattle.srcp_core.specs.declared.record.Finish.{Finish}
-use Rattle.srcp_core.specs.declared.record.Finish.TheVariants.{Live, Closing, Overrun, Shut as ShutFinish}
-use Rattle.srcp_core.specs.declared.record.Record.{Record}
+use Rattle.srcp_core.specs.declared.record.Finish.TheVariants.{Live, Closing, Overrun}
 use Rattle.srcp_core.proofs.Agreement.EventsAgree.{over_is}
 use Rattle.srcp_core.proofs.Agreement.PlacesChange.{place_overran, place_unsent}
 use Rattle.srcp_core.proofs.CourseLaws.SessionsOfACourse.{anything, at_number, opening_in_order, open_shut}
-use Rattle.srcp_core.proofs.Agreement.StandsAfterAChange.{Anything, Fine}
+use Rattle.srcp_core.proofs.Agreement.StandsAfterAChange.{stands_as, Anything, Fine}
 use Rattle.srcp_core.proofs.CourseLaws.SessionsAreKept.{sound}
+use Rattle.srcp_core.proofs.CourseLaws.EventsKeep.{IsAnswered, kept_fed, kept_shut}
 use Rattle.srcp_core.proofs.Agreement.NumbersAndKeys.{no_connection, no_key}
 use Rattle.srcp_core.proofs.Invariants.PlacesCover.{no_place}
 
@@ -54,7 +34,7 @@ finish_step_none held zero (None ∷ keys) (told ∷ tolds) e = refl
 finish_step_none held zero (Some key ∷ keys) tolds e = cc
 finish_step_none held (suc i) (key ∷ keys) [] e = refl
 finish_step_none held (suc i) (key ∷ keys) (told ∷ tolds) e =
-    ap (λ ts. finished_by held key told ∷ ts) (finish_step_none held i keys tolds e)
+    cc (finish_step_none held i keys tolds e)
 
 finish_step_some : (held : Held) (i key : ℕ) (keys : List (Option ℕ)) (tolds : List ConnRecord) → slice_get keys i ≡ Some (Some key)
     → finished held (take (suc i) keys) tolds
@@ -63,11 +43,10 @@ finish_step_some held i key [] tolds e = cc
 finish_step_some held zero key (None ∷ keys) tolds e = cc
 finish_step_some held zero key (Some other ∷ keys) [] e = refl
 finish_step_some held zero key (Some other ∷ keys) (told ∷ tolds) e =
-    let same : other ≡ key = cc in ap (λ k. record told { finish = finish_at k held } ∷ tolds) same
+    let same : other ≡ key = cc in cc
 finish_step_some held (suc i) key (other ∷ keys) [] e = refl
 finish_step_some held (suc i) key (other ∷ keys) (told ∷ tolds) e =
-    ap (λ ts. finished_by held other told ∷ ts) (finish_step_some held i key keys tolds e)
-    ∙ front (slice_get (finished held (take i keys) tolds) i)
+    cc (finish_step_some held i key keys tolds e, front _)
   where
     front : (o : Option ConnRecord)
         → finished_by held other told
@@ -80,26 +59,24 @@ finish_step_some held (suc i) key (other ∷ keys) (told ∷ tolds) e =
 pub finish_none : (held : Held) (i : ℕ) (keys : List (Option ℕ)) (tolds now : List ConnRecord) → slice_get keys i ≡ Some None
     → now ≡ finished held (take i keys) tolds → now ≡ finished held (take (i + 1) keys) tolds
 finish_none held i keys tolds now e is =
-    is ∙ sym (finish_step_none held i keys tolds e) ∙ ap (λ k. finished held (take k keys) tolds) (sym (add-one i))
+    cc (finish_step_none held i keys tolds e, add-one i)
 
 pub finish_some : (held : Held) (i key : ℕ) (keys : List (Option ℕ)) (tolds now later : List ConnRecord)
     → slice_get keys i ≡ Some (Some key) → now ≡ finished held (take i keys) tolds
     → later ≡ changed_record (i + 1) (λ told. record told { finish = finish_at key held }) now
     → later ≡ finished held (take (i + 1) keys) tolds
 finish_some held i key keys tolds now later e is step =
-    step ∙ ap (changed_record (i + 1) (λ told. record told { finish = finish_at key held })) is
-    ∙ ap (λ k. changed_record k (λ told. record told { finish = finish_at key held }) (finished held (take i keys) tolds)) (add-one i)
-    ∙ sym (finish_step_some held i key keys tolds e) ∙ ap (λ k. finished held (take k keys) tolds) (sym (add-one i))
+    cc (add-one i, finish_step_some held i key keys tolds e)
 
 get_some : {A : Type 0} (xs : List (Option A)) (i : ℕ) (x : A) → slice_index_or xs i None ≡ Some x → slice_get xs i ≡ Some (Some x)
 get_some [] zero x e = cc
 get_some [] (suc i) x e = cc
-get_some (y ∷ xs) zero x e = ap Some e
+get_some (y ∷ xs) zero x e = cc
 get_some (y ∷ xs) (suc i) x e = get_some xs i x e
 
 get_none : {A : Type 0} (xs : List (Option A)) (i : ℕ) → i < length xs → slice_index_or xs i None ≡ None → slice_get xs i ≡ Some None
 get_none [] i h e = absurd (omega (arith, h))
-get_none (y ∷ xs) zero h e = ap Some e
+get_none (y ∷ xs) zero h e = cc
 get_none (y ∷ xs) (suc i) h e = let l : i < length xs = omega (arith, h) in get_none xs i l e
 
 pub finish_kept : (held : Held) (i : ℕ) (keys : List (Option ℕ)) (tolds now : List ConnRecord) → i < length keys
@@ -122,8 +99,7 @@ finished_is history held [] (conn ∷ conns) l law = absurd (omega (arith, l))
 finished_is history held (key ∷ keys) [] l law = absurd (omega (arith, l))
 finished_is history held (key ∷ keys) (conn ∷ conns) l law =
     let less : length keys ≡ length conns = omega (arith, l) in
-    ap (λ t. t ∷ finished held keys (map record_of conns)) (law 0 conn refl)
-    ∙ ap (λ ts. recorded history conn ∷ ts) (finished_is history held keys conns less (λ k other e. law (suc k) other e))
+    cc (law 0 conn refl, finished_is history held keys conns less (λ k other e. law (suc k) other e))
 
 module _ (buses : List Bus) (layout : IsLayout buses) (keys : List (Option ℕ)) (held : Held) (events : List Event)
     (s : StandsFor buses keys held (course buses events)) where
@@ -138,138 +114,56 @@ module _ (buses : List Bus) (layout : IsLayout buses) (keys : List (Option ℕ))
       let fine = sound buses (opening_in_order buses layout) Anything (anything (shown_rows (opening buses 0))) events in
       let f : Fine buses (history buses w) conn = at_number (Fine buses (history buses w)) n w.connections conn fine e in
       let over = over_is buses (history buses w) conn (open_shut conn.shut o) f in
-      ap finish_from here
-      ∙ ap (λ t. if t then Overrun else (if conn.ended && is_nil p.unsent then Closing else Live))
-      (place_overran reader (history buses w) conn ∙ sym over)
-      ∙ by (overran conn (history buses w)) (λ still. place_unsent reader (history buses w) conn (sym over ∙ still))
-      ∙ ap (λ t. if t
-      then (if overran conn (history buses w) then Overrun else (if conn.ended && is_nil (unsent conn) then Closing else Live))
-      else ShutFinish)
-      (sym o)
+      cc (
+        place_overran reader (history buses w) conn,
+        by (overran conn (history buses w)) (λ still. place_unsent reader (history buses w) conn (sym over ∙ still)),
+      )
     where
       by : (t : Bool) → (t ≡ false → (place_of reader (history buses w) conn).unsent ≡ unsent conn)
           → (if t then Overrun else (if conn.ended && is_nil (place_of reader (history buses w) conn).unsent then Closing else Live))
           ≡ (if t then Overrun else (if conn.ended && is_nil (unsent conn) then Closing else Live))
       by true h = refl
-      by false h = ap (λ bytes. if conn.ended && is_nil bytes then Closing else Live) (h refl)
+      by false h = cc (h refl)
 
   one_finished : (n : ℕ) (conn : Connection) → numbered n w.connections ≡ Some conn
       → finished_by held (key_of n keys) (record_of conn) ≡ recorded (history buses w) conn
-  one_finished n conn e = by (is_open conn) refl
+  one_finished n conn e = by _ refl
     where
       by : (o : Bool) → is_open conn ≡ o → finished_by held (key_of n keys) (record_of conn) ≡ recorded (history buses w) conn
       by false o =
-          ap (λ k. finished_by held k (record_of conn)) (s.closed n conn e o)
-          ∙ ap (λ t. record (record_of conn) { finish = if t then Live else ShutFinish }) o
-          ∙ ap (λ t.
-          record (record_of conn) {
-            finish =
-                if t
-                then (if overran conn (history buses w) then Overrun
-                else (if conn.ended && is_nil (unsent conn) then Closing else Live))
-                else ShutFinish;
-          })
-          (sym o)
+          cc (s.closed n conn e o)
       by true o =
           let a = s.opens n conn e o in
-          ap (λ k. finished_by held k (record_of conn)) a.named
-          ∙ ap (λ (finish : Finish). record (record_of conn) { finish = finish }) (finish_is n a.key a.reader conn e o a.place)
+          cc (a.named, finish_is n a.key a.reader conn e o a.place)
 
   pub all_finished : finished held keys (map record_of w.connections) ≡ map (recorded (history buses w)) w.connections
-  all_finished = finished_is (history buses w) held keys w.connections s.long (λ k conn e. one_finished (suc k) conn e)
+  all_finished = finished_is _ held keys _ s.long (λ k conn e. one_finished (suc k) conn e)
 
 -- ---- how many events there were
 
-module _ (buses : List Bus) (n : ℕ) where
-  events_goes : (mode : Mode) (w : World) → (goes buses n mode w).events ≡ w.events
-  events_goes mode w =
-      elim (nat_lt w.last_id 4294967295)
-      as (λ t.
-      (if t
-      then replied n (Go (w.last_id + 1))
-      (entered buses n (w.last_id + 1)
-      (did (Began (w.last_id + 1) w.moment mode) (record w { last_id = w.last_id + 1 })))
-      else replied n (Refused C500) w).events
-      ≡ w.events) [
-        | true ↦ refl
-        | false ↦ refl
-      ]
-
-  events_greeted : (mode : Mode) (greeting : Greeting) (w : World) → (greeted buses n mode greeting w).events ≡ w.events
-  events_greeted mode Speaks w = refl
-  events_greeted mode (Chooses chosen) w = refl
-  events_greeted mode Goes w = events_goes mode w
-  events_greeted mode (Refuses code) w = refl
-
-  events_commanded : (session : ℕ) (command : Result Order Code) (w : World) → (commanded buses n session command w).events ≡ w.events
-  events_commanded session (Err code) w = refl
-  events_commanded session (Ok command) w = by (effect (state buses w) session w.moment command)
-    where
-      by : (result : Effect) → (obeyed buses n session command result w).events ≡ w.events
-      by result =
-          elim result.ends as (λ t.
-          (if t then ended buses n session (replied n result.reply (did (Obeyed session w.moment command) w))
-          else replied n result.reply (did (Obeyed session w.moment command) w)).events
-          ≡ w.events) [
-            | true ↦ refl
-            | false ↦ refl
-          ]
-
-  events_answered_as : (o : Option Connection) (mark : Heard) (w : World) → (answered_as buses n o mark w).events ≡ w.events
-  events_answered_as None mark w = refl
-  events_answered_as (Some conn) mark w =
-      elim (conn.info || conn.ended)
-      as (λ t.
-      (if t then w
-      else (if conn.session == 0 then greeted buses n conn.mode (greets mark) w
-      else commanded buses n conn.session (order_of buses mark) w)).events
-      ≡ w.events) [
-        | true ↦ refl
-        | false ↦
-            elim (conn.session == 0)
-            as (λ t.
-            (if t then greeted buses n conn.mode (greets mark) w
-            else commanded buses n conn.session (order_of buses mark) w).events
-            ≡ w.events) [
-              | true ↦ events_greeted conn.mode (greets mark) w
-              | false ↦ events_commanded conn.session (order_of buses mark) w
-            ]
-      ]
-
-  events_marks : (marks : List Heard) (w : World) → (fold (answered buses n) w marks).events ≡ w.events
-  events_marks [] w = refl
-  events_marks (mark ∷ marks) w = events_marks marks (answered buses n w mark) ∙ events_answered_as (open_connection w n) mark w
-
-  events_fed : (piece : Piece) (o : Option Connection) (w : World) → (fed_to buses n piece o w).events ≡ w.events
-  events_fed piece None w = refl
-  events_fed piece (Some conn) w =
-      events_marks (new_lines buses conn.fed piece) (at_connection n (λ c. record c { fed = c.fed ++ piece.bytes }) w)
-
-  events_shut : (o : Option Connection) (w : World) → (shut_as buses n o w).events ≡ w.events
-  events_shut None w = refl
-  events_shut (Some conn) w =
-      elim ((conn.session == 0) || conn.ended)
-      as (λ t.
-      (if t then at_connection n (λ c. record c { shut = Some (length w.steps) }) w
-      else did (Ended conn.session w.moment)
-      (at_connection n (λ c. record c { shut = Some (length w.steps) }) w)).events
-      ≡ w.events) [
-        | true ↦ refl
-        | false ↦ refl
-      ]
+events_kept : (buses : List Bus) (n count : ℕ) → IsAnswered buses n (λ w. w.events ≡ count)
+events_kept buses n count = record {
+  step = λ step w e. e;
+  numbers = λ id w e. e;
+  says = λ mode ends w e. e;
+  answers = λ reply w plain e. e;
+  enters = λ id reply w plain e. e;
+}
 
 events_accepted : (buses : List Bus) (event : Event) (w : World) → (accepted buses event w).events ≡ w.events
 events_accepted buses (Open granted) w = refl
-events_accepted buses (Bytes n piece) w = events_fed buses n piece (open_connection w n) w
+events_accepted buses (Bytes n piece) w =
+    kept_fed buses n (λ v. v.events ≡ w.events) (events_kept buses n w.events) piece (open_connection w n) w refl refl
 events_accepted buses (Room n bytes) w = refl
 events_accepted buses (At moment) w = refl
-events_accepted buses (Shut n) w = events_shut buses n (open_connection w n) w
+events_accepted buses (Shut n) w =
+    kept_shut buses n (λ v. v.events ≡ w.events) (events_kept buses n w.events) (open_connection w n) w refl (λ conn e. refl)
 
 events_happens : (buses : List Bus) (w : World) (event : Event) → (happens buses w event).events ≡ w.events + 1
-events_happens buses w event = by (fault buses (counted w) event)
+events_happens buses w event = by _
   where
     by : (o : Option CoreFault) → (or_refused buses o event (counted w)).events ≡ w.events + 1
-    by None = events_accepted buses event (counted w)
+    by None = events_accepted buses event _
     by (Some cause) = refl
 
 events_from : (buses : List Bus) (events : List Event) (w : World) → (fold (happens buses) w events).events ≡ w.events + length events
@@ -296,36 +190,24 @@ pub runs_on : (buses : List Bus) (events : List Event) (event : Event) (refusal 
     → Happened buses event refusal r held (counted (course buses events))
     → Runs buses (with_fault number refusal r) held (course buses (events ++ event ∷ []))
 runs_on buses events event None number r held e h =
-    let w = counted (course buses events) in
+    let w = counted _ in
     let is : course buses (events ++ event ∷ []) ≡ accepted buses event w =
-    fold-append (happens buses) start events (event ∷ []) ∙ ap (λ o. or_refused buses o event w) h.0 in
-    subst (λ (v : World). Runs buses r held v) (sym is) h.1
+    cc (fold-append _ start events _, h.0) in
+    rw is h.1
 runs_on buses events event (Some cause) number r held e h =
-    let w = counted (course buses events) in
-    let now : w.events ≡ number = ap (λ k. k + 1) (events_course buses events) ∙ sym e in
+    let w = counted _ in
+    let now : w.events ≡ number = cc (events_course buses events) in
     let is : course buses (events ++ event ∷ []) ≡ record w { refused = w.refused ++ record { event = w.events; fault = cause } ∷ [] } =
-    fold-append (happens buses) start events (event ∷ []) ∙ ap (λ o. or_refused buses o event w) h.0 in
+    cc (fold-append _ start events _, h.0) in
     let s = h.1.stands in
     let t = h.1.tells in
-    subst (λ (v : World). Runs buses (with_refusal number cause r) held v) (sym is)
+    rw is
     (record {
-      stands = record {
-        layout = s.layout;
-        rows = s.rows;
-        moment = s.moment;
-        last_id = s.last_id;
-        count = s.count;
-        long = s.long;
-        opens = s.opens;
-        closed = s.closed;
-        apart = s.apart;
-        owned = s.owned;
-      };
+      stands = stands_as buses (λ n fed. fed) r.keys held w _ _ _ _ _ _ _ s.moment s.last_id s;
       tells = record {
         steps = t.steps;
         refused =
-            ap (λ refused. refused ++ record { event = number; fault = cause } ∷ []) t.refused
-            ∙ ap (λ k. w.refused ++ record { event = k; fault = cause } ∷ []) (sym now);
+            cc t.refused;
         connections = t.connections;
       };
     })
@@ -338,18 +220,18 @@ follows number event refusal r mid later_r held later h e = record {
   counted = h.counted;
   asked = h.asked;
   follows = λ buses events layout n s.
-      subst (λ (x : Recording). Runs buses x later (course buses (events ++ under h.grants event ∷ []))) (sym e)
-      (runs_on buses events (under h.grants event) refusal number mid later n (h.happens buses events layout s));
+      rw e
+      (runs_on buses events _ refusal number mid later n (h.happens buses events layout s));
 }
 
 take_one : (events : List PlainEvent) (index : ℕ) (event : PlainEvent) → slice_get events index ≡ Some event
     → (take (index + 1) events ≡ take index events ++ event ∷ []) × (length (take index events) ≡ index)
 take_one [] index event e = cc
-take_one (x ∷ events) zero event e = let same : x ≡ event = cc in (ap (λ y. y ∷ []) same, refl)
+take_one (x ∷ events) zero event e = let same : x ≡ event = cc in (cc, refl)
 take_one (x ∷ events) (suc index) event e =
     let ih = take_one events index event e in
     let one : suc index + 1 ≡ suc (index + 1) = omega arith in
-    (ap (λ k. take k (x ∷ events)) one ∙ ap (λ es. x ∷ es) ih.0, ap (λ k. suc k) ih.1)
+    (cc ih.0, cc ih.1)
 
 -- one event more of a list
 pub follows_more : (buses : List Bus) (events : List PlainEvent) (index : ℕ) (event : PlainEvent) (r later_r : Recording)
@@ -358,27 +240,26 @@ pub follows_more : (buses : List Bus) (events : List PlainEvent) (index : ℕ) (
     → RunsUnder buses (take index events) r held → RunsUnder buses (take (index + 1) events) later_r later
 follows_more buses events index event r later_r held later layout at f u =
     let t = take_one events index event at in
-    let all = all_under u.grants (take index events) in
-    let long : index ≡ length all = sym (under_length u.grants (take index events) ∙ t.1) in
-    subst (λ (es : List PlainEvent). RunsUnder buses es later_r later) (sym t.0) (record {
+    let all = all_under u.grants _ in
+    let long : index ≡ length all = sym (under_length u.grants _ ∙ t.1) in
+    rw t.0 (record {
       grants = u.grants ++ f.grants ∷ [];
-      count = length-append u.grants (f.grants ∷ []) ∙ ap (λ k. k + 1) u.count ∙ sym (length-append (take index events) (event ∷ []));
-      counted = f.counted ∙ ap (λ k. denied_by k f.grants) u.counted ∙ sym (fold-append denied_by 0 u.grants (f.grants ∷ []));
+      count = cc (length-append u.grants _, u.count, length-append _ _);
+      counted = f.counted ∙ ap (λ k. denied_by k f.grants) u.counted ∙ sym (fold-append _ 0 u.grants _);
       asked = f.asked buses all layout u.runs ∙ ap (λ k. denied_in buses k (counted (course buses all)) (under f.grants event)) u.asked
-          ∙ sym (ap (denied_over buses 0 start) (under_push u.grants (take index events) f.grants event u.count)
-          ∙ denied_over_push buses 0 start all (under f.grants event));
+          ∙ sym (ap (denied_over buses 0 start) (under_push u.grants _ f.grants event u.count)
+          ∙ denied_over_push buses 0 start all _);
       runs =
-          subst (λ (es : List Event). Runs buses later_r later (course buses es))
-          (sym (under_push u.grants (take index events) f.grants event u.count))
-          (f.follows buses all layout (ap (λ k. k + 1) long) u.runs);
+          rw (under_push u.grants _ f.grants event u.count)
+          (f.follows buses all layout (cc) u.runs);
     })
 
 -- before all events
 pub runs_start : (buses : List Bus) (r : Recording) (held : Held) → r ≡ nothing_recorded → held ≡ opening_held buses 0 0
     → Runs buses r held (course buses [])
 runs_start buses r held e h =
-    subst (λ (x : Recording). Runs buses x held start) (sym e)
-    (subst (λ (x : Held). Runs buses nothing_recorded x start) (sym h) (record {
+    rw e
+    (rw h (record {
       stands = record {
         layout = refl;
         rows = refl;
@@ -400,15 +281,15 @@ pub runs_none : (buses : List Bus) (events : List PlainEvent) (r : Recording) (h
 runs_none buses events r held e h = record {
   grants = [];
   count = refl;
-  counted = ap (λ (x : Held). x.denied) h;
-  asked = ap (λ (x : Held). x.denied) h;
+  counted = cc;
+  asked = cc;
   runs = runs_start buses r held e h;
 }
 
 -- once all events happened
 pub runs_all : (buses : List Bus) (events : List PlainEvent) (index : ℕ) (r : Recording) (held : Held) → length events ≤ index
     → RunsUnder buses (take index events) r held → RunsUnder buses events r held
-runs_all buses events index r held h runs = subst (λ (es : List PlainEvent). RunsUnder buses es r held) (take_all index events h) runs
+runs_all buses events index r held h runs = rw (← (take_all index events h)) runs
 
 -- the record of a run
 pub record_is : (buses : List Bus) (events : List Event) (r : Recording) (held : Held) (told : Record) → IsLayout buses
@@ -417,7 +298,7 @@ pub record_is : (buses : List Bus) (events : List Event) (r : Recording) (held :
     → IsRecordOf buses events told
 record_is buses events r held told layout s steps refused connections rows = record {
   steps = steps ∙ s.tells.steps;
-  refused = refused ∙ s.tells.refused;
-  connections = connections ∙ ap (finished held r.keys) s.tells.connections ∙ all_finished buses layout r.keys held events s.stands;
+  refused = cc s.tells.refused;
+  connections = cc (s.tells.connections, all_finished buses layout r.keys held events s.stands);
   rows = rows ∙ s.stands.rows;
 }

@@ -1,31 +1,18 @@
 -- The core counts the refusals of memory that the course asks for.
-use Rattle.std.proofs.Common.{◌≡◌, ℕ, ◌+◌, Bool, true, false, List, [], ◌∷◌, ◌++◌, refl, ap, sym, ◌∙◌}
-use Rattle.std.specs.List.{fold}
-use Rattle.std.specs.Prelude.{Option, Some, None, ◌||◌, ◌==◌, nat_lt, Result, Ok, Err, not, if◌then◌else◌}
-use Rattle.srcp_info.specs.declared.change.Code.{Code}
-use Rattle.srcp_info.specs.declared.change.Code.TheVariants.{C500}
-use Rattle.srcp_info.specs.declared.change.Reply.TheVariants.{Go, Refused}
-use Rattle.srcp_info.specs.declared.value.Mode.{Mode}
-use Rattle.srcp_text.specs.Marks.{Mark}
-use Rattle.srcp_grammar.specs.declared.command.Command.{Command}
-use Rattle.srcp_grammar.specs.declared.layout.Bus.{Bus}
-use Rattle.srcp_rules.specs.Effect.{Effect, effect as effect_of}
-use Rattle.srcp_rules.specs.State.{State}
-use Rattle.srcp_core.specs.Connection.{Connection}
-use Rattle.srcp_core.specs.Course.{World, open_connection, command_of, counted, fault, answered as course_answered, happens, new_marks}
-use Rattle.srcp_core.specs.Course.{at_connection, wants_as, denied_lines, denied_fed, denied_in, denied_over}
-use Rattle.srcp_core.specs.Handshake.{Greeting, Speaks, Chooses, Goes, Refuses, greets as greets_of}
-use Rattle.srcp_core.specs.Held.{Place, Held, at}
-use Rattle.srcp_core.specs.Machine.{obeyed, freed_of, changed_at, carried, replied, goes, greeted, session_begun, denied_line, commanded}
-use Rattle.srcp_core.specs.Machine.{answered, asked_of}
-use Rattle.srcp_core.specs.Recording.{key_of}
-use Rattle.srcp_core.specs.Stands.{StandsBy}
-use Rattle.srcp_core.specs.Under.{Event, Heard, lines_under, under, denied_by, wants_memory, greeting_wants, reading_wants}
-use Rattle.srcp_core.specs.declared.line.Asked.{Asked}
-use Rattle.srcp_core.specs.declared.line.Asked.TheVariants.{Dropped, Greets, Commands}
+use Rattle.srcp_core.proofs.Names.{cond_both, ◌≡◌, ℕ, ◌+◌, Bool, true, false, List, [], ◌∷◌, ◌++◌, refl, fold, Option, Some, None, ◌||◌}
+use Rattle.srcp_core.proofs.Names.{◌==◌, nat_lt, Result, Ok, Err, not, if◌then◌else◌, Code, C500, Go, Refused, Mode, Mark, Command, Bus}
+use Rattle.srcp_core.proofs.Names.{Effect, Connection, World, open_connection, command_of, counted, fault, happens, new_marks}
+use Rattle.srcp_core.proofs.Names.{at_connection, wants_as, denied_lines, denied_fed, denied_in, denied_over, Greeting, Speaks, Chooses}
+use Rattle.srcp_core.proofs.Names.{Goes, Refuses, Place, Held, at, session_begun, denied_line, asked_of, key_of, StandsBy, Event, Heard}
+use Rattle.srcp_core.proofs.Names.{lines_under, under, denied_by, Dropped, Greets, Commands, CoreFault}
+use Rattle.srcp_rules.specs.Effect.{effect as effect_of}
+use Rattle.srcp_core.specs.Course.{answered as course_answered}
+use Rattle.srcp_core.specs.Handshake.{greets as greets_of}
+use Rattle.srcp_core.specs.Machine.{obeyed, replied, goes, greeted, commanded}
+use Rattle.srcp_core.specs.Machine.{answered}
+use Rattle.srcp_core.specs.Under.{greeting_wants, reading_wants}
 use Rattle.srcp_core.specs.declared.event.Event.{Event as PlainEvent}
 use Rattle.srcp_core.specs.declared.event.Event.TheVariants as plain
-use Rattle.srcp_core.specs.declared.record.CoreFault.{CoreFault}
 use Rattle.srcp_core.proofs.Agreement.LinesAgree.{asks_of}
 
 -- the count after a line that wants memory or not
@@ -41,20 +28,15 @@ unwanted denied false = refl
 
 denied_obeyed : (key session : ℕ) (did : Effect) (held : Held) → (obeyed key session did held).denied ≡ held.denied
 denied_obeyed key session did held =
-    elim did.ends as (λ t.
-    (if t
-    then freed_of session
-    (changed_at key (λ p. record p { ended = true }) (replied key did.reply (carried did.updates held)))
-    else replied key did.reply (carried did.updates held)).denied
-    ≡ held.denied) [
-      | true ↦ refl
-      | false ↦ refl
-    ]
+    cond_both _ _ _ (λ (it : Held). it.denied
+    ≡ held.denied)
+    (λ _. refl)
+    (λ _. refl)
 
 denied_commanded : (granted : Bool) (key session : ℕ) (command : Result Command Code) (held : Held)
     → (commanded granted key session command held).denied ≡ after held.denied granted (reading_wants held.rows session held.moment command)
-denied_commanded granted key session (Err code) held = unwanted held.denied granted
-denied_commanded granted key session (Ok command) held = by granted (wants_memory held.rows session held.moment command)
+denied_commanded granted key session (Err code) held = unwanted _ granted
+denied_commanded granted key session (Ok command) held = by granted _
   where
     did : Held
     did = obeyed key session (effect_of held.rows session held.moment command) held
@@ -67,7 +49,7 @@ denied_commanded granted key session (Ok command) held = by granted (wants_memor
 denied_goes : (granted : Bool) (key : ℕ) (mode : Mode) (held : Held)
     → (goes granted key mode held).denied ≡ after held.denied granted (nat_lt held.last_id 4294967295)
 denied_goes true key mode held =
-    elim (nat_lt held.last_id 4294967295)
+    elim (nat_lt _ _)
     as (λ t.
     (if t then replied key (Go (held.last_id + 1)) (session_begun key (held.last_id + 1) mode held)
     else replied key (Refused C500) held).denied
@@ -76,7 +58,7 @@ denied_goes true key mode held =
       | false ↦ refl
     ]
 denied_goes false key mode held =
-    elim (nat_lt held.last_id 4294967295)
+    elim (nat_lt _ _)
     as (λ t. (if t then denied_line key held else replied key (Refused C500) held).denied ≡ after held.denied false t) [
       | true ↦ refl
       | false ↦ refl
@@ -84,10 +66,10 @@ denied_goes false key mode held =
 
 denied_greeted : (granted : Bool) (key : ℕ) (mode : Mode) (greeting : Greeting) (held : Held)
     → (greeted granted key mode greeting held).denied ≡ after held.denied granted (greeting_wants held.last_id greeting)
-denied_greeted granted key mode Speaks held = unwanted held.denied granted
-denied_greeted granted key mode (Chooses chosen) held = unwanted held.denied granted
+denied_greeted granted key mode Speaks held = unwanted _ granted
+denied_greeted granted key mode (Chooses chosen) held = unwanted _ granted
 denied_greeted granted key mode Goes held = denied_goes granted key mode held
-denied_greeted granted key mode (Refuses code) held = unwanted held.denied granted
+denied_greeted granted key mode (Refuses code) held = unwanted _ granted
 
 denied_asked : (buses : List Bus) (granted : Bool) (key : ℕ) (mark : Mark) (held : Held) (conn : Connection) (over first : Bool)
     → (answered granted key
@@ -97,9 +79,9 @@ denied_asked : (buses : List Bus) (granted : Bool) (key : ℕ) (mark : Mark) (he
     (if over then false
     else (if first then greeting_wants held.last_id (greets_of mark)
     else reading_wants held.rows conn.session held.moment (command_of buses mark)))
-denied_asked buses granted key mark held conn true first = unwanted held.denied granted
-denied_asked buses granted key mark held conn false true = denied_greeted granted key conn.mode (greets_of mark) held
-denied_asked buses granted key mark held conn false false = denied_commanded granted key conn.session (command_of buses mark) held
+denied_asked buses granted key mark held conn true first = unwanted _ granted
+denied_asked buses granted key mark held conn false true = denied_greeted granted key _ _ held
+denied_asked buses granted key mark held conn false false = denied_commanded granted key _ _ held
 
 -- a line is refused memory in the core where it is in the course
 pub denied_answered : (buses : List Bus) (read : ℕ → List ℕ → List ℕ) (keys : List (Option ℕ)) (n key : ℕ)
@@ -111,27 +93,7 @@ denied_answered buses read keys n key named held w granted mark p s here =
     let h = asks_of buses read keys held w n key mark p s named here in
     let over : Bool = h.conn.info || h.conn.ended in
     let first : Bool = h.conn.session == 0 in
-    ap (λ (asked : Asked). (answered granted key asked held).denied) h.asks
-    ∙ denied_asked buses granted key mark held h.conn over first
-    ∙ ap (λ k.
-    after held.denied granted
-    (if over then false
-    else (if first then greeting_wants k (greets_of mark)
-    else reading_wants held.rows h.conn.session held.moment (command_of buses mark))))
-    s.last_id
-    ∙ ap (λ k.
-    after held.denied granted
-    (if over then false
-    else (if first then greeting_wants w.last_id (greets_of mark)
-    else reading_wants held.rows h.conn.session k (command_of buses mark))))
-    s.moment
-    ∙ ap (λ (k : State).
-    after held.denied granted
-    (if over then false
-    else (if first then greeting_wants w.last_id (greets_of mark)
-    else reading_wants k h.conn.session w.moment (command_of buses mark))))
-    s.rows
-    ∙ ap (λ (o : Option Connection). after held.denied granted (wants_as buses w o mark)) (sym h.opened)
+    cc (h.asks, denied_asked buses granted key mark held h.conn over first, s.last_id, s.moment, s.rows, h.opened)
 
 -- ---- lines and events, one after another
 

@@ -1,31 +1,14 @@
 -- Room for bytes, as many takings of what is unsent, each after the next line is put in.
-use Rattle.std.proofs.Common.{◌≡◌, ℕ, zero, suc, min, ◌+◌, ◌-◌, ◌<◌, ◌≤◌, Bool, true, false, List, [], ◌∷◌, ◌++◌, take, drop, length}
-use Rattle.std.proofs.Common.{length-append, refl, ap, sym, ◌∙◌, subst, arith, append-nil}
-use Rattle.std.proofs.lemmas.Bool.{le-ltb}
-use Rattle.std.proofs.lemmas.List.{drop-drop, length-map}
-use Rattle.std.specs.List.{flat_map}
-use Rattle.std.specs.Option.{option_map, option_or}
-use Rattle.std.specs.Prelude.{Option, Some, None, is_none, ◌&&◌, ◌||◌, ◌==◌, nat_lt, if◌then◌else◌}
-use Rattle.srcp_info.specs.declared.change.Shown.{Shown}
-use Rattle.srcp_text.specs.Reading.{Reading}
-use Rattle.srcp_grammar.specs.declared.layout.Bus.{Bus}
-use Rattle.srcp_grammar.specs.Layout.{IsLayout}
-use Rattle.srcp_rules.specs.State.{opening, shown_rows}
-use Rattle.srcp_feed.specs.declared.next.Next.{Next}
-use Rattle.srcp_feed.specs.declared.next.Next.TheVariants.{Told, Listed, Settled}
-use Rattle.srcp_info.proofs.ClientLaws.{key_at}
-use Rattle.srcp_info.specs.Client.{IsRisingBy}
-use Rattle.srcp_core.specs.Under.{recorded_step}
-use Rattle.srcp_core.specs.Connection.{Connection, History, unsent, sent, given, line_of, is_nil, is_open, owed, front, available, items_of}
-use Rattle.srcp_core.specs.Connection.{took as took_room, given_room, overran}
-use Rattle.srcp_core.specs.Course.{World, numbered, with_numbered, at_connection, history, rows}
-use Rattle.srcp_core.specs.Held.{Place, Held}
-use Rattle.srcp_core.specs.Laws.{AddsUp}
-use Rattle.srcp_core.specs.Machine.{filled, item_from, item_of, item_at, let_out, without_sent, changed_at, changed_in, unsent_of}
-use Rattle.srcp_core.specs.Machine.{unsent_at, feed_in}
-use Rattle.srcp_core.specs.Recording.{Recording, key_of, record_of, with_item, gave, took}
-use Rattle.srcp_core.specs.Stands.{StandsFor, place_of}
-use Rattle.srcp_core.specs.declared.record.Item.{Item}
+use Rattle.srcp_core.proofs.Names.{cond_both, ◌≡◌, ℕ, zero, suc, min, ◌+◌, ◌-◌, ◌<◌, ◌≤◌, Bool, true, false, List, [], ◌∷◌, ◌++◌, take}
+use Rattle.srcp_core.proofs.Names.{drop, length, length-append, refl, ap, sym, ◌∙◌, subst, arith, append-nil, le-ltb, drop-drop, length-map}
+use Rattle.srcp_core.proofs.Names.{flat_map, option_map, option_or, Option, Some, None, ◌&&◌, ◌||◌, ◌==◌, nat_lt, if◌then◌else◌, Shown}
+use Rattle.srcp_core.proofs.Names.{Reading, Bus, IsLayout, opening, shown_rows, Next, Told, Listed, Settled, key_at, IsRisingBy, Connection}
+use Rattle.srcp_core.proofs.Names.{History, unsent, sent, given, line_of, is_nil, is_open, owed, front, available, items_of, given_room}
+use Rattle.srcp_core.proofs.Names.{overran, World, numbered, at_connection, history, rows, Place, Held, AddsUp, item_from, item_of, item_at}
+use Rattle.srcp_core.proofs.Names.{let_out, without_sent, changed_at, changed_in, unsent_at, feed_in, Recording, key_of, record_of, gave}
+use Rattle.srcp_core.proofs.Names.{StandsFor, place_of, Item}
+use Rattle.srcp_core.specs.Connection.{took as took_room}
+use Rattle.srcp_core.specs.Recording.{took}
 use Rattle.srcp_core.proofs.CourseLaws.RoomsAddUp.{adds_up, with_twice, shut_after}
 use Rattle.srcp_core.proofs.Agreement.LinesAgree.{IsFine, stands_of}
 use Rattle.srcp_core.proofs.Agreement.EventsAgree.{over_is}
@@ -35,7 +18,7 @@ use Rattle.srcp_core.proofs.Agreement.LinesAreNoted.{Tells, tells_same, tells_ch
 use Rattle.srcp_core.proofs.Agreement.PiecesAgree.{set_same}
 use Rattle.srcp_core.proofs.Agreement.PlacesChange.{is_over_place, place_unsent}
 use Rattle.srcp_core.proofs.CourseLaws.ShownRegistry.{shown_after, length_history}
-use Rattle.srcp_core.proofs.CourseLaws.SessionsOfACourse.{anything, at_number, fits_open}
+use Rattle.srcp_core.proofs.CourseLaws.SessionsOfACourse.{at_number, fits_open}
 use Rattle.srcp_core.proofs.Agreement.NumbersAndKeys.{numbered_with, with_itself}
 use Rattle.srcp_core.proofs.Agreement.StandsAfterAChange.{Anything, Fine, found_at}
 use Rattle.srcp_core.proofs.CourseLaws.SessionsAreKept.{sound_at, stands_room, in_order_after}
@@ -51,7 +34,7 @@ take_plus zero b xs = ap (λ m. take m xs) plus
   where
     plus : 0 + b ≡ b
     plus = omega arith
-take_plus {A} (suc a) b [] = nothing (suc a + b) ∙ sym (nothing b)
+take_plus {A} (suc a) b [] = nothing _ ∙ sym (nothing b)
   where
     nothing : (m : ℕ) → take m (nil A) ≡ nil A
     nothing zero = refl
@@ -81,7 +64,7 @@ room_unsent count history rows conn still some few =
     (if t && is_nil (unsent conn) then take 1 (owed conn history rows)
     else front (count - length (unsent conn)) (owed conn history rows)))
     (pos-eqb count some)
-    ∙ ap (λ m. conn.items ++ items_of (length history) (front m (owed conn history rows))) none_left ∙ append-nil conn.items)
+    ∙ ap (λ m. conn.items ++ items_of (length history) (front m (owed conn history rows))) none_left ∙ append-nil _)
     ∙ ap (λ taken. record conn { taken = taken; done = (took_room count (length history) (owed conn history rows) conn).done }) all_taken
     ∙ ap (λ end. record conn { taken = conn.taken + count; done = end })
     (ap (λ t. if conn.info && (t || ((count == 0) && (is_nil (unsent conn) && is_nil (owed conn history rows))))
@@ -90,20 +73,20 @@ room_unsent count history rows conn still some few =
     ∙ ap (λ t. if conn.info && (t && (is_nil (unsent conn) && is_nil (owed conn history rows)))
     then option_or conn.done (Some (length history)) else conn.done)
     (pos-eqb count some)
-    ∙ never conn.info)
+    ∙ never _)
   where
     none_left : count - length (unsent conn) ≡ 0
     none_left = omega (arith, few)
 
     size : length (available (unsent conn) (owed conn history rows))
         ≡ length (unsent conn) + length (flat_map line_of (owed conn history rows))
-    size = length-append (unsent conn) (flat_map line_of (owed conn history rows))
+    size = length-append _ _
 
     all_taken : conn.taken + min count (length (available (unsent conn) (owed conn history rows))) ≡ conn.taken + count
     all_taken = let z = size in omega (arith, z, few)
 
     enough : nat_lt (length (available (unsent conn) (owed conn history rows))) count ≡ false
-    enough = let z = size in le-ltb (length (available (unsent conn) (owed conn history rows))) count (omega (arith, z, few))
+    enough = let z = size in le-ltb _ count (omega (arith, z, few))
 
     never : (info : Bool) → (if info && false then option_or conn.done (Some (length history)) else conn.done) ≡ conn.done
     never true = refl
@@ -112,21 +95,19 @@ room_unsent count history rows conn still some few =
 taken_place : (reader : Reading) (history : History) (conn : Connection) (count : ℕ) → is_over_place history conn ≡ false
     → without_sent count (place_of reader history conn) ≡ place_of reader history (with_taken count conn)
 taken_place reader history conn count still =
-    rw still (ap (λ bytes. record (place_of reader history conn) { unsent = bytes }) (drop-drop count conn.taken (given conn)))
+    rw still (cc (drop-drop count conn.taken (given conn)))
 
 taken_told : (conn : Connection) (count : ℕ) → record_of (with_taken count conn) ≡ record (record_of conn) {
   sent = sent conn ++ take count (unsent conn);
 }
-taken_told conn count = ap (λ bytes. record (record_of conn) { sent = bytes }) (take_plus conn.taken count (given conn))
+taken_told conn count = cc (take_plus _ count _)
 
 -- room leaves the bytes that were accepted
 fed_room : (bytes : ℕ) (history : History) (rows : List Shown) (conn : Connection) → (given_room bytes history rows conn).fed ≡ conn.fed
 fed_room bytes history rows conn =
-    elim (overran conn history)
-    as (λ t. (if t then conn else took_room bytes (length history) (owed conn history rows) conn).fed ≡ conn.fed) [
-      | true ↦ refl
-      | false ↦ refl
-    ]
+    cond_both _ _ _ (λ (it : Connection). it.fed ≡ conn.fed)
+    (λ _. refl)
+    (λ _. refl)
 
 -- ---- the core and the course
 
@@ -143,22 +124,22 @@ module _ (buses : List Bus) (layout : IsLayout buses) (order : IsRisingBy key_at
 
   fine_at : (w : World) (conn : Connection) → IsFine buses order w → numbered n w.connections ≡ Some conn
       → Fine buses (history buses w) conn
-  fine_at w conn a e = at_number (Fine buses (history buses w)) n w.connections conn a e
+  fine_at w conn a e = at_number _ n _ conn a e
 
   fine_roomed : (bytes : ℕ) (w : World) (conn : Connection) → IsFine buses order w → numbered n w.connections ≡ Some conn → conn.shut ≡ None
       → IsFine buses order (roomed bytes w)
   fine_roomed bytes w conn a there shut =
-      sound_at buses order Anything (anything (shown_rows (opening buses 0))) n (given_room bytes (history buses w) (rows buses w)) w
+      sound_at buses order Anything _ n _ w
       (λ other e g.
-      let same : conn ≡ other = let both : Some conn ≡ Some other = sym there ∙ e in cc in
-      stands_room (shown_rows (opening buses 0)) order Anything (anything (shown_rows (opening buses 0))) (history buses w)
-      (rows buses w) bytes other
+      let same : conn ≡ other = let both : Some conn ≡ Some other = cc in cc in
+      stands_room _ order Anything _ _
+      _ bytes other
       (in_order_after (shown_rows (opening buses 0)) (history buses w) order) (shown_after (opening buses 0) w.steps)
-      (ap (λ (c : Connection). c.shut) (sym same) ∙ shut) g)
+      (cc) g)
       a
 
   open_room : (bytes : ℕ) (w : World) (conn : Connection) → is_open (given_room bytes (history buses w) (rows buses w) conn) ≡ is_open conn
-  open_room bytes w conn = ap is_none (shut_after bytes (history buses w) (rows buses w) conn)
+  open_room bytes w conn = cc (shut_after bytes _ _ conn)
 
   -- the next line is put in
   pub filled_kept : (r : Recording) (held : Held) (w : World) → Kept r held w
@@ -167,18 +148,18 @@ module _ (buses : List Bus) (layout : IsLayout buses) (order : IsRisingBy key_at
       let s = k.stands in
       let h = found_at buses (λ n fed. fed) keys held w n key s named in
       let f = fine_at w h.conn k.fine h.there in
-      let fits = (fits_open (shown_rows (opening buses 0)) Anything (history buses w) h.conn h.shut f).0 in
+      let fits = (fits_open _ Anything _ h.conn h.shut f).0 in
       let same_rows : rows_after (shown_rows (opening buses 0)) (history buses w) ≡ rows buses w =
-      sym (shown_after (opening buses 0) w.steps) in
+      sym (shown_after _ w.steps) in
       let fill : (reader : Reading)
       → IsFilled (shown_rows (opening buses 0)) (history buses w) h.conn h.shut
       (in_order_after (shown_rows (opening buses 0)) (history buses w) order) fits f.within reader
       (given_room 0 (history buses w) (rows_after (shown_rows (opening buses 0)) (history buses w)) h.conn) =
       λ reader.
-      fills (shown_rows (opening buses 0)) (history buses w) h.conn h.shut
-      (in_order_after (shown_rows (opening buses 0)) (history buses w) order) fits f.within reader
+      fills _ _ h.conn h.shut
+      _ fits f.within reader
       (over_is buses (history buses w) h.conn h.shut f) in
-      let held_rows : shown_rows held.rows ≡ rows buses w = ap shown_rows s.rows in
+      let held_rows : shown_rows held.rows ≡ rows buses w = cc s.rows in
       let told : record_of (given_room 0 (history buses w) (rows buses w) h.conn)
       ≡ with_given (length (history buses w)) (item_at key held) (record_of h.conn) =
       ap (λ rs. record_of (given_room 0 (history buses w) rs h.conn)) (sym same_rows) ∙ (fill h.reader).told
@@ -191,28 +172,26 @@ module _ (buses : List Bus) (layout : IsLayout buses) (order : IsRisingBy key_at
       ∙ ap (λ (o : Option Place). with_given (length (history buses w)) (item_of (shown_rows held.rows) o) (record_of h.conn))
       (sym h.place) in
       let steps : length (history buses w) ≡ length r.steps =
-      length_history (opening buses 0) w.steps ∙ sym (length-map w.steps recorded_step) ∙ ap length (sym k.tells.steps) in
+      length_history _ w.steps ∙ sym (length-map w.steps _) ∙ ap length (sym k.tells.steps) in
       record {
         fine = fine_roomed 0 w h.conn k.fine h.there h.shut;
         stands =
-            stands_of buses order (λ n fed. fed) keys n key named held w h.conn (given_room 0 (history buses w) (rows buses w))
-            (filled (shown_rows held.rows)) s h.there
+            stands_of buses order (λ n fed. fed) keys n key named held w h.conn _
+            _ s h.there
             (open_room 0 w h.conn) (fed_room 0 (history buses w) (rows buses w) h.conn)
             (λ reader shut.
-            ap (λ rs. filled rs (place_of reader (history buses w) h.conn)) (held_rows ∙ sym same_rows)
-            ∙ (fill reader).place
-            ∙ ap (λ rs. place_of reader (history buses w) (given_room 0 (history buses w) rs h.conn)) same_rows);
+            cc (fill reader).place);
         tells =
-            noted_item (item_at key held) h.conn h.there
-            (told ∙ ap (λ m. with_given m (item_at key held) (record_of h.conn)) steps) k.tells;
+            noted_item _ h.conn h.there
+            (cc) k.tells;
       }
     where
       nothing_noted : (conn : Connection) → numbered n w.connections ≡ Some conn
           → record_of (given_room 0 (history buses w) (rows buses w) conn) ≡ record_of conn → Tells r w → Tells r (roomed 0 w)
       nothing_noted conn e t all =
-          tells_same r w n (given_room 0 (history buses w) (rows buses w))
+          tells_same r w n _
           (λ other o. let is : conn ≡ other = let both : Some conn ≡ Some other = sym e ∙ o in cc in
-          subst (λ (c : Connection). record_of (given_room 0 (history buses w) (rows buses w) c) ≡ record_of c) is t)
+          rw (← is) t)
           all
 
       noted_item : (item : Option Next) (conn : Connection) → numbered n w.connections ≡ Some conn
@@ -220,9 +199,9 @@ module _ (buses : List Bus) (layout : IsLayout buses) (order : IsRisingBy key_at
           → Tells (gave n item r) (roomed 0 w)
       noted_item None conn e t all = nothing_noted conn e t all
       noted_item (Some (Told change)) conn e t all =
-          tells_changed r w n conn (given_room 0 (history buses w) (rows buses w)) (with_item (length r.steps) (Told change)) e t all
+          tells_changed r w n conn _ _ e t all
       noted_item (Some (Listed row)) conn e t all =
-          tells_changed r w n conn (given_room 0 (history buses w) (rows buses w)) (with_item (length r.steps) (Listed row)) e t all
+          tells_changed r w n conn _ _ e t all
       noted_item (Some Settled) conn e t all = nothing_noted conn e t all
 
   -- bytes are taken
@@ -234,7 +213,7 @@ module _ (buses : List Bus) (layout : IsLayout buses) (order : IsRisingBy key_at
       let p = place_of h.reader (history buses w) h.conn in
       let f = fine_at w h.conn k.fine h.there in
       let over = over_is buses (history buses w) h.conn h.shut f in
-      let here : unsent_at key held ≡ p.unsent = ap unsent_of h.place in
+      let here : unsent_at key held ≡ p.unsent = cc h.place in
       let still : is_over_place (history buses w) h.conn ≡ false =
       not_over h.reader h.conn (is_over_place (history buses w) h.conn) refl (subst (λ bytes. count ≤ length bytes) here few) in
       let bytes_are : unsent_at key held ≡ unsent h.conn = here ∙ place_unsent h.reader (history buses w) h.conn still in
@@ -243,15 +222,14 @@ module _ (buses : List Bus) (layout : IsLayout buses) (order : IsRisingBy key_at
       record {
         fine = fine_roomed count w h.conn k.fine h.there h.shut;
         stands =
-            stands_of buses order (λ n fed. fed) keys n key named held w h.conn (given_room count (history buses w) (rows buses w))
-            (without_sent count) s h.there
+            stands_of buses order (λ n fed. fed) keys n key named held w h.conn _
+            _ s h.there
             (open_room count w h.conn) (fed_room count (history buses w) (rows buses w) h.conn)
-            (λ reader shut. taken_place reader (history buses w) h.conn count still ∙ ap (place_of reader (history buses w)) (sym room));
+            (λ reader shut. cc (taken_place reader _ h.conn count still));
         tells =
-            tells_changed r w n h.conn (given_room count (history buses w) (rows buses w))
-            (λ told. record told { sent = told.sent ++ take count (unsent_at key held) }) h.there
-            (ap record_of room ∙ taken_told h.conn count
-            ∙ ap (λ bytes. record (record_of h.conn) { sent = sent h.conn ++ take count bytes }) (sym bytes_are))
+            tells_changed r w n h.conn _
+            (λ told. record told { sent = told.sent ++ take count _ }) h.there
+            (cc (taken_told h.conn count))
             k.tells;
       }
     where
@@ -267,17 +245,17 @@ module _ (buses : List Bus) (layout : IsLayout buses) (order : IsRisingBy key_at
   pub none_kept : (r : Recording) (held : Held) (w : World) → Kept r held w → Kept (took n [] r) (changed_at key (without_sent 0) held) w
   none_kept r held w k =
       let h = found_at buses (λ n fed. fed) keys held w n key k.stands named in
-      let p = place_of h.reader (history buses w) h.conn in
+      let p = place_of h.reader _ h.conn in
       let same : changed_at key (without_sent 0) held ≡ held =
       ap (λ (o : Option Place). record held { places = changed_in key (without_sent 0) held.places o }) h.place
-      ∙ ap (λ (places : List (Option Place)). record held { places = places }) (set_same held.places key p h.place) in
+      ∙ ap (λ (places : List (Option Place)). record held { places = places }) (set_same _ key p h.place) in
       let t =
       tells_changed r w n h.conn (λ c. c) (λ told. record told { sent = told.sent ++ [] }) h.there
-      (ap (λ bytes. record (record_of h.conn) { sent = bytes }) (sym (append-nil (sent h.conn)))) k.tells in
+      (ap (λ bytes. record (record_of h.conn) { sent = bytes }) (sym (append-nil _))) k.tells in
       record {
         fine = k.fine;
-        stands = subst (λ (x : Held). StandsFor buses keys x w) (sym same) k.stands;
-        tells = subst (λ (conns : List Connection). Tells (took n [] r) (record w { connections = conns })) (with_itself n w.connections) t;
+        stands = rw same k.stands;
+        tells = subst (λ (conns : List Connection). Tells (took n [] r) (record w { connections = conns })) (with_itself n _) t;
       }
 
   -- ---- rooms one after another
@@ -286,7 +264,7 @@ module _ (buses : List Bus) (layout : IsLayout buses) (order : IsRisingBy key_at
       → AddsUp buses w conn
   sums w conn a there shut =
       let f = fine_at w conn a there in
-      adds_up buses layout w conn shut (fits_open (shown_rows (opening buses 0)) Anything (history buses w) conn shut f).0 f.within
+      adds_up buses layout w conn shut (fits_open _ Anything _ conn shut f).0 f.within
 
   roomed_twice : (a b c : ℕ) (w : World) (conn : Connection) → numbered n w.connections ≡ Some conn
       → given_room b (history buses w) (rows buses w) (given_room a (history buses w) (rows buses w) conn)
@@ -294,21 +272,19 @@ module _ (buses : List Bus) (layout : IsLayout buses) (order : IsRisingBy key_at
       → roomed b (roomed a w) ≡ roomed c w
   roomed_twice a b c w conn there e =
       ap (λ (conns : List Connection). record w { connections = conns })
-      (with_twice n (given_room a (history buses w) (rows buses w)) (given_room b (history buses w) (rows buses w))
-      (given_room c (history buses w) (rows buses w)) w.connections
+      (with_twice n _ _
+      _ _
       (λ other o. let is : conn ≡ other = let both : Some conn ≡ Some other = sym there ∙ o in cc in
-      subst (λ (x : Connection). given_room b (history buses w) (rows buses w) (given_room a (history buses w) (rows buses w) x)
-      ≡ given_room c (history buses w) (rows buses w) x)
-      is e))
+      rw (← is) e))
 
   roomed_same : (a b : ℕ) (w : World) (conn : Connection) → numbered n w.connections ≡ Some conn
       → given_room a (history buses w) (rows buses w) conn ≡ given_room b (history buses w) (rows buses w) conn → roomed a w ≡ roomed b w
   roomed_same a b w conn there e =
       ap (λ (conns : List Connection). record w { connections = conns })
-      (sym (with_itself n (with_numbered n (given_room a (history buses w) (rows buses w)) w.connections))
-      ∙ with_twice n (given_room a (history buses w) (rows buses w)) (λ c. c) (given_room b (history buses w) (rows buses w)) w.connections
+      (sym (with_itself n _)
+      ∙ with_twice n _ (λ c. c) _ _
       (λ other o. let is : conn ≡ other = let both : Some conn ≡ Some other = sym there ∙ o in cc in
-      subst (λ (x : Connection). given_room a (history buses w) (rows buses w) x ≡ given_room b (history buses w) (rows buses w) x) is e))
+      rw (← is) e))
 
   -- where nothing is found any room is the same
   nothing_left : (r : Recording) (held : Held) (w : World) (left : ℕ) → Kept r held w → unsent_at key (let_out key held) ≡ [] → 0 < left
@@ -326,7 +302,7 @@ module _ (buses : List Bus) (layout : IsLayout buses) (order : IsRisingBy key_at
       cc in
       let f = fine_at (roomed 0 w) g.conn l.fine g.there in
       let over = over_is buses (history buses w) g.conn g.shut f in
-      let bytes : (place_of g.reader (history buses w) g.conn).unsent ≡ [] = sym (ap unsent_of g.place) ∙ none in
+      let bytes : (place_of g.reader (history buses w) g.conn).unsent ≡ [] = cc g.place in
       roomed_same 0 left w h.conn h.there
       (by h.conn (overran h.conn (history buses w)) refl
       (λ o.
@@ -342,9 +318,7 @@ module _ (buses : List Bus) (layout : IsLayout buses) (order : IsRisingBy key_at
           → given_room 0 (history buses w) (rows buses w) conn ≡ given_room left (history buses w) (rows buses w) conn)
           → given_room 0 (history buses w) (rows buses w) conn ≡ given_room left (history buses w) (rows buses w) conn
       by conn true o h =
-          ap (λ t. if t then conn else took_room 0 (length (history buses w)) (owed conn (history buses w) (rows buses w)) conn) o
-          ∙ sym (ap (λ t. if t then conn else took_room left (length (history buses w)) (owed conn (history buses w) (rows buses w)) conn)
-          o)
+          cc
       by conn false o h = h o
 
   -- after some of a room was taken, what is left to take leads to the same
@@ -381,13 +355,14 @@ module _ (buses : List Bus) (layout : IsLayout buses) (order : IsRisingBy key_at
       let both : roomed count (roomed 0 k.now) ≡ roomed count k.now =
       roomed_twice 0 count count k.now h.conn h.there (up.first count some) in
       record {
-        now = roomed count (roomed 0 k.now);
+        now = roomed count _;
         kept = some_taken w bytes left r held k some;
         to_come =
-            ap (roomed (left - count)) both
-            ∙ roomed_twice count (left - count) left k.now h.conn h.there
-            (up.adds count (left - count) more ∙ ap (λ m. given_room m (history buses k.now) (rows buses k.now) h.conn) all)
-            ∙ k.to_come;
+            cc (
+              roomed_twice count _ left k.now h.conn h.there
+                  (up.adds count _ more ∙ ap (λ m. given_room m (history buses k.now) (rows buses k.now) h.conn) all),
+              k.to_come,
+            );
       }
 
   pub room_taken : (w : World) (bytes left : ℕ) (r : Recording) (held : Held) → IsRooming w bytes left r held → 0 < count_of left held
@@ -405,15 +380,11 @@ module _ (buses : List Bus) (layout : IsLayout buses) (order : IsRisingBy key_at
       → Kept (recording_after left r held) (held_after left held) (roomed bytes w)
   room_empty w bytes left r held k none =
       let l = filled_kept r held k.now k.kept in
-      subst (λ (m : ℕ).
-      Kept (took n (take m (unsent_at key (let_out key held))) (gave n (item_at key held) r))
-      (changed_at key (without_sent m) (let_out key held)) (roomed bytes w))
-      (sym none)
-      (subst (λ (v : World). Kept (took n [] (gave n (item_at key held) r)) (changed_at key (without_sent 0) (let_out key held)) v)
-      (end left refl ∙ k.to_come) (none_kept (gave n (item_at key held) r) (let_out key held) (roomed 0 k.now) l))
+      rw none
+      (rw (← (end left refl ∙ k.to_come)) (none_kept (gave n (item_at key held) r) (let_out key held) (roomed 0 k.now) l))
     where
       end : (m : ℕ) → left ≡ m → roomed 0 k.now ≡ roomed left k.now
-      end zero e = ap (λ m. roomed m k.now) (sym e)
+      end zero e = cc
       end (suc m) e =
           let some : 0 < left = omega (arith, e) in
           nothing_left r held k.now left k.kept (empty (unsent_at key (let_out key held)) (omega (arith, none, some))) some

@@ -1,28 +1,20 @@
 -- What a run tells has the laws of every course.
-use Rattle.std.proofs.Common.{◌≡◌, ℕ, zero, suc, List, [], ◌∷◌, map, ◌+◌, ◌≤◌, length, take, refl, ap, sym, ◌∙◌, subst, arith}
-use Rattle.std.proofs.lemmas.List.{take_all}
-use Rattle.std.proofs.Math.Nat.{le_refl}
-use Rattle.std.specs.List.{AllByRecursion}
-use Rattle.std.specs.Prelude.{true, Some, slice_get, Result, Ok, Err, IfOk}
-use Rattle.srcp_grammar.specs.declared.layout.Bus.{Bus}
-use Rattle.srcp_grammar.specs.Layout.{IsLayout}
-use Rattle.srcp_rules.specs.State.{State, IsWhole, opening}
-use Rattle.srcp_core.specs.Under.{Event, all_under}
-use Rattle.srcp_core.specs.Run.{RunsRecord, HasPlainMoment, PlainMoments}
+use Rattle.srcp_core.proofs.Names.{◌≡◌, ℕ, zero, suc, List, [], ◌∷◌, map, ◌+◌, ◌≤◌, length, take, refl, ap, sym, ◌∙◌, subst, arith}
+use Rattle.srcp_core.proofs.Names.{take_all, le_refl, AllByRecursion, Some, slice_get, Result, Ok, Err, IfOk, Bus, IsLayout, IsWhole, Event}
+use Rattle.srcp_core.proofs.Names.{all_under, HasPlainMoment, PlainMoments, Connection, World, course, numbered, state, IsPromised}
+use Rattle.srcp_core.proofs.Names.{IsRecordOf, IsSession, AllMoments, ConnRecord, Record}
+use Rattle.std.specs.Prelude.{true}
+use Rattle.srcp_core.specs.Run.{RunsRecord}
 use Rattle.srcp_core.proofs.Agreement.MemoryAnswers.{all_moments, none_of_all}
 use Rattle.srcp_core.specs.declared.event.Event.{Event as PlainEvent}
-use Rattle.srcp_core.specs.Connection.{Connection, recorded}
-use Rattle.srcp_core.specs.Course.{World, course, history, numbered, state, state_after}
-use Rattle.srcp_core.specs.Promised.{IsRecordedSession, IsRecordedConnection, IsRecordedRegistry, IsPromised}
-use Rattle.srcp_core.specs.Laws.{IsRecordOf, IsSession, IsWholeWorld, AllMoments}
-use Rattle.srcp_core.specs.declared.record.ConnRecord.{ConnRecord}
-use Rattle.srcp_core.specs.declared.record.Record.{Record}
+use Rattle.srcp_core.specs.Promised.{IsRecordedSession, IsRecordedConnection, IsRecordedRegistry}
+use Rattle.srcp_core.specs.Laws.{IsWholeWorld}
 use Rattle.srcp_core.proofs.CourseLaws.EveryCourse.{told_rightly, served_rightly}
 
 -- the registry as it is
 whole_now : (buses : List Bus) (w : World) → IsWholeWorld buses w → IsWhole buses (state buses w)
 whole_now buses w whole =
-    subst (λ steps. IsWhole buses (state_after (opening buses 0) steps)) (take_all (length w.steps) w.steps (le_refl (length w.steps)))
+    rw (← (take_all (length w.steps) w.steps (le_refl (length w.steps))))
     (whole.states (length w.steps))
 
 -- the connection that is told of
@@ -48,7 +40,7 @@ pub told_sessions : (buses : List Bus) (events : List Event) (told : Record) →
     → IsRecordedSession buses events number one
 told_sessions buses events told layout moments r number one e info =
     let w = course buses events in
-    let t = told_map (recorded (history buses w)) number w.connections one (ap (numbered number) (sym r.connections) ∙ e) in
+    let t = told_map _ number _ one (ap (numbered number) (sym r.connections) ∙ e) in
     let session : IsSession buses events number t.conn =
     record { there = t.there; info = sym (ap (λ (c : ConnRecord). c.info) t.is) ∙ info } in
     let laws = told_rightly buses in
@@ -64,7 +56,7 @@ pub told_connections : (buses : List Bus) (events : List Event) (told : Record) 
     → (number : ℕ) (one : ConnRecord) → numbered number told.connections ≡ Some one → IsRecordedConnection buses events number one
 told_connections buses events told layout r number one e =
     let w = course buses events in
-    let t = told_map (recorded (history buses w)) number w.connections one (ap (numbered number) (sym r.connections) ∙ e) in
+    let t = told_map _ number _ one (ap (numbered number) (sym r.connections) ∙ e) in
     let laws = served_rightly buses in
     record {
       conn = t.conn;
@@ -80,7 +72,7 @@ told_registry buses events told layout moments r =
     let laws = served_rightly buses in
     let world = laws.whole layout events moments in
     record {
-      rows_whole = subst (λ (state : State). IsWhole buses state) (sym r.rows) (whole_now buses (course buses events) world);
+      rows_whole = rw r.rows (whole_now buses _ world);
       world = world;
       keys = laws.keys layout events moments;
     }
@@ -112,7 +104,7 @@ moments_more [] index event e h all = cc
 moments_more (x ∷ events) zero event e h all = let same : x ≡ event = cc in (subst HasPlainMoment (sym same) h, tt)
 moments_more (x ∷ events) (suc index) event e h all =
     let one : suc index + 1 ≡ suc (index + 1) = omega arith in
-    subst (λ k. AllByRecursion HasPlainMoment (take k (x ∷ events))) (sym one) (all.0, moments_more events index event e h all.1)
+    rw one (all.0, moments_more events index event e h all.1)
 
 pub moments_all : (events : List PlainEvent) (index : ℕ) → length events ≤ index → AllByRecursion HasPlainMoment (take index events)
     → PlainMoments events

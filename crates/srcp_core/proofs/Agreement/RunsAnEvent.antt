@@ -1,41 +1,29 @@
 -- A run over one more event.
-use Rattle.std.proofs.Common.{◌≡◌, ◌≢◌, ℕ, zero, suc, min, max, ◌-◌, ◌<◌, ◌≤◌, Bool, true, false, List, [], ◌∷◌, ◌++◌, take, length, refl}
-use Rattle.std.proofs.Common.{ap, sym, ◌∙◌, subst, arith, append-nil, ◌⊎◌, inl, inr}
-use Rattle.std.specs.Prelude.{Option, Some, None, ◌||◌, ◌==◌, slice_get, slice_set, if◌then◌else◌}
-use Rattle.std.proofs.lemmas.List.{map-append}
-use Rattle.std.proofs.lemmas.Option.{none-some}
-use Rattle.std.proofs.Math.Nat.{pos_of_ne-zero, zero-min}
-use Rattle.srcp_grammar.specs.declared.layout.Bus.{Bus}
-use Rattle.srcp_grammar.specs.Layout.{IsLayout}
-use Rattle.srcp_rules.specs.State.{opening, shown_rows}
-use Rattle.srcp_feed.specs.declared.next.Next.{Next}
-use Rattle.srcp_feed.specs.declared.next.Next.TheVariants.{Told, Listed, Settled}
-use Rattle.srcp_core.specs.Under.{Event, Open, Room, At, Shut, Moment, Ended, recorded_step, under}
+use Rattle.srcp_core.proofs.Names.{cond_both, ◌≡◌, ◌≢◌, ℕ, zero, suc, max, ◌-◌, ◌<◌, ◌≤◌, Bool, true, false, List, [], ◌∷◌, ◌++◌, take}
+use Rattle.srcp_core.proofs.Names.{length, refl, ap, sym, ◌∙◌, subst, arith, append-nil, ◌⊎◌, inl, inr, Option, Some, None, ◌||◌, ◌==◌}
+use Rattle.srcp_core.proofs.Names.{slice_get, slice_set, if◌then◌else◌, map-append, none-some, pos_of_ne-zero, Bus, IsLayout, opening}
+use Rattle.srcp_core.proofs.Names.{shown_rows, Next, Told, Listed, Settled, Event, Open, Room, Shut, Ended, under, Connection, World}
+use Rattle.srcp_core.proofs.Names.{numbered, at_connection, open_connection, did, history, counted, fault, accepted, shut_as, course, Place}
+use Rattle.srcp_core.proofs.Names.{Held, at, open_count, IsAdmitted, IsNotAdmitted, one_denied, hung_up, hung_up_from, advanced}
+use Rattle.srcp_core.proofs.Names.{live_session, let_out, without_sent, changed_at, unsent_at, item_of, item_at, Recording, key_of, shut}
+use Rattle.srcp_core.proofs.Names.{stepped, gave, without_key, changed_record, Tells, Runs, Happened, HappensAs, CountsAsked, count_at}
+use Rattle.srcp_core.proofs.Names.{taken_at, taking, StandsFor, place_of, ConnRecord, CoreFault, Full, NoSuch}
+use Rattle.std.proofs.Math.Nat.{zero-min}
 use Rattle.srcp_core.specs.declared.event.Event.{Event as PlainEvent}
 use Rattle.srcp_core.specs.declared.event.Event.TheVariants as plain
 use Rattle.srcp_core.specs.declared.record.Step.TheVariants as recorded
-use Rattle.srcp_core.specs.Connection.{Connection}
-use Rattle.srcp_core.specs.Course.{World, numbered, at_connection, open_connection, did, history, fresh, counted, fault, absent_fault}
-use Rattle.srcp_core.specs.Course.{bytes_fault as course_fault, accepted, shut_as, course}
-use Rattle.srcp_core.specs.Held.{Place, Held, at, open_count}
-use Rattle.srcp_core.specs.Machine.{IsAdmitted, IsNotAdmitted, one_denied, freed_place, freed_of, hung_up, hung_up_from, advanced}
-use Rattle.srcp_core.specs.Machine.{live_session, live_session_of, let_out, without_sent, changed_at, changed_in as changed_places_in}
-use Rattle.srcp_core.specs.Machine.{filled, unsent_of, unsent_at, item_of, item_at}
-use Rattle.srcp_core.specs.Recording.{Recording, key_of, record_of, opened, shut, stepped, gave, took, without_key, changed_record}
+use Rattle.srcp_core.specs.Machine.{changed_in as changed_places_in}
+use Rattle.srcp_core.specs.Recording.{opened, took}
 use Rattle.srcp_core.specs.Recording.{changed_in}
-use Rattle.srcp_core.specs.Run.{Tells, Runs, Happened, HappensAs, CountsAsked, count_at, taken_at, taking}
-use Rattle.srcp_core.specs.Stands.{StandsFor, place_of}
-use Rattle.srcp_core.specs.declared.record.ConnRecord.{ConnRecord}
-use Rattle.srcp_core.specs.declared.record.CoreFault.{CoreFault}
-use Rattle.srcp_core.specs.declared.record.CoreFault.TheVariants.{Full, Memory as MemoryFault, NoSuch}
+use Rattle.srcp_core.specs.declared.record.CoreFault.TheVariants.{Memory as MemoryFault}
 use Rattle.srcp_core.specs.declared.record.Finish.TheVariants.{Shut as ShutFinish}
 use Rattle.srcp_core.proofs.Agreement.LinesAgree.{IsFine}
 use Rattle.srcp_core.proofs.Agreement.EventsAgree.{absent_at, full_fault, free_room, free_fault, stands_counted, stands_advanced}
 use Rattle.srcp_core.proofs.Agreement.EventsAgree.{stands_opened, stands_hung_up}
-use Rattle.srcp_core.proofs.Agreement.RefusalsAreCounted.{after, denied_in_none}
+use Rattle.srcp_core.proofs.Agreement.RefusalsAreCounted.{denied_in_none}
 use Rattle.srcp_core.proofs.Agreement.LinesAreNoted.{tells_did, tells_changed}
 use Rattle.srcp_core.proofs.CourseLaws.SessionsOfACourse.{anything, at_number, opening_in_order}
-use Rattle.srcp_core.proofs.Agreement.StandsAfterAChange.{Anything, Fine, AllFine, found_at}
+use Rattle.srcp_core.proofs.Agreement.StandsAfterAChange.{stands_as, Anything, Fine, AllFine, found_at}
 use Rattle.srcp_core.proofs.Agreement.RoomsAgree.{Kept, IsRooming, room_goes_on, room_taken, room_empty}
 use Rattle.srcp_core.proofs.CourseLaws.SessionsAreKept.{sound}
 
@@ -54,8 +42,8 @@ runs_counted buses r held w s = record { stands = stands_counted buses r.keys he
 pub told_as : (event : PlainEvent) (refusal : Option CoreFault) (r : Recording) (held : Held) (x y : Recording) (later new : Held) → y ≡ x
     → new ≡ later → HappensAs event refusal r held x later → HappensAs event refusal r held y new
 told_as event refusal r held x y later new e f h =
-    subst (λ (z : Held). HappensAs event refusal r held y z) (sym f)
-    (subst (λ (z : Recording). HappensAs event refusal r held z later) (sym e) h)
+    rw f
+    (rw e h)
 
 -- nothing is asked for where the count stays
 pub none_asked : (event : PlainEvent) (r : Recording) (held later : Held) → later.denied ≡ held.denied
@@ -69,8 +57,8 @@ pub open_with : (key : ℕ) (r : Recording) (old new : Held) → IsAdmitted key 
     → (buses : List Bus) (events : List Event) → IsLayout buses → Runs buses r old (course buses events)
     → Happened buses (Open true) None (opened key r) new (counted (course buses events))
 open_with key r old new a buses events layout s =
-    let w = counted (course buses events) in
-    let c = runs_counted buses r old (course buses events) s in (
+    let w = counted _ in
+    let c = runs_counted buses r old _ s in (
       free_fault buses r.keys old w c.stands a.room true,
       record {
         stands = stands_opened buses r.keys key old new w a c.stands;
@@ -78,7 +66,7 @@ open_with key r old new a buses events layout s =
           steps = s.tells.steps;
           refused = s.tells.refused;
           connections =
-              ap (λ tolds. tolds ++ record_of fresh ∷ []) s.tells.connections ∙ sym (map-append record_of w.connections (fresh ∷ []));
+              cc (s.tells.connections, map-append _ _ _);
         };
       },
     )
@@ -86,8 +74,8 @@ open_with key r old new a buses events layout s =
 pub open_happens : (key : ℕ) (r : Recording) (old new : Held) → IsAdmitted key old new → HappensAs plain.Open None r old (opened key r) new
 open_happens key r old new a = record {
   grants = [];
-  counted = ap (λ (x : Held). x.denied) a.rest;
-  asked = none_asked plain.Open r old new (ap (λ (x : Held). x.denied) a.rest);
+  counted = cc a.rest;
+  asked = none_asked plain.Open r old new (cc a.rest);
   happens = open_with key r old new a;
 }
 
@@ -100,24 +88,13 @@ refused_happens event cause r held why = record {
   grants = [];
   counted = refl;
   asked = none_asked event r held held refl;
-  happens = λ buses events layout s. let c = runs_counted buses r held (course buses events) s in (why buses events layout c.stands, c);
+  happens = λ buses events layout s. let c = runs_counted buses r held _ s in (why buses events layout c.stands, c);
 }
 
 -- memory was refused
 runs_denied : (buses : List Bus) (r : Recording) (held : Held) (w : World) → Runs buses r held w → Runs buses r (one_denied held) w
 runs_denied buses r held w c = let s = c.stands in record {
-  stands = record {
-    layout = s.layout;
-    rows = s.rows;
-    moment = s.moment;
-    last_id = s.last_id;
-    count = s.count;
-    long = s.long;
-    opens = s.opens;
-    closed = s.closed;
-    apart = s.apart;
-    owned = s.owned;
-  };
+  stands = stands_as buses (λ n fed. fed) r.keys held w _ _ _ _ _ _ _ s.moment s.last_id s;
   tells = c.tells;
 }
 
@@ -125,19 +102,18 @@ pub memory_with : (r : Recording) (old new : Held) → open_count old < 64 → n
     → (buses : List Bus) (events : List Event) → IsLayout buses → Runs buses r old (course buses events)
     → Happened buses (Open false) (Some MemoryFault) r new (counted (course buses events))
 memory_with r old new room same buses events layout s =
-    let w = counted (course buses events) in
-    let c = runs_counted buses r old (course buses events) s in
-    (free_fault buses r.keys old w c.stands room false, subst (λ (x : Held). Runs buses r x w) (sym same) (runs_denied buses r old w c))
+    let w = counted _ in
+    let c = runs_counted buses r old _ s in
+    (free_fault buses r.keys old w c.stands room false, rw same (runs_denied buses r old w c))
 
 pub memory_happens : (r : Recording) (old new : Held) → open_count old < 64 → new ≡ one_denied old
     → HappensAs plain.Open (Some MemoryFault) r old r new
 memory_happens r old new room same = record {
   grants = false ∷ [];
-  counted = ap (λ (x : Held). x.denied) same;
+  counted = cc;
   asked = λ buses events layout s.
-      let w = counted (course buses events) in
-      ap (λ (x : Held). x.denied) same
-      ∙ ap (after old.denied false) (sym (free_room buses r.keys old w (runs_counted buses r old (course buses events) s).stands room));
+      let w = counted _ in
+      cc (free_room buses r.keys old w (runs_counted buses r old _ s).stands room);
   happens = memory_with r old new room same;
 }
 
@@ -145,9 +121,9 @@ memory_happens r old new room same = record {
 pub open_refused : (r : Recording) (old new : Held) (cause : CoreFault) → IsNotAdmitted cause old new
     → HappensAs plain.Open (Some cause) r old r new
 open_refused r old new Full is =
-    subst (λ (x : Held). HappensAs plain.Open (Some Full) r old r x) (sym is.1)
-    (refused_happens plain.Open Full r old
-    (λ buses events layout s. full_fault buses r.keys old (counted (course buses events)) s is.0 true))
+    rw is.1
+    (refused_happens _ Full r old
+    (λ buses events layout s. full_fault buses r.keys old _ s is.0 true))
 open_refused r old new MemoryFault is = memory_happens r old new is.0 is.1
 open_refused r old new other is = absurd is
 
@@ -157,24 +133,22 @@ pub at_happens : (moment : ℕ) (r : Recording) (old new : Held) (now : ℕ) →
     → HappensAs (plain.At moment) None r old (stepped (recorded.Moment now ∷ []) r) new
 at_happens moment r old new now is now_is = record {
   grants = [];
-  counted = ap (λ (x : Held). x.denied) is;
-  asked = none_asked (plain.At moment) r old new (ap (λ (x : Held). x.denied) is);
+  counted = cc;
+  asked = none_asked (plain.At moment) r old new (cc);
   happens = λ buses events layout s.
-      let w = counted (course buses events) in
-      let c = runs_counted buses r old (course buses events) s in
+      let w = counted _ in
+      let c = runs_counted buses r old _ s in
       let fine : AllFine buses w =
-      λ n conn e. at_number (Fine buses (history buses w)) n w.connections conn (fine_course buses layout events) e in
-      let same : now ≡ max w.moment moment = now_is ∙ ap (λ (x : Held). x.moment) is ∙ ap (λ m. max m moment) c.stands.moment in (
+      λ n conn e. at_number (Fine buses (history buses w)) n _ conn (fine_course buses layout events) e in
+      let same : now ≡ max w.moment moment = cc c.stands.moment in (
         refl,
         record {
           stands =
-              subst (λ (x : Held). StandsFor buses r.keys x (accepted buses (At moment) w)) (sym is)
+              rw is
               (stands_advanced buses r.keys old w moment fine c.stands);
           tells = record {
             steps =
-                ap (λ m. r.steps ++ recorded.Moment m ∷ []) same
-                ∙ ap (λ steps. steps ++ recorded.Moment (max w.moment moment) ∷ []) c.tells.steps
-                ∙ sym (map-append recorded_step w.steps (Moment (max w.moment moment) ∷ []));
+                cc (c.tells.steps, map-append _ w.steps _);
             refused = c.tells.refused;
             connections = c.tells.connections;
           };
@@ -187,22 +161,22 @@ at_happens moment r old new now is now_is = record {
 -- there is none of that number
 none_of : (n : ℕ) (r : Recording) (held : Held) → key_of n r.keys ≡ None → (buses : List Bus) (events : List Event)
     → StandsFor buses r.keys held (counted (course buses events)) → open_connection (counted (course buses events)) n ≡ None
-none_of n r held none buses events s = absent_at buses (λ n fed. fed) r.keys held (counted (course buses events)) n s none
+none_of n r held none buses events s = absent_at buses (λ n fed. fed) r.keys held _ n s none
 
 pub no_bytes_happens : (n : ℕ) (piece : List ℕ) (r : Recording) (held : Held) → key_of n r.keys ≡ None
     → HappensAs (plain.Bytes n piece) (Some NoSuch) r held r held
-no_bytes_happens n piece r held none = refused_happens (plain.Bytes n piece) NoSuch r held
-    (λ buses events layout s. ap (λ o. course_fault buses (counted (course buses events)) o piece) (none_of n r held none buses events s))
+no_bytes_happens n piece r held none = refused_happens _ NoSuch r held
+    (λ buses events layout s. cc (none_of n r held none buses events s))
 
 pub no_room_happens : (n bytes : ℕ) (r : Recording) (held : Held) → key_of n r.keys ≡ None
     → HappensAs (plain.Room n bytes) (Some NoSuch) r held r held
-no_room_happens n bytes r held none = refused_happens (plain.Room n bytes) NoSuch r held
-    (λ buses events layout s. ap (absent_fault buses) (none_of n r held none buses events s))
+no_room_happens n bytes r held none = refused_happens _ NoSuch r held
+    (λ buses events layout s. cc (none_of n r held none buses events s))
 
 pub no_shut_happens : (n : ℕ) (r : Recording) (held : Held) → key_of n r.keys ≡ None
     → HappensAs (plain.Shut n) (Some NoSuch) r held r held
-no_shut_happens n r held none = refused_happens (plain.Shut n) NoSuch r held
-    (λ buses events layout s. ap (absent_fault buses) (none_of n r held none buses events s))
+no_shut_happens n r held none = refused_happens _ NoSuch r held
+    (λ buses events layout s. cc (none_of n r held none buses events s))
 
 -- ---- a connection is shut
 
@@ -214,23 +188,19 @@ with_end (Some session) moment r = stepped (recorded.Ended session moment ∷ []
 hung_up_moment : (key : ℕ) (held : Held) (o : Option Place) → (hung_up_from key held o).moment ≡ held.moment
 hung_up_moment key held None = refl
 hung_up_moment key held (Some p) =
-    elim ((p.session == 0) || p.ended)
-    as (λ t. (if t then freed_place key held else freed_of p.session (freed_place key held)).moment ≡ held.moment) [
-      | true ↦ refl
-      | false ↦ refl
-    ]
+    cond_both _ _ _ (λ (it : Held). it.moment ≡ held.moment)
+    (λ _. refl)
+    (λ _. refl)
 
 hung_up_denied : (key : ℕ) (held : Held) (o : Option Place) → (hung_up_from key held o).denied ≡ held.denied
 hung_up_denied key held None = refl
 hung_up_denied key held (Some p) =
-    elim ((p.session == 0) || p.ended)
-    as (λ t. (if t then freed_place key held else freed_of p.session (freed_place key held)).denied ≡ held.denied) [
-      | true ↦ refl
-      | false ↦ refl
-    ]
+    cond_both _ _ _ (λ (it : Held). it.denied ≡ held.denied)
+    (λ _. refl)
+    (λ _. refl)
 
 pub shut_count : (key : ℕ) (old new : Held) → new ≡ hung_up key old → new.denied ≡ old.denied
-shut_count key old new is = ap (λ (x : Held). x.denied) is ∙ hung_up_denied key old (at old key)
+shut_count key old new is = cc (hung_up_denied key old (at old key))
 
 -- a number that has a key has a place there
 pub gone_happens : (event : PlainEvent) (refusal : Option CoreFault) (n key : ℕ) (r : Recording) (held : Held) (later_r : Recording)
@@ -239,10 +209,10 @@ pub gone_happens : (event : PlainEvent) (refusal : Option CoreFault) (n key : �
 gone_happens event refusal n key r held later_r later named gone same = record {
   grants = [];
   counted = same;
-  asked = none_asked (event) r held later (same);
+  asked = none_asked _ r held later (same);
   happens = λ buses events layout s.
-      let h = found_at buses (λ n fed. fed) r.keys held (course buses events) n key s.stands named in
-      absurd (none-some (place_of h.reader (history buses (course buses events)) h.conn) (sym gone ∙ h.place));
+      let h = found_at buses (λ n fed. fed) r.keys held _ n key s.stands named in
+      absurd (none-some _ (sym gone ∙ h.place));
 }
 
 pub shut_keys : (n : ℕ) (o : Option ℕ) (m : ℕ) (r : Recording) → (with_end o m (shut n r)).keys ≡ without_key n r.keys
@@ -266,22 +236,16 @@ shut_happens n key r old new now named is now_is = record {
       (stands_hung_up buses order r.keys old w n key (fine_course buses layout events) c.stands named) in
       let told =
       shut_told buses n r w h.conn now (h.conn.session == 0) h.conn.ended h.there refl refl
-      (now_is ∙ ap (λ (x : Held). x.moment) is ∙ hung_up_moment key old (at old key) ∙ c.stands.moment) c.tells in
+      (cc (hung_up_moment key old (at old key), c.stands.moment)) c.tells in
       let live : live_session key old ≡ (if (h.conn.session == 0) || h.conn.ended then None else Some h.conn.session) =
-      ap live_session_of h.place
-      ∙ ap (λ k. if (k == 0) || p.ended then None else Some k) refl
-      ∙ ap (λ t. if (h.conn.session == 0) || t then None else Some h.conn.session) refl in
+      cc h.place in
       let tells : Tells (with_end (live_session key old) now (shut n r)) (accepted buses (Shut n) w) =
-      subst (λ (o : Option ℕ). Tells (with_end o now (shut n r)) (accepted buses (Shut n) w)) (sym live)
-      (subst (λ (o : Option Connection).
-      Tells (with_end (if (h.conn.session == 0) || h.conn.ended then None else Some h.conn.session) now (shut n r))
-      (shut_as buses n o w))
-      (sym h.opened) told) in (
-        ap (absent_fault buses) h.opened,
+      rw live
+      (rw h.opened told) in (
+        cc h.opened,
         record {
           stands =
-              subst (λ (keys : List (Option ℕ)). StandsFor buses keys new (accepted buses (Shut n) w))
-              (sym (keys_are (live_session key old) now)) stands;
+              rw (keys_are (live_session key old) now) stands;
           tells = tells;
         },
       );
@@ -302,9 +266,8 @@ shut_happens n key r old new now named is now_is = record {
         (if b then closed else did (Ended conn.session w.moment) closed)) [
           | true ↦ all
           | false ↦
-              subst (λ k. Tells (stepped (recorded.Ended conn.session k ∷ []) (shut n r)) (did (Ended conn.session w.moment) closed))
-              (sym m)
-              (tells_did (shut n r) closed (Ended conn.session w.moment) all)
+              rw m
+              (tells_did _ closed _ all)
         ]
       where
         closed : World
@@ -312,7 +275,7 @@ shut_happens n key r old new now named is now_is = record {
 
         all : Tells (shut n r) closed
         all =
-            tells_changed (record r { keys = without_key n r.keys }) w n conn (λ c. record c { shut = Some (length w.steps) })
+            tells_changed _ w n conn (λ c. record c { shut = Some (length w.steps) })
             (λ told. record told { finish = ShutFinish }) there refl
             (record { steps = t.steps; refused = t.refused; connections = t.connections })
 
@@ -332,12 +295,12 @@ GivesOn n key bytes first_r first left r held =
 
 pub gives_first : (n key bytes : ℕ) (r : Recording) (held : Held) → key_of n r.keys ≡ Some key → GivesOn n key bytes r held bytes r held
 gives_first n key bytes r held named buses events layout s =
-    let w = counted (course buses events) in
-    let c = runs_counted buses r held (course buses events) s in
+    let w = counted _ in
+    let c = runs_counted buses r held _ s in
     let h = found_at buses (λ n fed. fed) r.keys held w n key c.stands named in
     record {
       named = named;
-      free = ap (absent_fault buses) h.opened;
+      free = cc h.opened;
       keys = refl;
       rooming = record {
         now = w;
@@ -347,7 +310,7 @@ gives_first n key bytes r held named buses events layout s =
     }
 
 pub taking_keys : (n key most : ℕ) (held : Held) (r : Recording) → (taking n key most held r).keys ≡ r.keys
-taking_keys n key most held r = by (item_at key held)
+taking_keys n key most held r = by _
   where
     by : (item : Option Next) → (gave n item r).keys ≡ r.keys
     by None = refl
@@ -379,10 +342,10 @@ pub gives_as : (n key bytes : ℕ) (first_r : Recording) (first : Held) (left : 
 gives_as n key bytes first_r first left r held count later_r later e f h more some gives =
     let a : 0 < count = pos_of_ne-zero some in
     let b : 0 < left - count = pos_of_ne-zero more in
-    subst (λ k. GivesOn n key bytes first_r first (left - k) later_r later) (sym e)
-    (subst (λ (x : Recording). GivesOn n key bytes first_r first (left - count_at key left held) x later) (sym f)
-    (subst (λ (x : Held). GivesOn n key bytes first_r first (left - count_at key left held) (taking n key left held r) x) (sym h)
-    (gives_more n key bytes first_r first left r held (subst (λ k. 0 < k) e a) (subst (λ k. 0 < left - k) e b) gives)))
+    rw e
+    (rw f
+    (rw h
+    (gives_more n key bytes first_r first left r held (rw (← e) a) (rw (← e) b) gives)))
 
 pub room_happens : (n key bytes : ℕ) (first_r : Recording) (first : Held) (left : ℕ) (r : Recording) (held : Held)
     → (left - count_at key left held ≡ 0) ⊎ (count_at key left held ≡ 0)
@@ -402,8 +365,7 @@ room_happens n key bytes first_r first left r held ends same gives = record {
         i.free,
         record {
           stands =
-              subst (λ (keys : List (Option ℕ)). StandsFor buses keys (taken_at key left held) (accepted buses (Room n bytes) w))
-              (sym (taking_keys n key left held r ∙ i.keys)) k.stands;
+              rw (taking_keys n key left held r ∙ i.keys) k.stands;
           tells = k.tells;
         },
       );
@@ -417,7 +379,7 @@ room_happens n key bytes first_r first left r held ends same gives = record {
     by buses events layout i zero e ends =
         room_empty buses layout (opening_in_order buses layout) first_r.keys n key i.named
         (counted (course buses events)) bytes left r held i.rooming e
-    by buses events layout i (suc count) e (inr none) = let bad : suc count ≡ 0 = sym e ∙ none in absurd (omega (arith, bad))
+    by buses events layout i (suc count) e (inr none) = let bad : suc count ≡ 0 = cc in absurd (omega (arith, bad))
     by buses events layout i (suc count) e (inl none) =
         let some : 0 < count_at key left held = omega (arith, e) in
         let most : count_at key left held ≤ left = omega arith in
@@ -430,12 +392,12 @@ room_happens n key bytes first_r first left r held ends same gives = record {
 changed_same : (n : ℕ) (f : ConnRecord → ConnRecord) → ((told : ConnRecord) → f told ≡ told) → (tolds : List ConnRecord)
     → changed_record n f tolds ≡ tolds
 changed_same zero f law tolds = refl
-changed_same (suc n) f law tolds = by (slice_get tolds n) refl
+changed_same (suc n) f law tolds = by _ refl
   where
     same : (tolds : List ConnRecord) (k : ℕ) (told : ConnRecord) → slice_get tolds k ≡ Some told → slice_set tolds k (f told) ≡ tolds
     same [] k told e = refl
-    same (x ∷ tolds) zero told e = let is : x ≡ told = cc in ap (λ y. y ∷ tolds) (law told ∙ sym is)
-    same (x ∷ tolds) (suc k) told e = ap (λ ys. x ∷ ys) (same tolds k told e)
+    same (x ∷ tolds) zero told e = let is : x ≡ told = cc in cc (law told)
+    same (x ∷ tolds) (suc k) told e = cc (same tolds k told e)
 
     by : (o : Option ConnRecord) → slice_get tolds n ≡ o → changed_in n f tolds o ≡ tolds
     by None e = refl
@@ -445,14 +407,14 @@ pub taking_none : (n key most : ℕ) (held : Held) (r : Recording) → at held k
     → (taking n key most held r ≡ r) × ((taken_at key most held ≡ held) × (count_at key most held ≡ 0))
 taking_none n key most held r e =
     let gone : let_out key held ≡ held =
-    ap (λ (o : Option Place). record held { places = changed_places_in key (filled (shown_rows held.rows)) held.places o }) e in
-    let bytes : unsent_at key (let_out key held) ≡ [] = ap (unsent_at key) gone ∙ ap unsent_of e in
-    let none : count_at key most held ≡ 0 = ap (λ bytes. min (length bytes) most) bytes ∙ zero-min most in (
+    cc in
+    let bytes : unsent_at key (let_out key held) ≡ [] = cc in
+    let none : count_at key most held ≡ 0 = cc (zero-min most) in (
       ap (λ k. took n (take k (unsent_at key (let_out key held))) (gave n (item_at key held) r)) none
           ∙ ap (λ (o : Option Place). took n [] (gave n (item_of (shown_rows held.rows) o) r)) e
           ∙ ap (λ tolds. record r { connections = tolds })
           (changed_same n (λ told. record told { sent = told.sent ++ [] })
-          (λ told. ap (λ bytes. record told { sent = bytes }) (append-nil told.sent)) r.connections),
+          (λ told. ap (λ bytes. record told { sent = bytes }) (append-nil _)) _),
       (
         ap (λ (x : Held). changed_at key (without_sent (count_at key most held)) x) gone
             ∙ ap (λ (o : Option Place).

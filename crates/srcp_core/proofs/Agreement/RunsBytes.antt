@@ -1,25 +1,15 @@
 -- Bytes that come in a run lead to the course with their event.
-use Rattle.std.proofs.Common.{◌≡◌, ℕ, ◌<◌, ◌≤◌, Bool, true, false, List, [], ◌∷◌, ◌++◌, length, refl, ap, sym, ◌∙◌, subst}
-use Rattle.std.proofs.lemmas.Bool.{ltb-false}
-use Rattle.std.specs.List.{fold}
-use Rattle.std.specs.Prelude.{Option, Some, None, not, ◌||◌, nat_lt, if◌then◌else◌}
-use Rattle.srcp_grammar.specs.declared.layout.Bus.{Bus}
-use Rattle.srcp_grammar.specs.Layout.{IsLayout}
-use Rattle.srcp_core.specs.Under.{Event, Bytes, Piece, lines_under, denied_by}
+use Rattle.srcp_core.proofs.Names.{◌≡◌, ℕ, ◌<◌, ◌≤◌, Bool, true, false, List, [], ◌∷◌, ◌++◌, length, refl, ap, sym, ◌∙◌, subst, ltb-false}
+use Rattle.srcp_core.proofs.Names.{fold, Option, Some, None, not, nat_lt, if◌then◌else◌, Bus, IsLayout, Event, Bytes, Piece, lines_under}
+use Rattle.srcp_core.proofs.Names.{denied_by, Connection, is_nil, World, open_connection, counted, accepted, fed_to, new_marks, course}
+use Rattle.srcp_core.proofs.Names.{denied_fed, Place, Held, at, HasRoom, bytes_fault, bytes_fault_from, heard_at, line_answered}
+use Rattle.srcp_core.proofs.Names.{steps_of_line, Recording, key_of, noted, CountsAsked, Tells, Runs, Happened, HappensAs, Asked, CoreFault}
+use Rattle.srcp_core.proofs.Names.{NoSuch, Busy, PieceTooLong, Closing}
 use Rattle.srcp_core.specs.declared.event.Event.TheVariants as plain
 use Rattle.srcp_core.specs.declared.record.Step.{Step as PlainStep}
 use Rattle.srcp_core.specs.declared.record.Step.TheVariants as recorded
-use Rattle.srcp_core.specs.Connection.{Connection, is_nil}
-use Rattle.srcp_core.specs.Course.{World, open_connection, counted, bytes_fault as course_fault, accepted, fed_to}
-use Rattle.srcp_core.specs.Course.{answered as course_answered, new_marks, course, denied_fed}
-use Rattle.srcp_core.specs.Held.{Place, Held, at}
-use Rattle.srcp_core.specs.Machine.{HasRoom, bytes_fault, bytes_fault_from, heard_at, line_answered, steps_of_line, unsent_of, has_overrun}
-use Rattle.srcp_core.specs.Recording.{Recording, key_of, noted}
-use Rattle.srcp_core.specs.Run.{CountsAsked, Tells, Runs, Happened, HappensAs}
-use Rattle.srcp_core.specs.Stands.{StandsFor}
-use Rattle.srcp_core.specs.declared.line.Asked.{Asked}
-use Rattle.srcp_core.specs.declared.record.CoreFault.{CoreFault}
-use Rattle.srcp_core.specs.declared.record.CoreFault.TheVariants.{NoSuch, Busy, PieceTooLong, Closing}
+use Rattle.srcp_core.specs.Course.{bytes_fault as course_fault}
+use Rattle.srcp_core.specs.Course.{answered as course_answered}
 use Rattle.srcp_core.proofs.Agreement.EventsAgree.{fault_same}
 use Rattle.srcp_core.proofs.Agreement.MemoryAnswers.{counted_more}
 use Rattle.srcp_core.proofs.Invariants.LinesAreFound.{nothing_begun, heard_denied}
@@ -31,9 +21,9 @@ use Rattle.srcp_core.proofs.Agreement.RunsAnEvent.{fine_course, refused_happens,
 
 pub bytes_refused : (n key : ℕ) (piece : List ℕ) (r : Recording) (held : Held) (cause : CoreFault) → key_of n r.keys ≡ Some key
     → bytes_fault key piece held ≡ Some cause → HappensAs (plain.Bytes n piece) (Some cause) r held r held
-bytes_refused n key piece r held cause named e = refused_happens (plain.Bytes n piece) cause r held
+bytes_refused n key piece r held cause named e = refused_happens _ cause r held
     (λ buses events layout s.
-    let w = counted (course buses events) in
+    let w = counted _ in
     sym (fault_same buses (opening_in_order buses layout) (λ n fed. fed) r.keys held w n key piece
     (fine_course buses layout events) s named)
     ∙ e)
@@ -41,7 +31,7 @@ bytes_refused n key piece r held cause named e = refused_happens (plain.Bytes n 
 -- where bytes are not refused there is room for their answers
 pub bytes_room : (key : ℕ) (piece : List ℕ) (held : Held) → bytes_fault key piece held ≡ None
     → (length piece ≤ 256) × HasRoom key piece 0 held
-bytes_room key piece held e = by (at held key) refl e
+bytes_room key piece held e = by _ refl e
   where
     some_none : (cause : CoreFault) → Some cause ≡ None → ⊥
     some_none cause e = cc
@@ -51,8 +41,8 @@ bytes_room key piece held e = by (at held key) refl e
         → (length piece ≤ 256) × HasRoom key piece 0 held
     with p true idle long h i l e = absurd (some_none Closing e)
     with p false false long h i l e = absurd (some_none Busy e)
-    with p false true true h i l e = absurd (some_none PieceTooLong e)
-    with p false true false h i l e = (ltb-false 256 (length piece) l, nothing_begun key piece held (ap unsent_of h ∙ nil_is p.unsent i))
+    with p false true true h i l e = absurd (some_none _ e)
+    with p false true false h i l e = (ltb-false 256 _ l, nothing_begun key piece held (cc (nil_is p.unsent i)))
       where
         nil_is : (xs : List ℕ) → is_nil xs ≡ true → xs ≡ []
         nil_is [] e = refl
@@ -60,7 +50,7 @@ bytes_room key piece held e = by (at held key) refl e
 
     by : (o : Option Place) → at held key ≡ o → bytes_fault_from piece o ≡ None → (length piece ≤ 256) × HasRoom key piece 0 held
     by None h e = absurd (some_none NoSuch e)
-    by (Some p) h e = with p (p.ended || has_overrun p.panel) (is_nil p.unsent) (nat_lt 256 (length piece)) h refl refl e
+    by (Some p) h e = with p _ _ _ h refl refl e
 
 -- the piece was read up to a place
 pub record IsReading (n key : ℕ) (piece : List ℕ) (grants : List Bool) (first_r : Recording) (first : Held) (start : ℕ) (r : Recording)
@@ -101,11 +91,11 @@ reads_with_none n key piece r held named free buses events layout s =
       named = named;
       conn = h.conn;
       opened = h.opened;
-      free = sym (fault_same buses order (λ n fed. fed) r.keys held w n key piece (fine_course buses layout events) c.stands named) ∙ free;
+      free = cc (fault_same buses order (λ n fed. fed) r.keys held w n key piece (fine_course buses layout events) c.stands named);
       keys = refl;
       upto = b.0;
       tells =
-          subst (λ (v : World). Tells r v) (sym b.1) (tells_same r w n (λ c. record c { fed = c.fed ++ piece }) (λ conn e. refl) c.tells);
+          rw b.1 (tells_same r w n (λ c. record c { fed = c.fed ++ piece }) (λ conn e. refl) c.tells);
     }
 
 pub reads_first : (n key : ℕ) (piece : List ℕ) (r : Recording) (held : Held) → key_of n r.keys ≡ Some key
@@ -129,10 +119,10 @@ pub reads_with_more : (grants : List Bool) (n key : ℕ) (piece : List ℕ) (fir
 reads_with_more grants n key piece first_r first start stop granted steps r held new onward is steps_are reads buses events layout s =
     let i = reads buses events layout s in
     let order = opening_in_order buses layout in
-    let w = counted (course buses events) in
+    let w = counted _ in
     let l =
-    lined buses order first_r.keys n key i.named i.conn.fed piece
-    (accepting n piece w) first.denied grants start stop granted held new r onward is i.upto i.tells in
+    lined buses order _ n key i.named _ piece
+    _ _ grants start stop granted held new r onward is i.upto i.tells in
     record {
       named = i.named;
       conn = i.conn;
@@ -170,10 +160,10 @@ pub bytes_with : (grants : List Bool) (n key : ℕ) (piece : List ℕ) (first_r 
 bytes_with grants n key piece first_r first start r held new is reads buses events layout s =
     let i = reads buses events layout s in
     let order = opening_in_order buses layout in
-    let w = counted (course buses events) in
+    let w = counted _ in
     let e =
-    lines_ended buses order first_r.keys n key i.named i.conn.fed piece
-    (accepting n piece w) first.denied grants start held new is i.upto in
+    lines_ended buses order _ n key i.named _ piece
+    _ _ grants start held new is i.upto in
     let p : Piece = record { bytes = piece; grants = grants } in
     let world : accepted buses (Bytes n p) w
     ≡ fold (course_answered buses n) (accepting n piece w) (lines_under grants (new_marks buses i.conn.fed piece)) =
@@ -181,11 +171,8 @@ bytes_with grants n key piece first_r first start r held new is reads buses even
       i.free,
       subst (λ (v : World). Runs buses r new v) (sym world) (record {
         stands =
-            subst (λ (keys : List (Option ℕ)).
-            StandsFor buses keys new
-            (fold (course_answered buses n) (accepting n piece w) (lines_under grants (new_marks buses i.conn.fed piece))))
-            (sym i.keys) e.stands;
-        tells = subst (λ (v : World). Tells r v) e.world_is i.tells;
+            rw i.keys e.stands;
+        tells = rw (← e.world_is) i.tells;
       }),
     )
 
@@ -197,10 +184,10 @@ pub bytes_asked : (grants : List Bool) (n key : ℕ) (piece : List ℕ) (first_r
     → CountsAsked first_r first new (Bytes n (record { bytes = piece; grants = grants }))
 bytes_asked grants n key piece first_r first start r held new is reads buses events layout s =
     let i = reads buses events layout s in
-    let w = counted (course buses events) in
+    let w = counted _ in
     let p : Piece = record { bytes = piece; grants = grants } in
-    (lines_ended buses (opening_in_order buses layout) first_r.keys n key i.named i.conn.fed piece
-    (accepting n piece w) first.denied grants start held new is i.upto).counts
+    (lines_ended buses _ _ n key i.named _ piece
+    _ _ grants start held new is i.upto).counts
     ∙ sym (ap (λ (cause : Option CoreFault). denied_fed buses n p w first.denied cause (open_connection w n)) i.free
     ∙ ap (denied_fed buses n p w first.denied None) i.opened)
 
@@ -209,7 +196,7 @@ pub bytes_happens : (n key : ℕ) (piece : List ℕ) (first_r : Recording) (firs
     → HappensAs (plain.Bytes n piece) None first_r first r new
 bytes_happens n key piece first_r first start r held new is reads = record {
   grants = reads.grants;
-  counted = ap (λ (x : Option (ℕ × Asked) × Held). x.1.denied) is ∙ heard_denied key piece start held (at held key) ∙ reads.counted;
+  counted = cc (heard_denied key piece start held (at held key), reads.counted);
   asked = bytes_asked reads.grants n key piece first_r first start r held new is reads.reads;
   happens = bytes_with reads.grants n key piece first_r first start r held new is reads.reads;
 }

@@ -1,24 +1,12 @@
 -- How many more changes may come upon the information sessions, and when something falls due next: what is held says what
 -- the course says.
-use Rattle.std.proofs.Common.{◌≡◌, ℕ, zero, suc, ◌-◌, ◌<◌, ◌≤◌, min, Bool, true, false, List, [], ◌∷◌, map, length, refl, ap, sym, ◌∙◌}
-use Rattle.std.proofs.Common.{subst, arith}
-use Rattle.std.proofs.lemmas.Bool.Decides.{nat_tests}
-use Rattle.std.specs.List.{AllByRecursion}
-use Rattle.std.specs.Prelude.{◌&&◌, Option, Some, None, IfSome, nat_lt, slice_index_or, if◌then◌else◌}
-use Rattle.srcp_info.specs.declared.change.Change.{Change}
-use Rattle.srcp_info.specs.declared.change.Cursor.{Cursor}
-use Rattle.srcp_info.specs.declared.change.Row.{Row}
+use Rattle.srcp_core.proofs.Names.{◌≡◌, ℕ, zero, suc, ◌-◌, ◌<◌, ◌≤◌, min, Bool, true, false, List, [], ◌∷◌, map, length, refl, ap, sym, ◌∙◌}
+use Rattle.srcp_core.proofs.Names.{subst, arith, nat_tests, AllByRecursion, ◌&&◌, Option, Some, None, IfSome, nat_lt, slice_index_or}
+use Rattle.srcp_core.proofs.Names.{if◌then◌else◌, Change, Cursor, Row, State, OfCourse, Connection, History, cursor_at, is_open, overran}
+use Rattle.srcp_core.proofs.Names.{untold, World, course, history, numbered, Place, Held, place_at, slack_at, slack_in, Listening, Overran}
+use Rattle.srcp_core.proofs.Names.{panel_at, place_of, least, lesser, slack_of, Reading}
 use Rattle.srcp_index.specs.Earliest.{IsEarliestDue}
-use Rattle.srcp_rules.specs.State.{State}
-use Rattle.srcp_core.specs.Agrees.{OfCourse}
-use Rattle.srcp_core.specs.Connection.{Connection, History, cursor_at, is_open, overran, untold, waiting}
-use Rattle.srcp_core.specs.Course.{World, course, history, numbered}
-use Rattle.srcp_core.specs.Held.{Place, Held, place_at}
-use Rattle.srcp_core.specs.Machine.{slack_at, slack_in}
-use Rattle.srcp_core.specs.declared.connection.Panel.TheVariants.{Listening, Overran}
-use Rattle.srcp_core.specs.Stands.{panel_at, place_of}
-use Rattle.srcp_core.specs.Waits.{least, lesser, slack_of, slack, due_next}
-use Rattle.srcp_text.specs.Reading.{Reading}
+use Rattle.srcp_core.specs.Waits.{slack, due_next}
 use Rattle.srcp_core.proofs.Agreement.StandsAfterAChange.{found_at}
 
 -- ---- the least of some numbers
@@ -40,8 +28,8 @@ lesser_other n (Some k) (Some m) h = omega arith
 -- no number is less than the least
 pub least_least : (xs : List (Option ℕ)) (k n : ℕ) → slice_index_or xs k None ≡ Some n → AtMost n (least xs)
 least_least [] k n e = cc
-least_least (x ∷ xs) zero n e = subst (λ o. AtMost n (lesser o (least xs))) (sym e) (lesser_one n (least xs))
-least_least (x ∷ xs) (suc k) n e = lesser_other n x (least xs) (least_least xs k n e)
+least_least (x ∷ xs) zero n e = rw e (lesser_one n _)
+least_least (x ∷ xs) (suc k) n e = lesser_other n x _ (least_least xs k n e)
 
 -- the least is one of them
 abbrev pub IsIn : List (Option ℕ) → ℕ → Type 0
@@ -49,28 +37,28 @@ IsIn xs n = (k : ℕ) × (slice_index_or xs k None ≡ Some n)
 
 pub least_in : (xs : List (Option ℕ)) (n : ℕ) → least xs ≡ Some n → IsIn xs n
 least_in [] n e = cc
-least_in (x ∷ xs) n e = by x refl (least xs) refl e (least_in xs)
+least_in (x ∷ xs) n e = by x refl _ refl e (least_in xs)
   where
     further : (m : ℕ) → IsIn xs m → m ≡ n → IsIn (x ∷ xs) n
-    further m i same = (suc i.0, i.1 ∙ ap (λ k. Some k) same)
+    further m i same = (suc i.0, cc i.1)
 
     by : (one : Option ℕ) → x ≡ one → (other : Option ℕ) → least xs ≡ other → lesser one other ≡ Some n
         → ((m : ℕ) → least xs ≡ Some m → IsIn xs m) → IsIn (x ∷ xs) n
     by None p None q e ih = cc
     by None p (Some m) q e ih = let same : m ≡ n = cc in further m (ih m q) same
     by (Some k) p None q e ih = (0, p ∙ e)
-    by (Some k) p (Some m) q e ih = which (nat_lt m k) refl
+    by (Some k) p (Some m) q e ih = which _ refl
       where
         is : min k m ≡ n
         is = cc
 
         which : (t : Bool) → nat_lt m k ≡ t → IsIn (x ∷ xs) n
         which true t = let same : m ≡ n = grind (arith, nat_tests, is, t) in further m (ih m q) same
-        which false t = let same : k ≡ n = grind (arith, nat_tests, is, t) in (0, p ∙ ap (λ k. Some k) same)
+        which false t = let same : k ≡ n = grind (arith, nat_tests, is, t) in (0, cc)
 
 -- lists with the same numbers have the same least
 least_same : (xs ys : List (Option ℕ)) → ((n : ℕ) → IsIn xs n → IsIn ys n) → ((n : ℕ) → IsIn ys n → IsIn xs n) → least xs ≡ least ys
-least_same xs ys to from = by (least xs) refl (least ys) refl
+least_same xs ys to from = by _ refl _ refl
   where
     by : (a : Option ℕ) → least xs ≡ a → (b : Option ℕ) → least ys ≡ b → a ≡ b
     by None p None q = refl
@@ -82,7 +70,7 @@ least_same xs ys to from = by (least xs) refl (least ys) refl
         let h : n ≤ m = subst (AtMost m) q (least_least ys i.0 m i.1) in
         let k : m ≤ n = subst (AtMost n) p (least_least xs j.0 n j.1) in
         let same : m ≡ n = omega arith in
-        ap (λ n. Some n) same
+        cc
 
 -- ---- slack
 
@@ -106,7 +94,7 @@ panel_slack : (info : Bool) (cursor : Cursor) (queue : List Change)
     → slack_in (panel_at info cursor queue) ≡ (if info then Some (if nat_lt 256 (length queue) then 256 else 256 - length queue) else None)
 panel_slack false cursor queue = refl
 panel_slack true cursor queue =
-    elim (nat_lt 256 (length queue))
+    elim (nat_lt 256 _)
     as (λ t. slack_in (if t then Overran else Listening (record { cursor = cursor; queue = queue }))
     ≡ Some (if t then 256 else 256 - length queue)) [
       | true ↦ refl
@@ -122,7 +110,7 @@ slack_place reader h conn up =
     up)
 
 pub slack_agrees : (held : Held) → OfCourse held (λ buses events. least (map slack_at held.places) ≡ slack buses (course buses events))
-slack_agrees held buses events keys layout s = least_same (map slack_at held.places) (map (slack_of h) w.connections) to from
+slack_agrees held buses events keys layout s = least_same _ _ to from
   where
     w : World
     w = course buses events
@@ -131,38 +119,37 @@ slack_agrees held buses events keys layout s = least_same (map slack_at held.pla
     h = history buses w
 
     to : (n : ℕ) → IsIn (map slack_at held.places) n → IsIn (map (slack_of h) w.connections) n
-    to n i = by (place_at held.places i.0) refl (sym (slack_places held.places i.0) ∙ i.1)
+    to n i = by _ refl (sym (slack_places _ i.0) ∙ i.1)
       where
         stood : (number : ℕ) (conn : Connection) → numbered number w.connections ≡ Some conn → slack_of h conn ≡ Some n
             → IsIn (map (slack_of h) w.connections) n
         stood zero conn there has = cc
-        stood (suc k) conn there has = (k, slack_conns h w.connections k ∙ ap (slack_by h) there ∙ has)
+        stood (suc k) conn there has = (k, cc (slack_conns h _ k))
 
         by : (place : Option Place) → place_at held.places i.0 ≡ place → slack_at place ≡ Some n → IsIn (map (slack_of h) w.connections) n
         by None e is = cc
         by (Some place) e is =
             let own = s.owned i.0 place e in
-            let its = found_at buses (λ n fed. fed) keys held w own.number i.0 s own.named in
+            let its = found_at buses (λ n fed. fed) keys held w _ i.0 s own.named in
             let same : Some place ≡ Some (place_of its.reader h its.conn) = sym e ∙ its.place in
-            let has : slack_of h its.conn ≡ Some n = sym (slack_place its.reader h its.conn its.up) ∙ ap slack_at (sym same) ∙ is in
+            let has : slack_of h its.conn ≡ Some n = cc (slack_place its.reader h its.conn its.up) in
             stood own.number its.conn its.there has
 
     from : (n : ℕ) → IsIn (map (slack_of h) w.connections) n → IsIn (map slack_at held.places) n
-    from n i = by (numbered (suc i.0) w.connections) refl (sym (slack_conns h w.connections i.0) ∙ i.1)
+    from n i = by _ refl (sym (slack_conns h _ i.0) ∙ i.1)
       where
         by : (conn : Option Connection) → numbered (suc i.0) w.connections ≡ conn → slack_by h conn ≡ Some n
             → IsIn (map slack_at held.places) n
         by None e is = cc
-        by (Some conn) e is = go (is_open conn) refl
+        by (Some conn) e is = go _ refl
           where
             go : (t : Bool) → is_open conn ≡ t → IsIn (map slack_at held.places) n
             go true up =
                 let a = s.opens (suc i.0) conn e up in
-                (a.key, slack_places held.places a.key ∙ ap slack_at a.place ∙ slack_place a.reader h conn up ∙ is)
+                (a.key, cc (slack_places _ a.key, a.place, slack_place a.reader h conn up))
             go false up =
                 let bad : None ≡ Some n =
-                sym (ap (λ t. if t && conn.info then Some (if overran conn h then 256 else 256 - length (waiting conn h)) else None) up)
-                ∙ is in
+                cc in
                 cc
 
 -- ---- what falls due
@@ -187,7 +174,7 @@ earliest_is None rows is = none rows is
   where
     none : (rows : State) → AllByRecursion (λ (row : Row). row.due ≡ None) rows → None ≡ least (map (λ (row : Row). row.due) rows)
     none [] a = refl
-    none (row ∷ rows) a = none rows a.1 ∙ ap (λ o. lesser o (least (map (λ (row : Row). row.due) rows))) (sym a.0)
+    none (row ∷ rows) a = cc (none rows a.1, a.0)
 earliest_is (Some m) rows is = by (least (map (λ (row : Row). row.due) rows)) refl
   where
     dues : List (Option ℕ)
@@ -196,7 +183,7 @@ earliest_is (Some m) rows is = by (least (map (λ (row : Row). row.due) rows)) r
     at : (rows : State) (k : ℕ) (row : Row) → k < length rows → slice_index_or rows k row ≡ row → row.due ≡ Some m
         → IsIn (map (λ (row : Row). row.due) rows) m
     at [] k row low here e = absurd (omega arith)
-    at (first ∷ rows) zero row low here e = (0, ap (λ (r : Row). r.due) here ∙ e)
+    at (first ∷ rows) zero row low here e = (0, cc)
     at (first ∷ rows) (suc k) row low here e = let i = at rows k row (omega arith) here e in (suc i.0, i.1)
 
     there : IsIn dues m
@@ -209,7 +196,7 @@ earliest_is (Some m) rows is = by (least (map (λ (row : Row). row.due) rows)) r
         let i = least_in dues n p in
         let high : m ≤ n = due_rows rows i.0 n i.1 (Some m) is in
         let same : m ≡ n = omega arith in
-        ap (λ n. Some n) same
+        cc
 
 pub due_agrees : (first : Option ℕ) (held : Held) → IsEarliestDue first held.rows
     → OfCourse held (λ buses events. first ≡ due_next buses (course buses events))

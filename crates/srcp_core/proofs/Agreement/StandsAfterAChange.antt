@@ -1,20 +1,10 @@
 -- A core that stands for a course, after the place of one connection changed, and after a step.
-use Rattle.std.proofs.Common.{◌≡◌, ◌≢◌, ℕ, ⊎_elim, Bool, true, false, cond, List, [], ◌∷◌, ◌++◌, map, refl, ap, sym, ◌∙◌, subst, arith}
-use Rattle.std.proofs.lemmas.List.Sums.{fold-append}
-use Rattle.std.specs.Option.{option_map}
-use Rattle.std.specs.Prelude.{Option, Some, None, slice_set}
-use Rattle.srcp_info.specs.declared.change.Change.{Change}
-use Rattle.srcp_text.specs.Reading.{Reading, StandsAt}
-use Rattle.srcp_grammar.specs.declared.layout.Bus.{Bus}
-use Rattle.srcp_rules.specs.State.{Update, opening, shown_rows, updated_all}
-use Rattle.srcp_core.specs.Under.{Step}
-use Rattle.srcp_core.specs.Connection.{Connection, History, is_open}
-use Rattle.srcp_core.specs.Course.{World, numbered, at_connection, if_open, open_connection, did, updates_of, stepped, state, history}
-use Rattle.srcp_core.specs.Held.{Place, Held, at, place_at}
-use Rattle.srcp_core.specs.Machine.{told_each, carried, changed_at, changed_in}
-use Rattle.srcp_core.specs.Recording.{key_of}
-use Rattle.srcp_core.specs.Stands.{StandsBy, IsAt, IsOwned, place_of}
-use Rattle.srcp_core.specs.declared.record.Item.{Item}
+use Rattle.srcp_core.proofs.Names.{◌≡◌, ◌≢◌, ℕ, ⊎_elim, Bool, true, false, List, [], ◌∷◌, ◌++◌, map, refl, ap, sym, ◌∙◌, arith, fold-append}
+use Rattle.srcp_core.proofs.Names.{option_map, Option, Some, None, slice_set, Change, Reading, StandsAt, Bus, Update, opening, shown_rows}
+use Rattle.srcp_core.proofs.Names.{Refusal, Step, Connection, History, is_open, World, numbered, at_connection, open_connection, did}
+use Rattle.srcp_core.proofs.Names.{updates_of, state, history, Place, Held, at, place_at, told_each, carried, changed_at, key_of, StandsBy}
+use Rattle.srcp_core.proofs.Names.{IsAt, IsOwned, place_of, Item}
+use Rattle.srcp_core.specs.Course.{stepped}
 use Rattle.srcp_core.proofs.Invariants.PlacesCover.{Where, Here, Away, where_is, place_set, place_set_here, set_count, told_each_count}
 use Rattle.srcp_core.proofs.Agreement.NumbersAndKeys.{opens_same, length_with, key_within, numbered_none, look_with}
 use Rattle.srcp_core.proofs.Agreement.PlacesChange.{told_places, told_each_at, told_place_of}
@@ -46,7 +36,7 @@ module _ (buses : List Bus) where
 
   pub found_at : (read : ℕ → List ℕ → List ℕ) (keys : List (Option ℕ)) (held : Held) (w : World) (n key : ℕ)
       → StandsBy buses read keys held w → key_of n keys ≡ Some key → Found read held w n key
-  found_at read keys held w n key s k = by (numbered n w.connections) refl
+  found_at read keys held w n key s k = by _ refl
     where
       with : (conn : Connection) (o : Bool) → numbered n w.connections ≡ Some conn → is_open conn ≡ o → Found read held w n key
       with conn false e o = let bad : Some key ≡ None = sym k ∙ s.closed n conn e o in cc
@@ -58,25 +48,44 @@ module _ (buses : List Bus) where
             reader = a.reader;
             there = e;
             up = o;
-            shut = open_shut conn.shut o;
-            opened = ap if_open e ∙ ap (λ t. cond t (Some conn) None) o;
-            place = ap (place_at held.places) (sym same) ∙ a.place;
+            shut = open_shut _ o;
+            opened = cc;
+            place = cc a.place;
             reads = a.reads;
           }
 
       by : (c : Option Connection) → numbered n w.connections ≡ c → Found read held w n key
       by None e =
           let within = key_within n keys key k in
-          let short = numbered_none n w.connections within.0 e in
+          let short = numbered_none n _ within.0 e in
           let long = s.long in
           let most = within.1 in
           absurd (omega (arith, short, long, most))
-      by (Some conn) e = with conn (is_open conn) e refl
+      by (Some conn) e = with conn _ e refl
+
+  -- a world and a core of which something else changes than the rows, the slots and the connections
+  pub stands_as : (read : ℕ → List ℕ → List ℕ) (keys : List (Option ℕ)) (held : Held) (w : World) (moment last denied m l events : ℕ)
+      (refused : List Refusal)
+      → moment ≡ m → last ≡ l → StandsBy buses read keys held w
+      → StandsBy buses read keys (record held { moment = moment; last_id = last; denied = denied })
+      (record w { moment = m; last_id = l; refused = refused; events = events })
+  stands_as read keys held w moment last denied m l events refused e f s = record {
+    layout = s.layout;
+    rows = s.rows;
+    moment = e;
+    last_id = f;
+    count = s.count;
+    long = s.long;
+    opens = s.opens;
+    closed = s.closed;
+    apart = s.apart;
+    owned = s.owned;
+  }
 
   -- another number has another key
   pub other_key : (read : ℕ → List ℕ → List ℕ) (keys : List (Option ℕ)) (held : Held) (w : World) (n key : ℕ)
       → StandsBy buses read keys held w → key_of n keys ≡ Some key → (m other : ℕ) → m ≢ n → key_of m keys ≡ Some other → other ≢ key
-  other_key read keys held w n key s named m other d e z = d (s.apart m n key (e ∙ ap Some z) named)
+  other_key read keys held w n key s named m other d e z = d (s.apart m n key (cc) named)
 
   -- ---- one connection
 
@@ -92,8 +101,8 @@ module _ (buses : List Bus) where
     rows = s.rows;
     moment = s.moment;
     last_id = s.last_id;
-    count = set_count held.places key old p was ∙ s.count ∙ sym (opens_same n f w.connections conn there (ups ∙ sym up));
-    long = s.long ∙ sym (length_with n f w.connections);
+    count = set_count _ key old p was ∙ s.count ∙ sym (opens_same n f _ conn there (cc));
+    long = s.long ∙ sym (length_with n f _);
     opens = λ m c e o. at_all m c e o;
     closed = λ m c e o. shuts m c e o;
     apart = s.apart;
@@ -112,51 +121,51 @@ module _ (buses : List Bus) where
       at_all : (m : ℕ) (c : Connection) → numbered m (at_connection n f w).connections ≡ Some c → is_open c ≡ true
           → IsAt keys (slice_set held.places key (Some p)) (history buses w) m c (later m c.fed)
       at_all m c e o =
-          let from = look_with m n f w.connections c e in
+          let from = look_with m n f _ c e in
           ⊎_elim
           (λ h.
-          let a = s.opens m from.x from.there (ap is_open (sym h.1) ∙ o) in
-          subst (λ (c : Connection). IsAt keys (slice_set held.places key (Some p)) (history buses w) m c (later m c.fed)) (sym h.1)
+          let a = s.opens m from.x from.there (cc h.1) in
+          rw h.1
           (record {
             key = a.key;
             reader = a.reader;
             named = a.named;
-            place = place_set held.places key a.key (Some p) (other_key read keys held w n key s k m a.key h.0 a.named) ∙ a.place;
-            reads = subst (λ bytes. StandsAt bytes a.reader) (sym (same_read m from.x.fed h.0)) a.reads;
+            place = place_set _ key a.key _ (other_key read keys held w n key s k m a.key h.0 a.named) ∙ a.place;
+            reads = rw (same_read m _ h.0) a.reads;
           }))
           (λ h.
           let same : conn ≡ from.x =
-          let both : Some conn ≡ Some from.x = sym there ∙ ap (λ j. numbered j w.connections) (sym h.0) ∙ from.there in cc in
-          let image : c ≡ f conn = h.1 ∙ ap f (sym same) in
-          subst (λ (c : Connection). IsAt keys (slice_set held.places key (Some p)) (history buses w) m c (later m c.fed)) (sym image)
+          let both : Some conn ≡ Some from.x = cc (h.0, from.there) in cc in
+          let image : c ≡ f conn = cc h.1 in
+          rw image
           (record {
             key = key;
             reader = reader;
-            named = ap (λ j. key_of j keys) h.0 ∙ k;
-            place = place_set_here held.places key old (Some p) was ∙ ap Some is;
-            reads = subst (λ j. StandsAt (later j (f conn).fed) reader) (sym h.0) reads;
+            named = cc h.0;
+            place = cc (place_set_here _ key old _ was);
+            reads = rw h.0 reads;
           }))
           from.from
 
       shuts : (m : ℕ) (c : Connection) → numbered m (at_connection n f w).connections ≡ Some c → is_open c ≡ false → key_of m keys ≡ None
       shuts m c e o =
-          let from = look_with m n f w.connections c e in
+          let from = look_with m n f _ c e in
           ⊎_elim
-          (λ h. s.closed m from.x from.there (ap is_open (sym h.1) ∙ o))
+          (λ h. s.closed m from.x from.there (cc h.1))
           (λ h.
           let same : conn ≡ from.x =
-          let both : Some conn ≡ Some from.x = sym there ∙ ap (λ j. numbered j w.connections) (sym h.0) ∙ from.there in cc in
-          let bad : true ≡ false = sym ups ∙ ap (λ c. is_open (f c)) same ∙ ap is_open (sym h.1) ∙ o in
+          let both : Some conn ≡ Some from.x = cc (h.0, from.there) in cc in
+          let bad : true ≡ false = cc h.1 in
           cc)
           from.from
 
       owner : (other : ℕ) (q : Place) → place_at (slice_set held.places key (Some p)) other ≡ Some q → Where other key → IsOwned keys other
-      owner other q e (Here z) = record { number = n; named = k ∙ ap Some (sym z) }
-      owner other q e (Away d) = s.owned other q (sym (place_set held.places key other (Some p) d) ∙ e)
+      owner other q e (Here z) = record { number = n; named = cc }
+      owner other q e (Away d) = s.owned other q (sym (place_set _ key other _ d) ∙ e)
 
   changed_is : (key : ℕ) (change : Place → Place) (held : Held) (p : Place) → at held key ≡ Some p
       → changed_at key change held ≡ record held { places = slice_set held.places key (Some (change p)) }
-  changed_is key change held p e = ap (λ o. record held { places = changed_in key change held.places o }) e
+  changed_is key change held p e = cc
 
   -- the same change of the place and of the connection
   pub stands_at : (read : ℕ → List ℕ → List ℕ) (keys : List (Option ℕ)) (held : Held) (w : World) (n key : ℕ) (f : Connection → Connection)
@@ -169,11 +178,10 @@ module _ (buses : List Bus) where
   stands_at read keys held w n key f change s k law =
       let h = found_at read keys held w n key s k in
       let l = law h.conn h.reader h.there h.shut in
-      subst (λ (x : Held). StandsBy buses read keys x (at_connection n f w))
-      (sym (changed_is key change held (place_of h.reader (history buses w) h.conn) h.place))
-      (stands_changed read read keys held w n key h.conn f (change (place_of h.reader (history buses w) h.conn)) h.reader s k h.there h.up
+      rw (changed_is key change held _ h.place)
+      (stands_changed read read keys held w n key h.conn f _ h.reader s k h.there h.up
       (l.0 ∙ h.up) l.1.1
-      (subst (λ bytes. StandsAt (read n bytes) h.reader) (sym l.1.0) h.reads) (λ m bytes d. refl))
+      (rw l.1.0 h.reads) (λ m bytes d. refl))
 
   -- ---- a step
 
@@ -181,18 +189,17 @@ module _ (buses : List Bus) where
       → StandsBy buses read keys held w
       → StandsBy buses read keys (carried (updates_of held.rows step) held) (did step w)
   stands_did read keys held w step fine s =
-      subst (λ (updates : List Update). StandsBy buses read keys (carried updates held) (did step w))
-      (ap (λ rows. updates_of rows step) (sym s.rows)) (record {
+      rw (← (ap (λ rows. updates_of rows step) (sym s.rows))) (record {
         layout = s.layout;
-        rows = ap (updated_all updates) s.rows ∙ sym (fold-append stepped (opening buses 0) w.steps (step ∷ []));
+        rows = cc (s.rows, fold-append stepped _ w.steps _);
         moment = s.moment;
         last_id = s.last_id;
-        count = told_each_count changes held.places ∙ s.count;
+        count = told_each_count changes _ ∙ s.count;
         long = s.long;
         opens = λ n conn e o. moved n conn e o;
         closed = s.closed;
         apart = s.apart;
-        owned = λ key p e. owner key p e (place_at held.places key) refl;
+        owned = λ key p e. owner key p e _ refl;
       })
     where
       updates : List Update
@@ -202,23 +209,23 @@ module _ (buses : List Bus) where
       changes = map (λ update. update.change) updates
 
       later : history buses (did step w) ≡ history buses w ++ changes ∷ []
-      later = history_push (opening buses 0) w.steps step
+      later = history_push _ w.steps step
 
       moved : (n : ℕ) (conn : Connection) → numbered n w.connections ≡ Some conn → is_open conn ≡ true
           → IsAt keys (told_each changes held.places) (history buses (did step w)) n conn (read n conn.fed)
       moved n conn e o =
           let a = s.opens n conn e o in
-          let shut = open_shut conn.shut o in
-          let fits = (fits_open (shown_rows (opening buses 0)) Anything (history buses w) conn shut (fine n conn e)).0 in
+          let shut = open_shut _ o in
+          let fits = (fits_open (shown_rows (opening buses 0)) Anything _ conn shut (fine n conn e)).0 in
           record {
             key = a.key;
             reader = a.reader;
             named = a.named;
             place =
-                told_each_at changes held.places a.key
+                told_each_at changes _ a.key
                 ∙ ap (option_map (told_places changes)) a.place
                 ∙ ap Some
-                (told_place_of (shown_rows (opening buses 0)) a.reader conn (history buses w) changes shut fits
+                (told_place_of _ a.reader conn _ changes shut fits
                 ∙ ap (λ h. place_of a.reader h conn) (sym later));
             reads = a.reads;
           }
@@ -226,5 +233,5 @@ module _ (buses : List Bus) where
       owner : (key : ℕ) (p : Place) → place_at (told_each changes held.places) key ≡ Some p → (o : Option Place)
           → place_at held.places key ≡ o → IsOwned keys key
       owner key p e None z =
-          let bad : None ≡ Some p = sym (told_each_at changes held.places key ∙ ap (option_map (told_places changes)) z) ∙ e in cc
+          let bad : None ≡ Some p = cc (told_each_at changes _ key) in cc
       owner key p e (Some q) z = s.owned key q z

@@ -1,26 +1,13 @@
 -- What an information session was given and what waits for it: together they are the rows that its listing has passed.
-use Rattle.std.proofs.Common.{◌≡◌, ℕ, ◌+◌, ◌-◌, ◌<◌, ◌≤◌, Bool, true, false, List, [], ◌∷◌, ◌++◌, map, length, drop, refl, ap, sym, ◌∙◌}
-use Rattle.std.proofs.Common.{subst, arith, append-nil, append_assoc, length-append, length-drop}
-use Rattle.std.proofs.lemmas.Bool.{le-leb}
-use Rattle.std.proofs.lemmas.List.{length_push, drop-append-le, drop-drop}
-use Rattle.std.proofs.lemmas.List.Concat.{flat_map-append}
-use Rattle.std.proofs.lemmas.List.Elements.{filter_map-append}
-use Rattle.std.proofs.lemmas.List.Sums.{fold-append}
-use Rattle.std.specs.List.{filter, filter_map}
-use Rattle.std.specs.Prelude.{nat_le, Option, Some, None}
-use Rattle.srcp_info.specs.Client.{changed, put, IsRisingBy}
-use Rattle.srcp_info.specs.declared.change.Change.{Change}
-use Rattle.srcp_info.specs.declared.change.Change.TheVariants.{Put}
-use Rattle.srcp_info.specs.declared.change.Cursor.TheVariants.{Start, After, Done}
-use Rattle.srcp_info.specs.declared.change.Shown.{Shown}
-use Rattle.srcp_feed.specs.Cursor.{concerns, passed, beyond, moved, said, changed_all}
-use Rattle.srcp_feed.specs.declared.next.Next.{Next}
-use Rattle.srcp_feed.specs.declared.next.Next.TheVariants.{Told, Listed}
-use Rattle.srcp_info.proofs.ClientLaws.{key_at}
-use Rattle.srcp_feed.proofs.Steps.{ListsOne, lists_one, passed_changed, beyond_done}
-use Rattle.srcp_core.specs.Connection.{History, tells, told_change, items_of}
-use Rattle.srcp_core.specs.declared.record.Item.{Item}
-use Rattle.srcp_core.proofs.CourseLaws.Histories.{rows_after, concerning_by, concerning_push, concerning_same, last_of, cursor_by, AreBy}
+use Rattle.srcp_core.proofs.Names.{◌≡◌, ℕ, ◌+◌, ◌-◌, ◌<◌, ◌≤◌, Bool, true, false, List, [], ◌∷◌, ◌++◌, map, length, drop, refl, ap, sym}
+use Rattle.srcp_core.proofs.Names.{◌∙◌, subst, arith, append-nil, append_assoc, length-append, length-drop, le-leb, length_push}
+use Rattle.srcp_core.proofs.Names.{drop-append-le, drop-drop, flat_map-append, filter_map-append, fold-append, filter, filter_map, nat_le}
+use Rattle.srcp_core.proofs.Names.{Option, Some, None, IsRisingBy, Change, Put, Start, After, Done, Shown, passed, beyond, moved, said}
+use Rattle.srcp_core.proofs.Names.{changed_all, Next, Told, Listed, key_at, lists_one, beyond_done, History, tells, told_change, items_of}
+use Rattle.srcp_core.proofs.Names.{Item}
+use Rattle.srcp_info.specs.Client.{changed}
+use Rattle.srcp_feed.proofs.Steps.{ListsOne, passed_changed}
+use Rattle.srcp_core.proofs.CourseLaws.Histories.{rows_after, concerning_by, concerning_push, concerning_same, cursor_by, AreBy}
 use Rattle.srcp_core.proofs.CourseLaws.Histories.{IsDoneBy, by_all, by_more, done_more, cursor_later, cursor_before}
 
 -- the changes that were told
@@ -45,7 +32,7 @@ pub record Fits (start : List Shown) (history : History) (go : ℕ) (items : Lis
 
 pub rows_push : (start : List Shown) (history : History) (changes : List Change)
     → rows_after start (history ++ changes ∷ []) ≡ changed_all changes (rows_after start history)
-rows_push start history changes = fold-append (λ rows changes. changed_all changes rows) start history (changes ∷ [])
+rows_push start history changes = fold-append (λ rows changes. changed_all changes rows) start history _
 
 -- a step more
 pub fits_push : (start : List Shown) (history : History) (changes : List Change) (go : ℕ) (items : List Item) (done : Option ℕ)
@@ -55,20 +42,20 @@ fits_push start history changes go items done f =
     let up : length history ≤ length (history ++ changes ∷ []) = omega arith in
     let numbers = f.numbers in
     let cur : cursor_by done items (length (history ++ changes ∷ [])) ≡ cursor_by done items (length history) =
-    cursor_later (length history) (length (history ++ changes ∷ [])) done items up f.finished f.numbers in
-    let before : List Change = concerning_by go (cursor_by done items) history in
-    let extra : List Change = filter (concerns (cursor_by done items (length history))) changes in
+    cursor_later _ _ done items up f.finished f.numbers in
+    let before : List Change = concerning_by go _ history in
+    let extra : List Change = filter _ changes in
     let con : concerning_by go (cursor_by done items) (history ++ changes ∷ []) ≡ before ++ extra =
-    concerning_push go (cursor_by done items) history changes f.began in
+    concerning_push go _ history changes f.began in
     let more : untold_by go items done (history ++ changes ∷ []) ≡ untold_by go items done history ++ extra =
-    ap (drop (length (tolds items))) con ∙ drop-append-le (length (tolds items)) before extra f.enough in
+    cc (drop-append-le _ before extra f.enough) in
     let longer : length (concerning_by go (cursor_by done items) (history ++ changes ∷ [])) ≡ length before + length extra =
-    ap length con ∙ length-append before extra in
+    cc (length-append before extra) in
     let enough = f.enough in
     let began = f.began in
     record {
-      numbers = by_more (length history) (length (history ++ changes ∷ [])) items up f.numbers;
-      finished = done_more (length history) (length (history ++ changes ∷ [])) done up f.finished;
+      numbers = by_more _ _ items up f.numbers;
+      finished = done_more _ _ done up f.finished;
       began = omega arith;
       enough = omega arith;
       kept =
@@ -76,7 +63,7 @@ fits_push start history changes go items done f =
           ∙ ap (λ u. changed_all u []) (sym (append_assoc (tells items) (untold_by go items done history) extra))
           ∙ fold-append (λ rows change. changed change rows) [] (tells items ++ untold_by go items done history) extra
           ∙ ap (changed_all extra) f.kept
-          ∙ sym (passed_changed (cursor_by done items (length history)) changes (rows_after start history))
+          ∙ sym (passed_changed _ changes _)
           ∙ ap (passed (cursor_by done items (length history))) (sym (rows_push start history changes))
           ∙ ap (λ c. passed c (rows_after start (history ++ changes ∷ []))) (sym cur);
     }
@@ -101,8 +88,8 @@ all_push n (i ∷ items) item a h = (a.0, all_push n items item a.1 h)
 pub concerning_item : (history : History) (go : ℕ) (items : List Item) (done : Option ℕ) (what : Next)
     → concerning_by go (cursor_by done (items ++ item_of history what ∷ [])) history ≡ concerning_by go (cursor_by done items) history
 concerning_item history go items done what =
-    concerning_same go (cursor_by done (items ++ item_of history what ∷ [])) (cursor_by done items) 0 history
-    (λ k low high. cursor_before (length history) k done items (item_of history what ∷ []) (below k high) (refl, tt))
+    concerning_same go _ _ 0 history
+    (λ k low high. cursor_before _ k done items _ (below k high) (refl, tt))
   where
     below : (k : ℕ) → k < 0 + length history → k < length history
     below k h = omega arith
@@ -111,18 +98,19 @@ concerning_item history go items done what =
 pub cursor_item : (history : History) (items : List Item) (what : Next) → AreBy (length history) items
     → cursor_by None (items ++ item_of history what ∷ []) (length history) ≡ moved (cursor_by None items (length history)) what
 cursor_item history items what a =
-    ap last_of
-    (by_all (length history) (items ++ item_of history what ∷ []) (all_push (length history) items (item_of history what) a self))
-    ∙ fold-append (λ cursor item. moved cursor item.what) Start items (item_of history what ∷ [])
-    ∙ ap (λ is. moved (last_of is) what) (sym (by_all (length history) items a))
+    cc (
+      by_all (length history) _ (all_push (length history) items (item_of history what) a self),
+      fold-append (λ cursor item. moved cursor item.what) Start items (item_of history what ∷ []),
+      by_all _ items a,
+    )
   where
     self : length history ≤ length history
     self = omega arith
 
 pub cursor_told : (history : History) (items : List Item) (done : Option ℕ) (change : Change) → AreBy (length history) items
     → cursor_by done (items ++ item_of history (Told change) ∷ []) (length history) ≡ cursor_by done items (length history)
-cursor_told history items None change a = cursor_item history items (Told change) a
-cursor_told history items (Some m) change a = by (nat_le m (length history)) refl
+cursor_told history items None change a = cursor_item history items _ a
+cursor_told history items (Some m) change a = by _ refl
   where
     by : (t : Bool) → nat_le m (length history) ≡ t
         → cursor_by (Some m) (items ++ item_of history (Told change) ∷ []) (length history) ≡ cursor_by (Some m) items (length history)
@@ -135,40 +123,40 @@ pub fits_told : (start : List Shown) (history : History) (go : ℕ) (items : Lis
     → OneMore start history go (items ++ item_of history (Told change) ∷ []) done changes
     (beyond (cursor_by done items (length history)) (rows_after start history))
 fits_told start history go items done change changes f e =
-    let con = concerning_item history go items done (Told change) in
+    let con = concerning_item history go items done _ in
     let cur = cursor_told history items done change f.numbers in
     let tel : tells (items ++ item_of history (Told change) ∷ []) ≡ tells items ++ change ∷ [] =
-    flat_map-append (λ (item : Item). said item.what) items (item_of history (Told change) ∷ []) in
+    flat_map-append (λ (item : Item). said _) items _ in
     let tol : tolds (items ++ item_of history (Told change) ∷ []) ≡ tolds items ++ change ∷ [] =
-    filter_map-append (λ (item : Item). told_change item.what) items (item_of history (Told change) ∷ []) in
+    filter_map-append (λ (item : Item). told_change _) items _ in
     let len : length (tolds (items ++ item_of history (Told change) ∷ [])) ≡ length (tolds items) + 1 =
-    ap length tol ∙ length_push (tolds items) change in
-    let before : List Change = concerning_by go (cursor_by done items) history in
+    cc (length_push _ change) in
+    let before : List Change = concerning_by go _ history in
     let room : length before - length (tolds items) ≡ length (change ∷ changes) =
-    sym (length-drop (length (tolds items)) before) ∙ ap length e in
+    cc (length-drop _ before) in
     let lencon : length (concerning_by go (cursor_by done (items ++ item_of history (Told change) ∷ [])) history) ≡ length before =
-    ap length con in
+    cc in
     let self : length history ≤ length history = omega arith in
     let waits : untold_by go (items ++ item_of history (Told change) ∷ []) done history ≡ changes =
     ap (λ n. drop n (concerning_by go (cursor_by done (items ++ item_of history (Told change) ∷ [])) history)) len
     ∙ ap (drop (length (tolds items) + 1)) con
-    ∙ sym (drop-drop 1 (length (tolds items)) before)
+    ∙ sym (drop-drop 1 _ before)
     ∙ ap (drop 1) e in
     record {
       fits = record {
-        numbers = all_push (length history) items (item_of history (Told change)) f.numbers self;
+        numbers = all_push _ items _ f.numbers self;
         finished = f.finished;
         began = f.began;
         enough = omega arith;
         kept =
             ap (λ u. changed_all (tells (items ++ item_of history (Told change) ∷ []) ++ u) []) waits
             ∙ ap (λ t. changed_all (t ++ changes) []) tel
-            ∙ ap (λ u. changed_all u []) (append_assoc (tells items) (change ∷ []) changes ∙ ap (λ u. tells items ++ u) (sym e))
+            ∙ ap (λ u. changed_all u []) (append_assoc _ _ changes ∙ ap (λ u. tells items ++ u) (sym e))
             ∙ f.kept
             ∙ ap (λ c. passed c (rows_after start history)) (sym cur);
       };
       waiting = waits;
-      listing = ap (λ c. beyond c (rows_after start history)) cur;
+      listing = cc;
     }
 
 -- where a row is left the listing is not done
@@ -210,20 +198,15 @@ fits_listed start history go items None row left order f e b =
     ap (λ u. changed_all u []) (sym (append-nil (tells items)) ∙ ap (λ u. tells items ++ u) (sym e)) ∙ f.kept in
     record {
       fits = record {
-        numbers = all_push (length history) items (item_of history (Listed row)) f.numbers self;
+        numbers = all_push _ items _ f.numbers self;
         finished = f.finished;
         began = f.began;
         enough = omega arith;
         kept =
-            ap (λ u. changed_all (tells (items ++ item_of history (Listed row) ∷ []) ++ u) []) waits
-            ∙ ap (λ u. changed_all u []) (append-nil (tells (items ++ item_of history (Listed row) ∷ [])) ∙ tel)
-            ∙ fold-append (λ rows change. changed change rows) [] (tells items) (Put row ∷ [])
-            ∙ ap (put row) held
-            ∙ one.taken
-            ∙ ap (λ c. passed c (rows_after start history)) (sym cur);
+            cc (append-nil _, fold-append (λ rows change. changed change rows) [] (tells items) (Put row ∷ []), one.taken);
       };
       waiting = waits;
-      listing = ap (λ c. beyond c (rows_after start history)) cur ∙ one.left;
+      listing = cc one.left;
     }
 
 -- ---- further laws of a session
@@ -265,7 +248,7 @@ module _ (start : List Shown) (P : History → ℕ → List Item → Option ℕ 
       → owed_by go items done history (rows_after start history) ≡ nexts ++ rest
       → Gives history go (items ++ items_of (length history) nexts) done rest
   gives history go items done [] rest order f p e =
-      subst (λ is. Gives history go is done rest) (sym (append-nil items)) (record { fits = f; also = p; owes = e })
+      rw (append-nil items) (record { fits = f; also = p; owes = e })
   gives history go items done (what ∷ nexts) rest order f p e =
       by (untold_by go items done history) refl (beyond (cursor_by done items (length history)) (rows_after start history)) refl
       (λ item f p e. gives history go (items ++ item ∷ []) done nexts rest order f p e)
@@ -275,7 +258,7 @@ module _ (start : List Shown) (P : History → ℕ → List Item → Option ℕ 
           → Gives history go (items ++ items_of (length history) (what ∷ nexts)) done rest
       joined other same g =
           subst (λ is. Gives history go is done rest)
-          (append_assoc items (item_of history other ∷ []) (items_of (length history) nexts)
+          (append_assoc items _ _
           ∙ ap (λ w. items ++ items_of (length history) (w ∷ nexts)) same) g
 
       listed : (row : Shown) (left : List Shown) → untold_by go items done history ≡ []
@@ -283,10 +266,10 @@ module _ (start : List Shown) (P : History → ℕ → List Item → Option ℕ 
           → P history go (items ++ item_of history (Listed row) ∷ []) done
       listed row left u b =
           let none = not_done start history go items done row left f b in
-          subst (λ d. P history go (items ++ item_of history (Listed row) ∷ []) d) (sym none)
-          (law.list history go items row left order (subst (λ d. Fits start history go items d) none f)
-          (subst (λ d. P history go items d) none p)
-          (subst (λ d. untold_by go items d history ≡ []) none u)
+          rw none
+          (law.list history go items row left order (rw (← none) f)
+          (rw (← none) p)
+          (rw (← none) u)
           (subst (λ d. beyond (cursor_by d items (length history)) (rows_after start history) ≡ row ∷ left) none b))
 
       by : (u : List Change) → untold_by go items done history ≡ u → (b : List Shown)
@@ -297,15 +280,11 @@ module _ (start : List Shown) (P : History → ℕ → List Item → Option ℕ 
           → Gives history go (items ++ items_of (length history) (what ∷ nexts)) done rest
       by [] u [] b next =
           let bad : map Told [] ++ map Listed [] ≡ what ∷ (nexts ++ rest) =
-          sym (ap (λ u. map Told u ++ map Listed (beyond (cursor_by done items (length history)) (rows_after start history))) u
-          ∙ ap (λ b. map Told [] ++ map Listed b) b)
-          ∙ e in
+          cc in
           cc
       by [] u (row ∷ left) b next =
           let is : Listed row ∷ map Listed left ≡ what ∷ (nexts ++ rest) =
-          sym (ap (λ u. map Told u ++ map Listed (beyond (cursor_by done items (length history)) (rows_after start history))) u
-          ∙ ap (λ b. map Told [] ++ map Listed b) b)
-          ∙ e in
+          cc in
           let head : Listed row ≡ what = cc in
           let tail : map Listed left ≡ nexts ++ rest = cc in
           let one = fits_listed start history go items done row left order f u b in
@@ -319,9 +298,7 @@ module _ (start : List Shown) (P : History → ℕ → List Item → Option ℕ 
           ∙ ap (λ b. map Told [] ++ map Listed b) one.listing ∙ tail))
       by (change ∷ changes) u left b next =
           let is : Told change ∷ (map Told changes ++ map Listed left) ≡ what ∷ (nexts ++ rest) =
-          sym (ap (λ u. map Told u ++ map Listed (beyond (cursor_by done items (length history)) (rows_after start history))) u
-          ∙ ap (λ b. map Told (change ∷ changes) ++ map Listed b) b)
-          ∙ e in
+          cc in
           let head : Told change ≡ what = cc in
           let tail : map Told changes ++ map Listed left ≡ nexts ++ rest = cc in
           let one = fits_told start history go items done change changes f u in

@@ -1,13 +1,7 @@
 -- Information sessions are told rightly, and every connection is served rightly.
-use Rattle.std.proofs.Common.{◌≡◌, ℕ, List, ap, sym, ◌∙◌, subst}
-use Rattle.std.specs.Prelude.{Some}
-use Rattle.srcp_grammar.specs.declared.layout.Bus.{Bus}
-use Rattle.srcp_grammar.specs.Layout.{IsLayout}
-use Rattle.srcp_core.specs.Connection.{Connection}
-use Rattle.srcp_core.specs.Course.{course, numbered}
-use Rattle.srcp_core.specs.Laws.{AllMoments, HasMoment, IsHeldRightly, IsSentNoMore, IsSentNoMoreSince, IsServedRightly, IsSession}
-use Rattle.srcp_core.specs.Laws.{ServedRightly, ToldRightly, without_events}
-use Rattle.srcp_core.specs.Under.{Event}
+use Rattle.srcp_core.proofs.Names.{◌≡◌, ℕ, List, subst, Some, Bus, IsLayout, Connection, course, numbered, AllMoments, IsSession, Event}
+use Rattle.srcp_core.specs.Laws.{IsHeldRightly, IsSentNoMoreSince, IsServedRightly}
+use Rattle.srcp_core.specs.Laws.{ServedRightly, ToldRightly}
 use Rattle.srcp_core.proofs.CourseLaws.RoomsAddUp.{rooms_add_up, rooms_are_one, sends_all_replies, takes_within}
 use Rattle.srcp_core.proofs.CourseLaws.NothingAfterTheEnd.{sends_no_more}
 use Rattle.srcp_core.proofs.CourseLaws.OneLineIsUnsent.{leaves_one_line}
@@ -26,8 +20,8 @@ held_rightly buses layout events number conn session moments = record {
   registry = holds_registry buses layout events number conn session moments;
   once = λ first more early whole begins settled device there key own has.
       lists_each_once buses layout first more number early conn begins
-      (subst (λ (es : List Event). IsSession buses es number conn) whole session)
-      (all_front HasMoment first more (subst AllMoments whole moments)) settled device there key own has;
+      (rw (← whole) session)
+      (all_front _ first more (subst AllMoments whole moments)) settled device there key own has;
 }
 
 pub told_rightly : (buses : List Bus) → ToldRightly buses
@@ -46,7 +40,7 @@ module _ (buses : List Bus) (events : List Event) (number : ℕ) (conn : Connect
     (there : numbered number (course buses events).connections ≡ Some conn) where
   -- the connection is there, by any name of the events
   there_by : (es : List Event) → events ≡ es → numbered number (course buses es).connections ≡ Some conn
-  there_by es whole = subst (λ (es : List Event). numbered number (course buses es).connections ≡ Some conn) whole there
+  there_by es whole = rw (← whole) there
 
   connection_served : IsLayout buses → IsServedRightly buses events number conn
   connection_served layout = record {
@@ -59,15 +53,14 @@ module _ (buses : List Bus) (events : List Event) (number : ℕ) (conn : Connect
         settles_after_owed buses layout first number bytes early conn session up still (there_by _ whole);
     rooms = rooms_add_up buses layout events number conn there;
     one_room = λ first a b early whole began up some.
-        ap (λ (es : List Event). without_events (course buses es)) whole
-        ∙ rooms_are_one buses layout first number a b early began up some;
+        cc (rooms_are_one buses layout first number a b early began up some);
     overruns = λ info up still changes.
         meets_overruns buses layout events number conn (record { there = there; info = info }) up still changes;
   }
 
   sent_no_more : IsSentNoMoreSince buses events number conn
   sent_no_more first more early whole began over =
-      subst (λ (es : List Event). IsSentNoMore buses (course buses es) early conn) (sym whole)
+      rw whole
       (sends_no_more buses first more number early conn began (there_by _ whole) over)
 
 pub served_rightly : (buses : List Bus) → ServedRightly buses

@@ -1,41 +1,29 @@
 -- What later events bring is at most what their lines weigh, beside what moments and the ends of sessions bring.
-use Rattle.std.proofs.Common.{◌≡◌, ℕ, ◌+◌, ◌≤◌, Bool, true, false, List, [], ◌∷◌, ◌++◌, map, length, drop, refl, ap, sym, ◌∙◌}
-use Rattle.std.proofs.Common.{subst, arith, append-nil, append_assoc, length-append}
+use Rattle.srcp_core.proofs.Names.{◌≡◌, ℕ, ◌+◌, ◌≤◌, Bool, true, false, List, [], ◌∷◌, ◌++◌, map, length, drop, refl, ap, sym, ◌∙◌, arith}
+use Rattle.srcp_core.proofs.Names.{append-nil, append_assoc, length-append, length-map, option_map_or, fold-append, sum_by-cons, fold}
+use Rattle.srcp_core.proofs.Names.{flat_map, nat_lt, codes, ◌==◌, ◌||◌, ◌&&◌, Option, Some, None, if◌then◌else◌, Result, Ok, Err, Change}
+use Rattle.srcp_core.proofs.Names.{Code, C500, Go, Refused, Mode, Info, Command, Bus, Effect, State, Update, opening, Mark, Line, TooLong}
+use Rattle.srcp_core.proofs.Names.{Connection, World, start, at_connection, open_connection, did, replied, counted, state, history}
+use Rattle.srcp_core.proofs.Names.{history_from, state_after, updates_of, entered, goes, greeted, ended, obeyed, commanded, command_of}
+use Rattle.srcp_core.proofs.Names.{ordered, answered_as, answered, order_of, new_marks, fed_to, shut_as, accepted, or_refused, happens}
+use Rattle.srcp_core.proofs.Names.{course, Greeting, Speaks, Chooses, Goes, Refuses, IsLayout, Event, Open, Bytes, Room, At, Shut, Piece}
+use Rattle.srcp_core.proofs.Names.{Step, Obeyed, Began, Moment, Ended, Heard, Order, greets, greeting_under, lines_under, brought, room}
+use Rattle.srcp_core.proofs.Names.{IsOverrun, CoreFault}
 use Rattle.std.proofs.Math.Seq.{drop-append_seam}
-use Rattle.std.proofs.lemmas.List.{length-map}
-use Rattle.std.specs.Option.{option_map_or}
-use Rattle.std.proofs.lemmas.List.Sums.{fold-append, sum_by-cons}
-use Rattle.std.specs.List.{fold, sum_by, flat_map}
-use Rattle.std.specs.Prelude.{nat_lt, codes, ◌==◌, ◌||◌, ◌&&◌, Option, Some, None, if◌then◌else◌, Result, Ok, Err, max}
-use Rattle.srcp_info.specs.declared.change.Change.{Change}
-use Rattle.srcp_info.specs.declared.change.Code.{Code}
-use Rattle.srcp_info.specs.declared.change.Code.TheVariants.{C400, C401, C410, C418, C500}
-use Rattle.srcp_info.specs.declared.change.Reply.TheVariants.{Go, Refused}
-use Rattle.srcp_info.specs.declared.value.Mode.{Mode}
-use Rattle.srcp_info.specs.declared.value.Mode.TheVariants.{Command as CommandMode, Info}
-use Rattle.srcp_grammar.specs.declared.command.Command.{Command}
-use Rattle.srcp_grammar.specs.declared.layout.Bus.{Bus}
-use Rattle.srcp_rules.specs.Effect.{Effect}
+use Rattle.std.specs.List.{sum_by}
+use Rattle.std.specs.Prelude.{max}
+use Rattle.srcp_info.specs.declared.change.Code.TheVariants.{C400, C401, C410}
+use Rattle.srcp_info.specs.declared.value.Mode.TheVariants.{Command as CommandMode}
 use Rattle.srcp_grammar.specs.Grammar.{reads}
-use Rattle.srcp_rules.specs.State.{State, Update, opening}
-use Rattle.srcp_text.specs.Marks.{Mark, Line, TooLong}
-use Rattle.srcp_core.specs.Connection.{Connection}
-use Rattle.srcp_core.specs.Course.{World, start, at_connection, open_connection, did, replied, counted, state, history}
-use Rattle.srcp_core.specs.Course.{history_from, state_after, stepped, updates_of, entered, goes, greeted, ended, obeyed, commanded}
-use Rattle.srcp_core.specs.Course.{command_of, ordered, answered_as, answered, order_of, fault, new_marks, fed_to, shut_as}
-use Rattle.srcp_core.specs.Course.{accepted, or_refused, happens, course}
-use Rattle.srcp_core.specs.Handshake.{Greeting, Speaks, Chooses, Goes, Refuses, greets as greets_of, greets_mode, greets_protocol}
+use Rattle.srcp_core.specs.Course.{stepped}
+use Rattle.srcp_core.specs.Handshake.{greets as greets_of, greets_mode, greets_protocol}
 use Rattle.srcp_core.specs.Handshake.{greets_words}
 use Rattle.srcp_core.specs.Handshake.{is_version}
 use Rattle.srcp_text.specs.Words.{words_of, is_keyword}
-use Rattle.srcp_grammar.specs.Layout.{IsLayout}
-use Rattle.srcp_core.specs.Under.{Event, Open, Bytes, Room, At, Shut, Piece, Step, Obeyed, Began, Moment, Ended, Heard, Order, effect}
-use Rattle.srcp_core.specs.Under.{greets, greeting_under, lines_under}
-use Rattle.srcp_core.specs.Waits.{brought, brought_besides, completed, due_and_freed, may_bring, room, weighs, weight_of_mark}
-use Rattle.srcp_core.specs.Waits.{IsOverrun}
+use Rattle.srcp_core.specs.Under.{effect}
+use Rattle.srcp_core.specs.Waits.{brought_besides, completed, due_and_freed, may_bring, weighs, weight_of_mark}
 use Rattle.srcp_rules.specs.Weight.{weight}
 use Rattle.srcp_rules.proofs.WeightLaws.{line_weighs, go_weighs_one}
-use Rattle.srcp_core.specs.declared.record.CoreFault.{CoreFault}
 use Rattle.srcp_core.proofs.Agreement.MemoryAnswers.{effect_law}
 use Rattle.srcp_core.proofs.CourseLaws.ShownRegistry.{length_history}
 use Rattle.srcp_core.proofs.CourseLaws.WaitsGrow.{few_close_none}
@@ -67,7 +55,7 @@ in_history s (step ∷ steps) =
 
 history-append : (s : State) (xs ys : List Step) → history_from s (xs ++ ys) ≡ history_from s xs ++ history_from (state_after s xs) ys
 history-append s [] ys = refl
-history-append s (x ∷ xs) ys = ap (λ h. map (λ update. update.change) (updates_of s x) ∷ h) (history-append (stepped s x) xs ys)
+history-append s (x ∷ xs) ys = cc (history-append (stepped s x) xs ys)
 
 -- ---- GO
 
@@ -91,7 +79,7 @@ protocol_brings (name ∷ version ∷ more ∷ words) = refl
 mode_brings : (words : List (List ℕ)) → brings (greets_mode words) ≡ 0
 mode_brings [] = refl
 mode_brings (name ∷ []) = refl
-mode_brings (name ∷ mode ∷ []) = by (is_keyword (codes "SRCP") name) (is_keyword (codes "COMMAND") mode) (is_keyword (codes "INFO") mode)
+mode_brings (name ∷ mode ∷ []) = by _ _ _
   where
     by : (s c i : Bool)
         → brings (if s then (if c then Chooses CommandMode else (if i then Chooses Info else Refuses C401)) else Refuses C401) ≡ 0
@@ -116,7 +104,7 @@ module _ (buses : List Bus) where
   more : (a b : ℕ) (w v later : World) → ComesOf a w v → ComesOf b v later → ComesOf (a + b) w later
   more a b w v later f g = record {
     steps = f.steps ++ g.steps;
-    longer = g.longer ∙ ap (λ xs. xs ++ g.steps) f.longer ∙ append_assoc w.steps f.steps g.steps;
+    longer = cc (g.longer, f.longer, append_assoc w.steps f.steps g.steps);
     few =
         let few = f.few in
         let further = g_few in
@@ -126,10 +114,10 @@ module _ (buses : List Bus) where
   }
     where
       after : state buses v ≡ state_after (state buses w) f.steps
-      after = ap (λ xs. state_after (opening buses 0) xs) f.longer ∙ fold-append stepped (opening buses 0) w.steps f.steps
+      after = cc (f.longer, fold-append stepped _ w.steps f.steps)
 
       g_few : changes (state_after (state buses w) f.steps) g.steps ≤ b + due_and_freed (state_after (state buses w) f.steps) g.steps
-      g_few = subst (λ s. changes s g.steps ≤ b + due_and_freed s g.steps) after g.few
+      g_few = rw (← after) g.few
 
   within : (a b : ℕ) (w later : World) → a ≤ b → ComesOf a w later → ComesOf b w later
   within a b w later h f = record { steps = f.steps; longer = f.longer; few = let few = f.few in omega arith }
@@ -142,7 +130,7 @@ module _ (buses : List Bus) where
 
   comes_goes : (n : ℕ) (mode : Mode) (w : World) → ComesOf 1 w (goes buses n mode w)
   comes_goes n mode w =
-      elim (nat_lt w.last_id 4294967295) as (λ t. ComesOf 1 w (if t then replied n (Go id) begun else replied n (Refused C500) w)) [
+      elim (nat_lt _ _) as (λ t. ComesOf 1 w (if t then replied n (Go id) begun else replied n (Refused C500) w)) [
         | true ↦ record { steps = Began id w.moment mode ∷ []; longer = refl; few = omega arith }
         | false ↦ record { steps = []; longer = sym (append-nil w.steps); few = omega arith }
       ]
@@ -154,16 +142,16 @@ module _ (buses : List Bus) where
       begun = entered buses n id (did (Began id w.moment mode) (record w { last_id = id }))
 
   comes_greeted : (n : ℕ) (mode : Mode) (greeting : Greeting) (w : World) → ComesOf (brings greeting) w (greeted buses n mode greeting w)
-  comes_greeted n mode Speaks w = same w (greeted buses n mode Speaks w) refl
-  comes_greeted n mode (Chooses chosen) w = same w (greeted buses n mode (Chooses chosen) w) refl
+  comes_greeted n mode Speaks w = same w _ refl
+  comes_greeted n mode (Chooses chosen) w = same w _ refl
   comes_greeted n mode Goes w = comes_goes n mode w
-  comes_greeted n mode (Refuses code) w = same w (greeted buses n mode (Refuses code) w) refl
+  comes_greeted n mode (Refuses code) w = same w _ refl
 
   comes_obeyed : (n session : ℕ) (order : Order) (result : Effect) (w : World)
       → ComesOf (length (effect (state buses w) session w.moment order).updates) w (obeyed buses n session order result w)
   comes_obeyed n session order result w =
       elim result.ends as (λ t. ComesOf (length (updates_of (state buses w) step)) w (if t then ended buses n session answer else answer)) [
-        | true ↦ record { steps = step ∷ last ∷ []; longer = append_assoc w.steps (step ∷ []) (last ∷ []); few = omega arith }
+        | true ↦ record { steps = step ∷ last ∷ []; longer = append_assoc w.steps _ _; few = omega arith }
         | false ↦ record { steps = step ∷ []; longer = refl; few = omega arith }
       ]
     where
@@ -179,15 +167,15 @@ module _ (buses : List Bus) where
   module _ (layout : IsLayout buses) where
     comes_commanded : (n session : ℕ) (granted : Bool) (mark : Mark) (w : World)
         → ComesOf (weight_of_mark mark) w (commanded buses n session (ordered buses granted (command_of buses mark)) w)
-    comes_commanded n session granted TooLong w = same w (replied n (Refused C418) w) refl
-    comes_commanded n session granted (Line text) w = by (reads buses text) refl
+    comes_commanded n session granted TooLong w = same w _ refl
+    comes_commanded n session granted (Line text) w = by _ refl
       where
         by : (r : Result Command Code) → reads buses text ≡ r
             → ComesOf (weight text) w (commanded buses n session (ordered buses granted r) w)
-        by (Err code) e = idle (weight text) w (replied n (Refused code) w) refl
+        by (Err code) e = idle _ w _ refl
         by (Ok command) e =
             let order : Order = record { command = command; granted = granted } in
-            let result : Effect = effect (state buses w) session w.moment order in
+            let result : Effect = effect _ session w.moment order in
             within (length result.updates) (weight text) w (obeyed buses n session order result w)
             (effect_law (λ e. length e.updates ≤ weight text) (state buses w) session w.moment order
             (line_weighs buses (state buses w) session w.moment text command layout e) (omega arith))
@@ -195,7 +183,7 @@ module _ (buses : List Bus) where
 
     words_bring : (text : List ℕ) (words : List (List ℕ)) → words_of text ≡ words → brings (greets_words words) ≤ weight text
     words_bring text [] e = omega arith
-    words_bring text (word ∷ []) e = by (is_keyword (codes "GO") word) refl
+    words_bring text (word ∷ []) e = by _ refl
       where
         by : (t : Bool) → is_keyword (codes "GO") word ≡ t → brings (if t then Goes else Refuses C410) ≤ weight text
         by true t = let one = go_weighs_one text word [] e t in omega arith
@@ -212,11 +200,11 @@ module _ (buses : List Bus) where
         by false p m = omega arith
 
     brings_enough : (granted : Bool) (mark : Mark) → brings (greeting_under granted (greets_of mark)) ≤ weight_of_mark mark
-    brings_enough granted mark = by granted (greets_of mark) (heard mark)
+    brings_enough granted mark = by granted _ (heard mark)
       where
         heard : (mark : Mark) → brings (greets_of mark) ≤ weight_of_mark mark
         heard TooLong = omega arith
-        heard (Line text) = words_bring text (words_of text) refl
+        heard (Line text) = words_bring text _ refl
 
         by : (granted : Bool) (greeting : Greeting) → brings greeting ≤ weight_of_mark mark
             → brings (greeting_under granted greeting) ≤ weight_of_mark mark
@@ -228,13 +216,13 @@ module _ (buses : List Bus) where
 
     comes_answered : (n : ℕ) (conn : Option Connection) (line : Heard) (w : World)
         → ComesOf (weight_of_mark line.mark) w (answered_as buses n conn line w)
-    comes_answered n None line w = idle (weight_of_mark line.mark) w w refl
+    comes_answered n None line w = idle _ w w refl
     comes_answered n (Some conn) line w =
         elim (conn.info || conn.ended) as
         (λ t. ComesOf (weight_of_mark line.mark) w (if t then w else (if conn.session == 0 then greets_it else obeys))) [
-          | true ↦ idle (weight_of_mark line.mark) w w refl
+          | true ↦ idle _ w w refl
           | false ↦ elim (conn.session == 0) as (λ t. ComesOf (weight_of_mark line.mark) w (if t then greets_it else obeys)) [
-            | true ↦ within (brings (greets line)) (weight_of_mark line.mark) w greets_it (brings_enough line.granted line.mark)
+            | true ↦ within (brings (greets line)) _ w _ (brings_enough line.granted line.mark)
                 (comes_greeted n conn.mode (greets line) w)
             | false ↦ comes_commanded n conn.session line.granted line.mark w
           ]
@@ -254,8 +242,8 @@ module _ (buses : List Bus) where
         let line : Heard = record { mark = mark; granted = granted } in
         let next : World = answered buses n w line in
         let later : World = fold (answered buses n) next (lines_under grants marks) in
-        subst (λ k. ComesOf k w later) (sym (sum_by-cons weight_of_mark mark marks))
-        (more (weight_of_mark mark) (sum_by weight_of_mark marks) w next later (comes_answered n (open_connection w n) line w) (rest next))
+        rw (sum_by-cons _ mark marks)
+        (more _ _ w next later (comes_answered n (open_connection w n) line w) (rest next))
 
     comes_lines : (n : ℕ) (grants : List Bool) (marks : List Mark) (w : World)
         → ComesOf (sum_by weight_of_mark marks) w (fold (answered buses n) w (lines_under grants marks))
@@ -280,7 +268,7 @@ module _ (buses : List Bus) where
     comes_shut n (Some conn) w =
         elim ((conn.session == 0) || conn.ended) as (λ t. ComesOf 0 w (if t then shut else did (Ended conn.session w.moment) shut)) [
           | true ↦ same w shut refl
-          | false ↦ record { steps = Ended conn.session w.moment ∷ []; longer = refl; few = omega arith }
+          | false ↦ record { steps = Ended _ w.moment ∷ []; longer = refl; few = omega arith }
         ]
       where
         shut : World
@@ -294,11 +282,11 @@ module _ (buses : List Bus) where
     comes_accepted (Shut n) w = comes_shut n (open_connection w n) w
 
     comes_happens : (w : World) (event : Event) → ComesOf (sum_by weight_of_mark (completed buses w event)) w (happens buses w event)
-    comes_happens w event = by (fault buses (counted w) event)
+    comes_happens w event = by _
       where
         by : (o : Option CoreFault) → ComesOf (sum_by weight_of_mark (completed buses w event)) w (or_refused buses o event (counted w))
-        by None = let c = comes_accepted event (counted w) in record { steps = c.steps; longer = c.longer; few = c.few }
-        by (Some cause) = idle (sum_by weight_of_mark (completed buses w event)) w (or_refused buses (Some cause) event (counted w)) refl
+        by None = let c = comes_accepted event _ in record { steps = c.steps; longer = c.longer; few = c.few }
+        by (Some cause) = idle _ w _ refl
 
     comes_all : (events : List Event) (w : World) → ComesOf (weighs buses w events) w (fold (happens buses) w events)
     comes_all [] w = same w w refl
@@ -311,8 +299,8 @@ module _ (buses : List Bus) where
 
     pub lines_bring : (events more : List Event) → brought buses events more ≤ may_bring buses events more
     lines_bring events more =
-        subst (λ n. n ≤ may_bring buses events more) (sym is)
-        (subst (λ n. changes (state buses w) c.steps ≤ weighs buses w more + n) (sym rest) c.few)
+        rw is
+        (rw rest c.few)
       where
         w : World
         w = course buses events
@@ -324,7 +312,7 @@ module _ (buses : List Bus) where
         c = comes_all more w
 
         longer : later.steps ≡ w.steps ++ c.steps
-        longer = ap (λ (v : World). v.steps) (fold-append (happens buses) start events more) ∙ c.longer
+        longer = cc (fold-append _ start events more, c.longer)
 
         -- the later steps, and their history
         new : drop (length w.steps) later.steps ≡ c.steps
@@ -340,7 +328,7 @@ module _ (buses : List Bus) where
             ∙ drop-append_seam (history buses w) (history_from (state buses w) c.steps)
 
         is : brought buses events more ≡ changes (state buses w) c.steps
-        is = ap (λ h. length (flat_map (λ (changes : List Change). changes) h)) told ∙ in_history (state buses w) c.steps
+        is = ap (λ h. length (flat_map (λ (changes : List Change). changes) h)) told ∙ in_history _ c.steps
 
     pub light_lines : (events more : List Event) → may_bring buses events more ≤ room buses (course buses events)
         → (number : ℕ) (later : Connection) → IsOverrun buses (course buses (events ++ more)) number later

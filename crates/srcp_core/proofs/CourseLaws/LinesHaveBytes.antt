@@ -1,17 +1,12 @@
 -- Each line that is owed has bytes, and so room for all of them gives them all.
-use Rattle.std.proofs.Common.{◌≡◌, ℕ, zero, suc, ◌+◌, ◌-◌, ◌<◌, ◌≤◌, Bool, true, false, List, [], ◌∷◌, ◌++◌, map, take, length, refl, ap}
-use Rattle.std.proofs.Common.{arith, append-nil, length-append}
-use Rattle.std.proofs.lemmas.Bool.{and_parts, eqb-true}
-use Rattle.std.specs.List.{AllByRecursion, flat_map, join_with_byte}
-use Rattle.std.specs.Prelude.{◌==◌, ◌&&◌, if◌then◌else◌, codes}
-use Rattle.srcp_info.specs.Line.{line, change_words}
-use Rattle.srcp_info.specs.declared.change.Change.{Change}
-use Rattle.srcp_info.specs.declared.change.Change.TheVariants.{Put}
-use Rattle.srcp_info.specs.declared.change.Shown.{Shown}
-use Rattle.srcp_feed.specs.Cursor.{beyond}
+use Rattle.srcp_core.proofs.Names.{◌≡◌, ℕ, zero, suc, ◌+◌, ◌-◌, ◌<◌, ◌≤◌, Bool, true, false, List, [], ◌∷◌, ◌++◌, map, take, length, refl}
+use Rattle.srcp_core.proofs.Names.{ap, arith, append-nil, length-append, and_parts, eqb-true, AllByRecursion, flat_map, ◌==◌, ◌&&◌}
+use Rattle.srcp_core.proofs.Names.{if◌then◌else◌, codes, line, Change, Put, Shown, beyond, Connection, History, available, cursor_at}
+use Rattle.srcp_core.proofs.Names.{fitting, front, is_nil, is_open, line_of, owed, untold}
+use Rattle.std.specs.List.{join_with_byte}
+use Rattle.srcp_info.specs.Line.{change_words}
 use Rattle.srcp_feed.specs.declared.Next.{Next}
 use Rattle.srcp_feed.specs.declared.Next.TheVariants.{Told, Listed}
-use Rattle.srcp_core.specs.Connection.{Connection, History, available, cursor_at, fitting, front, is_nil, is_open, line_of, owed, untold}
 
 pub line_full : (change : Change) → 0 < length (line change)
 line_full change =
@@ -45,7 +40,7 @@ pub first_empty : (nexts : List Next) → AreFull nexts → flat_map line_of (ta
 first_empty [] a e = refl
 first_empty (what ∷ nexts) a e =
     let full = a.0 in
-    let none : length (line_of what ++ []) ≡ 0 = ap length e in
+    let none : length (line_of what ++ []) ≡ 0 = cc in
     let same = ap length (append-nil (line_of what)) in
     absurd (omega arith)
 
@@ -60,7 +55,7 @@ front_full (suc bytes) [] full h = refl
 front_full (suc bytes) (what ∷ nexts) full h =
     let e = length-append (line_of what) (flat_map line_of nexts) in
     let k : length (flat_map line_of nexts) ≤ suc bytes - length (line_of what) = omega arith in
-    ap (λ ns. what ∷ ns) (front_full (suc bytes - length (line_of what)) nexts full.1 k)
+    cc (front_full (suc bytes - length (line_of what)) nexts full.1 k)
 
 first_full : (nexts : List Next) → AreFull nexts → length (flat_map line_of nexts) ≤ 0 → take 1 nexts ≡ nexts
 first_full [] full h = refl
@@ -71,22 +66,22 @@ first_full (what ∷ nexts) full h =
 
 pub fitting_full : (bytes : ℕ) (left : List ℕ) (nexts : List Next) → AreFull nexts → length (available left nexts) ≤ bytes
     → fitting bytes left nexts ≡ nexts
-fitting_full bytes left nexts full h = by ((bytes == 0) && is_nil left) refl
+fitting_full bytes left nexts full h = by _ refl
   where
     size : length (available left nexts) ≡ length left + length (flat_map line_of nexts)
-    size = length-append left (flat_map line_of nexts)
+    size = length-append left _
 
     by : (t : Bool) → (bytes == 0) && is_nil left ≡ t → (if t then take 1 nexts else front (bytes - length left) nexts) ≡ nexts
     by true t =
-        let none : bytes ≡ 0 = eqb-true bytes 0 (and_parts (bytes == 0) (is_nil left) t).0 in
+        let none : bytes ≡ 0 = eqb-true bytes 0 (and_parts _ _ t).0 in
         first_full nexts full (omega (arith, size, none, h))
-    by false t = front_full (bytes - length left) nexts full (omega (arith, size, h))
+    by false t = front_full _ nexts full (omega (arith, size, h))
 
 -- where the front is all, nothing is left
 pub none_after : (all nexts rest : List Next) → all ≡ nexts ++ rest → nexts ≡ all → rest ≡ []
 none_after all nexts [] whole same = refl
 none_after all nexts (what ∷ rest) whole same =
-    let a : length all ≡ length (nexts ++ what ∷ rest) = ap (λ (ns : List Next). length ns) whole in
-    let b : length (nexts ++ what ∷ rest) ≡ length nexts + length (what ∷ rest) = length-append nexts (what ∷ rest) in
-    let d : length nexts ≡ length all = ap (λ (ns : List Next). length ns) same in
+    let a : length all ≡ length (nexts ++ what ∷ rest) = cc in
+    let b : length (nexts ++ what ∷ rest) ≡ length nexts + length (what ∷ rest) = length-append nexts _ in
+    let d : length nexts ≡ length all = cc in
     absurd (omega arith)

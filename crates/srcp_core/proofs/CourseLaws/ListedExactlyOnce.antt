@@ -1,37 +1,17 @@
 -- Each row of a device that is there all the time is listed exactly once.
-use Rattle.std.proofs.Common.{◌≡◌, ℕ, zero, suc, ◌+◌, ◌-◌, ◌<◌, ◌≤◌, Bool, true, false, not, List, [], ◌∷◌, ◌++◌, take, length, refl, ap}
-use Rattle.std.proofs.Common.{sym, ◌∙◌, subst, arith}
-use Rattle.std.proofs.lemmas.List.{take_all, take-append-le, length_push}
-use Rattle.std.proofs.lemmas.List.Elements.{filter_map-append}
-use Rattle.std.proofs.lemmas.List.Sums.{fold-append}
-use Rattle.std.specs.List.{filter, AllByRecursion}
-use Rattle.std.specs.Ordering.{is_eq, is_gt, eq_by_cmp, ordering_reverse}
+use Rattle.srcp_core.proofs.Names.{◌≡◌, ℕ, zero, suc, ◌+◌, ◌-◌, ◌<◌, ◌≤◌, Bool, true, false, List, [], ◌∷◌, ◌++◌, take, length, refl, ap}
+use Rattle.srcp_core.proofs.Names.{sym, ◌∙◌, subst, arith, take_all, take-append-le, length_push, filter_map-append, fold-append, filter}
+use Rattle.srcp_core.proofs.Names.{AllByRecursion, is_eq, Less, Equal, ◌||◌, Option, None, IsRisingBy, key_cmp, owns, Change, Cursor, Start}
+use Rattle.srcp_core.proofs.Names.{After, Done, Shown, Device, Key, Bus, opening, shown_rows, beyond, Listed, key_cmp_total, key_at}
+use Rattle.srcp_core.proofs.Names.{lists_one, IsLayout, Event, Connection, History, is_settled, World, start, happens, course, rows}
+use Rattle.srcp_core.proofs.Names.{history, OfSessions, listed, has_key, rows_at, listed_row, IsSession, AllMoments, Item}
+use Rattle.std.specs.Ordering.{eq_by_cmp}
 use Rattle.std.specs.declared.cmp.Ordering.{Ordering}
-use Rattle.std.specs.declared.cmp.Ordering.TheVariants.{Less, Equal, Greater}
-use Rattle.std.specs.Prelude.{◌||◌, Option, None}
-use Rattle.srcp_info.specs.Client.{IsRisingBy}
-use Rattle.srcp_info.specs.Key.{key_cmp, owns}
-use Rattle.srcp_info.specs.declared.change.Change.{Change}
-use Rattle.srcp_info.specs.declared.change.Cursor.{Cursor}
-use Rattle.srcp_info.specs.declared.change.Cursor.TheVariants.{Start, After, Done}
-use Rattle.srcp_info.specs.declared.change.Shown.{Shown}
-use Rattle.srcp_info.specs.declared.key.Device.{Device}
-use Rattle.srcp_info.specs.declared.key.Key.{Key}
-use Rattle.srcp_grammar.specs.declared.layout.Bus.{Bus}
-use Rattle.srcp_rules.specs.State.{opening, shown_rows}
-use Rattle.srcp_feed.specs.Cursor.{has_reached, beyond}
-use Rattle.srcp_feed.specs.declared.next.Next.TheVariants.{Listed}
-use Rattle.srcp_info.proofs.KeyLaws.{key_cmp_total}
-use Rattle.srcp_info.proofs.ClientLaws.{key_at}
-use Rattle.srcp_feed.proofs.Steps.{lists_one}
-use Rattle.srcp_grammar.specs.Layout.{IsLayout}
-use Rattle.srcp_core.specs.Under.{Event}
-use Rattle.srcp_core.specs.Connection.{Connection, History, is_settled}
-use Rattle.srcp_core.specs.Course.{World, start, happens, course, rows, history, state_after}
-use Rattle.srcp_core.specs.Laws.{OfSessions, listed, has_key, rows_at, listed_row, KeepsKeys, IsThereFrom, IsSession, AllMoments}
+use Rattle.std.specs.declared.cmp.Ordering.TheVariants.{Greater}
+use Rattle.srcp_feed.specs.Cursor.{has_reached}
+use Rattle.srcp_core.specs.Laws.{KeepsKeys, IsThereFrom}
 use Rattle.srcp_core.specs.Laws.{ListsNoneTwice, times_listed}
-use Rattle.srcp_core.specs.declared.record.Item.{Item}
-use Rattle.srcp_core.proofs.CourseLaws.ItemsOnlyGrow.{Grows, AllGrow, grown_at, grown_since}
+use Rattle.srcp_core.proofs.CourseLaws.ItemsOnlyGrow.{Grows, grown_at, grown_since}
 use Rattle.srcp_core.proofs.CourseLaws.Histories.{rows_after, cursor_by, cursor_later}
 use Rattle.srcp_core.proofs.CourseLaws.ListedInOrder.{listed_told, listed_more, rows_of_course, lists_rising}
 use Rattle.srcp_core.proofs.CourseLaws.ShownRegistry.{shown_after, length_history}
@@ -42,7 +22,7 @@ use Rattle.srcp_core.proofs.CourseLaws.RegistryStaysWhole.{keeps_keys}
 -- ---- at most once
 
 is_equal : (a b : Key) → eq_by_cmp key_cmp a b ≡ true → key_cmp a b ≡ Equal
-is_equal a b e = by (key_cmp a b) refl
+is_equal a b e = by _ refl
   where
     by : (o : Ordering) → key_cmp a b ≡ o → key_cmp a b ≡ Equal
     by Less k = let bad : is_eq Less ≡ true = subst (λ o. is_eq o ≡ true) k e in cc
@@ -55,7 +35,7 @@ none_equal : (a key : Key) (rows : List Shown) → key_cmp a key ≡ Equal → A
 none_equal a key [] e r = refl
 none_equal a key (row ∷ rows) e r =
     let less : key_cmp key row.key ≡ Less = sym (key_cmp_total.congr a key row.key e) ∙ r.0 in
-    let more : key_cmp row.key key ≡ Greater = key_cmp_total.antisymm row.key key ∙ ap ordering_reverse less in
+    let more : key_cmp row.key key ≡ Greater = cc (key_cmp_total.antisymm row.key key) in
     rw (ap is_eq more) (none_equal a key rows e r.1)
 
 at_most_one : (key : Key) (rows : List Shown) → IsRisingBy (λ (row : Shown). row.key) rows
@@ -94,7 +74,7 @@ lists_none_twice buses layout events number conn s key =
 
 same_passed : (cursor : Cursor) (a b : Key) → key_cmp a b ≡ Equal → has_reached cursor a ≡ has_reached cursor b
 same_passed Start a b e = refl
-same_passed (After last) a b e = ap (λ o. not (is_gt o)) (key_cmp_total.congr a b last e)
+same_passed (After last) a b e = cc (key_cmp_total.congr a b last e)
 same_passed Done a b e = refl
 
 -- a key that was not passed is among those that are left
@@ -106,7 +86,7 @@ key_beyond cursor key (row ∷ rows) f h =
       | true ↦
           λ e. let out : has_reached cursor row.key ≡ false = same_passed cursor row.key key (is_equal row.key key e) ∙ f in
           rw (out, e) refl
-      | false ↦ λ e. let ih = key_beyond cursor key rows f (rw e at h) in kept e ih (has_reached cursor row.key) refl
+      | false ↦ λ e. let ih = key_beyond cursor key rows f (rw e at h) in kept e ih _ refl
     ] in
     by (eq_by_cmp key_cmp row.key key) refl
   where
@@ -160,19 +140,20 @@ met_law start = record {
       let l = length_push history changes in
       let up : length history ≤ length (history ++ changes ∷ []) = omega arith in
       m key
-      (λ k low high. ap (λ h. has_key key (rows_after start h)) (sym (take-append-le k history (changes ∷ []) high))
-      ∙ there k low (later history changes k high))
-      (ap (λ c. has_reached c key)
-      (sym (cursor_later (length history) (length (history ++ changes ∷ [])) done items up f.finished f.numbers))
-      ∙ p);
+      (λ k low high. cc (take-append-le k history (changes ∷ []) high, there k low (later history changes k high)))
+      (cc (cursor_later (length history) (length (history ++ changes ∷ [])) done items up f.finished f.numbers));
   tell = λ history go items done change changes order f m e key there p.
-      ap (has_key key) (listed_told history items change)
-      ∙ m key there (ap (λ c. has_reached c key) (sym (cursor_told history items done change f.numbers)) ∙ p);
+      cc (
+        listed_told history items change,
+        m key there (ap (λ c. has_reached c key) (sym (cursor_told history items done change f.numbers)) ∙ p),
+      );
   list = λ history go items row left order f m e b key there p.
-      ap (has_key key) (listed_more history items row)
-      ∙ by_passed history go items row left order f m b key there
-      (ap (λ c. has_reached c key) (sym (cursor_item history items (Listed row) f.numbers)) ∙ p)
-      (has_reached (cursor_by None items (length history)) key) refl;
+      cc (
+        listed_more history items row,
+        by_passed history go items row left order f m b key there
+            (ap (λ c. has_reached c key) (sym (cursor_item history items (Listed row) f.numbers)) ∙ p)
+            (has_reached (cursor_by None items (length history)) key) refl,
+      );
   finish =
       λ history go items order f m e b key there p.
       m key there (all_passed history go items f b key there (has_reached (cursor_by None items (length history)) key) refl);
@@ -186,7 +167,7 @@ met_law start = record {
         → has_key key (rows_after start history) ≡ true
     now history go key h there =
         let self : length history ≤ length history = omega arith in
-        ap (λ h. has_key key (rows_after start h)) (sym (take_all (length history) history self)) ∙ there (length history) h self
+        cc (take_all _ history self, there _ h self)
 
     by_passed : (history : History) (go : ℕ) (items : List Item) (row : Shown) (left : List Shown)
         → IsRisingBy key_at (rows_after start history) → Fits start history go items None → Met start history go items None
@@ -194,14 +175,13 @@ met_law start = record {
         → (key : Key) → ((k : ℕ) → go ≤ k → k ≤ length history → has_key key (rows_after start (take k history)) ≡ true)
         → has_reached (After row.key) key ≡ true → (t : Bool) → has_reached (cursor_by None items (length history)) key ≡ t
         → has_key key (listed items ++ row ∷ []) ≡ true
-    by_passed history go items row left order f m b key there p true e = has_left key (listed items) (row ∷ []) (m key there e)
+    by_passed history go items row left order f m b key there p true e = has_left key (listed items) _ (m key there e)
     by_passed history go items row left order f m b key there p false e =
-        let one = lists_one (cursor_by None items (length history)) row left (rows_after start history) order b in
+        let one = lists_one _ row left _ order b in
         let here : has_key key (row ∷ left) ≡ true =
-        ap (has_key key) (sym b)
-        ∙ key_beyond (cursor_by None items (length history)) key (rows_after start history) e (now history go key f.began there) in
+        cc (key_beyond _ key _ e (now history go key f.began there)) in
         let away : has_key key left ≡ false =
-        ap (has_key key) (sym one.left) ∙ key_not_beyond (After row.key) key (rows_after start history) p in
+        cc (one.left, key_not_beyond (After row.key) key (rows_after start history) p) in
         has_last key (listed items) row (first here away (eq_by_cmp key_cmp row.key key) refl)
       where
         first : has_key key (row ∷ left) ≡ true → has_key key left ≡ false → (t : Bool) → eq_by_cmp key_cmp row.key key ≡ t
@@ -216,8 +196,7 @@ met_law start = record {
     all_passed history go items f b key there true e = e
     all_passed history go items f b key there false e =
         let h : has_key key [] ≡ true =
-        ap (has_key key) (sym b)
-        ∙ key_beyond (cursor_by None items (length history)) key (rows_after start history) e (now history go key f.began there) in
+        cc (key_beyond _ key _ e (now history go key f.began there)) in
         cc
 
 -- a key that a device has at the end it had all the time
@@ -226,7 +205,7 @@ had : (buses : List Bus) (w : World) (conn : Connection) (device : Device) (key 
     → (d k : ℕ) → k + d ≡ length w.steps → conn.go_step ≤ k → has_key key (rows_at buses w k) ≡ true
 had buses w conn device key keeps all owned last zero k e low =
     let high : length w.steps ≤ k = omega arith in
-    ap (λ steps. has_key key (shown_rows (state_after (opening buses 0) steps))) (take_all k w.steps high) ∙ last
+    cc (take_all k w.steps high)
 had buses w conn device key keeps all owned last (suc d) k e low =
     let next : k + 1 + d ≡ length w.steps = omega arith in
     let low' : conn.go_step ≤ k + 1 = omega arith in
@@ -249,15 +228,17 @@ lists_each_once buses layout events more number conn later s t moments settled d
     fits_open (shown_rows (opening buses 0)) (Met (shown_rows (opening buses 0))) (history buses w) conn facts.open_now
     (stands buses layout (Met (shown_rows (opening buses 0))) (met_law (shown_rows (opening buses 0))) events number conn s) in
     let here : has_key key (listed conn.items) ≡ true =
-    law.1 key (λ k low high. ap (has_key key) (rows_of_course buses w k) ∙ before keeps k high low)
+    law.1 key (λ k low high. cc (rows_of_course buses w k, before keeps k high low))
     (passed_now w conn (has_reached (cursor_by conn.done conn.items (length (history buses w))) key) refl both.1) in
     let g : Grows conn later = grown_at number w.connections (course buses (events ++ more)).connections conn later
-    (subst (λ v. AllGrow w.connections v.connections) (sym (fold-append (happens buses) start events more)) (grown_since buses more w))
+    (rw (fold-append (happens buses) start events more) (grown_since buses more w))
     s.there t.there in
     let still : has_key key (listed later.items) ≡ true =
-    ap (λ is. has_key key (listed is)) g.is
-    ∙ ap (has_key key) (filter_map-append (λ (item : Item). listed_row item.what) conn.items g.rest)
-    ∙ has_left key (listed conn.items) (listed g.rest) here in
+    cc (
+      g.is,
+      filter_map-append (λ (item : Item). listed_row item.what) conn.items g.rest,
+      has_left key (listed conn.items) (listed g.rest) here,
+    ) in
     let low = at_least_one key (listed later.items) still in
     let high = lists_none_twice buses layout (events ++ more) number later t key in
     omega arith
@@ -278,7 +259,6 @@ lists_each_once buses layout events more number conn later s t moments settled d
     passed_now w c true e b = e
     passed_now w c false e b =
         let h : has_key key [] ≡ true =
-        ap (has_key key) (sym b)
-        ∙ key_beyond (cursor_by conn.done conn.items (length (history buses (course buses events)))) key
-        (rows_after (shown_rows (opening buses 0)) (history buses (course buses events))) e
-        (ap (has_key key) (sym (shown_after (opening buses 0) (course buses events).steps)) ∙ last) in cc
+        cc (key_beyond _ key
+        _ e
+        (ap (has_key key) (sym (shown_after _ (course buses events).steps)) ∙ last)) in cc

@@ -1,57 +1,42 @@
 -- What a session lists: rows in key order, each as the registry held it, and on a still registry the listing.
-use Rattle.std.proofs.Common.{◌≡◌, ℕ, zero, suc, ◌+◌, ◌≤◌, Bool, true, false, not, List, [], ◌∷◌, ◌++◌, map, take, length, drop, get_or}
-use Rattle.std.proofs.Common.{length-take, refl, ap, sym, ◌∙◌, subst, arith, append-nil, append_assoc}
-use Rattle.std.proofs.lemmas.Bool.{leb-false, leb-true}
-use Rattle.std.proofs.lemmas.Bool.Decides.{nat_tests}
+use Rattle.srcp_core.proofs.Names.{◌≡◌, ℕ, zero, suc, ◌+◌, ◌≤◌, Bool, true, false, List, [], ◌∷◌, ◌++◌, map, take, length, drop, refl, ap}
+use Rattle.srcp_core.proofs.Names.{sym, ◌∙◌, subst, arith, append-nil, append_assoc, leb-false, leb-true, nat_tests, take-append-drop}
+use Rattle.srcp_core.proofs.Names.{take_all, take-append-le, length_push, map-append, flat_map-append, filter_map-append, fold-append}
+use Rattle.srcp_core.proofs.Names.{filter, flat_map, enumerate_from, AllByRecursion, is_eq, Less, Equal, nat_le, Option, Some, None}
+use Rattle.srcp_core.proofs.Names.{if◌then◌else◌, IsRisingBy, key_cmp, is_after, line, Change, Put, Cursor, Shown, after_not_itself}
+use Rattle.srcp_core.proofs.Names.{all_filter, all_weaker, key_at, Bus, IsLayout, State, opening, shown_rows, concerns, passed, beyond}
+use Rattle.srcp_core.proofs.Names.{said, changed_all, Next, Told, Listed, Settled, key_cmp_total, lists_one, passed_all, passed_done}
+use Rattle.srcp_core.proofs.Names.{passed_start, Step, Connection, History, heard, tells, sent, unsent, text, World, course, rows, history}
+use Rattle.srcp_core.proofs.Names.{history_from, OfSessions, listed_row, listed, rows_at, Item}
+use Rattle.std.proofs.Common.{not, get_or}
+use Rattle.std.proofs.Common.{length-take}
 use Rattle.std.proofs.lemmas.Cmp.{tied_itself}
-use Rattle.std.proofs.lemmas.List.{take-append-drop, take_all, take-take, get_or_past, take-append-le, length_push, map-append}
+use Rattle.std.proofs.lemmas.List.{take-take, get_or_past}
 use Rattle.std.proofs.lemmas.List.{get_or_append_left, get_or_push, get_or-take, get_or-drop}
-use Rattle.std.proofs.lemmas.List.Concat.{flat_map-append}
-use Rattle.std.proofs.lemmas.List.Elements.{filter_map-append}
-use Rattle.std.proofs.lemmas.List.Sums.{fold-append}
 use Rattle.std.proofs.Math.Seq.{drop-nil}
-use Rattle.std.specs.List.{filter, flat_map, enumerate_from, AllByRecursion}
-use Rattle.std.specs.Ordering.{is_eq}
-use Rattle.std.specs.declared.cmp.Ordering.TheVariants.{Less, Equal}
-use Rattle.std.specs.Prelude.{nat_le, Option, Some, None, if◌then◌else◌, ⊤}
-use Rattle.srcp_info.specs.Client.{listing, IsRisingBy}
-use Rattle.srcp_info.specs.Key.{key_cmp, is_after}
-use Rattle.srcp_info.specs.Line.{line}
-use Rattle.srcp_info.specs.declared.change.Change.{Change}
-use Rattle.srcp_info.specs.declared.change.Change.TheVariants.{Put}
-use Rattle.srcp_info.specs.declared.change.Cursor.{Cursor}
-use Rattle.srcp_info.specs.declared.change.Shown.{Shown}
-use Rattle.srcp_info.proofs.ClientLaws.{after_not_itself, after_one_way, all_filter, all_weaker, key_at, less_from_after}
+use Rattle.std.specs.Prelude.{⊤}
+use Rattle.srcp_info.specs.Client.{listing}
+use Rattle.srcp_info.proofs.ClientLaws.{after_one_way, less_from_after}
 use Rattle.srcp_info.proofs.ListingLaws.{reached_split}
-use Rattle.srcp_grammar.specs.declared.layout.Bus.{Bus}
-use Rattle.srcp_grammar.specs.Layout.{IsLayout}
-use Rattle.srcp_rules.specs.State.{State, opening, shown_rows}
-use Rattle.srcp_feed.specs.Cursor.{has_reached, concerns, passed, beyond, said, changed_all}
-use Rattle.srcp_feed.specs.declared.next.Next.{Next}
-use Rattle.srcp_feed.specs.declared.next.Next.TheVariants.{Told, Listed, Settled}
-use Rattle.srcp_info.proofs.KeyLaws.{key_cmp_total}
-use Rattle.srcp_feed.proofs.Steps.{lists_one, passed_below, passed_all, passed_done, passed_start}
-use Rattle.srcp_core.specs.Under.{Step}
-use Rattle.srcp_core.specs.Connection.{Connection, History, heard, tells, sent, unsent, given, text}
-use Rattle.srcp_core.specs.Course.{World, course, rows, history, history_from, stepped, updates_of}
-use Rattle.srcp_core.specs.Laws.{OfSessions, listed_row, listed, shown_at, rows_at, ListsRising, IsHeld, ListsHeld, IsStill, IsPrefixOf}
+use Rattle.srcp_feed.specs.Cursor.{has_reached}
+use Rattle.srcp_feed.proofs.Steps.{passed_below}
+use Rattle.srcp_core.specs.Laws.{shown_at, ListsRising, IsHeld, ListsHeld, IsStill, IsPrefixOf}
 use Rattle.srcp_core.specs.Laws.{ListsStill}
-use Rattle.srcp_core.specs.declared.record.Item.{Item}
 use Rattle.srcp_core.proofs.CourseLaws.Histories.{rows_after, part, cursor_by, cursor_later, cursor_done}
 use Rattle.srcp_core.proofs.CourseLaws.ShownRegistry.{shown_after}
 use Rattle.srcp_core.proofs.CourseLaws.RoomGivesWhatIsOwed.{Stands}
 use Rattle.srcp_core.proofs.CourseLaws.SessionsOfACourse.{stands, settled_facts, settled_both, text_tells, sent_whole, opening_in_order}
-use Rattle.srcp_core.proofs.CourseLaws.ClientHoldsPassedRows.{Fits, Law, untold_by, tolds, item_of, cursor_item, cursor_told, rows_push}
+use Rattle.srcp_core.proofs.CourseLaws.ClientHoldsPassedRows.{Fits, Law, untold_by, item_of, cursor_item, cursor_told, rows_push}
 use Rattle.srcp_core.proofs.CourseLaws.SessionsAreKept.{in_order_after, all_push}
 
 pub listed_told : (history : History) (items : List Item) (change : Change)
     → listed (items ++ item_of history (Told change) ∷ []) ≡ listed items
 listed_told history items change =
-    filter_map-append (λ (item : Item). listed_row item.what) items (item_of history (Told change) ∷ []) ∙ append-nil (listed items)
+    filter_map-append (λ (item : Item). listed_row _) items _ ∙ append-nil _
 
 pub listed_more : (history : History) (items : List Item) (row : Shown)
     → listed (items ++ item_of history (Listed row) ∷ []) ≡ listed items ++ row ∷ []
-listed_more history items row = filter_map-append (λ (item : Item). listed_row item.what) items (item_of history (Listed row) ∷ [])
+listed_more history items row = filter_map-append (λ (item : Item). listed_row _) items _
 
 -- ---- listed keys rise
 
@@ -74,37 +59,27 @@ rising_law start = record {
   fresh = λ history go h. (tt, tt);
   push =
       λ history changes go items done order f p.
-      (p.0, all_weaker _ _ (λ row k. ap (λ c. has_reached c row.key) (same history changes items done f) ∙ k) (listed items) p.1);
+      (p.0, all_weaker _ _ (λ row k. cc (same history changes items done f)) _ p.1);
   tell = λ history go items done change changes order f p e. (
-    subst (λ rs. IsRisingBy (λ (r : Shown). r.key) rs) (sym (listed_told history items change)) p.0,
-    subst (λ rs.
-        AllByRecursion (λ (r : Shown). has_reached (cursor_by done (items ++ item_of history (Told change) ∷ []) (length history)) r.key
-        ≡ true)
-        rs)
-        (sym (listed_told history items change))
-        (all_weaker _ _ (λ row k. ap (λ c. has_reached c row.key) (cursor_told history items done change f.numbers) ∙ k)
-        (listed items) p.1),
+    rw (listed_told history items change) p.0,
+    rw (listed_told history items change)
+        (all_weaker _ _ (λ row k. cc (cursor_told history items done change f.numbers))
+        _ p.1),
   );
   list = λ history go items row left order f p e b.
-      let one = lists_one (cursor_by None items (length history)) row left (rows_after start history) order b in
+      let one = lists_one _ row left _ order b in
       let above : AllByRecursion (λ (r : Shown). is_after row.key r.key ≡ true) (listed items) =
-      all_weaker _ _ (λ r k. passed_below (cursor_by None items (length history)) row.key r.key one.outside k) (listed items) p.1 in (
-        subst (λ rs. IsRisingBy (λ (r : Shown). r.key) rs) (sym (listed_more history items row)) (rising_push (listed items) row p.0 above),
-        subst (λ rs.
-            AllByRecursion (λ (r : Shown).
-            has_reached (cursor_by None (items ++ item_of history (Listed row) ∷ []) (length history)) r.key
-            ≡ true)
-            rs)
-            (sym (listed_more history items row))
-            (all_push _ (listed items) row
-            (all_weaker _ _ (λ r k. ap (λ c. has_reached c r.key) (cursor_item history items (Listed row) f.numbers)
-            ∙ ap not (after_one_way row.key r.key k))
-            (listed items) above)
-            (ap (λ c. has_reached c row.key) (cursor_item history items (Listed row) f.numbers) ∙ ap not (after_not_itself row.key))),
+      all_weaker _ _ (λ r k. passed_below _ row.key r.key one.outside k) _ p.1 in (
+        rw (listed_more history items row) (rising_push _ row p.0 above),
+        rw (listed_more history items row)
+            (all_push _ _ row
+            (all_weaker _ _ (λ r k. cc (cursor_item history items _ f.numbers, after_one_way row.key r.key k))
+            _ above)
+            (cc (cursor_item history items _ f.numbers, after_not_itself row.key))),
       );
   finish =
       λ history go items order f p e b.
-      (p.0, all_weaker _ _ (λ row k. ap (λ c. has_reached c row.key) (cursor_done (length history) items)) (listed items) p.1);
+      (p.0, all_weaker _ _ (λ row k. cc (cursor_done _ items)) _ p.1);
 }
   where
     same : (history : History) (changes : List Change) (items : List Item) (done : Option ℕ) {go : ℕ} → Fits start history go items done
@@ -112,7 +87,7 @@ rising_law start = record {
     same history changes items done f =
         let l = length_push history changes in
         let up : length history ≤ length (history ++ changes ∷ []) = omega arith in
-        cursor_later (length history) (length (history ++ changes ∷ [])) done items up f.finished f.numbers
+        cursor_later _ _ done items up f.finished f.numbers
 
 pub lists_rising : (buses : List Bus) → OfSessions buses (ListsRising buses)
 lists_rising buses layout events number conn s =
@@ -144,13 +119,13 @@ found q row left (other ∷ rows) r e =
           let e' : other ∷ filter q rows ≡ row ∷ left = rw k at e in
           let same : other ≡ row = cc in
           let tied : key_cmp other.key row.key ≡ Equal =
-          ap (λ (r : Shown). key_cmp other.key r.key) (sym same) ∙ tied_itself key_cmp_total other.key in
-          rw (ap is_eq tied) (ap (λ r. Some r) same)
+          cc (tied_itself key_cmp_total other.key) in
+          rw (ap is_eq tied) (cc)
       | false ↦ λ k.
           let e' : filter q rows ≡ row ∷ left = rw k at e in
           let above : AllByRecursion (λ (y : Shown). key_cmp other.key y.key ≡ Less) (row ∷ left) =
           subst (λ ys. AllByRecursion (λ (y : Shown). key_cmp other.key y.key ≡ Less) ys) e'
-          (all_filter (λ y. key_cmp other.key y.key ≡ Less) q rows r.0) in
+          (all_filter (λ y. key_cmp _ y.key ≡ Less) q rows r.0) in
           rw (ap is_eq above.0) (ih e')
     ] in
     by (q other) refl
@@ -161,14 +136,14 @@ held_law start = record {
   push =
       λ history changes go items done order f p.
       all_both _ _ _
-      (λ item n k. subst (λ h. HeldIn (rows_after start h) item.what) (sym (take-append-le item.steps history (changes ∷ []) n)) k)
+      (λ item n k. subst (λ h. HeldIn (rows_after start h) item.what) (sym (take-append-le _ history _ n)) k)
       items f.numbers p;
-  tell = λ history go items done change changes order f p e. all_push _ items (item_of history (Told change)) p tt;
+  tell = λ history go items done change changes order f p e. all_push _ items _ p tt;
   list = λ history go items row left order f p e b.
       let self : length history ≤ length history = omega arith in
-      all_push _ items (item_of history (Listed row)) p
-      (ap (λ h. shown_at row.key (rows_after start h)) (take_all (length history) history self)
-      ∙ found (λ r. not (has_reached (cursor_by None items (length history)) r.key)) row left (rows_after start history) order b);
+      all_push _ items _ p
+      (ap (λ h. shown_at row.key (rows_after start h)) (take_all _ history self)
+      ∙ found (λ r. not _) row left _ order b);
   finish = λ history go items order f p e b. p;
 }
 
@@ -176,13 +151,12 @@ history_take : (k : ℕ) (state : State) (steps : List Step) → take k (history
 history_take zero state steps = refl
 history_take (suc k) state [] = refl
 history_take (suc k) state (step ∷ steps) =
-    ap (λ h. map (λ update. update.change) (updates_of state step) ∷ h) (history_take k (stepped state step) steps)
+    cc (history_take k _ steps)
 
 pub rows_of_course : (buses : List Bus) (w : World) (k : ℕ)
     → rows_after (shown_rows (opening buses 0)) (take k (history buses w)) ≡ rows_at buses w k
 rows_of_course buses w k =
-    ap (rows_after (shown_rows (opening buses 0))) (history_take k (opening buses 0) w.steps)
-    ∙ sym (shown_after (opening buses 0) (take k w.steps))
+    cc (history_take k _ w.steps, shown_after (opening buses 0) (take k w.steps))
 
 -- what was heard until the end begins as all that happened
 heard_front : (shut : Option ℕ) (history : History) (k : ℕ) → k ≤ length (heard shut history) → take k (heard shut history) ≡ take k history
@@ -204,11 +178,7 @@ lists_held buses layout events number conn s =
         → IsHeld buses (course buses events) item what
     at (Told change) item n k = tt
     at (Listed row) item n k =
-        ap (shown_at row.key)
-        (sym (rows_of_course buses (course buses events) item.steps)
-        ∙ ap (rows_after (shown_rows (opening buses 0)))
-        (sym (heard_front conn.shut (history buses (course buses events)) item.steps n)))
-        ∙ k
+        cc (rows_of_course buses (course buses events) item.steps, heard_front _ _ _ n)
     at Settled item n k = tt
 
 -- ---- a registry that stands still
@@ -224,8 +194,7 @@ quiet_none : (go : ℕ) (cursors : ℕ → Cursor) (n : ℕ) (history : History)
     → flat_map (part go cursors) (enumerate_from n history) ≡ []
 quiet_none go cursors n [] q = refl
 quiet_none go cursors n (changes ∷ history) q =
-    ap (λ cs. cs ++ flat_map (part go cursors) (enumerate_from (n + 1) history)) (here (nat_le go n) refl)
-    ∙ quiet_none go cursors (n + 1) history (λ k h. q (suc k) (later k h))
+    cc (here _ refl, quiet_none go cursors (n + 1) history (λ k h. q (suc k) (later k h)))
   where
     later : (k : ℕ) → go ≤ n + 1 + k → go ≤ n + suc k
     later k h = omega arith
@@ -234,46 +203,41 @@ quiet_none go cursors n (changes ∷ history) q =
     small e = grind (arith, nat_tests)
 
     here : (t : Bool) → nat_le go n ≡ t → (if nat_le go n then filter (concerns (cursors n)) changes else []) ≡ []
-    here true e = rw e (ap (filter (concerns (cursors n))) (q 0 (small e)))
+    here true e = rw e (cc (q 0 (small e)))
     here false e = rw e refl
 
 quiet_before : (go : ℕ) (history : History) (changes : List Change) → IsQuiet go (history ++ changes ∷ []) → IsQuiet go history
-quiet_before go history changes q k h = by (nat_le (length history) k) refl
+quiet_before go history changes q k h = by _ refl
   where
     by : (t : Bool) → nat_le (length history) k ≡ t → get_or history k [] ≡ []
     by true e = get_or_past history k [] (leb-true (length history) k e)
-    by false e = sym (get_or_append_left history (changes ∷ []) [] k (leb-false (length history) k e)) ∙ q k h
+    by false e = sym (get_or_append_left history _ [] k (leb-false (length history) k e)) ∙ q k h
 
 still_law : (start : List Shown) → Law start (Still start)
 still_law start = record {
-  fresh = λ history go h q. ap (map (λ row. Put row)) (sym (passed_start (rows_after start history)));
+  fresh = λ history go h q. cc (passed_start (rows_after start history));
   push = λ history changes go items done order f p q.
       let l = length_push history changes in
       let up : length history ≤ length (history ++ changes ∷ []) = omega arith in
-      let nothing : changes ≡ [] = sym (get_or_push history changes [] (length history) refl) ∙ q (length history) f.began in
-      p (quiet_before go history changes q)
-      ∙ ap (λ c. map (λ row. Put row) (passed c (rows_after start history)))
-      (sym (cursor_later (length history) (length (history ++ changes ∷ [])) done items up f.finished f.numbers))
-      ∙ ap (λ rs. map (λ row. Put row) (passed (cursor_by done items (length (history ++ changes ∷ []))) rs))
-      (sym (rows_push start history changes ∙ ap (λ cs. changed_all cs (rows_after start history)) nothing));
+      let nothing : changes ≡ [] = sym (get_or_push history changes [] _ refl) ∙ q _ f.began in
+      cc (p (quiet_before go history changes q), cursor_later _ _ done items up f.finished f.numbers, rows_push start history changes);
   tell = λ history go items done change changes order f p e q.
       let none : untold_by go items done history ≡ [] =
-      ap (drop (length (tolds items))) (quiet_none go (cursor_by done items) 0 history (λ k h. q k (from_zero go k h)))
-      ∙ drop-nil (length (tolds items)) in
+      cc (quiet_none go _ 0 history (λ k h. q k (from_zero go k h)), drop-nil _) in
       cc;
   list = λ history go items row left order f p e b q.
-      let one = lists_one (cursor_by None items (length history)) row left (rows_after start history) order b in
-      flat_map-append (λ (item : Item). said item.what) items (item_of history (Listed row) ∷ [])
+      let one = lists_one _ row left _ order b in
+      flat_map-append (λ (item : Item). said _) items _
       ∙ ap (λ cs. cs ++ Put row ∷ []) (p q)
-      ∙ sym (map-append (λ row. Put row) (passed (cursor_by None items (length history)) (rows_after start history)) (row ∷ []))
+      ∙ sym (map-append (λ row. Put row) _ _)
       ∙ ap (map (λ row. Put row))
-      (sym one.appended ∙ ap (λ c. passed c (rows_after start history)) (sym (cursor_item history items (Listed row) f.numbers)));
+      (sym one.appended ∙ ap (λ c. passed c (rows_after start history)) (sym (cursor_item history items _ f.numbers)));
   finish = λ history go items order f p e b q.
       p q
       ∙ ap (map (λ row. Put row))
-      (passed_all (cursor_by None items (length history)) (rows_after start history) b
-      ∙ sym (passed_done (rows_after start history))
-      ∙ ap (λ c. passed c (rows_after start history)) (sym (cursor_done (length history) items)));
+      (passed_all _ _ b
+      ∙ sym (passed_done _)
+      ∙ ap (λ c. passed c (rows_after start history)) (sym (cursor_done _ items)));
 }
   where
     from_zero : (go k : ℕ) → go ≤ 0 + k → go ≤ k
@@ -281,30 +245,32 @@ still_law start = record {
 
 listing_puts : (rows : List Shown) → flat_map line (map (λ row. Put row) rows) ≡ listing rows
 listing_puts [] = refl
-listing_puts (row ∷ rows) = ap (λ bytes. line (Put row) ++ bytes) (listing_puts rows)
+listing_puts (row ∷ rows) = cc (listing_puts rows)
 
 quiet_heard : (go : ℕ) (shut : Option ℕ) (history : History) → IsQuiet go history → IsQuiet go (heard shut history)
 quiet_heard go None history q = q
-quiet_heard go (Some n) history q = λ k h. by k h (nat_le n k) refl
+quiet_heard go (Some n) history q = λ k h. by k h _ refl
   where
     past : (k : ℕ) → nat_le n k ≡ true → length (take n history) ≤ k
     past k e = let l = length-take n history in let low : n ≤ k = grind (arith, nat_tests) in omega arith
 
     by : (k : ℕ) → go ≤ k → (t : Bool) → nat_le n k ≡ t → get_or (take n history) k [] ≡ []
-    by k h true e = get_or_past (take n history) k [] (past k e)
+    by k h true e = get_or_past _ k [] (past k e)
     by k h false e = get_or-take n history k [] (leb-false n k e) ∙ q k h
 
 quiet_rows : (rows : List Shown) (history : History) → ((k : ℕ) → get_or history k [] ≡ []) → rows_after rows history ≡ rows
 quiet_rows rows [] q = refl
-quiet_rows rows (changes ∷ history) q = ap (λ cs. rows_after (changed_all cs rows) history) (q 0) ∙ quiet_rows rows history (λ k. q (suc k))
+quiet_rows rows (changes ∷ history) q = cc (q 0, quiet_rows rows history (λ k. q (suc k)))
 
 -- a quiet registry is as it was at the session's beginning
 quiet_since : (first : List Shown) (go : ℕ) (history : History) → IsQuiet go history
     → rows_after first history ≡ rows_after first (take go history)
 quiet_since first go history q =
-    ap (rows_after first) (sym (take-append-drop go history))
-    ∙ fold-append (λ rows changes. changed_all changes rows) first (take go history) (drop go history)
-    ∙ quiet_rows (rows_after first (take go history)) (drop go history) (λ k. get_or-drop go history k [] ∙ q (go + k) (from k))
+    cc (
+      take-append-drop go history,
+      fold-append (λ rows changes. changed_all changes rows) first (take go history) (drop go history),
+      quiet_rows _ _ (λ k. get_or-drop go history k [] ∙ q (go + k) (from k)),
+    )
   where
     from : (k : ℕ) → go ≤ go + k
     from k = omega arith
@@ -335,12 +301,9 @@ still_facts buses layout w conn s still =
     (in_order_after (shown_rows (opening buses 0)) (heard conn.shut (history buses w)) (opening_in_order buses layout)) in
     record {
       text_is =
-          text_tells conn.items ∙ ap (flat_map line) (s.fits.1 (quiet_heard conn.go_step conn.shut (history buses w) still))
-          ∙ listing_puts (passed (cursor_by conn.done conn.items (length (heard conn.shut (history buses w))))
-          (rows_after (shown_rows (opening buses 0)) (heard conn.shut (history buses w))))
-          ∙ ap (λ rs. listing (passed (cursor_by conn.done conn.items (length (heard conn.shut (history buses w)))) rs)) same;
+          cc (text_tells conn.items, s.fits.1 (quiet_heard conn.go_step conn.shut (history buses w) still), listing_puts _);
       whole_is =
-          reached_split (cursor_by conn.done conn.items (length (heard conn.shut (history buses w)))) (rows_at buses w conn.go_step) order;
+          reached_split _ _ order;
     }
 
 still_front : (conn : Connection) (heard_now : History) (held : List Shown) → StillFacts conn heard_now held
@@ -349,8 +312,8 @@ still_front conn heard_now held facts = (
   unsent conn ++ listing (beyond (cursor_by conn.done conn.items (length heard_now)) held),
   sym (append_assoc (sent conn) (unsent conn) (listing (beyond (cursor_by conn.done conn.items (length heard_now)) held)))
       ∙ ap (λ bytes. bytes ++ listing (beyond (cursor_by conn.done conn.items (length heard_now)) held))
-      (take-append-drop conn.taken (given conn))
-      ∙ append_assoc conn.out (text conn.items) (listing (beyond (cursor_by conn.done conn.items (length heard_now)) held))
+      (take-append-drop conn.taken _)
+      ∙ append_assoc conn.out _ _
       ∙ ap (λ bytes. conn.out ++ (bytes ++ listing (beyond (cursor_by conn.done conn.items (length heard_now)) held))) facts.text_is
       ∙ ap (λ bytes. conn.out ++ bytes)
       (sym
@@ -362,9 +325,7 @@ still_front conn heard_now held facts = (
 still_whole : (conn : Connection) (heard_now : History) (held : List Shown) → StillFacts conn heard_now held → unsent conn ≡ []
     → beyond (cursor_by conn.done conn.items (length heard_now)) held ≡ [] → sent conn ≡ conn.out ++ listing held
 still_whole conn heard_now held facts u b =
-    sent_whole conn u
-    ∙ ap (λ bytes. conn.out ++ bytes) (sym (text_tells conn.items) ∙ facts.text_is)
-    ∙ ap (λ rs. conn.out ++ listing rs) (passed_all (cursor_by conn.done conn.items (length heard_now)) held b)
+    cc (sent_whole conn u, text_tells conn.items, facts.text_is, passed_all _ held b)
 
 pub lists_still : (buses : List Bus) → OfSessions buses (ListsStill buses)
 lists_still buses layout events number conn s still =
@@ -379,9 +340,5 @@ lists_still buses layout events number conn s still =
           still_whole conn (heard conn.shut (history buses w)) (rows_at buses w conn.go_step) facts now.none_unsent
           (ap (beyond (cursor_by conn.done conn.items (length (heard conn.shut (history buses w)))))
           (sym (still_same buses w conn law still))
-          ∙ subst (λ x.
-          beyond (cursor_by conn.done conn.items (length (heard x (history buses w))))
-          (rows_after (shown_rows (opening buses 0)) (heard x (history buses w)))
-          ≡ [])
-          (sym now.open_now) both.1);
+          ∙ rw now.open_now both.1);
     }

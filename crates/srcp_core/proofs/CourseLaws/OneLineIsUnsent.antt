@@ -1,22 +1,13 @@
 -- Once the replies of a connection are all taken, what is unsent of it is the end of the line that it was given last.
-use Rattle.std.proofs.Common.{◌≡◌, ◌⊎◌, inl, inr, ⊎_elim, ℕ, zero, suc, ◌+◌, ◌-◌, ◌<◌, ◌≤◌, Bool, true, false, List, [], ◌∷◌, ◌++◌}
-use Rattle.std.proofs.Common.{length, take, drop, refl, ap, sym, ◌∙◌, subst, arith, append-nil, append_assoc, length-append, length-drop}
+use Rattle.srcp_core.proofs.Names.{cond_both, ◌≡◌, ◌⊎◌, inl, inr, ⊎_elim, ℕ, zero, suc, ◌+◌, ◌-◌, ◌<◌, ◌≤◌, Bool, true, false, List, []}
+use Rattle.srcp_core.proofs.Names.{◌∷◌, ◌++◌, length, take, drop, refl, ap, sym, ◌∙◌, arith, append-nil, append_assoc, length-append}
+use Rattle.srcp_core.proofs.Names.{length-drop, and_parts, ltb-false, ltb-true, take-append-drop, flat_map-append, flat_map, nat_lt, ◌==◌}
+use Rattle.srcp_core.proofs.Names.{◌&&◌, Some, if◌then◌else◌, Bus, Next, Connection, available, fitting, front, given, given_room, is_nil}
+use Rattle.srcp_core.proofs.Names.{items_of, line_of, owed, text, took, unsent, World, at_connection, course, entered, fresh, history}
+use Rattle.srcp_core.proofs.Names.{numbered, rows, start, last_line, Event, Item}
 use Rattle.std.proofs.Math.Seq.{drop-append-add}
-use Rattle.std.proofs.lemmas.Bool.{and_parts, ltb-false, ltb-true}
-use Rattle.std.proofs.lemmas.List.{take-append-drop}
-use Rattle.std.proofs.lemmas.List.Concat.{flat_map-append}
-use Rattle.std.specs.List.{flat_map}
-use Rattle.std.specs.Prelude.{nat_lt, ◌==◌, ◌&&◌, Some, if◌then◌else◌}
-use Rattle.srcp_grammar.specs.declared.layout.Bus.{Bus}
-use Rattle.srcp_feed.specs.declared.next.Next.{Next}
-use Rattle.srcp_core.specs.Connection.{Connection, available, fitting, front, given, given_room, is_nil, is_open, items_of, line_of}
-use Rattle.srcp_core.specs.Connection.{overran}
-use Rattle.srcp_core.specs.Connection.{owed, text, took, unsent}
-use Rattle.srcp_core.specs.Course.{World, at_connection, course, entered, fresh, history, numbered, rows, start}
-use Rattle.srcp_core.specs.Laws.{IsSuffixOf, last_line}
-use Rattle.srcp_core.specs.Under.{Event}
-use Rattle.srcp_core.specs.declared.record.Item.{Item}
-use Rattle.srcp_core.proofs.CourseLaws.EventsKeep.{IsKept, IsPlain, IsSameButHeard, kept_all, numbered_after, numbered_more}
+use Rattle.srcp_core.specs.Laws.{IsSuffixOf}
+use Rattle.srcp_core.proofs.CourseLaws.EventsKeep.{IsKept, IsPlain, kept_all, numbered_after, numbered_more}
 use Rattle.srcp_core.proofs.CourseLaws.RoomGivesWhatIsOwed.{fitting_front, fitting_none, text_items}
 use Rattle.srcp_core.proofs.CourseLaws.SessionsOfACourse.{nil_is}
 
@@ -25,10 +16,10 @@ use Rattle.srcp_core.proofs.CourseLaws.SessionsOfACourse.{nil_is}
 -- all that was given ends with it
 text_last : (items : List Item) → IsSuffixOf (last_line items) (text items)
 text_last [] = ([], refl)
-text_last (item ∷ []) = ([], sym (append-nil (line_of item.what)))
+text_last (item ∷ []) = ([], sym (append-nil _))
 text_last (item ∷ next ∷ items) =
     let ih = text_last (next ∷ items) in
-    (line_of item.what ++ ih.0, append_assoc (line_of item.what) ih.0 (last_line (next ∷ items)) ∙ ap (λ t. line_of item.what ++ t) ih.1)
+    (line_of _ ++ ih.0, append_assoc _ ih.0 _ ∙ ap (λ t. line_of item.what ++ t) ih.1)
 
 -- the last of these lines
 abbrev last_of : List Next → List ℕ
@@ -47,7 +38,7 @@ last_items n (item ∷ next ∷ items) what nexts = last_items n (next ∷ items
 front_near : (bytes : ℕ) (nexts : List Next) → length (flat_map line_of (front bytes nexts)) ≤ bytes + length (last_of (front bytes nexts))
 front_near zero nexts = omega arith
 front_near (suc bytes) [] = omega arith
-front_near (suc bytes) (what ∷ nexts) = by (front left nexts) refl (front_near left nexts)
+front_near (suc bytes) (what ∷ nexts) = by _ refl (front_near left nexts)
   where
     left : ℕ
     left = suc bytes - length (line_of what)
@@ -55,7 +46,7 @@ front_near (suc bytes) (what ∷ nexts) = by (front left nexts) refl (front_near
     by : (inner : List Next) → front left nexts ≡ inner → length (flat_map line_of inner) ≤ left + length (last_of inner)
         → length (flat_map line_of (what ∷ inner)) ≤ suc bytes + length (last_of (what ∷ inner))
     by [] e ih = let size = length-append (line_of what) [] in omega arith
-    by (next ∷ more) e ih = short (nat_lt (suc bytes) (length (line_of what))) refl
+    by (next ∷ more) e ih = short _ refl
       where
         short : (t : Bool) → nat_lt (suc bytes) (length (line_of what)) ≡ t
             → length (flat_map line_of (what ∷ next ∷ more)) ≤ suc bytes + length (last_of (next ∷ more))
@@ -64,9 +55,9 @@ front_near (suc bytes) (what ∷ nexts) = by (front left nexts) refl (front_near
             let size = length-append (line_of what) (flat_map line_of (next ∷ more)) in
             omega arith
         short true t =
-            let high = ltb-true (suc bytes) (length (line_of what)) t in
+            let high = ltb-true _ _ t in
             let none : left ≡ 0 = omega arith in
-            let bad : front 0 nexts ≡ next ∷ more = ap (λ b. front b nexts) (sym none) ∙ e in
+            let bad : front 0 nexts ≡ next ∷ more = cc in
             cc
 
 -- ---- one connection
@@ -84,21 +75,6 @@ record IsWithinLast (conn : Connection) : Type 0 where
 within_none : (conn : Connection) → conn.items ≡ [] → IsWithinLast conn
 within_none conn none = record { plain = λ _. none; few = inl none }
 
-within_same : (conn other : Connection) → IsSameButHeard conn other → IsWithinLast conn → IsWithinLast other
-within_same conn other same s = record {
-  plain = λ no. same.session.items ∙ s.plain (sym same.session.info ∙ no);
-  few = ⊎_elim (λ none. inl (same.session.items ∙ none)) (λ few. inr (more few)) s.few;
-}
-  where
-    more : IsFew conn → IsFew other
-    more few =
-        let items = same.session.items in
-        let all : length (given other) ≡ length (given conn) =
-        ap (λ out. length (out ++ text other.items)) same.out ∙ ap (λ items. length (conn.out ++ text items)) items in
-        let last : length (last_line other.items) ≡ length (last_line conn.items) = ap (λ items. length (last_line items)) items in
-        let taken = same.taken in
-        omega arith
-
 module _ (n bytes : ℕ) (nexts : List Next) (conn : Connection) where
   abbrev fits : List Next
   fits = fitting bytes (unsent conn) nexts
@@ -108,26 +84,23 @@ module _ (n bytes : ℕ) (nexts : List Next) (conn : Connection) where
 
   size : length (given later) ≡ length (given conn) + length (flat_map line_of fits)
   size =
-      ap (λ t. length (conn.out ++ t)) (text_items n conn.items fits)
-      ∙ ap length (sym (append_assoc conn.out (text conn.items) (flat_map line_of fits)))
-      ∙ length-append (given conn) (flat_map line_of fits)
+      cc (text_items n conn.items fits, append_assoc conn.out _ _, length-append _ _)
 
   -- where some lines are given
   few_given : (what : Next) (more : List Next) → fits ≡ what ∷ more → IsFew later
-  few_given what more e = by ((bytes == 0) && is_nil (unsent conn)) refl
+  few_given what more e = by _ refl
     where
       left : length (unsent conn) ≡ length (given conn) - conn.taken
-      left = length-drop conn.taken (given conn)
+      left = length-drop _ _
 
       room : ℕ
       room = bytes - length (unsent conn)
 
       is : (t : Bool) → ((bytes == 0) && is_nil (unsent conn)) ≡ t → fits ≡ (if t then take 1 nexts else front room nexts)
-      is t e = ap (λ t. if t then take 1 nexts else front room nexts) e
+      is t e = cc
 
       last : length (last_line later.items) ≡ length (last_of fits)
-      last = ap (λ (ns : List Next). length (last_line (conn.items ++ items_of n ns))) e ∙ ap length (last_items n conn.items what more)
-          ∙ ap (λ (ns : List Next). length (last_of ns)) (sym e)
+      last = cc (last_items n conn.items what more)
 
       all : length (flat_map line_of fits) ≤ length (flat_map line_of nexts)
       all =
@@ -137,7 +110,7 @@ module _ (n bytes : ℕ) (nexts : List Next) (conn : Connection) where
           omega arith
 
       sum : length (available (unsent conn) nexts) ≡ length (unsent conn) + length (flat_map line_of nexts)
-      sum = length-append (unsent conn) (flat_map line_of nexts)
+      sum = length-append _ _
 
       one : (ns : List Next) → length (flat_map line_of (take 1 ns)) ≤ length (last_of (take 1 ns))
       one [] = omega arith
@@ -145,16 +118,16 @@ module _ (n bytes : ℕ) (nexts : List Next) (conn : Connection) where
 
       by : (t : Bool) → ((bytes == 0) && is_nil (unsent conn)) ≡ t → IsFew later
       by true t =
-          let none : length (unsent conn) ≡ 0 = ap length (nil_is (unsent conn) (and_parts (bytes == 0) (is_nil (unsent conn)) t).1) in
+          let none : length (unsent conn) ≡ 0 = ap length (nil_is _ (and_parts _ _ t).1) in
           let near : length (flat_map line_of fits) ≤ length (last_of fits) =
-          subst (λ ns. length (flat_map line_of ns) ≤ length (last_of ns)) (sym (is true t)) (one nexts) in
+          rw (is true t) (one nexts) in
           let a = size in
           let b = left in
           let c = last in
           omega arith
       by false t =
           let near : length (flat_map line_of fits) ≤ room + length (last_of fits) =
-          subst (λ ns. length (flat_map line_of ns) ≤ room + length (last_of ns)) (sym (is false t)) (front_near room nexts) in
+          rw (is false t) (front_near room nexts) in
           let some : 0 < room = asked room (sym (is false t) ∙ e) in
           let a = size in
           let b = left in
@@ -170,19 +143,18 @@ module _ (n bytes : ℕ) (nexts : List Next) (conn : Connection) where
 within_took : (n bytes : ℕ) (nexts : List Next) (conn : Connection) → (conn.info ≡ false → nexts ≡ []) → IsWithinLast conn
     → IsWithinLast (took bytes n nexts conn)
 within_took n bytes nexts conn none s = record {
-  plain = λ no. ap (λ ns. conn.items ++ items_of n (fitting bytes (unsent conn) ns)) (none no)
-      ∙ ap (λ ns. conn.items ++ items_of n ns) (fitting_none bytes (unsent conn)) ∙ append-nil conn.items ∙ s.plain no;
-  few = by (fits n bytes nexts conn) refl;
+  plain = λ no. cc (none no, fitting_none bytes _, append-nil _, s.plain no);
+  few = by _ refl;
 }
   where
     after : Connection
     after = took bytes n nexts conn
 
     by : (gives : List Next) → fits n bytes nexts conn ≡ gives → (after.items ≡ []) ⊎ IsFew after
-    by [] e = ⊎_elim (λ empty. inl (same ∙ empty)) (λ few. inr (still few)) s.few
+    by [] e = ⊎_elim (λ empty. inl (cc)) (λ few. inr (still few)) s.few
       where
         same : after.items ≡ conn.items
-        same = ap (λ ns. conn.items ++ items_of n ns) e ∙ append-nil conn.items
+        same = cc (append-nil _)
 
         still : IsFew conn → IsFew after
         still few =
@@ -206,45 +178,47 @@ module _ (buses : List Bus) where
   within_empty : (n : ℕ) (change : Connection → Connection) (w : World) → ((conn : Connection) → (change conn).items ≡ conn.items)
       → ((conn : Connection) → numbered n w.connections ≡ Some conn → conn.items ≡ []) → Within w → Within (at_connection n change w)
   within_empty n change w same none a number conn e =
-      numbered_after IsWithinLast n number change w.connections conn e (a number)
+      numbered_after IsWithinLast n number change _ conn e (a number)
       (λ other here s. within_none (change other) (same other ∙ none other here))
 
   no_items : (n : ℕ) (w : World) → IsPlain n w → Within w → (conn : Connection) → numbered n w.connections ≡ Some conn → conn.items ≡ []
-  no_items n w plain a conn e = (a n conn e).plain (plain conn e)
+  no_items n w plain a conn e = (a n conn e).plain (plain conn e).0
 
   within_kept : IsKept buses Within
   within_kept = record {
-    step = λ step w a. a;
-    other = λ w v s c a number conn e. a number conn (ap (numbered number) (sym c) ∙ e);
+    lines = λ n. record {
+      step = λ step w a. a;
+      numbers = λ id w a. a;
+      says = λ mode ends w a number conn e.
+          numbered_after IsWithinLast n number _ w.connections conn e (a number) (λ other here s. record { plain = s.plain; few = s.few });
+      answers = λ reply w plain a. within_empty n _ w (λ conn. refl) (no_items n w plain a) a;
+      enters = λ id reply w plain a.
+          within_empty n _ (entered buses n id w) (λ conn. refl)
+          (λ conn e. numbered_after (λ c. c.items ≡ []) n n _ w.connections conn e (no_items n w plain a) (λ other here s. s))
+          (within_empty n _ w (λ conn. refl) (no_items n w plain a) a);
+    };
+    other = λ w v a. a;
     opens = λ w a number conn e. numbered_more IsWithinLast number w.connections fresh conn e (a number) (within_none fresh refl);
-    same = λ n change w f a number conn e.
-        numbered_after IsWithinLast n number change w.connections conn e (a number)
-        (λ other here s. within_same other (change other) (f other) s);
-    answers = λ n reply w plain a. within_empty n _ w (λ conn. refl) (no_items n w plain a) a;
-    enters = λ n id reply w plain a.
-        within_empty n _ (entered buses n id w) (λ conn. refl)
-        (λ conn e. numbered_after (λ c. c.items ≡ []) n n _ w.connections conn e (no_items n w plain a) (λ other here s. s))
-        (within_empty n _ w (λ conn. refl) (no_items n w plain a) a);
-    shuts = λ n w a number conn e.
+    feeds = λ n bytes w a number conn e.
         numbered_after IsWithinLast n number _ w.connections conn e (a number) (λ other here s. record { plain = s.plain; few = s.few });
-    room = λ n bytes w a number conn e.
+    shuts = λ n w up a number conn e.
+        numbered_after IsWithinLast n number _ w.connections conn e (a number) (λ other here s. record { plain = s.plain; few = s.few });
+    room = λ n bytes w up a number conn e.
         numbered_after IsWithinLast n number _ w.connections conn e (a number) (λ other here s. given_it bytes w other s);
   }
     where
       given_it : (bytes : ℕ) (w : World) (conn : Connection) → IsWithinLast conn
           → IsWithinLast (given_room bytes (history buses w) (rows buses w) conn)
       given_it bytes w conn s =
-          elim (overran conn (history buses w)) as
-          (λ t. IsWithinLast (if t then conn else took bytes (length (history buses w)) all conn)) [
-            | true ↦ s
-            | false ↦ within_took (length (history buses w)) bytes all conn owes_none s
-          ]
+          cond_both _ _ _ IsWithinLast
+          (λ _. s)
+          (λ _. within_took _ bytes all conn owes_none s)
         where
           all : List Next
           all = owed conn (history buses w) (rows buses w)
 
           owes_none : conn.info ≡ false → all ≡ []
-          owes_none e = unless (is_open conn) conn.info _ e
+          owes_none e = unless _ _ _ e
 
   -- what is unsent of every connection of a course whose replies are all taken
   pub leaves_one_line : (events : List Event) (number : ℕ) (conn : Connection)
@@ -260,7 +234,7 @@ module _ (buses : List Bus) where
       ends = text_last conn.items
 
       whole : given conn ≡ (conn.out ++ ends.0) ++ last_line conn.items
-      whole = ap (λ t. conn.out ++ t) (sym ends.1) ∙ sym (append_assoc conn.out ends.0 (last_line conn.items))
+      whole = cc (ends.1, append_assoc conn.out ends.0 (last_line conn.items))
 
       -- where no more than the last line is untaken
       cut : (k : ℕ) → conn.taken ≡ length (conn.out ++ ends.0) + k → IsSuffixOf (unsent conn) (last_line conn.items)
@@ -269,7 +243,7 @@ module _ (buses : List Bus) where
           ap (drop conn.taken) whole ∙ ap (λ m. drop m ((conn.out ++ ends.0) ++ last_line conn.items)) far
           ∙ drop-append-add (conn.out ++ ends.0) (last_line conn.items) k in
           let line = last_line conn.items in
-          (take k line, ap (λ bytes. take k line ++ bytes) is ∙ take-append-drop k line)
+          (take k line, cc (take-append-drop k line))
 
       by : (conn.items ≡ []) ⊎ IsFew conn → IsSuffixOf (unsent conn) (last_line conn.items)
       by (inl empty) =

@@ -1,44 +1,30 @@
 -- Over every course the registry stays whole: each session that began and did not end has its row, under an id of its own.
-use Rattle.std.proofs.Common.{◌≡◌, ℕ, ◌+◌, ◌^◌, ◌<◌, ◌≤◌, max, Bool, true, false, List, [], ◌∷◌, ◌++◌, length, take, refl, ap}
-use Rattle.std.proofs.Common.{sym, ◌∙◌, subst, arith, add-one, inl, inr, ◌⊎◌, ⊎_elim}
-use Rattle.std.proofs.lemmas.Bool.{le-leb, true≢false, ltb-true, eqb-false}
-use Rattle.std.proofs.lemmas.List.Sums.{fold-append}
-use Rattle.std.proofs.Math.Nat.{pos_of_ne-zero}
-use Rattle.std.specs.List.{fold}
-use Rattle.std.specs.Prelude.{nat_lt, ◌==◌, ◌&&◌, ◌||◌, Option, Some, None, is_some, option_map, IfOk, if◌then◌else◌, Result, Ok, Err}
-use Rattle.srcp_info.specs.Key.{first_key}
-use Rattle.srcp_info.specs.Line.{reply_line}
-use Rattle.srcp_info.specs.declared.change.Code.{Code}
-use Rattle.srcp_info.specs.declared.change.Code.TheVariants.{C500}
-use Rattle.srcp_info.specs.declared.change.Reply.{Reply}
-use Rattle.srcp_info.specs.declared.change.Reply.TheVariants.{Protocol, Mode as ModeReply, Go, Refused}
-use Rattle.srcp_info.specs.declared.value.Mode.{Mode}
+use Rattle.srcp_core.proofs.Names.{cond_both, ◌≡◌, ℕ, ◌+◌, ◌^◌, ◌<◌, ◌≤◌, max, Bool, true, false, List, [], ◌∷◌, ◌++◌, length, refl, ap}
+use Rattle.srcp_core.proofs.Names.{sym, ◌∙◌, subst, arith, add-one, inl, inr, ◌⊎◌, ⊎_elim, le-leb, ltb-true, eqb-false, fold-append}
+use Rattle.srcp_core.proofs.Names.{pos_of_ne-zero, fold, nat_lt, ◌==◌, ◌&&◌, ◌||◌, Option, Some, None, is_some, IfOk, if◌then◌else◌, Result}
+use Rattle.srcp_core.proofs.Names.{Ok, Err, first_key, reply_line, Code, C500, Reply, Protocol, Go, Refused, Mode, Bus, IsCommandOf, Effect}
+use Rattle.srcp_core.proofs.Names.{IsLayout, IsKeyOf, is_within, session_device, IsWhole, opening, reads_fits, session_row-updated_all}
+use Rattle.srcp_core.proofs.Names.{effect_elsewhere, due_elsewhere, freed_others, row_at-put_same, Mark, Line, TooLong, Event, Open, Bytes}
+use Rattle.srcp_core.proofs.Names.{Room, At, Shut, Step, Obeyed, Began, Moment, Ended, Order, greets, Heard, Piece, Connection, overran}
+use Rattle.srcp_core.proofs.Names.{owed, took, given_room, World, updates_of, state_after, fresh, start, numbered, with_numbered}
+use Rattle.srcp_core.proofs.Names.{at_connection, open_connection, did, replied, counted, is_info, state, rows, history, entered, goes}
+use Rattle.srcp_core.proofs.Names.{greeted, ended, obeyed, commanded, answered_as, answered, command_of, order_of, fault, new_lines, fed_to}
+use Rattle.srcp_core.proofs.Names.{shut_as, accepted, or_refused, happens, course, Greeting, Speaks, Chooses, Goes, Refuses, AllMoments}
+use Rattle.srcp_core.proofs.Names.{HasMoment, CoreFault}
+use Rattle.std.proofs.lemmas.Bool.{true≢false}
+use Rattle.std.specs.Prelude.{option_map}
+use Rattle.srcp_info.specs.declared.change.Reply.TheVariants.{Mode as ModeReply}
 use Rattle.srcp_info.specs.declared.value.Value.TheVariants as value
-use Rattle.srcp_grammar.specs.declared.layout.Bus.{Bus}
-use Rattle.srcp_grammar.specs.Command.{IsCommandOf}
-use Rattle.srcp_rules.specs.Effect.{Effect}
-use Rattle.srcp_grammar.specs.Layout.{IsLayout, IsKeyOf, is_within, rows_if}
-use Rattle.srcp_grammar.specs.Devices.{session_device}
-use Rattle.srcp_rules.specs.State.{IsWhole, opening, shown_rows, is_there as has_device}
-use Rattle.srcp_grammar.proofs.GrammarLaws.{reads_fits}
-use Rattle.srcp_rules.proofs.SessionLaws.{session_row-updated_all, AreElsewhere, effect_elsewhere, due_elsewhere, freed_others}
-use Rattle.srcp_rules.proofs.StateLaws.{has_row-put_row, row_at-put_same}
-use Rattle.srcp_text.specs.Marks.{Mark, Line, TooLong}
-use Rattle.srcp_core.specs.Under.{Event, Open, Bytes, Room, At, Shut, Step, Obeyed, Began, Moment, Ended, Order, effect, greets, Heard}
-use Rattle.srcp_core.specs.Under.{Piece}
-use Rattle.srcp_core.specs.Connection.{Connection, overran, owed, took, given_room}
-use Rattle.srcp_core.specs.Course.{World, updates_of, stepped, state_after, fresh, start, numbered, with_numbered, at_connection}
-use Rattle.srcp_core.specs.Course.{open_connection, did, replied, counted, is_info, state, rows, history, entered, goes, greeted, ended}
-use Rattle.srcp_core.specs.Course.{obeyed, commanded, answered_as, answered, command_of, order_of, fault, new_lines, fed_to, shut_as}
-use Rattle.srcp_core.specs.Course.{accepted, or_refused, happens, course}
-use Rattle.srcp_core.specs.Handshake.{Greeting, Speaks, Chooses, Goes, Refuses}
-use Rattle.srcp_core.specs.Laws.{IsLive, AllMoments, HasMoment, KeepsWhole, AlwaysKeepsKeys, has_key}
-use Rattle.srcp_core.specs.declared.record.CoreFault.{CoreFault}
+use Rattle.srcp_rules.specs.State.{is_there as has_device}
+use Rattle.srcp_rules.proofs.SessionLaws.{AreElsewhere}
+use Rattle.srcp_rules.proofs.StateLaws.{has_row-put_row}
+use Rattle.srcp_core.specs.Under.{effect}
+use Rattle.srcp_core.specs.Course.{stepped}
+use Rattle.srcp_core.specs.Laws.{IsLive, KeepsWhole, AlwaysKeepsKeys}
 use Rattle.srcp_core.proofs.Agreement.MemoryAnswers.{effect_law, ordered_law}
 use Rattle.srcp_core.proofs.CourseLaws.StepsKeepWhole.{IsStepOf, AreSteps, are_steps_push, steps_whole, front_whole, history_told}
 use Rattle.srcp_core.proofs.CourseLaws.StepsKeepWhole.{keys_kept, whole_opening}
-use Rattle.srcp_core.proofs.Agreement.NumbersAndKeys.{numbered_with, no_connection, look_with, look_push}
-use Rattle.srcp_core.proofs.CourseLaws.SessionsAreKept.{opened}
+use Rattle.srcp_core.proofs.Agreement.NumbersAndKeys.{numbered_with, opened, no_connection, look_with, look_push}
 
 -- ---- the invariant
 
@@ -49,7 +35,7 @@ pub record IsMild (c d : Connection) : Type 0 where
   pub shut : d.shut ≡ None → c.shut ≡ None
 
 mild_live : (c d : Connection) → IsMild c d → IsLive d → IsLive c
-mild_live c d m l = record { began = subst (λ n. 0 < n) m.session l.began; not_ended = m.ended l.not_ended; not_shut = m.shut l.not_shut }
+mild_live c d m l = record { began = rw (← m.session) l.began; not_ended = m.ended l.not_ended; not_shut = m.shut l.not_shut }
 
 module _ (buses : List Bus) (layout : IsLayout buses) where
   pub record Kept (moment last : ℕ) (steps : List Step) (conns : List Connection) : Type 0 where
@@ -66,7 +52,7 @@ module _ (buses : List Bus) (layout : IsLayout buses) where
   IsKept w = Kept w.moment w.last_id w.steps w.connections
 
   pub now_whole : (steps : List Step) → AreSteps buses (opening buses 0) steps → IsWhole buses (state_after (opening buses 0) steps)
-  now_whole steps a = steps_whole buses (opening buses 0) steps (whole_opening buses layout) a
+  now_whole steps a = steps_whole buses _ steps (whole_opening buses layout) a
 
   kept_change : (moment last : ℕ) (steps : List Step) (conns : List Connection) (n : ℕ) (f : Connection → Connection)
       → ((c : Connection) → IsMild c (f c)) → Kept moment last steps conns → Kept moment last steps (with_numbered n f conns)
@@ -76,18 +62,17 @@ module _ (buses : List Bus) (layout : IsLayout buses) where
     steps_fit = k.steps_fit;
     ids =
         λ m d e. let s = look_with m n f conns d e in
-        subst (λ i. i ≤ last) (sym (same s.x d (from s.x d m s.from)).session) (k.ids m s.x s.there);
+        rw (← (sym (same s.x d (from s.x d m s.from)).session)) (k.ids m s.x s.there);
     apart = λ m o c d e g low same_id.
         let s = look_with m n f conns c e in
         let t = look_with o n f conns d g in
         let a = (same s.x c (from s.x c m s.from)).session in
         let b = (same t.x d (from t.x d o t.from)).session in
-        k.apart m o s.x t.x s.there t.there (subst (λ i. 0 < i) a low) (sym a ∙ same_id ∙ b);
+        k.apart m o s.x t.x s.there t.there (rw (← a) low) (cc);
     there = λ m d e live.
         let s = look_with m n f conns d e in
         let g = same s.x d (from s.x d m s.from) in
-        ap (λ i. has_device (session_device i) (state_after (opening buses 0) steps)) g.session
-        ∙ k.there m s.x s.there (mild_live s.x d g live);
+        cc (g.session, k.there m s.x s.there (mild_live s.x d g live));
   }
     where
       from : (c d : Connection) (m : ℕ) → ((m ≡ n → ⊥) × (d ≡ c)) ⊎ ((m ≡ n) × (d ≡ f c)) → (d ≡ c) ⊎ (d ≡ f c)
@@ -108,12 +93,11 @@ module _ (buses : List Bus) (layout : IsLayout buses) where
   kept_did moment last steps conns step k fits stays = record {
     now = k.now;
     few = k.few;
-    steps_fit = are_steps_push buses (opening buses 0) steps step k.steps_fit fits;
+    steps_fit = are_steps_push buses _ steps step k.steps_fit fits;
     ids = k.ids;
     apart = k.apart;
     there =
-        λ m c e live. ap (has_device (session_device c.session)) (fold-append stepped (opening buses 0) steps (step ∷ []))
-        ∙ stays m c e live (k.there m c e live);
+        λ m c e live. cc (fold-append stepped _ steps _, stays m c e live (k.there m c e live));
   }
 
   kept_moment : (moment later last : ℕ) (steps : List Step) (conns : List Connection) → later < 2 ^ 64 → Kept moment last steps conns
@@ -166,8 +150,8 @@ module _ (buses : List Bus) (layout : IsLayout buses) where
       other : (m : ℕ) (x c : Connection) → numbered m conns ≡ Some x → IsLive c → ((m ≡ n → ⊥) × (c ≡ x)) ⊎ ((m ≡ n) × (c ≡ f x))
           → c.session ≡ conn.session → ⊥
       other m x c there live (inl h) same =
-          h.0 (k.apart m n x conn there at (subst (λ (y : Connection). 0 < y.session) h.1 live.began)
-          (ap (λ (y : Connection). y.session) (sym h.1) ∙ same))
+          h.0 (k.apart m n x conn there at (rw (← h.1) live.began)
+          (cc h.1))
       other m x c there live (inr h) same = dead x (subst IsLive h.1 live)
 
   -- ---- answers
@@ -191,9 +175,10 @@ module _ (buses : List Bus) (layout : IsLayout buses) where
         by_both m o s.x c t.x d s.there t.there pos same s.from t.from;
     there = λ m d e live.
         let s = look_with m n _ w.connections d e in
-        ap (has_device (session_device d.session))
-        (fold-append stepped (opening buses 0) w.steps (Began (w.last_id + 1) w.moment mode ∷ []))
-        ∙ row_there m s.x d s.there live s.from;
+        cc (
+          fold-append stepped (opening buses 0) w.steps (Began (w.last_id + 1) w.moment mode ∷ []),
+          row_there m s.x d s.there live s.from,
+        );
   }
     where
       begun : Connection → Connection
@@ -207,7 +192,7 @@ module _ (buses : List Bus) (layout : IsLayout buses) where
       fits_word last h = omega arith
 
       place : (last : ℕ) → last < 4294967295 → IsKeyOf buses (first_key (session_device (last + 1)))
-      place last h = subst (λ t. 0 < rows_if t 1) (sym within) one
+      place last h = rw within one
         where
           one : 0 < 1
           one = omega arith
@@ -219,27 +204,27 @@ module _ (buses : List Bus) (layout : IsLayout buses) where
           high_end = omega arith
 
           within : is_within 1 4294967295 (last + 1) ≡ true
-          within = λ i. le-leb 1 (last + 1) low_end i && le-leb (last + 1) 4294967295 high_end i
+          within = λ i. le-leb 1 _ low_end i && le-leb _ _ high_end i
 
       by_from : (m : ℕ) (x d : Connection) → numbered m w.connections ≡ Some x → ((m ≡ n → ⊥) × (d ≡ x)) ⊎ ((m ≡ n) × (d ≡ begun x))
           → d.session ≤ w.last_id + 1
       by_from m x d e (inl h) =
-          let i : d.session ≤ w.last_id = subst (λ (y : Connection). y.session ≤ w.last_id) (sym h.1) (k.ids m x e) in omega (arith, i)
-      by_from m x d e (inr h) = let i : d.session ≡ w.last_id + 1 = ap (λ (y : Connection). y.session) h.1 in omega (arith, i)
+          let i : d.session ≤ w.last_id = rw h.1 (k.ids m x e) in omega (arith, i)
+      by_from m x d e (inr h) = let i : d.session ≡ w.last_id + 1 = cc h.1 in omega (arith, i)
 
       by_both : (m o : ℕ) (x c y d : Connection) → numbered m w.connections ≡ Some x → numbered o w.connections ≡ Some y → 0 < c.session
           → c.session ≡ d.session
           → ((m ≡ n → ⊥) × (c ≡ x)) ⊎ ((m ≡ n) × (c ≡ begun x)) → ((o ≡ n → ⊥) × (d ≡ y)) ⊎ ((o ≡ n) × (d ≡ begun y)) → m ≡ o
       by_both m o x c y d e f pos same (inl h) (inl g) =
-          k.apart m o x y e f (subst (λ (z : Connection). 0 < z.session) h.1 pos)
-          (ap (λ (z : Connection). z.session) (sym h.1) ∙ same ∙ ap (λ (z : Connection). z.session) g.1)
+          k.apart m o x y e f (rw (← h.1) pos)
+          (cc (h.1, g.1))
       by_both m o x c y d e f pos same (inl h) (inr g) =
-          let i : c.session ≤ w.last_id = subst (λ (z : Connection). z.session ≤ w.last_id) (sym h.1) (k.ids m x e) in
-          let j : d.session ≡ w.last_id + 1 = ap (λ (z : Connection). z.session) g.1 in
+          let i : c.session ≤ w.last_id = rw h.1 (k.ids m x e) in
+          let j : d.session ≡ w.last_id + 1 = cc g.1 in
           absurd (omega (arith, i, j, same))
       by_both m o x c y d e f pos same (inr h) (inl g) =
-          let i : d.session ≤ w.last_id = subst (λ (z : Connection). z.session ≤ w.last_id) (sym g.1) (k.ids o y f) in
-          let j : c.session ≡ w.last_id + 1 = ap (λ (z : Connection). z.session) h.1 in
+          let i : d.session ≤ w.last_id = rw g.1 (k.ids o y f) in
+          let j : c.session ≡ w.last_id + 1 = cc h.1 in
           absurd (omega (arith, i, j, same))
       by_both m o x c y d e f pos same (inr h) (inr g) = h.0 ∙ sym g.0
 
@@ -253,12 +238,10 @@ module _ (buses : List Bus) (layout : IsLayout buses) where
             due = None;
           })
           (state buses w)
-          (ap (λ (z : Connection). has_device (session_device z.session) (state buses w)) h.1 ∙ k.there m x e (subst IsLive h.1 live))
+          (cc (h.1, k.there m x e (subst IsLive h.1 live)))
       row_there m x d e live (inr h) =
-          let i : d.session ≡ w.last_id + 1 = ap (λ (z : Connection). z.session) h.1 in
-          ap (λ s. has_device (session_device s) (stepped (state buses w) (Began (w.last_id + 1) w.moment mode))) i
-          ∙ ap is_some
-          (row_at-put_same
+          let i : d.session ≡ w.last_id + 1 = cc h.1 in
+          cc (row_at-put_same
           (record {
             shown =
                 record { key = first_key (session_device (w.last_id + 1)); stamp = w.moment; value = value.Session mode };
@@ -267,7 +250,7 @@ module _ (buses : List Bus) (layout : IsLayout buses) where
           (state buses w))
 
   pub kept_goes : (n : ℕ) (mode : Mode) (w : World) → IsKept w → IsKept (goes buses n mode w)
-  kept_goes n mode w k = by (nat_lt w.last_id 4294967295) refl
+  kept_goes n mode w k = by _ refl
     where
       by : (t : Bool) → nat_lt w.last_id 4294967295 ≡ t
           → IsKept (if t
@@ -326,14 +309,14 @@ module _ (buses : List Bus) (layout : IsLayout buses) where
       → ((conn : Connection) → o ≡ Some conn → (numbered n w.connections ≡ Some conn) × (conn.shut ≡ None)) → IsKept w
       → IsKept (answered_as buses n o mark w)
   kept_answered_as n None mark w f k = k
-  kept_answered_as n (Some conn) mark w f k = by conn.info conn.ended refl (conn.session == 0) refl
+  kept_answered_as n (Some conn) mark w f k = by _ _ refl _ refl
     where
       by : (t e : Bool) → conn.ended ≡ e → (z : Bool) → (conn.session == 0) ≡ z
           → IsKept (if t || e then w
           else (if z then greeted buses n conn.mode (greets mark) w else commanded buses n conn.session (order_of buses mark) w))
       by true e h z q = k
       by false true h z q = k
-      by false false h true q = kept_greeted n conn.mode (greets mark) w k
+      by false false h true q = kept_greeted n _ _ w k
       by false false h false q =
           let at = f conn refl in
           kept_commanded n conn (order_of buses mark) w at.0 (order_fits mark)
@@ -359,28 +342,23 @@ module _ (buses : List Bus) (layout : IsLayout buses) where
       → IsKept (shut_as buses n o w)
   kept_shut n None w f k = k
   kept_shut n (Some conn) w f k =
-      elim ((conn.session == 0) || conn.ended)
-      as (λ t.
-      IsKept (if t then at_connection n (λ c. record c { shut = Some (length w.steps) }) w
-      else did (Ended conn.session w.moment) (at_connection n (λ c. record c { shut = Some (length w.steps) }) w))) [
-        | true ↦ kept_change w.moment w.last_id w.steps w.connections n (λ c. record c { shut = Some (length w.steps) }) closes k
-        | false ↦
-            kept_ended w.moment w.last_id w.steps w.connections n (λ c. record c { shut = Some (length w.steps) }) conn
-            (f conn refl).0 closes (λ c l. some_none (length w.steps) l.not_shut) k
-      ]
+      cond_both _ _ _ IsKept
+      (λ _. kept_change w.moment _ w.steps _ n (λ c. record c { shut = Some (length w.steps) }) closes k)
+      (λ _. kept_ended w.moment _ w.steps _ n (λ c. record c { shut = Some (length w.steps) }) conn
+      (f conn refl).0 closes (λ c l. some_none (length w.steps) l.not_shut) k)
     where
       some_none : (m : ℕ) → Some m ≡ None → ⊥
       some_none m e = cc
 
       closes : (c : Connection) → IsMild c (record c { shut = Some (length w.steps) })
-      closes c = record { session = refl; ended = λ h. h; shut = λ h. absurd (some_none (length w.steps) h) }
+      closes c = record { session = refl; ended = λ h. h; shut = λ h. absurd (some_none _ h) }
 
   pub kept_room : (n bytes : ℕ) (w : World) → IsKept w → IsKept (accepted buses (Room n bytes) w)
-  kept_room n bytes w k = kept_change w.moment w.last_id w.steps w.connections n (given_room bytes (history buses w) (rows buses w)) given k
+  kept_room n bytes w k = kept_change w.moment _ w.steps _ n _ given k
     where
       given : (c : Connection) → IsMild c (given_room bytes (history buses w) (rows buses w) c)
       given c =
-          elim (overran c (history buses w))
+          elim (overran c _)
           as (λ t. IsMild c (if t then c else took bytes (length (history buses w)) (owed c (history buses w) (rows buses w)) c)) [
             | true ↦ record { session = refl; ended = λ h. h; shut = λ h. h }
             | false ↦ record { session = refl; ended = λ h. h; shut = λ h. h }
@@ -398,15 +376,15 @@ module _ (buses : List Bus) (layout : IsLayout buses) where
   }
     where
       none_at : (c : Connection) → c ≡ fresh → c.session ≤ last
-      none_at c h = let i : c.session ≡ 0 = ap (λ (z : Connection). z.session) h in omega (arith, i)
+      none_at c h = let i : c.session ≡ 0 = cc in omega (arith, i)
 
       not_live : (c : Connection) → c ≡ fresh → 0 < c.session → ⊥
-      not_live c h pos = let i : c.session ≡ 0 = ap (λ (z : Connection). z.session) h in omega (arith, i, pos)
+      not_live c h pos = let i : c.session ≡ 0 = cc in omega (arith, i, pos)
 
       by : (m o : ℕ) (c d : Connection) → 0 < c.session → c.session ≡ d.session → (numbered m conns ≡ Some c) ⊎ (c ≡ fresh)
           → (numbered o conns ≡ Some d) ⊎ (d ≡ fresh) → m ≡ o
       by m o c d pos same (inl e) (inl g) = k.apart m o c d e g pos same
-      by m o c d pos same (inl e) (inr g) = absurd (not_live d g (subst (λ i. 0 < i) same pos))
+      by m o c d pos same (inl e) (inr g) = absurd (not_live d g (rw (← same) pos))
       by m o c d pos same (inr e) g = absurd (not_live c e pos)
 
   pub kept_accepted : (event : Event) (w : World) → HasMoment event → IsKept w → IsKept (accepted buses event w)
@@ -417,7 +395,7 @@ module _ (buses : List Bus) (layout : IsLayout buses) where
     where
       later : (a b : ℕ) → a < 2 ^ 64 → b < 2 ^ 64 → max a b < 2 ^ 64
       later a b p q = omega arith
-  kept_accepted (Shut n) w h k = kept_shut n (open_connection w n) w (λ conn e. opened (numbered n w.connections) conn e) k
+  kept_accepted (Shut n) w h k = kept_shut n _ w (λ conn e. opened _ conn e) k
 
   kept_or_refused : (o : Option CoreFault) (event : Event) (w : World) → HasMoment event → IsKept w → IsKept (or_refused buses o event w)
   kept_or_refused None event w h k = kept_accepted event w h k
@@ -467,4 +445,4 @@ keeps_keys buses layout events moments k device key low there own e =
     let w = course buses events in
     keys_kept buses k (opening buses 0) w.steps (whole_opening buses layout)
     (kept_course buses layout events moments).steps_fit low device key there own
-    (subst (λ n. has_key key (shown_rows (state_after (opening buses 0) (take n w.steps))) ≡ true) (add-one k) e)
+    (rw (← (add-one k)) e)

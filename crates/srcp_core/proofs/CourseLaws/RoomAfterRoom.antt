@@ -1,14 +1,8 @@
 -- A room for no bytes, or for any, and then one for some bytes is one room.
-use Rattle.std.proofs.Common.{◌≡◌, ℕ, zero, suc, ◌+◌, ◌-◌, ◌<◌, ◌≤◌, min, true, List, [], ◌∷◌, ◌++◌, length, drop}
-use Rattle.std.proofs.Common.{refl, ap, sym, ◌∙◌, arith, append-nil, append_assoc}
-use Rattle.std.proofs.lemmas.List.{map-append, drop-append-le}
-use Rattle.std.proofs.lemmas.List.Concat.{flat_map-append}
-use Rattle.std.proofs.lemmas.Bool.{false≢true, le-ltb, lt-ltb}
-use Rattle.std.specs.List.{flat_map}
-use Rattle.std.specs.Prelude.{nat_lt, ◌||◌, Option, ◌&&◌}
-use Rattle.srcp_feed.specs.declared.next.Next.{Next}
-use Rattle.srcp_core.specs.Connection.{Connection, line_of, front, fitting, is_nil, items_of}
-use Rattle.srcp_core.specs.Connection.{available, exhausts, given, unsent, text, took}
+use Rattle.srcp_core.proofs.Names.{◌≡◌, ℕ, zero, suc, ◌+◌, ◌-◌, ◌<◌, ◌≤◌, min, true, List, [], ◌∷◌, ◌++◌, length, refl, ap, sym, ◌∙◌, arith}
+use Rattle.srcp_core.proofs.Names.{append-nil, append_assoc, map-append, drop-append-le, flat_map-append, false≢true, le-ltb, lt-ltb}
+use Rattle.srcp_core.proofs.Names.{flat_map, nat_lt, ◌||◌, Option, ◌&&◌, Next, Connection, line_of, front, fitting, is_nil, items_of}
+use Rattle.srcp_core.proofs.Names.{available, exhausts, given, unsent, took}
 use Rattle.srcp_core.proofs.CourseLaws.RoomInTwoParts.{took_adds, done_rule, no_bytes}
 use Rattle.srcp_core.proofs.CourseLaws.RoomGivesWhatIsOwed.{text_items, pos-eqb}
 
@@ -18,7 +12,7 @@ fitting_some a left nexts h = let z = pos-eqb a h in rw z refl
 -- the line that is put in where nothing waits is the first that any room gives
 fitting_first : (a : ℕ) (left : List ℕ) (nexts rest : List Next) → 0 < a → nexts ≡ fitting 0 left nexts ++ rest
     → fitting a left nexts ≡ fitting 0 left nexts ++ fitting a (left ++ flat_map line_of (fitting 0 left nexts)) rest
-fitting_first a [] [] rest h e = ap (fitting a []) e
+fitting_first a [] [] rest h e = cc
 fitting_first a [] (what ∷ nexts) rest h e =
     let tail : nexts ≡ rest = cc in
     fitting_some a [] (what ∷ nexts) h
@@ -35,11 +29,9 @@ fitting_first a [] (what ∷ nexts) rest h e =
     first zero h = absurd (omega arith)
     first (suc k) h = refl
 fitting_first a (x ∷ left) nexts rest h e =
-    let none : fitting 0 (x ∷ left) nexts ≡ [] = ap (λ k. front k nexts) (nothing (length (x ∷ left))) in
-    let all : nexts ≡ rest = e ∙ ap (λ ns. ns ++ rest) none in
-    ap (fitting a (x ∷ left)) all
-    ∙ ap (λ l. fitting a l rest) (sym (append-nil (x ∷ left)))
-    ∙ sym (ap (λ ns. ns ++ fitting a ((x ∷ left) ++ flat_map line_of ns) rest) none)
+    let none : fitting 0 (x ∷ left) nexts ≡ [] = cc (nothing _) in
+    let all : nexts ≡ rest = cc in
+    cc (append-nil (x ∷ left))
   where
     nothing : (k : ℕ) → 0 - k ≡ 0
     nothing k = omega arith
@@ -51,11 +43,7 @@ none_taken taken size = omega arith
 pub left_after : (n : ℕ) (nexts : List Next) (conn : Connection) → conn.taken ≤ length (given conn)
     → unsent (took 0 n nexts conn) ≡ unsent conn ++ flat_map line_of (fitting 0 (unsent conn) nexts)
 left_after n nexts conn within =
-    ap (λ k. drop k (conn.out ++ text (conn.items ++ items_of n (fitting 0 (unsent conn) nexts))))
-    (none_taken conn.taken (length (available (unsent conn) nexts)))
-    ∙ ap (λ t. drop conn.taken (conn.out ++ t)) (text_items n conn.items (fitting 0 (unsent conn) nexts))
-    ∙ ap (drop conn.taken) (sym (append_assoc conn.out (text conn.items) (flat_map line_of (fitting 0 (unsent conn) nexts))))
-    ∙ drop-append-le conn.taken (given conn) (flat_map line_of (fitting 0 (unsent conn) nexts)) within
+    cc (none_taken _ _, text_items n conn.items (fitting 0 (unsent conn) nexts), append_assoc conn.out _ _, drop-append-le _ _ _ within)
 
 -- room for no bytes, and then for some
 took_first : (a n : ℕ) (nexts rest : List Next) (conn : Connection) → 0 < a → conn.taken ≤ length (given conn)
@@ -86,7 +74,7 @@ took_first a n nexts rest conn pa within e =
     available_same : available (unsent (took 0 n nexts conn)) rest ≡ available (unsent conn) nexts
     available_same =
         ap (λ u. u ++ flat_map line_of rest) (left_after n nexts conn within)
-        ∙ append_assoc (unsent conn) (flat_map line_of (fitting 0 (unsent conn) nexts)) (flat_map line_of rest)
+        ∙ append_assoc (unsent conn) _ _
         ∙ ap (λ l. unsent conn ++ l) (sym (flat_map-append line_of (fitting 0 (unsent conn) nexts) rest))
         ∙ ap (λ ns. unsent conn ++ flat_map line_of ns) (sym e)
 
@@ -95,35 +83,35 @@ took_first a n nexts rest conn pa within e =
     items_same =
         ap (λ u. (conn.items ++ items_of n (fitting 0 (unsent conn) nexts)) ++ items_of n (fitting a u rest))
         (left_after n nexts conn within)
-        ∙ append_assoc conn.items (items_of n (fitting 0 (unsent conn) nexts))
-        (items_of n (fitting a (unsent conn ++ flat_map line_of (fitting 0 (unsent conn) nexts)) rest))
+        ∙ append_assoc conn.items _
+        _
         ∙ ap (λ is. conn.items ++ is)
         (sym
-        (map-append (λ what. record { steps = n; what = what }) (fitting 0 (unsent conn) nexts)
-        (fitting a (unsent conn ++ flat_map line_of (fitting 0 (unsent conn) nexts)) rest)))
-        ∙ ap (λ ns. conn.items ++ items_of n ns) (sym (fitting_first a (unsent conn) nexts rest pa e))
+        (map-append (λ what. record { steps = n; what = what }) _
+        _))
+        ∙ ap (λ ns. conn.items ++ items_of n ns) (sym (fitting_first a _ nexts rest pa e))
 
     taken_same : conn.taken + min 0 (length (available (unsent conn) nexts))
         + min a (length (available (unsent (took 0 n nexts conn)) rest))
         ≡ conn.taken + min a (length (available (unsent conn) nexts))
     taken_same =
         ap (λ bytes. conn.taken + min 0 (length (available (unsent conn) nexts)) + min a (length bytes)) available_same
-        ∙ plain conn.taken (length (available (unsent conn) nexts)) (min a (length (available (unsent conn) nexts)))
+        ∙ plain _ _ _
       where
         plain : (t m k : ℕ) → t + min 0 m + k ≡ t + k
         plain t m k = omega arith
 
     done_same : done_after ≡ (took a n nexts conn).done
     done_same =
-        done_rule conn.info (exhausts 0 (unsent conn) nexts) (exhausts a (unsent (took 0 n nexts conn)) rest)
-        (exhausts a (unsent conn) nexts) conn.done n
+        done_rule conn.info _ _
+        _ _ n
         (λ t. second ∙ nothing_there t) (λ t. nothing_there t) (λ t. second)
       where
         second : exhausts a (unsent (took 0 n nexts conn)) rest ≡ exhausts a (unsent conn) nexts
         second =
-            no_bytes (is_nil (unsent (took 0 n nexts conn)) && is_nil rest) (length (available (unsent (took 0 n nexts conn)) rest)) a pa
+            no_bytes _ _ a pa
             ∙ ap (λ bytes. nat_lt (length bytes) a) available_same
-            ∙ sym (no_bytes (is_nil (unsent conn) && is_nil nexts) (length (available (unsent conn) nexts)) a pa)
+            ∙ sym (no_bytes _ _ a pa)
 
         empty : (u : List ℕ) (ns : List Next) → is_nil u && is_nil ns ≡ true → length (available u ns) ≡ 0
         empty [] [] t = refl
@@ -134,12 +122,12 @@ took_first a n nexts rest conn pa within e =
         nothing_there t =
             let nils : is_nil (unsent conn) && is_nil nexts ≡ true =
             ap (λ b. b || (is_nil (unsent conn) && is_nil nexts))
-            (sym (le-ltb (length (available (unsent conn) nexts)) 0 (omega arith)))
+            (sym (le-ltb _ 0 (omega arith)))
             ∙ t in
-            let size = empty (unsent conn) nexts nils in
+            let size = empty _ nexts nils in
             let less : length (available (unsent conn) nexts) < a = omega arith in
-            no_bytes (is_nil (unsent conn) && is_nil nexts) (length (available (unsent conn) nexts)) a pa
-            ∙ lt-ltb (length (available (unsent conn) nexts)) a less
+            no_bytes _ _ a pa
+            ∙ lt-ltb _ a less
 
 -- any room, and then room for some bytes
 pub took_both : (a b n : ℕ) (nexts rest : List Next) (conn : Connection) → 0 < b → conn.taken ≤ length (given conn)

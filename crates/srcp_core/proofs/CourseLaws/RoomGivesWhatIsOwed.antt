@@ -1,24 +1,13 @@
 -- Room for bytes: a front of what is owed is given, and the listing is done where there was no more.
-use Rattle.std.proofs.Common.{◌≡◌, ℕ, zero, suc, inl, inr, ◌⊎◌, ⊎_elim, min, subst, append_assoc, length-drop, ◌+◌, ◌-◌, ◌<◌, ◌≤◌, Bool}
-use Rattle.std.proofs.Common.{true, false, List, [], ◌∷◌, ◌++◌, map, take, length, drop, refl, ap, sym, ◌∙◌, arith, length-append}
-use Rattle.std.proofs.lemmas.List.Concat.{flat_map-append}
-use Rattle.std.proofs.lemmas.Bool.{lt-leb, leb-false, leb-true, ltb-true, ne_eqb, and_parts}
+use Rattle.srcp_core.proofs.Names.{cond_both, ◌≡◌, ℕ, zero, suc, inl, inr, ◌⊎◌, ⊎_elim, min, append_assoc, length-drop, ◌+◌, ◌-◌, ◌<◌, ◌≤◌}
+use Rattle.srcp_core.proofs.Names.{Bool, true, false, List, [], ◌∷◌, ◌++◌, map, take, length, refl, ap, sym, ◌∙◌, arith, length-append}
+use Rattle.srcp_core.proofs.Names.{flat_map-append, lt-leb, leb-false, leb-true, ltb-true, ne_eqb, and_parts, flat_map, option_or, nat_le}
+use Rattle.srcp_core.proofs.Names.{nat_lt, ◌==◌, ◌&&◌, Option, Some, None, IfSome, Shown, passed, beyond, changed_all, Next, Told, Listed}
+use Rattle.srcp_core.proofs.Names.{key_at, IsRisingBy, passed_all, passed_done, beyond_done, Connection, History, heard, is_nil, line_of}
+use Rattle.srcp_core.proofs.Names.{front, fitting, available, exhausts, tells, text, given, unsent, took, items_of, Item}
 use Rattle.std.proofs.Math.Nat.{ne_of_gt}
-use Rattle.std.specs.List.{flat_map}
-use Rattle.std.specs.Option.{option_or}
-use Rattle.std.specs.Prelude.{nat_le, nat_lt, ◌==◌, ◌&&◌, Option, Some, None, if◌then◌else◌, IfSome}
-use Rattle.srcp_info.specs.declared.change.Shown.{Shown}
-use Rattle.srcp_feed.specs.Cursor.{passed, beyond, changed_all}
-use Rattle.srcp_feed.specs.declared.next.Next.{Next}
-use Rattle.srcp_feed.specs.declared.next.Next.TheVariants.{Told, Listed}
-use Rattle.srcp_info.proofs.ClientLaws.{key_at}
-use Rattle.srcp_info.specs.Client.{IsRisingBy}
-use Rattle.srcp_feed.proofs.Steps.{passed_all, passed_done, beyond_done}
-use Rattle.srcp_core.specs.Connection.{Connection, History, heard, is_nil, line_of, front, fitting, available, exhausts, tells, text, given}
-use Rattle.srcp_core.specs.Connection.{unsent, took, items_of}
-use Rattle.srcp_core.specs.declared.record.Item.{Item}
 use Rattle.srcp_core.proofs.CourseLaws.Histories.{rows_after, concerning_by, concerning_same, cursor_by, cursor_done}
-use Rattle.srcp_core.proofs.CourseLaws.ClientHoldsPassedRows.{Fits, Law, Gives, owed_by, untold_by, tolds}
+use Rattle.srcp_core.proofs.CourseLaws.ClientHoldsPassedRows.{Fits, Law, Gives, owed_by, untold_by}
 
 -- ---- fronts
 
@@ -43,20 +32,18 @@ front_first (what ∷ nexts) = record { rest = nexts; whole = refl }
 
 pub fitting_front : (bytes : ℕ) (left : List ℕ) (nexts : List Next) → IsFront (fitting bytes left nexts) nexts
 fitting_front bytes left nexts =
-    elim ((bytes == 0) && is_nil left) as (λ t. IsFront (if t then take 1 nexts else front (bytes - length left) nexts) nexts) [
-      | true ↦ front_first nexts
-      | false ↦ is_front (bytes - length left) nexts
-    ]
+    cond_both _ _ _ (λ it. IsFront it nexts)
+    (λ _. front_first nexts)
+    (λ _. is_front (bytes - length left) nexts)
 
 pub front_none : (bytes : ℕ) → front bytes [] ≡ []
 front_none zero = refl
 front_none (suc bytes) = refl
 
 pub fitting_none : (bytes : ℕ) (left : List ℕ) → fitting bytes left [] ≡ []
-fitting_none bytes left = elim ((bytes == 0) && is_nil left) as (λ t. (if t then take 1 [] else front (bytes - length left) []) ≡ []) [
-  | true ↦ refl
-  | false ↦ front_none (bytes - length left)
-]
+fitting_none bytes left = cond_both _ _ _ (λ it. it ≡ [])
+    (λ _. refl)
+    (λ _. front_none (bytes - length left))
 
 -- where there are fewer bytes than that, the front is all
 pub front_all : (bytes : ℕ) (nexts : List Next) → length (flat_map line_of nexts) < bytes → front bytes nexts ≡ nexts
@@ -65,7 +52,7 @@ front_all (suc bytes) [] h = refl
 front_all (suc bytes) (what ∷ nexts) h =
     let e = length-append (line_of what) (flat_map line_of nexts) in
     let k : length (flat_map line_of nexts) < suc bytes - length (line_of what) = omega arith in
-    ap (λ ns. what ∷ ns) (front_all (suc bytes - length (line_of what)) nexts k)
+    cc (front_all (suc bytes - length (line_of what)) nexts k)
 
 -- ---- the end of a listing
 
@@ -81,31 +68,31 @@ pub nothing_owed : (go : ℕ) (items : List Item) (done : Option ℕ) (history :
     → owed_by go items done history rows ≡ []
     → (untold_by go items done history ≡ []) × (beyond (cursor_by done items (length history)) rows ≡ [])
 nothing_owed go items done history rows e =
-    let both = no_lists (map Told (untold_by go items done history)) (map Listed (beyond (cursor_by done items (length history)) rows)) e in
-    (no_map Told (untold_by go items done history) both.0, no_map Listed (beyond (cursor_by done items (length history)) rows) both.1)
+    let both = no_lists _ _ e in
+    (no_map Told _ both.0, no_map Listed _ both.1)
 
 -- what a session that is done now was told
 before_done : (go : ℕ) (items : List Item) (history : History)
     → concerning_by go (cursor_by (Some (length history)) items) history ≡ concerning_by go (cursor_by None items) history
 before_done go items history =
-    concerning_same go (cursor_by (Some (length history)) items) (cursor_by None items) 0 history (λ k low high. before k high)
+    concerning_same go _ _ 0 history (λ k low high. before k high)
   where
     before : (k : ℕ) → k < 0 + length history → cursor_by (Some (length history)) items k ≡ cursor_by None items k
-    before k h = let t : nat_le (length history) k ≡ false = lt-leb (length history) k (omega arith) in rw t refl
+    before k h = let t : nat_le (length history) k ≡ false = lt-leb _ k (omega arith) in rw t refl
 
 -- a listing that is done when nothing is owed
 fits_done : (start : List Shown) (history : History) (go : ℕ) (items : List Item) → Fits start history go items None
     → owed_by go items None history (rows_after start history) ≡ [] → Fits start history go items (Some (length history))
 fits_done start history go items f owes =
-    let both = nothing_owed go items None history (rows_after start history) owes in
+    let both = nothing_owed go items None history _ owes in
     let self : length history ≤ length history = omega arith in
     let con = before_done go items history in
     let waits : untold_by go items (Some (length history)) history ≡ untold_by go items None history =
-    ap (drop (length (tolds items))) con in
-    let cur = cursor_done (length history) items in
+    cc in
+    let cur = cursor_done _ items in
     let lencon : length (concerning_by go (cursor_by (Some (length history)) items) history)
     ≡ length (concerning_by go (cursor_by None items) history) =
-    ap length con in
+    cc in
     let enough = f.enough in
     record {
       numbers = f.numbers;
@@ -115,8 +102,8 @@ fits_done start history go items f owes =
       kept =
           ap (λ u. changed_all (tells items ++ u) []) waits
           ∙ f.kept
-          ∙ passed_all (cursor_by None items (length history)) (rows_after start history) both.1
-          ∙ sym (passed_done (rows_after start history))
+          ∙ passed_all _ _ both.1
+          ∙ sym (passed_done _)
           ∙ ap (λ c. passed c (rows_after start history)) (sym cur);
     }
 
@@ -125,11 +112,11 @@ pub done_owes : (start : List Shown) (history : History) (go : ℕ) (items : Lis
     → owed_by go items (option_or done (Some (length history))) history (rows_after start history) ≡ []
 done_owes start history go items (Some m) owes = owes
 done_owes start history go items None owes =
-    let both = nothing_owed go items None history (rows_after start history) owes in
+    let both = nothing_owed go items None history _ owes in
     let con = before_done go items history in
     let waits : untold_by go items (Some (length history)) history ≡ untold_by go items None history =
-    ap (drop (length (tolds items))) con in
-    let cur = cursor_done (length history) items in
+    cc in
+    let cur = cursor_done _ items in
     ap (λ u. map Told u ++ map Listed (beyond (cursor_by (Some (length history)) items (length history)) (rows_after start history)))
     (waits ∙ both.0)
     ∙ ap (λ c. map Listed (beyond c (rows_after start history))) cur
@@ -141,17 +128,17 @@ pub also_done : (start : List Shown) (P : History → ℕ → List Item → Opti
     → Fits start history go items (option_or done (Some (length history))) × P history go items (option_or done (Some (length history)))
 also_done start P law history go items (Some m) order g = (g.fits, g.also)
 also_done start P law history go items None order g =
-    let both = nothing_owed go items None history (rows_after start history) g.owes in
+    let both = nothing_owed go items None history _ g.owes in
     (fits_done start history go items g.fits g.owes, law.finish history go items order g.fits g.also both.0 both.1)
 
 -- ---- room
 
 -- what is exhausted was all given
 pub exhausted : (bytes : ℕ) (left : List ℕ) (nexts : List Next) → exhausts bytes left nexts ≡ true → fitting bytes left nexts ≡ nexts
-exhausted bytes left nexts e = by (nat_lt (length (available left nexts)) bytes) refl
+exhausted bytes left nexts e = by _ refl
   where
     sizes : length (available left nexts) ≡ length left + length (flat_map line_of nexts)
-    sizes = length-append left (flat_map line_of nexts)
+    sizes = length-append left _
 
     empty : (ns : List Next) → is_nil ns ≡ true → take 1 ns ≡ ns
     empty [] e = refl
@@ -159,7 +146,7 @@ exhausted bytes left nexts e = by (nat_lt (length (available left nexts)) bytes)
 
     by : (t : Bool) → nat_lt (length (available left nexts)) bytes ≡ t → fitting bytes left nexts ≡ nexts
     by true t =
-        let lt = ltb-true (length (available left nexts)) bytes t in
+        let lt = ltb-true _ bytes t in
         let zero : (bytes == 0) ≡ false = pos-eqb bytes (omega arith) in
         let s = sizes in
         let room : length (flat_map line_of nexts) < bytes - length left = omega arith in
@@ -174,11 +161,11 @@ exhausted bytes left nexts e = by (nat_lt (length (available left nexts)) bytes)
 
 pub text_items : (n : ℕ) (items : List Item) (nexts : List Next) → text (items ++ items_of n nexts) ≡ text items ++ flat_map line_of nexts
 text_items n items nexts =
-    flat_map-append (λ (item : Item). line_of item.what) items (items_of n nexts) ∙ ap (λ t. text items ++ t) (same nexts)
+    flat_map-append (λ (item : Item). line_of _) items _ ∙ ap (λ t. text items ++ t) (same nexts)
   where
     same : (nexts : List Next) → text (items_of n nexts) ≡ flat_map line_of nexts
     same [] = refl
-    same (what ∷ nexts) = ap (λ t. line_of what ++ t) (same nexts)
+    same (what ∷ nexts) = cc (same nexts)
 
 -- a front that has fewer bytes than were asked for is all
 pub front_short : (bytes : ℕ) (nexts : List Next) → length (flat_map line_of (front bytes nexts)) < bytes → front bytes nexts ≡ nexts
@@ -187,7 +174,7 @@ front_short (suc bytes) [] h = refl
 front_short (suc bytes) (what ∷ nexts) h =
     let e = length-append (line_of what) (flat_map line_of (front (suc bytes - length (line_of what)) nexts)) in
     let k : length (flat_map line_of (front (suc bytes - length (line_of what)) nexts)) < suc bytes - length (line_of what) = omega arith in
-    ap (λ ns. what ∷ ns) (front_short (suc bytes - length (line_of what)) nexts k)
+    cc (front_short (suc bytes - length (line_of what)) nexts k)
 
 -- room gives at least so many bytes, or all
 pub fitting_enough : (bytes : ℕ) (left : List ℕ) (nexts : List Next)
@@ -202,7 +189,7 @@ fitting_enough (suc n) left nexts =
         ⊎ (front (suc n - length left) nexts ≡ nexts)
     by true t = inl (leb-true (suc n) (length left + length (flat_map line_of (front (suc n - length left) nexts))) t)
     by false t =
-        let l = leb-false (suc n) (length left + length (flat_map line_of (front (suc n - length left) nexts))) t in
+        let l = leb-false (suc n) _ t in
         let short : length (flat_map line_of (front (suc n - length left) nexts)) < suc n - length left = omega arith in
         inr (front_short (suc n - length left) nexts short)
 
@@ -211,23 +198,22 @@ pub took_within : (bytes n : ℕ) (nexts : List Next) (conn : Connection) → co
     → conn.taken + min bytes (length (available (unsent conn) nexts)) ≤ length (given (took bytes n nexts conn))
 took_within bytes n nexts conn within =
     let whole : given (took bytes n nexts conn) ≡ given conn ++ flat_map line_of (fitting bytes (unsent conn) nexts) =
-    ap (λ t. conn.out ++ t) (text_items n conn.items (fitting bytes (unsent conn) nexts))
-    ∙ sym (append_assoc conn.out (text conn.items) (flat_map line_of (fitting bytes (unsent conn) nexts))) in
+    cc (text_items n conn.items (fitting bytes (unsent conn) nexts), append_assoc conn.out _ _) in
     let size : length (given (took bytes n nexts conn))
     ≡ length (given conn) + length (flat_map line_of (fitting bytes (unsent conn) nexts)) =
-    ap length whole ∙ length-append (given conn) (flat_map line_of (fitting bytes (unsent conn) nexts)) in
-    let left : length (unsent conn) ≡ length (given conn) - conn.taken = length-drop conn.taken (given conn) in
+    cc (length-append _ _) in
+    let left : length (unsent conn) ≡ length (given conn) - conn.taken = length-drop _ _ in
     let all : length (available (unsent conn) nexts) ≡ length (unsent conn) + length (flat_map line_of nexts) =
-    length-append (unsent conn) (flat_map line_of nexts) in
-    subst (λ g. conn.taken + min bytes (length (available (unsent conn) nexts)) ≤ g) (sym size)
-    (subst (λ m. conn.taken + min bytes m ≤ length (given conn) + length (flat_map line_of (fitting bytes (unsent conn) nexts))) (sym all)
+    length-append _ _ in
+    rw size
+    (rw all
     (⊎_elim (λ h.
-    most bytes (length (flat_map line_of nexts)) conn.taken (length (given conn)) (length (unsent conn))
-    (length (flat_map line_of (fitting bytes (unsent conn) nexts))) within left h)
+    most bytes _ _ _ _
+    _ within left h)
     (λ h.
-    every bytes (length (flat_map line_of nexts)) conn.taken (length (given conn)) (length (unsent conn))
-    (length (flat_map line_of (fitting bytes (unsent conn) nexts))) within left (ap (λ ns. length (flat_map line_of ns)) h))
-    (fitting_enough bytes (unsent conn) nexts)))
+    every bytes _ _ _ _
+    _ within left (cc))
+    (fitting_enough bytes _ nexts)))
   where
     most : (b n t g u f : ℕ) → t ≤ g → u ≡ g - t → b ≤ u + f → t + min b (u + n) ≤ g + f
     most b n t g u f low left h = omega arith

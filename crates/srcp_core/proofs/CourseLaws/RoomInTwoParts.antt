@@ -1,16 +1,10 @@
 -- Room for a bytes and then for b more gives what room for both gives at once.
-use Rattle.std.proofs.Common.{◌≡◌, ℕ, zero, suc, inl, inr, ◌⊎◌, ⊎_elim, ◌+◌, ◌-◌, ◌<◌, ◌≤◌, min, Bool, true, false, List, [], ◌∷◌, ◌++◌}
-use Rattle.std.proofs.Common.{length, drop, refl, ap, sym, ◌∙◌, arith, append_assoc, length-append, length-drop}
-use Rattle.std.proofs.lemmas.Bool.{leb-false, leb-true, lt-ltb, ltb-true, ltb-false}
-use Rattle.std.proofs.lemmas.List.{map-append, drop-append-le, drop-drop, drop_all}
-use Rattle.std.proofs.lemmas.List.Concat.{flat_map-append}
+use Rattle.srcp_core.proofs.Names.{◌≡◌, ℕ, zero, suc, inl, inr, ◌⊎◌, ⊎_elim, ◌+◌, ◌-◌, ◌<◌, ◌≤◌, min, Bool, true, false, List, [], ◌∷◌}
+use Rattle.srcp_core.proofs.Names.{◌++◌, length, drop, refl, ap, sym, ◌∙◌, arith, append_assoc, length-append, length-drop, leb-false}
+use Rattle.srcp_core.proofs.Names.{leb-true, lt-ltb, ltb-true, ltb-false, map-append, drop-append-le, drop-drop, drop_all, flat_map-append}
+use Rattle.srcp_core.proofs.Names.{flat_map, option_or, nat_le, nat_lt, ◌||◌, Option, Some, None, ◌==◌, ◌&&◌, if◌then◌else◌, Next}
+use Rattle.srcp_core.proofs.Names.{Connection, line_of, front, fitting, items_of, available, exhausts, given, unsent, text, took}
 use Rattle.std.proofs.Math.Bool.{or-false}
-use Rattle.std.specs.List.{flat_map}
-use Rattle.std.specs.Option.{option_or}
-use Rattle.std.specs.Prelude.{nat_le, nat_lt, ◌||◌, Option, Some, None, ◌==◌, ◌&&◌, if◌then◌else◌}
-use Rattle.srcp_feed.specs.declared.next.Next.{Next}
-use Rattle.srcp_core.specs.Connection.{Connection, line_of, front, fitting, is_nil, items_of, available, exhausts, given, unsent, text}
-use Rattle.srcp_core.specs.Connection.{took}
 use Rattle.srcp_core.proofs.CourseLaws.RoomGivesWhatIsOwed.{text_items, front_short, front_none, pos-eqb}
 
 -- the bytes that a front has beyond those asked for
@@ -22,22 +16,22 @@ pub front_adds : (a b : ℕ) (nexts rest : List Next) → nexts ≡ front a next
     → front (a + b) nexts ≡ front a nexts ++ front (b - over a nexts) rest
 front_adds zero b nexts rest e =
     let n : 0 + b ≡ b - 0 = omega arith in
-    ap (λ m. front m nexts) n ∙ ap (front (b - 0)) e
+    cc
 front_adds (suc a) b [] rest e =
     let none : rest ≡ [] = sym e in
-    front_none (suc a + b) ∙ sym (ap (front (b - over (suc a) [])) none ∙ front_none (b - over (suc a) []))
+    cc (front_none _)
 front_adds (suc a) b (what ∷ nexts) rest e =
     let tail : nexts ≡ front (suc a - length (line_of what)) nexts ++ rest = cc in
     let ih = front_adds (suc a - length (line_of what)) b nexts rest tail in
     ap (λ n. front n (what ∷ nexts)) suc_plus
-    ∙ ap (λ ns. what ∷ ns) (by (nat_le (length (line_of what)) (suc a)) refl tail ih)
+    ∙ ap (λ ns. what ∷ ns) (by _ refl tail ih)
   where
     suc_plus : suc a + b ≡ suc (a + b)
     suc_plus = omega arith
 
     sizes : length (line_of what ++ flat_map line_of (front (suc a - length (line_of what)) nexts))
         ≡ length (line_of what) + length (flat_map line_of (front (suc a - length (line_of what)) nexts))
-    sizes = length-append (line_of what) (flat_map line_of (front (suc a - length (line_of what)) nexts))
+    sizes = length-append _ _
 
     by : (t : Bool) → nat_le (length (line_of what)) (suc a) ≡ t → nexts ≡ front (suc a - length (line_of what)) nexts ++ rest
         → front (suc a - length (line_of what) + b) nexts
@@ -45,22 +39,21 @@ front_adds (suc a) b (what ∷ nexts) rest e =
         → front (suc (a + b) - length (line_of what)) nexts
         ≡ front (suc a - length (line_of what)) nexts ++ front (b - over (suc a) (what ∷ nexts)) rest
     by true t tail ih =
-        let l = leb-true (length (line_of what)) (suc a) t in
+        let l = leb-true _ (suc a) t in
         let z = sizes in
         let x : suc (a + b) - length (line_of what) ≡ suc a - length (line_of what) + b = omega arith in
         let y : b - over (suc a - length (line_of what)) nexts ≡ b - over (suc a) (what ∷ nexts) = omega arith in
-        ap (λ n. front n nexts) x ∙ ih ∙ ap (λ n. front (suc a - length (line_of what)) nexts ++ front n rest) y
+        cc
     by false t tail ih =
-        let l = leb-false (length (line_of what)) (suc a) t in
+        let l = leb-false _ (suc a) t in
         let z = sizes in
         let none : suc a - length (line_of what) ≡ 0 = omega arith in
-        let first : front (suc a - length (line_of what)) nexts ≡ [] = ap (λ n. front n nexts) none in
+        let first : front (suc a - length (line_of what)) nexts ≡ [] = cc in
         let nothing : length (flat_map line_of (front (suc a - length (line_of what)) nexts)) ≡ 0 =
-        ap (λ ns. length (flat_map line_of ns)) first in
-        let all : nexts ≡ rest = tail ∙ ap (λ ns. ns ++ rest) first in
+        cc in
+        let all : nexts ≡ rest = cc in
         let x : suc (a + b) - length (line_of what) ≡ b - over (suc a) (what ∷ nexts) = omega arith in
-        ap (λ n. front n nexts) x ∙ ap (front (b - over (suc a) (what ∷ nexts))) all
-        ∙ ap (λ ns. ns ++ front (b - over (suc a) (what ∷ nexts)) rest) (sym first)
+        cc
 
 -- the same with bytes that were not taken before
 pub fitting_adds : (a b : ℕ) (left : List ℕ) (nexts rest : List Next) → 0 < a → 0 < b → nexts ≡ fitting a left nexts ++ rest
@@ -75,29 +68,27 @@ fitting_adds a b left nexts rest pa pb e =
     size : length (drop a (left ++ flat_map line_of (front (a - length left) nexts)))
         ≡ length left + length (flat_map line_of (front (a - length left) nexts)) - a
     size =
-        length-drop a (left ++ flat_map line_of (front (a - length left) nexts))
-        ∙ ap (λ n. n - a) (length-append left (flat_map line_of (front (a - length left) nexts)))
+        cc (length-drop a _, length-append left _)
 
     by : (t : Bool) → nat_le a (length left) ≡ t → nexts ≡ front (a - length left) nexts ++ rest
         → front (a + b - length left) nexts
         ≡ front (a - length left) nexts ++ front (b - length (drop a (left ++ flat_map line_of (front (a - length left) nexts)))) rest
     by true t e =
-        let l = leb-true a (length left) t in
+        let l = leb-true a _ t in
         let z = size in
         let none : a - length left ≡ 0 = omega arith in
-        let first : front (a - length left) nexts ≡ [] = ap (λ n. front n nexts) none in
-        let nothing : length (flat_map line_of (front (a - length left) nexts)) ≡ 0 = ap (λ ns. length (flat_map line_of ns)) first in
-        let all : nexts ≡ rest = e ∙ ap (λ ns. ns ++ rest) first in
+        let first : front (a - length left) nexts ≡ [] = cc in
+        let nothing : length (flat_map line_of (front (a - length left) nexts)) ≡ 0 = cc in
+        let all : nexts ≡ rest = cc in
         let x : a + b - length left ≡ b - length (drop a (left ++ flat_map line_of (front (a - length left) nexts))) = omega arith in
-        ap (λ n. front n nexts) x ∙ ap (front (b - length (drop a (left ++ flat_map line_of (front (a - length left) nexts))))) all
-        ∙ ap (λ ns. ns ++ front (b - length (drop a (left ++ flat_map line_of (front (a - length left) nexts)))) rest) (sym first)
+        cc
     by false t e =
-        let l = leb-false a (length left) t in
+        let l = leb-false a _ t in
         let z = size in
         let x : a + b - length left ≡ a - length left + b = omega arith in
         let y : b - over (a - length left) nexts ≡ b - length (drop a (left ++ flat_map line_of (front (a - length left) nexts))) =
         omega arith in
-        ap (λ n. front n nexts) x ∙ front_adds (a - length left) b nexts rest e ∙ ap (λ n. front (a - length left) nexts ++ front n rest) y
+        cc (front_adds _ b nexts rest e)
 
 pub no_bytes : (other : Bool) (n bytes : ℕ) → 0 < bytes → (nat_lt n bytes || ((bytes == 0) && other)) ≡ nat_lt n bytes
 no_bytes other n bytes h = let z = pos-eqb bytes h in rw z (or-false (nat_lt n bytes))
@@ -108,7 +99,7 @@ no_more xs ys e = let l = ap length e in let m = length-append xs ys in omega ar
 -- either so much was there, or nothing is left
 enough : (a : ℕ) (left : List ℕ) (nexts rest : List Next) → 0 < a → nexts ≡ fitting a left nexts ++ rest
     → (a ≤ length left + length (flat_map line_of (fitting a left nexts))) ⊎ (length (flat_map line_of rest) ≡ 0)
-enough a left nexts rest pa e = by (nat_le a (length left + length (flat_map line_of (fitting a left nexts)))) refl
+enough a left nexts rest pa e = by _ refl
   where
     is_front : fitting a left nexts ≡ front (a - length left) nexts
     is_front = let z = pos-eqb a pa in rw z refl
@@ -123,14 +114,14 @@ enough a left nexts rest pa e = by (nat_le a (length left + length (flat_map lin
     by false t =
         let f = is_front in
         let sizes : length (flat_map line_of (fitting a left nexts)) ≡ length (flat_map line_of (front (a - length left) nexts)) =
-        ap (λ ns. length (flat_map line_of ns)) f in
-        let l = leb-false a (length left + length (flat_map line_of (fitting a left nexts))) t in
+        cc in
+        let l = leb-false a _ t in
         let short : length (flat_map line_of (front (a - length left) nexts)) < a - length left = omega arith in
-        let all : fitting a left nexts ≡ nexts = f ∙ front_short (a - length left) nexts short in
-        inr (nothing rest (no_more nexts rest (e ∙ ap (λ ns. ns ++ rest) all)))
+        let all : fitting a left nexts ≡ nexts = f ∙ front_short _ nexts short in
+        inr (nothing rest (no_more nexts rest (cc)))
 
 same_lt : (x y b c : ℕ) → (x < b → y < c) → (y < c → x < b) → nat_lt x b ≡ nat_lt y c
-same_lt x y b c f g = by (nat_lt x b) refl (nat_lt y c) refl
+same_lt x y b c f g = by _ refl _ refl
   where
     by : (t : Bool) → nat_lt x b ≡ t → (r : Bool) → nat_lt y c ≡ r → nat_lt x b ≡ nat_lt y c
     by true p true q = p ∙ sym q
@@ -189,15 +180,14 @@ took_adds a b n nexts rest conn pa pb within e =
 
     left_is : unsent (took a n nexts conn) ≡ drop a (unsent conn ++ flat_map line_of (fitting a (unsent conn) nexts))
     left_is =
-        ap (λ t. drop (conn.taken + min a (length (available (unsent conn) nexts))) (conn.out ++ t))
-        (text_items n conn.items (fitting a (unsent conn) nexts))
-        ∙ ap (drop (conn.taken + min a (length (available (unsent conn) nexts))))
-        (sym (append_assoc conn.out (text conn.items) (flat_map line_of (fitting a (unsent conn) nexts))))
-        ∙ sym (drop-drop (min a (length (available (unsent conn) nexts))) conn.taken
-        (given conn ++ flat_map line_of (fitting a (unsent conn) nexts)))
-        ∙ ap (drop (min a (length (available (unsent conn) nexts))))
-        (drop-append-le conn.taken (given conn) (flat_map line_of (fitting a (unsent conn) nexts)) within)
-        ∙ as_many (nat_lt (length (available (unsent conn) nexts)) a) refl
+        cc (
+          text_items n conn.items _,
+          append_assoc conn.out (text conn.items) _,
+          drop-drop _ conn.taken
+              _,
+          drop-append-le _ _ _ within,
+          as_many _ refl,
+        )
       where
         as_many : (t : Bool) → nat_lt (length (available (unsent conn) nexts)) a ≡ t
             → drop (min a (length (available (unsent conn) nexts))) (unsent conn ++ flat_map line_of (fitting a (unsent conn) nexts))
@@ -213,30 +203,30 @@ took_adds a b n nexts rest conn pa pb within e =
             drop_all (min a (length (available (unsent conn) nexts))) (unsent conn ++ flat_map line_of (fitting a (unsent conn) nexts)) low
             ∙ sym (drop_all a (unsent conn ++ flat_map line_of (fitting a (unsent conn) nexts)) high)
         as_many false t =
-            let l = ltb-false (length (available (unsent conn) nexts)) a t in
+            let l = ltb-false _ a t in
             let m : min a (length (available (unsent conn) nexts)) ≡ a = omega arith in
-            ap (λ k. drop k (unsent conn ++ flat_map line_of (fitting a (unsent conn) nexts))) m
+            cc
 
     left_size : length (available (unsent (took a n nexts conn)) rest)
         ≡ length (unsent conn) + length (flat_map line_of (fitting a (unsent conn) nexts)) - a + length (flat_map line_of rest)
     left_size =
-        length-append (unsent (took a n nexts conn)) (flat_map line_of rest)
+        length-append _ _
         ∙ ap (λ u. length u + length (flat_map line_of rest)) left_is
         ∙ ap (λ k. k + length (flat_map line_of rest))
-        (length-drop a (unsent conn ++ flat_map line_of (fitting a (unsent conn) nexts))
-        ∙ ap (λ k. k - a) (length-append (unsent conn) (flat_map line_of (fitting a (unsent conn) nexts))))
+        (length-drop a _
+        ∙ ap (λ k. k - a) (length-append _ _))
 
     items_same : (conn.items ++ items_of n (fitting a (unsent conn) nexts)) ++ items_of n (fitting b (unsent (took a n nexts conn)) rest)
         ≡ conn.items ++ items_of n (fitting (a + b) (unsent conn) nexts)
     items_same =
         ap (λ u. (conn.items ++ items_of n (fitting a (unsent conn) nexts)) ++ items_of n (fitting b u rest)) left_is
-        ∙ append_assoc conn.items (items_of n (fitting a (unsent conn) nexts))
-        (items_of n (fitting b (drop a (unsent conn ++ flat_map line_of (fitting a (unsent conn) nexts))) rest))
+        ∙ append_assoc conn.items _
+        _
         ∙ ap (λ is. conn.items ++ is)
         (sym
-        (map-append (λ what. record { steps = n; what = what }) (fitting a (unsent conn) nexts)
-        (fitting b (drop a (unsent conn ++ flat_map line_of (fitting a (unsent conn) nexts))) rest)))
-        ∙ ap (λ ns. conn.items ++ items_of n ns) (sym (fitting_adds a b (unsent conn) nexts rest pa pb e))
+        (map-append (λ what. record { steps = n; what = what }) _
+        _))
+        ∙ ap (λ ns. conn.items ++ items_of n ns) (sym (fitting_adds a b _ nexts rest pa pb e))
 
     taken_same : conn.taken + min a (length (available (unsent conn) nexts))
         + min b (length (available (unsent (took a n nexts conn)) rest))
@@ -244,7 +234,7 @@ took_adds a b n nexts rest conn pa pb within e =
     taken_same =
         let z = all_size in
         let y = left_size in
-        ⊎_elim (λ h. with_rest z y h) (λ h. with_none z y h) (enough a (unsent conn) nexts rest pa e)
+        ⊎_elim (λ h. with_rest z y h) (λ h. with_none z y h) (enough a _ nexts rest pa e)
       where
         with_rest : length (available (unsent conn) nexts)
             ≡ length (unsent conn) + length (flat_map line_of (fitting a (unsent conn) nexts)) + length (flat_map line_of rest)
@@ -273,16 +263,16 @@ took_adds a b n nexts rest conn pa pb within e =
         (λ t. as_both (ltb-false (length (available (unsent conn) nexts)) a (sym ex_a ∙ t)))
       where
         ex_a : exhausts a (unsent conn) nexts ≡ nat_lt (length (available (unsent conn) nexts)) a
-        ex_a = no_bytes (is_nil (unsent conn) && is_nil nexts) (length (available (unsent conn) nexts)) a pa
+        ex_a = no_bytes _ _ a pa
 
         ex_b : exhausts b (unsent (took a n nexts conn)) rest ≡ nat_lt (length (available (unsent (took a n nexts conn)) rest)) b
-        ex_b = no_bytes (is_nil (unsent (took a n nexts conn)) && is_nil rest) (length (available (unsent (took a n nexts conn)) rest)) b pb
+        ex_b = no_bytes _ _ b pb
 
         sum : 0 < a + b
         sum = omega arith
 
         ex_ab : exhausts (a + b) (unsent conn) nexts ≡ nat_lt (length (available (unsent conn) nexts)) (a + b)
-        ex_ab = no_bytes (is_nil (unsent conn) && is_nil nexts) (length (available (unsent conn) nexts)) (a + b) sum
+        ex_ab = no_bytes _ _ (a + b) sum
 
         both_too : length (available (unsent conn) nexts) < a → exhausts (a + b) (unsent conn) nexts ≡ true
         both_too h =
@@ -295,7 +285,7 @@ took_adds a b n nexts rest conn pa pb within e =
             let y = left_size in
             let l : length (available (unsent (took a n nexts conn)) rest) < b =
             ⊎_elim (λ k. absurd (omega (arith, z, k, h))) (λ k. omega (arith, z, y, k, h, pb))
-            (enough a (unsent conn) nexts rest pa e) in
+            (enough a _ nexts rest pa e) in
             ex_b ∙ lt-ltb (length (available (unsent (took a n nexts conn)) rest)) b l
 
         as_both : a ≤ length (available (unsent conn) nexts)
@@ -304,7 +294,7 @@ took_adds a b n nexts rest conn pa pb within e =
             let z = all_size in
             let y = left_size in
             let rest_is : length (available (unsent (took a n nexts conn)) rest) + a ≡ length (available (unsent conn) nexts) =
-            ⊎_elim (λ k. omega (arith, z, y, k, h)) (λ k. omega (arith, z, y, k, h)) (enough a (unsent conn) nexts rest pa e) in
+            ⊎_elim (λ k. omega (arith, z, y, k, h)) (λ k. omega (arith, z, y, k, h)) (enough a _ nexts rest pa e) in
             ex_b
             ∙ same_lt (length (available (unsent (took a n nexts conn)) rest)) (length (available (unsent conn) nexts)) b (a + b)
             (λ l. omega (arith, rest_is, l)) (λ l. omega (arith, rest_is, l))

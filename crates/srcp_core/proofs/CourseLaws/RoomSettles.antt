@@ -1,34 +1,19 @@
 -- Room gives the front of what is owed, and settles a session that is given enough.
-use Rattle.std.proofs.Common.{◌≡◌, ℕ, ◌+◌, ◌-◌, ◌≤◌, min, Bool, true, false, List, [], ◌∷◌, ◌++◌, map, length, drop, refl, ap, sym, ◌∙◌}
-use Rattle.std.proofs.Common.{subst, arith, append-nil, append_assoc, length-append, length-drop}
-use Rattle.std.proofs.lemmas.List.{take-append-drop, drop_all, length-map}
-use Rattle.std.proofs.lemmas.List.Sums.{fold-append}
-use Rattle.std.specs.List.{flat_map}
-use Rattle.std.specs.Option.{option_or}
-use Rattle.std.specs.Prelude.{◌&&◌, Option, Some, None, option_map, if◌then◌else◌, is_none}
-use Rattle.srcp_info.specs.declared.change.Change.{Change}
-use Rattle.srcp_info.specs.declared.change.Shown.{Shown}
-use Rattle.srcp_grammar.specs.declared.layout.Bus.{Bus}
-use Rattle.srcp_grammar.specs.Layout.{IsLayout}
-use Rattle.srcp_rules.specs.State.{opening, shown_rows}
-use Rattle.srcp_feed.specs.Cursor.{beyond}
-use Rattle.srcp_feed.specs.declared.next.Next.{Next}
-use Rattle.srcp_feed.specs.declared.next.Next.TheVariants.{Told, Listed}
-use Rattle.srcp_info.proofs.ClientLaws.{key_at}
-use Rattle.srcp_info.specs.Client.{IsRisingBy}
-use Rattle.srcp_core.specs.Under.{Event, Room}
-use Rattle.srcp_core.specs.Connection.{Connection, History, is_nil, is_open, line_of, text, given, unsent, owed, waiting, cursor_at}
-use Rattle.srcp_core.specs.Connection.{fitting, available, exhausts, items_of, took, given_room, overran}
-use Rattle.srcp_core.specs.Course.{World, start, happens, counted, course, numbered, if_open, open_connection, absent_fault, or_refused}
-use Rattle.srcp_core.specs.Course.{accepted, rows, history}
-use Rattle.srcp_core.specs.Laws.{IsSession, IsSentReplies, GivesOwed}
-use Rattle.srcp_core.specs.declared.record.Item.{Item}
+use Rattle.srcp_core.proofs.Names.{◌≡◌, ℕ, ◌+◌, ◌-◌, ◌≤◌, min, Bool, true, false, List, [], ◌∷◌, ◌++◌, map, length, drop, refl, ap, sym}
+use Rattle.srcp_core.proofs.Names.{◌∙◌, subst, arith, append-nil, append_assoc, length-append, length-drop, take-append-drop, drop_all}
+use Rattle.srcp_core.proofs.Names.{length-map, fold-append, flat_map, option_or, ◌&&◌, Option, Some, None, if◌then◌else◌, Change, Shown}
+use Rattle.srcp_core.proofs.Names.{Bus, IsLayout, opening, shown_rows, Next, Told, Listed, key_at, IsRisingBy, Event, Room, Connection}
+use Rattle.srcp_core.proofs.Names.{History, is_nil, is_open, line_of, text, unsent, owed, fitting, available, exhausts, items_of, took}
+use Rattle.srcp_core.proofs.Names.{given_room, overran, World, start, happens, counted, course, numbered, open_connection, accepted, rows}
+use Rattle.srcp_core.proofs.Names.{history, IsSession, Item}
+use Rattle.std.specs.Prelude.{option_map}
+use Rattle.srcp_core.specs.Laws.{IsSentReplies, GivesOwed}
 use Rattle.srcp_core.proofs.CourseLaws.LinesHaveBytes.{fitting_full, none_after, owed_full}
-use Rattle.srcp_core.proofs.CourseLaws.Histories.{rows_after, cursor_by}
+use Rattle.srcp_core.proofs.CourseLaws.Histories.{rows_after}
 use Rattle.srcp_core.proofs.CourseLaws.ShownRegistry.{shown_after, length_history}
 use Rattle.srcp_core.proofs.CourseLaws.RoomGivesWhatIsOwed.{text_items, fitting_front, exhausted, done_owes}
 use Rattle.srcp_core.proofs.CourseLaws.SessionsOfACourse.{stands, at_number, anything, opening_in_order, open_shut, fits_open, untold_open}
-use Rattle.srcp_core.proofs.CourseLaws.ClientHoldsPassedRows.{Fits, gives, owed_by, untold_by}
+use Rattle.srcp_core.proofs.CourseLaws.ClientHoldsPassedRows.{Fits, gives, owed_by}
 use Rattle.srcp_core.proofs.Agreement.NumbersAndKeys.{numbered_with}
 use Rattle.srcp_core.proofs.CourseLaws.SessionsAreKept.{sound, owed_open, in_order_after}
 
@@ -42,7 +27,7 @@ sends_replies buses layout events number conn e plain =
     let p = s.plain plain in
     record {
       no_items = p.0;
-      front = (unsent conn, take-append-drop conn.taken (given conn) ∙ ap (λ items. conn.out ++ text items) p.0 ∙ append-nil conn.out);
+      front = (unsent conn, cc (take-append-drop _ _, p.0, append-nil conn.out));
     }
 
 -- what is owed after room
@@ -60,7 +45,7 @@ owes_rest : (first : List Shown) (history : History) (go : ℕ) (items : List It
     → IsRisingBy key_at (rows_after first history) → Fits first history go items done
     → owed_by go items done history (rows_after first history) ≡ nexts
     → OwesRest history go items done bytes left nexts (rows_after first history)
-owes_rest first history go items done bytes left nexts order f e = by (exhausts bytes left nexts) refl
+owes_rest first history go items done bytes left nexts order f e = by _ refl
   where
     by : (t : Bool) → exhausts bytes left nexts ≡ t → OwesRest history go items done bytes left nexts (rows_after first history)
     by true t =
@@ -68,18 +53,9 @@ owes_rest first history go items done bytes left nexts order f e = by (exhausts 
         let g = gives first _ (anything first) history go items done nexts [] order f tt (e ∙ sym (append-nil nexts)) in
         record {
           rest = [];
-          whole = sym all ∙ sym (append-nil (fitting bytes left nexts));
+          whole = cc (append-nil _);
           owes =
-              ap (λ ns.
-              owed_by go (items ++ items_of (length history) ns)
-              (if exhausts bytes left nexts then option_or done (Some (length history)) else done) history
-              (rows_after first history))
-              all
-              ∙ ap (λ t.
-              owed_by go (items ++ items_of (length history) nexts) (if t then option_or done (Some (length history)) else done) history
-              (rows_after first history))
-              t
-              ∙ done_owes first history go (items ++ items_of (length history) nexts) done g.owes;
+              cc (done_owes first history go (items ++ items_of (length history) nexts) done g.owes);
           fully = λ _. refl;
         }
     by false t =
@@ -89,12 +65,8 @@ owes_rest first history go items done bytes left nexts order f e = by (exhausts 
           rest = front.rest;
           whole = front.whole;
           owes =
-              ap (λ t.
-              owed_by go (items ++ items_of (length history) (fitting bytes left nexts))
-              (if t then option_or done (Some (length history)) else done) history (rows_after first history))
-              t
-              ∙ g.owes;
-          fully = λ no_more. let bad : true ≡ false = sym no_more ∙ t in cc;
+              cc g.owes;
+          fully = λ no_more. let bad : true ≡ false = cc in cc;
         }
 
 -- where room was given for all there was, nothing is unsent
@@ -104,16 +76,16 @@ none_left : (bytes n taken : ℕ) (out : List ℕ) (items : List Item) (nexts : 
 none_left bytes n taken out items nexts h =
     let l : length (available (drop taken (out ++ text items)) nexts)
     ≡ length (drop taken (out ++ text items)) + length (flat_map line_of nexts) =
-    length-append (drop taken (out ++ text items)) (flat_map line_of nexts) in
-    let d : length (drop taken (out ++ text items)) ≡ length (out ++ text items) - taken = length-drop taken (out ++ text items) in
+    length-append _ _ in
+    let d : length (drop taken (out ++ text items)) ≡ length (out ++ text items) - taken = length-drop taken _ in
     let whole : out ++ text (items ++ items_of n nexts) ≡ (out ++ text items) ++ flat_map line_of nexts =
-    ap (λ t. out ++ t) (text_items n items nexts) ∙ sym (append_assoc out (text items) (flat_map line_of nexts)) in
+    cc (text_items n items nexts, append_assoc out _ _) in
     let size : length (out ++ text (items ++ items_of n nexts)) ≡ length (out ++ text items) + length (flat_map line_of nexts) =
-    ap length whole ∙ length-append (out ++ text items) (flat_map line_of nexts) in
+    cc (length-append _ _) in
     let most : length (out ++ text (items ++ items_of n nexts))
     ≤ taken + min bytes (length (available (drop taken (out ++ text items)) nexts)) =
     omega arith in
-    drop_all (taken + min bytes (length (available (drop taken (out ++ text items)) nexts))) (out ++ text (items ++ items_of n nexts)) most
+    drop_all _ _ most
 
 -- the connection after its room
 pub after_room : (buses : List Bus) (w : World) (number bytes : ℕ) (conn later : Connection) → numbered number w.connections ≡ Some conn
@@ -121,17 +93,17 @@ pub after_room : (buses : List Bus) (w : World) (number bytes : ℕ) (conn later
     → numbered number (happens buses w (Room number bytes)).connections ≡ Some later
     → later ≡ took bytes (length (history buses w)) (owed conn (history buses w) (rows buses w)) conn
 after_room buses w number bytes conn later e shut over l =
-    let up : open_connection w number ≡ Some conn = ap if_open e ∙ ap (λ s. if is_none s then Some conn else None) shut in
+    let up : open_connection w number ≡ Some conn = cc in
     let world : happens buses w (Room number bytes) ≡ accepted buses (Room number bytes) (counted w) =
-    ap (λ o. or_refused buses (absent_fault buses o) (Room number bytes) (counted w)) up in
+    cc in
     let at : numbered number (happens buses w (Room number bytes)).connections
     ≡ Some (given_room bytes (history buses w) (rows buses w) conn) =
     ap (λ (v : World). numbered number v.connections) world
-    ∙ numbered_with number (given_room bytes (history buses w) (rows buses w)) w.connections
+    ∙ numbered_with number _ _
     ∙ ap (option_map (given_room bytes (history buses w) (rows buses w))) e in
-    let same : Some later ≡ Some (given_room bytes (history buses w) (rows buses w) conn) = sym l ∙ at in
+    let same : Some later ≡ Some (given_room bytes (history buses w) (rows buses w) conn) = cc in
     let is : later ≡ given_room bytes (history buses w) (rows buses w) conn = cc in
-    is ∙ ap (λ t. if t then conn else took bytes (length (history buses w)) (owed conn (history buses w) (rows buses w)) conn) over
+    cc
 
 counted_owed : (changes : List Change) (rows : List Shown) → length (map Told changes ++ map Listed rows) ≡ length changes + length rows
 counted_owed changes rows =
@@ -162,8 +134,8 @@ owed_is buses layout w conn shut info =
     else [])
     ≡ owed conn (history buses w) (rows buses w))
     info
-    (sym (owed_open (shown_rows (opening buses 0)) (opening_in_order buses layout) _ (anything (shown_rows (opening buses 0)))
-    (history buses w) (rows buses w) conn shut (shown_after (opening buses 0) w.steps)))
+    (sym (owed_open _ (opening_in_order buses layout) _ (anything (shown_rows (opening buses 0)))
+    _ _ conn shut (shown_after (opening buses 0) w.steps)))
 
 pub owes_after : (buses : List Bus) (layout : IsLayout buses) (w : World) (bytes : ℕ) (conn : Connection) → conn.shut ≡ None
     → conn.info ≡ true → Fits (shown_rows (opening buses 0)) (history buses w) conn.go_step conn.items conn.done
@@ -181,8 +153,8 @@ owes_after buses layout w bytes conn shut info fits =
       rest = r.rest;
       whole = r.whole;
       owes =
-          owed_open (shown_rows (opening buses 0)) (opening_in_order buses layout) _ (anything (shown_rows (opening buses 0)))
-          (history buses w) (rows buses w) (took bytes (length (history buses w)) (owed conn (history buses w) (rows buses w)) conn) shut
+          owed_open _ (opening_in_order buses layout) _ (anything (shown_rows (opening buses 0)))
+          _ _ (took bytes (length (history buses w)) (owed conn (history buses w) (rows buses w)) conn) shut
           (shown_after (opening buses 0) w.steps)
           ∙ ap (λ t. if t
           then owed_by conn.go_step
@@ -219,48 +191,39 @@ gives_owed buses layout w bytes conn shut info fits =
         → GivesOwed buses w bytes conn (took bytes (length (history buses w)) (owed conn (history buses w) (rows buses w)) conn)
     finished r is size =
         record {
-          lines = fitting bytes (unsent conn) (owed conn (history buses w) (rows buses w));
+          lines = fitting bytes _ _;
           items = ap (λ n. conn.items ++ items_of n (fitting bytes (unsent conn) (owed conn (history buses w) (rows buses w)))) size;
-          owes = r.whole ∙ ap (λ ns. fitting bytes (unsent conn) (owed conn (history buses w) (rows buses w)) ++ ns) (sym r.owes);
+          owes = cc (r.whole, r.owes);
           count =
-              ap length (sym is)
-              ∙ counted_owed (untold_by conn.go_step conn.items conn.done (history buses w))
-              (beyond (cursor_by conn.done conn.items (length (history buses w)))
-              (rows_after (shown_rows (opening buses 0)) (history buses w)))
-              ∙ ap (λ u. length u
-              + length (beyond (cursor_by conn.done conn.items (length (history buses w)))
-              (rows_after (shown_rows (opening buses 0)) (history buses w))))
-              (sym (untold_open (history buses w) conn shut))
-              ∙ ap (λ n. length (waiting conn (history buses w))
-              + length (beyond (cursor_by conn.done conn.items n) (rows_after (shown_rows (opening buses 0)) (history buses w))))
-              size
-              ∙ ap (λ rs. length (waiting conn (history buses w)) + length (beyond (cursor_at conn (length w.steps)) rs))
-              (sym (shown_after (opening buses 0) w.steps));
+              cc (
+                counted_owed _
+                    _,
+                untold_open _ conn shut,
+                shown_after _ w.steps,
+              );
           settles = λ h.
               let all : fitting bytes (unsent conn) (owed conn (history buses w) (rows buses w))
               ≡ owed conn (history buses w) (rows buses w) =
-              fitting_full bytes (unsent conn) (owed conn (history buses w) (rows buses w))
+              fitting_full bytes _ _
               (owed_full conn (history buses w) (rows buses w)) h in
               let o : owed (took bytes (length (history buses w)) (owed conn (history buses w) (rows buses w)) conn) (history buses w)
               (rows buses w)
               ≡ [] =
               r.owes
-              ∙ none_after (owed conn (history buses w) (rows buses w))
-              (fitting bytes (unsent conn) (owed conn (history buses w) (rows buses w))) r.rest r.whole all in
+              ∙ none_after _
+              _ r.rest r.whole all in
               let u : unsent (took bytes (length (history buses w)) (owed conn (history buses w) (rows buses w)) conn) ≡ [] =
               ap (λ ns.
               drop (conn.taken + min bytes (length (available (unsent conn) (owed conn (history buses w) (rows buses w)))))
               (conn.out ++ text (conn.items ++ items_of (length (history buses w)) ns)))
               all
-              ∙ none_left bytes (length (history buses w)) conn.taken conn.out conn.items
+              ∙ none_left bytes _ _ conn.out conn.items
               (owed conn (history buses w) (rows buses w)) h in (
                 o,
-                four (is_none conn.shut) conn.info
-                    (is_nil (unsent (took bytes (length (history buses w)) (owed conn (history buses w) (rows buses w)) conn)))
-                    (is_nil
-                    (owed (took bytes (length (history buses w)) (owed conn (history buses w) (rows buses w)) conn) (history buses w)
-                    (rows buses w)))
-                    (ap is_none shut) info (ap is_nil u) (ap is_nil o),
+                four _ _
+                    _
+                    _
+                    (cc) info (ap is_nil u) (cc),
               );
         }
 
@@ -270,12 +233,12 @@ pub settles_after_owed : (buses : List Bus) → IsLayout buses → (events : Lis
     → GivesOwed buses (course buses events) bytes conn later
 settles_after_owed buses layout events number bytes conn later s up over l =
     let w = course buses events in
-    let shut = open_shut conn.shut up in
+    let shut = open_shut _ up in
     let fits =
-    (fits_open (shown_rows (opening buses 0)) _ (history buses w) conn shut
+    (fits_open _ _ _ conn shut
     (stands buses layout _ (anything (shown_rows (opening buses 0))) events number conn s)).0 in
     let next : course buses (events ++ Room number bytes ∷ []) ≡ happens buses w (Room number bytes) =
-    fold-append (happens buses) start events (Room number bytes ∷ []) in
+    fold-append _ start events _ in
     let is =
     after_room buses w number bytes conn later s.there shut over (ap (λ (v : World). numbered number v.connections) (sym next) ∙ l) in
     subst (λ c. GivesOwed buses w bytes conn c) (sym is) (gives_owed buses layout w bytes conn shut s.info fits)

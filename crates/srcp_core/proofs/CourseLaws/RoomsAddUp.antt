@@ -1,33 +1,16 @@
 -- Rooms add up at every open connection of a course.
-use Rattle.std.proofs.Common.{◌≡◌, ℕ, zero, suc, ◌+◌, ◌<◌, ◌≤◌, min, Bool, true, false, List, [], ◌∷◌, ◌++◌, take, length, drop, map}
-use Rattle.std.proofs.Common.{refl, ap, sym, ◌∙◌, subst, arith, append-nil, length-append, length-drop}
-use Rattle.std.proofs.lemmas.Bool.Decides.{nat_tests}
-use Rattle.std.proofs.lemmas.List.{take_all}
-use Rattle.std.proofs.lemmas.List.Elements.{filter_map-append}
-use Rattle.std.proofs.lemmas.List.Sums.{fold-append}
-use Rattle.std.proofs.lemmas.Bool.{le-ltb, ltb-false, lt-ltb}
-use Rattle.std.specs.List.{filter, flat_map, AllByRecursion}
-use Rattle.std.specs.Option.{option_or}
-use Rattle.std.specs.Prelude.{nat_le, nat_lt, ◌||◌, Option, Some, None, ◌==◌, ◌&&◌, if◌then◌else◌, option_map, is_none}
-use Rattle.srcp_info.specs.declared.change.Change.{Change}
-use Rattle.srcp_info.specs.declared.change.Cursor.TheVariants.{Done}
-use Rattle.srcp_info.specs.declared.change.Shown.{Shown}
-use Rattle.srcp_feed.specs.Cursor.{beyond}
-use Rattle.srcp_feed.specs.declared.next.Next.{Next}
-use Rattle.srcp_feed.specs.declared.next.Next.TheVariants.{Told, Listed}
-use Rattle.srcp_grammar.specs.declared.layout.Bus.{Bus}
-use Rattle.srcp_grammar.specs.Layout.{IsLayout}
-use Rattle.srcp_rules.specs.State.{opening, shown_rows}
-use Rattle.srcp_core.specs.Under.{Event, Room}
-use Rattle.srcp_core.specs.Connection.{Connection, History, heard, line_of, fitting, is_open, is_done_by, items_of, sent}
-use Rattle.srcp_core.specs.Connection.{untold, cursor_at, available, exhausts, given, told_change, unsent, text, owed, overran, took}
-use Rattle.srcp_core.specs.Connection.{given_room}
-use Rattle.srcp_core.specs.Course.{World, numbered, with_numbered, if_open, counted, absent_fault, or_refused, accepted, start, happens}
-use Rattle.srcp_core.specs.Course.{course, rows, history}
-use Rattle.srcp_core.specs.Laws.{AddsUp, without_events}
-use Rattle.srcp_core.specs.declared.record.Item.{Item}
+use Rattle.srcp_core.proofs.Names.{cond_both, ◌≡◌, ℕ, zero, suc, ◌+◌, ◌<◌, ◌≤◌, min, Bool, true, false, List, [], ◌∷◌, ◌++◌, take, length}
+use Rattle.srcp_core.proofs.Names.{drop, map, refl, ap, sym, ◌∙◌, subst, arith, append-nil, length-append, length-drop, nat_tests, take_all}
+use Rattle.srcp_core.proofs.Names.{filter_map-append, fold-append, le-ltb, ltb-false, lt-ltb, flat_map, AllByRecursion, option_or, nat_lt}
+use Rattle.srcp_core.proofs.Names.{Option, Some, None, ◌&&◌, if◌then◌else◌, Change, Shown, beyond, Next, Told, Listed, Bus, IsLayout}
+use Rattle.srcp_core.proofs.Names.{opening, shown_rows, Event, Room, Connection, History, heard, line_of, fitting, is_open, is_done_by}
+use Rattle.srcp_core.proofs.Names.{items_of, sent, untold, cursor_at, available, exhausts, given, told_change, unsent, text, owed, overran}
+use Rattle.srcp_core.proofs.Names.{took, given_room, World, numbered, with_numbered, counted, accepted, start, happens, course, rows}
+use Rattle.srcp_core.proofs.Names.{history, AddsUp, Item}
+use Rattle.std.specs.Prelude.{option_map}
+use Rattle.srcp_core.specs.Laws.{without_events}
 use Rattle.srcp_core.proofs.CourseLaws.LinesHaveBytes.{first_empty, owed_full}
-use Rattle.srcp_core.proofs.CourseLaws.Histories.{last_of, concerning_by, concerning_same, cursor_by, cursor_before}
+use Rattle.srcp_core.proofs.CourseLaws.Histories.{concerning_by, concerning_same, cursor_by, cursor_before}
 use Rattle.srcp_core.proofs.CourseLaws.RoomGivesWhatIsOwed.{no_lists, fitting_none}
 use Rattle.srcp_core.proofs.CourseLaws.SessionsOfACourse.{anything, at_number, fits_open, open_shut, opening_in_order}
 use Rattle.srcp_core.proofs.CourseLaws.ClientHoldsPassedRows.{Fits, tolds}
@@ -55,9 +38,8 @@ concerning_took : (history : History) (go : ℕ) (items : List Item) (done : Opt
     (cursor_by (if ends then option_or done (Some (length history)) else done) (items ++ items_of (length history) nexts)) history
     ≡ concerning_by go (cursor_by done items) history
 concerning_took history go items done nexts ends =
-    concerning_same go (cursor_by (if ends then option_or done (Some (length history)) else done)
-    (items ++ items_of (length history) nexts))
-    (cursor_by done items) 0 history (λ k low high. at k (below k high))
+    concerning_same go _
+    _ 0 history (λ k low high. at k (below k high))
   where
     below : (k : ℕ) → k < 0 + length history → k < length history
     below k h = omega arith
@@ -66,9 +48,7 @@ concerning_took history go items done nexts ends =
         → cursor_by (if ends then option_or done (Some (length history)) else done) (items ++ items_of (length history) nexts) k
         ≡ cursor_by done items k
     at k h =
-        ap (λ t. if t then Done else last_of (filter (λ item. nat_le item.steps k) (items ++ items_of (length history) nexts)))
-        (by_before done ends (length history) k h)
-        ∙ cursor_before (length history) k done items (items_of (length history) nexts) h (given_now (length history) nexts)
+        cc (by_before done ends _ k h, cursor_before _ k done items _ h (given_now (length history) nexts))
 
 -- so a room makes no overrun
 pub took_overran : (history : History) (bytes : ℕ) (nexts : List Next) (conn : Connection) → conn.shut ≡ None → overran conn history ≡ false
@@ -81,8 +61,8 @@ took_overran history bytes nexts conn shut e =
     (concerning_by conn.go_step (cursor_by done_after (conn.items ++ given_items)) (heard s history)))))
     shut
     ∙ ap (λ cs. nat_lt 256 (length (drop (length (tolds (conn.items ++ given_items))) cs)))
-    (concerning_took history conn.go_step conn.items conn.done (fitting bytes (unsent conn) nexts)
-    (conn.info && exhausts bytes (unsent conn) nexts))
+    (concerning_took history _ _ _ _
+    _)
     ∙ ap (λ ts. nat_lt 256 (length (drop (length ts) (concerning_by conn.go_step (cursor_by conn.done conn.items) history))))
     (filter_map-append (λ (item : Item). told_change item.what) conn.items given_items)
     ∙ shorter (tolds conn.items) (tolds given_items) (concerning_by conn.go_step (cursor_by conn.done conn.items) history)
@@ -124,11 +104,11 @@ took_nothing b n nexts conn u e =
       taken = conn.taken + min b (length (available (unsent conn) nexts));
       done = (took b n nexts conn).done;
     })
-    (ap (λ ns. conn.items ++ items_of n ns) (ap (fitting b (unsent conn)) e ∙ fitting_none b (unsent conn)) ∙ append-nil conn.items)
+    (ap (λ ns. conn.items ++ items_of n ns) (ap (fitting b (unsent conn)) e ∙ fitting_none b _) ∙ append-nil _)
     ∙ ap (λ taken. record conn { items = conn.items; taken = taken; done = (took b n nexts conn).done }) same_taken
     ∙ ap (λ done. record conn { items = conn.items; taken = conn.taken; done = done })
     (ap (λ t. if conn.info && t then option_or conn.done (Some n) else conn.done) exhausted_now
-    ∙ ap (λ t. if t then option_or conn.done (Some n) else conn.done) (and_true conn.info))
+    ∙ ap (λ t. if t then option_or conn.done (Some n) else conn.done) (and_true _))
   where
     and_true : (t : Bool) → t && true ≡ t
     and_true true = refl
@@ -137,23 +117,21 @@ took_nothing b n nexts conn u e =
     same_taken : conn.taken + min b (length (available (unsent conn) nexts)) ≡ conn.taken
     same_taken =
         let z : length (available (unsent conn) nexts) ≡ 0 =
-        ap (λ l. length (available l nexts)) u ∙ ap (λ ns. length (available [] ns)) e in
+        cc in
         omega arith
 
     at_nothing : (b : ℕ) → exhausts b [] [] ≡ true
     at_nothing zero = refl
-    at_nothing (suc b) = let l : 0 < suc b = omega arith in ap (λ t. t || ((suc b == 0) && true)) (lt-ltb 0 (suc b) l)
+    at_nothing (suc b) = let l : 0 < suc b = omega arith in cc (lt-ltb 0 (suc b) l)
 
     exhausted_now : exhausts b (unsent conn) nexts ≡ true
-    exhausted_now = ap (λ l. exhausts b l nexts) u ∙ ap (exhausts b []) e ∙ at_nothing b
+    exhausted_now = cc (at_nothing b)
 
 -- ---- at a connection of a course
 
 pub owed_plain : (conn : Connection) (history : History) (rows : List Shown) → conn.info ≡ false → owed conn history rows ≡ []
 owed_plain conn history rows e =
-    ap (λ t. if is_open conn && t then map Told (untold conn history) ++ map Listed (beyond (cursor_at conn (length history)) rows) else [])
-    e
-    ∙ none (is_open conn)
+    cc (none _)
   where
     none : (t : Bool)
         → (if t && false then map Told (untold conn history) ++ map Listed (beyond (cursor_at conn (length history)) rows) else []) ≡ []
@@ -163,21 +141,21 @@ owed_plain conn history rows e =
 -- what is owed to any open connection after room
 rests : (buses : List Bus) (layout : IsLayout buses) (w : World) (bytes : ℕ) (conn : Connection) → conn.shut ≡ None
     → Fits (shown_rows (opening buses 0)) (history buses w) conn.go_step conn.items conn.done → OwesAfter buses w bytes conn
-rests buses layout w bytes conn shut fits = by conn.info refl
+rests buses layout w bytes conn shut fits = by _ refl
   where
     by : (info : Bool) → conn.info ≡ info → OwesAfter buses w bytes conn
     by true e = owes_after buses layout w bytes conn shut e fits
     by false e =
-        let none = owed_plain conn (history buses w) (rows buses w) e in
+        let none = owed_plain conn _ _ e in
         record {
           rest = [];
           whole =
               none
-              ∙ sym (append-nil (fitting bytes (unsent conn) (owed conn (history buses w) (rows buses w)))
-              ∙ ap (fitting bytes (unsent conn)) none ∙ fitting_none bytes (unsent conn));
+              ∙ sym (append-nil _
+              ∙ ap (fitting bytes (unsent conn)) none ∙ fitting_none bytes _);
           owes =
-              owed_plain (took bytes (length (history buses w)) (owed conn (history buses w) (rows buses w)) conn) (history buses w)
-              (rows buses w) e;
+              owed_plain (took bytes (length (history buses w)) (owed conn (history buses w) (rows buses w)) conn) _
+              _ e;
           fully = λ _. refl;
         }
 
@@ -191,37 +169,37 @@ module _ (buses : List Bus) (layout : IsLayout buses) (w : World) (conn : Connec
   takes bytes = took bytes (length (history buses w)) (owed conn (history buses w) (rows buses w)) conn
 
   itself : overran conn (history buses w) ≡ true → (bytes : ℕ) → room bytes conn ≡ conn
-  itself o bytes = ap (λ t. if t then conn else takes bytes) o
+  itself o bytes = cc
 
   some_room : overran conn (history buses w) ≡ false → (bytes : ℕ) → room bytes conn ≡ takes bytes
-  some_room o bytes = ap (λ t. if t then conn else takes bytes) o
+  some_room o bytes = cc
 
   adds : (a b : ℕ) → 0 < b → (t : Bool) → overran conn (history buses w) ≡ t → room b (room a conn) ≡ room (a + b) conn
-  adds a b pb true o = ap (room b) (itself o a) ∙ itself o b ∙ sym (itself o (a + b))
+  adds a b pb true o = cc (itself o a, itself o b, itself o (a + b))
   adds a b pb false o =
       let r = rests buses layout w a conn shut fits in
       ap (room b) (some_room o a)
       ∙ ap (λ t. if t then takes a else took b (length (history buses w)) (owed (takes a) (history buses w) (rows buses w)) (takes a))
-      (took_overran (history buses w) a (owed conn (history buses w) (rows buses w)) conn shut o)
+      (took_overran _ a _ conn shut o)
       ∙ ap (λ ns. took b (length (history buses w)) ns (takes a)) r.owes
-      ∙ took_both a b (length (history buses w)) (owed conn (history buses w) (rows buses w)) r.rest conn pb within r.whole
+      ∙ took_both a b _ _ r.rest conn pb within r.whole
       ∙ sym (some_room o (a + b))
 
   overruns : (a : ℕ) (t : Bool) → overran conn (history buses w) ≡ t
       → overran (room a conn) (history buses w) ≡ overran conn (history buses w)
-  overruns a true o = ap (λ c. overran c (history buses w)) (itself o a)
+  overruns a true o = cc (itself o a)
   overruns a false o =
       ap (λ c. overran c (history buses w)) (some_room o a)
-      ∙ took_overran (history buses w) a (owed conn (history buses w) (rows buses w)) conn shut o ∙ sym o
+      ∙ took_overran _ a _ conn shut o ∙ sym o
 
   none_found : (b : ℕ) (t : Bool) → overran conn (history buses w) ≡ t → unsent (room 0 conn) ≡ [] → room b conn ≡ room 0 conn
   none_found b true o u = itself o b ∙ sym (itself o 0)
   none_found b false o u =
-      let parts = no_lists (unsent conn) (flat_map line_of (fitting 0 (unsent conn) (owed conn (history buses w) (rows buses w))))
-      (sym (left_after (length (history buses w)) (owed conn (history buses w) (rows buses w)) conn within)
+      let parts = no_lists _ _
+      (sym (left_after _ _ conn within)
       ∙ ap unsent (sym (some_room o 0)) ∙ u) in
       let nothing : owed conn (history buses w) (rows buses w) ≡ [] =
-      first_empty (owed conn (history buses w) (rows buses w)) (owed_full conn (history buses w) (rows buses w))
+      first_empty _ (owed_full conn (history buses w) (rows buses w))
       (ap (λ l. flat_map line_of (fitting 0 l (owed conn (history buses w) (rows buses w)))) (sym parts.0) ∙ parts.1) in
       some_room o b
       ∙ took_nothing b (length (history buses w)) (owed conn (history buses w) (rows buses w)) conn parts.0 nothing
@@ -230,10 +208,10 @@ module _ (buses : List Bus) (layout : IsLayout buses) (w : World) (conn : Connec
 
   pub adds_up : AddsUp buses w conn
   adds_up = record {
-    adds = λ a b pb. adds a b pb (overran conn (history buses w)) refl;
-    first = λ b pb. adds 0 b pb (overran conn (history buses w)) refl ∙ ap (λ m. room m conn) (zero_plus b);
-    none = λ u b pb. none_found b (overran conn (history buses w)) refl u;
-    overruns = λ a. overruns a (overran conn (history buses w)) refl;
+    adds = λ a b pb. adds a b pb _ refl;
+    first = λ b pb. cc (adds 0 b pb _ refl, zero_plus b);
+    none = λ u b pb. none_found b _ refl u;
+    overruns = λ a. overruns a _ refl;
   }
     where
       zero_plus : (b : ℕ) → 0 + b ≡ b
@@ -266,7 +244,7 @@ plain_overran conn history i d =
     (ap (λ is. concerning_by conn.go_step (cursor_by conn.done is) (heard conn.shut history)) i
     ∙ ap (λ o. concerning_by conn.go_step (cursor_by o []) (heard conn.shut history)) d
     ∙ concerning_start conn.go_step 0 (heard conn.shut history))
-    ∙ no_changes (length (tolds conn.items))
+    ∙ no_changes _
   where
     no_changes : (n : ℕ) → nat_lt 256 (length (drop {A = Change} n [])) ≡ false
     no_changes zero = refl
@@ -276,23 +254,23 @@ sent_all : (bytes n : ℕ) (nexts : List Next) (conn : Connection) → conn.item
     → sent (took bytes n nexts conn) ≡ conn.out
 sent_all bytes n nexts conn i e h =
     ap (take (conn.taken + min bytes (length (available (unsent conn) nexts)))) whole
-    ∙ take_all (conn.taken + min bytes (length (available (unsent conn) nexts))) conn.out enough
+    ∙ take_all _ conn.out enough
   where
     whole : given (took bytes n nexts conn) ≡ conn.out
     whole =
-        ap (λ ns. conn.out ++ text (conn.items ++ items_of n ns)) (ap (fitting bytes (unsent conn)) e ∙ fitting_none bytes (unsent conn))
+        ap (λ ns. conn.out ++ text (conn.items ++ items_of n ns)) (ap (fitting bytes (unsent conn)) e ∙ fitting_none bytes _)
         ∙ ap (λ is. conn.out ++ text (is ++ [])) i
         ∙ append-nil conn.out
 
     before : given conn ≡ conn.out
-    before = ap (λ is. conn.out ++ text is) i ∙ append-nil conn.out
+    before = cc (append-nil conn.out)
 
     enough : length conn.out ≤ conn.taken + min bytes (length (available (unsent conn) nexts))
     enough =
         let a = length-drop conn.taken (given conn) in
         let b = ap length before in
         let c : length (available (unsent conn) nexts) ≡ length (unsent conn) =
-        ap (λ ns. length (available (unsent conn) ns)) e ∙ ap length (append-nil (unsent conn)) in
+        cc (append-nil (unsent conn)) in
         omega arith
 
 pub sends_all_replies : (buses : List Bus) → IsLayout buses → (events : List Event) (number bytes : ℕ) (conn later : Connection)
@@ -310,10 +288,10 @@ sends_all_replies buses layout events number bytes conn later there plain up aft
     fold-append (happens buses) start events (Room number bytes ∷ []) in
     let is =
     after_room buses w number bytes conn later there shut (plain_overran conn (history buses w) p.0 p.1)
-    (ap (λ (v : World). numbered number v.connections) (sym next) ∙ after) in (
-      ap (λ (c : Connection). c.out) is,
-      ap sent is ∙ sent_all bytes (length (history buses w)) (owed conn (history buses w) (rows buses w)) conn p.0
-          (owed_plain conn (history buses w) (rows buses w) plain) room,
+    (cc) in (
+      cc,
+      cc (sent_all bytes (length (history buses w)) (owed conn (history buses w) (rows buses w)) conn p.0
+          (owed_plain conn (history buses w) (rows buses w) plain) room),
     )
 
 -- ---- two rooms of a course
@@ -322,23 +300,21 @@ pub with_twice : (n : ℕ) (f g k : Connection → Connection) (xs : List Connec
     → ((x : Connection) → numbered n xs ≡ Some x → g (f x) ≡ k x) → with_numbered n g (with_numbered n f xs) ≡ with_numbered n k xs
 with_twice n f g k [] h = refl
 with_twice zero f g k (x ∷ xs) h = refl
-with_twice (suc zero) f g k (x ∷ xs) h = ap (λ y. y ∷ xs) (h x refl)
-with_twice (suc (suc n)) f g k (x ∷ xs) h = ap (λ ys. x ∷ ys) (with_twice (suc n) f g k xs h)
+with_twice (suc zero) f g k (x ∷ xs) h = cc (h x refl)
+with_twice (suc (suc n)) f g k (x ∷ xs) h = cc (with_twice (suc n) f g k xs h)
 
 pub shut_after : (bytes : ℕ) (history : History) (rows : List Shown) (conn : Connection)
     → (given_room bytes history rows conn).shut ≡ conn.shut
 shut_after bytes history rows conn =
-    elim (overran conn history) as (λ t. (if t then conn else took bytes (length history) (owed conn history rows) conn).shut ≡ conn.shut) [
-      | true ↦ refl
-      | false ↦ refl
-    ]
+    cond_both _ _ _ (λ (it : Connection). it.shut ≡ conn.shut)
+    (λ _. refl)
+    (λ _. refl)
 
 -- room of an open connection
 room_happens : (buses : List Bus) (w : World) (number bytes : ℕ) (conn : Connection) → numbered number w.connections ≡ Some conn
     → conn.shut ≡ None → happens buses w (Room number bytes) ≡ accepted buses (Room number bytes) (counted w)
 room_happens buses w number bytes conn there shut =
-    ap (λ o. or_refused buses (absent_fault buses o) (Room number bytes) (counted w))
-    (ap if_open there ∙ ap (λ s. if is_none s then Some conn else None) shut)
+    cc
 
 pub rooms_are_one : (buses : List Bus) → IsLayout buses → (events : List Event) (number a b : ℕ) (conn : Connection)
     → numbered number (course buses events).connections ≡ Some conn → is_open conn ≡ true → 0 < b
@@ -346,17 +322,17 @@ pub rooms_are_one : (buses : List Bus) → IsLayout buses → (events : List Eve
     ≡ without_events (course buses (events ++ Room number (a + b) ∷ []))
 rooms_are_one buses layout events number a b conn there up pb =
     let w = course buses events in
-    let shut = open_shut conn.shut up in
+    let shut = open_shut _ up in
     let sums = rooms_add_up buses layout events number conn there up in
-    let f = given_room a (history buses w) (rows buses w) in
+    let f = given_room a _ _ in
     let one : course buses (events ++ Room number a ∷ Room number b ∷ [])
     ≡ happens buses (happens buses w (Room number a)) (Room number b) =
-    fold-append (happens buses) start events (Room number a ∷ Room number b ∷ []) in
+    fold-append _ start events _ in
     let two : course buses (events ++ Room number (a + b) ∷ []) ≡ happens buses w (Room number (a + b)) =
-    fold-append (happens buses) start events (Room number (a + b) ∷ []) in
+    fold-append _ start events _ in
     let first = room_happens buses w number a conn there shut in
     let at : numbered number (accepted buses (Room number a) (counted w)).connections ≡ Some (f conn) =
-    numbered_with number f w.connections ∙ ap (option_map f) there in
+    numbered_with number f _ ∙ ap (option_map f) there in
     let second =
     room_happens buses (accepted buses (Room number a) (counted w)) number b (f conn) at
     (shut_after a (history buses w) (rows buses w) conn ∙ shut) in

@@ -1,33 +1,19 @@
 -- Each line of an information session tells a change that can be told, so the bytes sent hold one list of changes alone.
-use Rattle.std.proofs.Common.{◌≡◌, ℕ, zero, suc, ◌-◌, ◌≤◌, take, append_assoc, length-append, ◌+◌, Bool, true, false, List, [], ◌∷◌, ◌++◌}
-use Rattle.std.proofs.Common.{length, drop, refl, ap, sym, ◌∙◌, subst, arith, append-nil}
+use Rattle.srcp_core.proofs.Names.{◌≡◌, ℕ, zero, suc, ◌-◌, ◌≤◌, take, append_assoc, length-append, ◌+◌, Bool, true, false, List, [], ◌∷◌}
+use Rattle.srcp_core.proofs.Names.{◌++◌, length, drop, refl, ap, sym, ◌∙◌, subst, arith, append-nil, take-append-le, flat_map-append}
+use Rattle.srcp_core.proofs.Names.{AllByRecursion, filter, flat_map, enumerate_from, nat_le, nat_lt, ◌||◌, Option, Some, None}
+use Rattle.srcp_core.proofs.Names.{if◌then◌else◌, ltb-false, ltb-true, is_lf, client, line, IsWellFormed, IsWellFormedShown, Change, Cursor}
+use Rattle.srcp_core.proofs.Names.{Shown, all_append, all_filter, Bus, IsLayout, opening, shown_rows, concerns, said, changed_all, Told}
+use Rattle.srcp_core.proofs.Names.{Listed, Event, Connection, History, heard, is_settled, tells, text, course, rows, history, AllMoments}
+use Rattle.srcp_core.proofs.Names.{IsSession, Item}
 use Rattle.std.proofs.Math.Seq.{take-append-add, take-nil}
-use Rattle.std.proofs.lemmas.List.{drop_at, take-append-le}
-use Rattle.std.proofs.lemmas.List.Concat.{flat_map-append}
-use Rattle.std.specs.List.{AllByRecursion, filter, flat_map, enumerate_from, list_any}
-use Rattle.std.specs.Prelude.{nat_le, nat_lt, ◌||◌, Option, Some, None, if◌then◌else◌, codes}
-use Rattle.std.proofs.lemmas.Bool.{ltb-false, ltb-true}
-use Rattle.srcp_text.specs.Marks.{is_lf}
-use Rattle.srcp_info.specs.Client.{client, changed, HoldsLines}
-use Rattle.srcp_info.specs.Line.{line}
-use Rattle.srcp_info.specs.WellFormed.{IsWellFormed, IsWellFormedShown}
-use Rattle.srcp_info.specs.declared.change.Change.{Change}
-use Rattle.srcp_info.specs.declared.change.Change.TheVariants.{Put}
-use Rattle.srcp_info.specs.declared.change.Cursor.{Cursor}
-use Rattle.srcp_info.specs.declared.change.Shown.{Shown}
-use Rattle.srcp_info.proofs.ClientLaws.{all_append, all_filter, well_formed_changed}
+use Rattle.std.proofs.lemmas.List.{drop_at}
+use Rattle.std.specs.List.{list_any}
+use Rattle.srcp_info.specs.Client.{HoldsLines}
+use Rattle.srcp_info.proofs.ClientLaws.{well_formed_changed}
 use Rattle.srcp_info.proofs.HoldsLaws.{holds_unique, text_of}
 use Rattle.srcp_info.proofs.LineLaws.{line_free}
-use Rattle.srcp_grammar.specs.declared.layout.Bus.{Bus}
-use Rattle.srcp_grammar.specs.Layout.{IsLayout}
-use Rattle.srcp_rules.specs.State.{opening, shown_rows}
-use Rattle.srcp_feed.specs.Cursor.{concerns, said, changed_all}
-use Rattle.srcp_feed.specs.declared.next.Next.TheVariants.{Told, Listed}
-use Rattle.srcp_core.specs.Under.{Event}
-use Rattle.srcp_core.specs.Connection.{Connection, History, heard, is_settled, tells, text}
-use Rattle.srcp_core.specs.Course.{course, rows, history}
-use Rattle.srcp_core.specs.Laws.{AllMoments, HoldsRegistry, IsSession, SendsLines, told_bytes}
-use Rattle.srcp_core.specs.declared.record.Item.{Item}
+use Rattle.srcp_core.specs.Laws.{HoldsRegistry, SendsLines, told_bytes}
 use Rattle.srcp_core.proofs.CourseLaws.Histories.{rows_after, part, concerning_by, cursor_by}
 use Rattle.srcp_core.proofs.CourseLaws.SessionsOfACourse.{stands, settled_facts, fits_open, sent_whole, text_tells, client_settled}
 use Rattle.srcp_core.proofs.CourseLaws.ClientHoldsPassedRows.{Law, tolds, item_of}
@@ -52,13 +38,13 @@ all_drop P (suc n) (x ∷ xs) a = all_drop P n xs a.1
 changed_all_told : (changes : List Change) (rows : List Shown) → AllByRecursion IsWellFormed changes → AllByRecursion IsWellFormedShown rows
     → AllByRecursion IsWellFormedShown (changed_all changes rows)
 changed_all_told [] rows h a = a
-changed_all_told (change ∷ changes) rows h a = changed_all_told changes (changed change rows) h.1 (well_formed_changed change rows h.0 a)
+changed_all_told (change ∷ changes) rows h a = changed_all_told changes _ h.1 (well_formed_changed change rows h.0 a)
 
 -- the rows after changes that can be told can be told
 pub rows_told : (history : History) (rows : List Shown) → AllByRecursion (AllByRecursion IsWellFormed) history
     → AllByRecursion IsWellFormedShown rows → AllByRecursion IsWellFormedShown (rows_after rows history)
 rows_told [] rows h a = a
-rows_told (changes ∷ history) rows h a = rows_told history (changed_all changes rows) h.1 (changed_all_told changes rows h.0 a)
+rows_told (changes ∷ history) rows h a = rows_told history _ h.1 (changed_all_told changes rows h.0 a)
 
 -- ---- changes
 
@@ -66,11 +52,11 @@ concerning_told : (go n : ℕ) (cursors : ℕ → Cursor) (history : History) �
     → AllByRecursion IsWellFormed (flat_map (part go cursors) (enumerate_from n history))
 concerning_told go n cursors [] h = tt
 concerning_told go n cursors (changes ∷ history) h =
-    all_append IsWellFormed (part go cursors (n, changes)) (flat_map (part go cursors) (enumerate_from (n + 1) history))
+    all_append _ (part go cursors (n, changes)) _
     (here (nat_le go n)) (concerning_told go (n + 1) cursors history h.1)
   where
     here : (t : Bool) → AllByRecursion IsWellFormed (if t then filter (concerns (cursors n)) changes else [])
-    here true = all_filter IsWellFormed (concerns (cursors n)) changes h.0
+    here true = all_filter _ _ changes h.0
     here false = tt
 
 -- what was given can be told, where all that happened can
@@ -88,21 +74,21 @@ told_law start first = record {
       (concerning_told go 0 (cursor_by done items) history a)) in
       subst (AllByRecursion IsWellFormed)
       (sym (flat_map-append (λ (item : Item). said item.what) items (item_of history (Told change) ∷ [])))
-      (all_push IsWellFormed (tells items) change (p a) waits.0);
+      (all_push _ _ change (p a) waits.0);
   list = λ history go items row left order f p e b a.
       let left_told : AllByRecursion IsWellFormedShown (row ∷ left) =
       subst (AllByRecursion IsWellFormedShown) b
       (all_filter IsWellFormedShown _ (rows_after start history) (rows_told history start a first)) in
       subst (AllByRecursion IsWellFormed)
       (sym (flat_map-append (λ (item : Item). said item.what) items (item_of history (Listed row) ∷ [])))
-      (all_push IsWellFormed (tells items) (Put row) (p a) left_told.0);
+      (all_push _ _ _ (p a) left_told.0);
   finish = λ history go items order f p e b a. p a;
 }
 
 -- ---- the opening
 
 pub opening_told : (buses : List Bus) → IsLayout buses → AllByRecursion IsWellFormedShown (shown_rows (opening buses 0))
-opening_told buses layout = shown_tellable buses (opening buses 0) (whole_opening buses layout)
+opening_told buses layout = shown_tellable buses _ (whole_opening buses layout)
 
 -- ---- the bytes sent
 
@@ -118,15 +104,15 @@ holds_registry buses layout events number conn s moments settled =
     (stands buses layout GivenTold (told_law (shown_rows (opening buses 0)) (opening_told buses layout)) events number conn s) in
     let all = sent_whole conn facts.none_unsent in
     let bytes : told_bytes conn ≡ flat_map line (tells conn.items) =
-    ap (drop (length conn.out)) all ∙ drop_at conn.out (flat_map line (tells conn.items)) (length conn.out) refl in
+    cc (drop_at conn.out (flat_map line (tells conn.items)) (length conn.out) refl) in
     let holds : HoldsLines (told_bytes conn) (tells conn.items) [] =
     record {
       each = law.1 (keeps_whole buses layout events moments).changes;
-      whole = bytes ∙ sym (append-nil (flat_map line (tells conn.items)));
+      whole = cc (append-nil (flat_map line (tells conn.items)));
       no_more = refl;
     } in
     record {
-      replies = all ∙ ap (λ b. conn.out ++ b) (sym bytes);
+      replies = cc;
       lines = holds;
       client_is =
           λ changes begun h. ap client (holds_unique (told_bytes conn) changes (tells conn.items) begun [] h holds).0
@@ -146,7 +132,7 @@ record LinesFront (n : ℕ) (changes : List Change) : Type 0 where
 free_take : (n : ℕ) (xs : List ℕ) → list_any is_lf xs ≡ false → list_any is_lf (take n xs) ≡ false
 free_take zero xs e = refl
 free_take (suc n) [] e = refl
-free_take (suc n) (x ∷ xs) e = by (is_lf x) e (λ h. free_take n xs h)
+free_take (suc n) (x ∷ xs) e = by _ e (λ h. free_take n xs h)
   where
     by : (t : Bool) → t || list_any is_lf xs ≡ false → (list_any is_lf xs ≡ false → list_any is_lf (take n xs) ≡ false)
         → t || list_any is_lf (take n xs) ≡ false
@@ -161,33 +147,32 @@ lines_front n [] a = record {
   whole = refl;
   holds = record { each = tt; whole = take-nil n; no_more = refl };
 }
-lines_front n (change ∷ changes) a = by (nat_lt n (length (line change))) refl (λ m. lines_front m changes a.1)
+lines_front n (change ∷ changes) a = by _ refl (λ m. lines_front m changes a.1)
   where
     size : length (line change) ≡ length (text_of change) + 1
-    size = length-append (text_of change) (codes "\n")
+    size = length-append _ _
 
     by : (t : Bool) → nat_lt n (length (line change)) ≡ t → ((m : ℕ) → LinesFront m changes) → LinesFront n (change ∷ changes)
     by true t ih =
-        let h = ltb-true n (length (line change)) t in
+        let h = ltb-true n _ t in
         let z = size in
         let low : n ≤ length (line change) = omega arith in
         let short : n ≤ length (text_of change) = omega arith in
         let cut : take n (line change ++ flat_map line changes) ≡ take n (text_of change) =
-        take-append-le n (line change) (flat_map line changes) low ∙ take-append-le n (text_of change) (codes "\n") short in
+        take-append-le n _ _ low ∙ take-append-le n _ _ short in
         record {
           front = [];
           later = change ∷ changes;
-          begun = take n (text_of change);
+          begun = take n _;
           whole = refl;
-          holds = record { each = tt; whole = cut; no_more = free_take n (text_of change) (line_free change a.0) };
+          holds = record { each = tt; whole = cut; no_more = free_take n _ (line_free change a.0) };
         }
     by false t ih =
-        let h = ltb-false n (length (line change)) t in
-        let r = ih (n - length (line change)) in
+        let h = ltb-false n _ t in
+        let r = ih _ in
         let sum : n ≡ length (line change) + (n - length (line change)) = omega arith in
         let cut : take n (line change ++ flat_map line changes) ≡ line change ++ take (n - length (line change)) (flat_map line changes) =
-        ap (λ m. take m (line change ++ flat_map line changes)) sum
-        ∙ take-append-add (line change) (flat_map line changes) (n - length (line change)) in
+        cc (take-append-add _ _ _) in
         record {
           front = change ∷ r.front;
           later = r.later;
@@ -195,15 +180,15 @@ lines_front n (change ∷ changes) a = by (nat_lt n (length (line change))) refl
           whole = ap (λ cs. change ∷ cs) r.whole;
           holds = record {
             each = (a.0, r.holds.each);
-            whole = cut ∙ ap (λ b. line change ++ b) r.holds.whole ∙ sym (append_assoc (line change) (flat_map line r.front) r.begun);
+            whole = cut ∙ ap (λ b. line change ++ b) r.holds.whole ∙ sym (append_assoc _ _ r.begun);
             no_more = r.holds.no_more;
           };
         }
 
 -- what is taken of two lists beyond the first
 drop_taken : (n : ℕ) (xs ys : List ℕ) → drop (length xs) (take n (xs ++ ys)) ≡ take (n - length xs) ys
-drop_taken n [] ys = let e : n ≡ n - 0 = omega arith in ap (λ m. take m ys) e
-drop_taken zero (x ∷ xs) ys = let e : 0 ≡ 0 - suc (length xs) = omega arith in ap (λ m. take m ys) e
+drop_taken n [] ys = let e : n ≡ n - 0 = omega arith in cc
+drop_taken zero (x ∷ xs) ys = let e : 0 ≡ 0 - suc (length xs) = omega arith in cc
 drop_taken (suc n) (x ∷ xs) ys = drop_taken n xs ys ∙ ap (λ m. take m ys) less
   where
     less : n - length xs ≡ suc n - suc (length xs)
@@ -231,7 +216,7 @@ given_told buses layout events number conn s moments =
 pub always_sends_lines : (buses : List Bus) → IsLayout buses → (events : List Event) (number : ℕ) (conn : Connection)
     → IsSession buses events number conn → AllMoments events → SendsLines buses conn
 always_sends_lines buses layout events number conn s moments =
-    let f = lines_front (conn.taken - length conn.out) (tells conn.items) (given_told buses layout events number conn s moments) in
+    let f = lines_front _ _ (given_told buses layout events number conn s moments) in
     let bytes : told_bytes conn ≡ take (conn.taken - length conn.out) (flat_map line (tells conn.items)) =
     drop_taken conn.taken conn.out (text conn.items) ∙ ap (take (conn.taken - length conn.out)) (text_tells conn.items) in
     record {

@@ -1,28 +1,11 @@
 -- What a session's law says of a connection of a course.
-use Rattle.std.proofs.Common.{◌≡◌, ℕ, zero, suc, true, List, [], ◌∷◌, ◌++◌, length, refl, ap, sym, ◌∙◌, subst, append-nil}
-use Rattle.std.proofs.lemmas.List.{take-append-drop}
-use Rattle.std.proofs.lemmas.List.Concat.{flat_map-append}
-use Rattle.std.proofs.lemmas.Bool.{and_parts}
-use Rattle.std.specs.List.{flat_map, AllByRecursion}
-use Rattle.std.specs.Prelude.{◌&&◌, Option, Some, None, if◌then◌else◌, is_none}
-use Rattle.srcp_info.specs.Client.{client, IsRisingBy}
-use Rattle.srcp_info.specs.Line.{line}
-use Rattle.srcp_info.specs.declared.change.Change.TheVariants.{Put}
-use Rattle.srcp_info.specs.declared.change.Shown.{Shown}
-use Rattle.srcp_grammar.specs.declared.layout.Bus.{Bus}
-use Rattle.srcp_grammar.specs.Layout.{IsLayout}
-use Rattle.srcp_rules.specs.State.{State, opening, shown_rows, IsRising}
-use Rattle.srcp_feed.specs.Cursor.{passed, beyond, said}
-use Rattle.srcp_feed.specs.declared.next.Next.{Next}
-use Rattle.srcp_feed.specs.declared.next.Next.TheVariants.{Told, Listed, Settled}
-use Rattle.srcp_info.proofs.ClientLaws.{key_at}
-use Rattle.srcp_feed.proofs.Steps.{passed_all}
-use Rattle.srcp_core.specs.Under.{Event}
-use Rattle.srcp_core.specs.Connection.{Connection, History, heard, is_open, is_nil, line_of, text, tells, given, sent, unsent, waiting}
-use Rattle.srcp_core.specs.Connection.{owed, is_settled}
-use Rattle.srcp_core.specs.Course.{World, numbered, course, rows, history}
-use Rattle.srcp_core.specs.Laws.{IsSession, OfSessions, HoldsPassed}
-use Rattle.srcp_core.specs.declared.record.Item.{Item}
+use Rattle.srcp_core.proofs.Names.{◌≡◌, ℕ, zero, suc, true, List, [], ◌∷◌, ◌++◌, length, refl, ap, sym, ◌∙◌, subst, append-nil}
+use Rattle.srcp_core.proofs.Names.{take-append-drop, flat_map-append, and_parts, flat_map, AllByRecursion, Option, Some, None}
+use Rattle.srcp_core.proofs.Names.{if◌then◌else◌, is_none, client, IsRisingBy, line, Shown, Bus, IsLayout, State, opening, shown_rows}
+use Rattle.srcp_core.proofs.Names.{IsRising, passed, beyond, said, Next, Told, Listed, Settled, key_at, passed_all, Event, Connection}
+use Rattle.srcp_core.proofs.Names.{History, heard, is_nil, line_of, text, tells, sent, unsent, waiting, owed, is_settled, World, numbered}
+use Rattle.srcp_core.proofs.Names.{course, rows, history, IsSession, OfSessions, Item}
+use Rattle.srcp_core.specs.Laws.{HoldsPassed}
 use Rattle.srcp_core.proofs.CourseLaws.Histories.{rows_after, cursor_by}
 use Rattle.srcp_core.proofs.CourseLaws.ShownRegistry.{shown_after, length_history, all_shown}
 use Rattle.srcp_core.proofs.CourseLaws.RoomGivesWhatIsOwed.{Stands, nothing_owed}
@@ -35,7 +18,7 @@ rising_shown [] r = tt
 rising_shown (row ∷ state) r = (all_shown _ state r.0, rising_shown state r.1)
 
 pub opening_in_order : (buses : List Bus) → IsLayout buses → IsRisingBy key_at (shown_rows (opening buses 0))
-opening_in_order buses layout = rising_shown (opening buses 0) (whole_opening buses layout).rising
+opening_in_order buses layout = rising_shown _ (whole_opening buses layout).rising
 
 pub at_number : (P : Connection → Type 0) (n : ℕ) (conns : List Connection) (conn : Connection) → AllByRecursion P conns
     → numbered n conns ≡ Some conn → P conn
@@ -76,22 +59,20 @@ fits_open start P history conn e s =
 pub untold_open : (history : History) (conn : Connection) → conn.shut ≡ None
     → waiting conn history ≡ untold_by conn.go_step conn.items conn.done history
 untold_open history conn e =
-    subst (λ x. (if is_none x then untold_by conn.go_step conn.items conn.done (heard x history) else [])
-    ≡ untold_by conn.go_step conn.items conn.done history)
-    (sym e) refl
+    rw e refl
 
 pub holds_passed : (buses : List Bus) → OfSessions buses (HoldsPassed buses)
 holds_passed buses layout events number conn s is_up =
     let w = course buses events in
-    let shut = open_shut conn.shut is_up in
+    let shut = open_shut _ is_up in
     let f =
-    (fits_open (shown_rows (opening buses 0)) _ (history buses w) conn shut
+    (fits_open _ _ _ conn shut
     (stands buses layout _ (anything (shown_rows (opening buses 0))) events number conn s)).0 in
-    ap (λ u. client (tells conn.items ++ u)) (untold_open (history buses w) conn shut)
+    ap (λ u. client (tells conn.items ++ u)) (untold_open _ conn shut)
     ∙ f.kept
     ∙ ap (λ n. passed (cursor_by conn.done conn.items n) (rows_after (shown_rows (opening buses 0)) (history buses w)))
-    (length_history (opening buses 0) w.steps)
-    ∙ ap (passed (cursor_by conn.done conn.items (length w.steps))) (sym (shown_after (opening buses 0) w.steps))
+    (length_history _ w.steps)
+    ∙ ap (passed (cursor_by conn.done conn.items (length w.steps))) (sym (shown_after _ w.steps))
 
 -- ---- settled
 
@@ -108,25 +89,24 @@ pub record SettledFacts (conn : Connection) (history : History) (rows : List Sho
 pub settled_facts : (conn : Connection) (history : History) (rows : List Shown) → is_settled conn history rows ≡ true
     → SettledFacts conn history rows
 settled_facts conn history rows e =
-    let a = and_parts (is_open conn) (conn.info && (is_nil (unsent conn) && is_nil (owed conn history rows))) e in
-    let b = and_parts conn.info (is_nil (unsent conn) && is_nil (owed conn history rows)) a.1 in
-    let c = and_parts (is_nil (unsent conn)) (is_nil (owed conn history rows)) b.1 in
-    record { open_now = open_shut conn.shut a.0; none_unsent = nil_is (unsent conn) c.0; none_owed = nil_is (owed conn history rows) c.1 }
+    let a = and_parts _ _ e in
+    let b = and_parts _ _ a.1 in
+    let c = and_parts _ _ b.1 in
+    record { open_now = open_shut _ a.0; none_unsent = nil_is _ c.0; none_owed = nil_is _ c.1 }
 
 pub text_tells : (items : List Item) → text items ≡ flat_map line (tells items)
 text_tells [] = refl
 text_tells (item ∷ items) =
-    ap (λ bytes. line_of item.what ++ bytes) (text_tells items) ∙ ap (λ bytes. bytes ++ flat_map line (tells items)) (one item.what)
-    ∙ sym (flat_map-append line (said item.what) (tells items))
+    cc (text_tells items, one _, flat_map-append line _ _)
   where
     one : (what : Next) → line_of what ≡ flat_map line (said what)
-    one (Told change) = sym (append-nil (line change))
-    one (Listed row) = sym (append-nil (line (Put row)))
+    one (Told change) = sym (append-nil _)
+    one (Listed row) = sym (append-nil _)
     one Settled = refl
 
 pub sent_whole : (conn : Connection) → unsent conn ≡ [] → sent conn ≡ conn.out ++ flat_map line (tells conn.items)
 sent_whole conn e =
-    sym (append-nil (sent conn)) ∙ ap (λ u. sent conn ++ u) (sym e) ∙ take-append-drop conn.taken (given conn)
+    sym (append-nil _) ∙ ap (λ u. sent conn ++ u) (sym e) ∙ take-append-drop _ _
     ∙ ap (λ t. conn.out ++ t) (text_tells conn.items)
 
 -- of a settled session nothing waits and no row is left
@@ -136,8 +116,8 @@ pub settled_both : (buses : List Bus) (layout : IsLayout buses) (w : World) (con
     × (beyond (cursor_by conn.done conn.items (length (history buses w))) (rows_after (shown_rows (opening buses 0)) (history buses w))
     ≡ [])
 settled_both buses layout w conn info settled =
-    let facts = settled_facts conn (history buses w) (rows buses w) settled in
-    let same = shown_after (opening buses 0) w.steps in
+    let facts = settled_facts conn _ _ settled in
+    let same = shown_after _ w.steps in
     nothing_owed conn.go_step conn.items conn.done (history buses w) (rows_after (shown_rows (opening buses 0)) (history buses w))
     (subst (λ t.
     (if t
@@ -146,8 +126,8 @@ settled_both buses layout w conn info settled =
     else [])
     ≡ [])
     info
-    (sym (owed_open (shown_rows (opening buses 0)) (opening_in_order buses layout) _ (anything (shown_rows (opening buses 0)))
-    (history buses w) (rows buses w) conn facts.open_now same)
+    (sym (owed_open _ (opening_in_order buses layout) _ (anything (shown_rows (opening buses 0)))
+    _ _ conn facts.open_now same)
     ∙ facts.none_owed))
 
 -- a client that was told all that a settled session was given holds the registry
@@ -156,13 +136,16 @@ pub client_settled : (buses : List Bus) (layout : IsLayout buses) (events : List
     → client (tells conn.items) ≡ rows buses (course buses events)
 client_settled buses layout events number conn s settled =
     let w = course buses events in
-    let facts = settled_facts conn (history buses w) (rows buses w) settled in
+    let facts = settled_facts conn _ _ settled in
     let f =
-    (fits_open (shown_rows (opening buses 0)) _ (history buses w) conn facts.open_now
+    (fits_open _ _ _ conn facts.open_now
     (stands buses layout _ (anything (shown_rows (opening buses 0))) events number conn s)).0 in
     let both = settled_both buses layout w conn s.info settled in
-    ap client (sym (append-nil (tells conn.items)) ∙ ap (λ u. tells conn.items ++ u) (sym both.0))
-    ∙ f.kept
-    ∙ passed_all (cursor_by conn.done conn.items (length (history buses w)))
-    (rows_after (shown_rows (opening buses 0)) (history buses w)) both.1
-    ∙ sym (shown_after (opening buses 0) w.steps)
+    cc (
+      append-nil _,
+      both.0,
+      f.kept,
+      passed_all _
+          _ both.1,
+      shown_after _ w.steps,
+    )

@@ -1,12 +1,8 @@
 -- What clients are shown of a registry goes by the changes of each step.
-use Rattle.std.proofs.Common.{◌≡◌, List, [], ◌∷◌, ◌++◌, map, length, refl, ap, ◌∙◌, arith}
-use Rattle.std.specs.List.{AllByRecursion}
-use Rattle.srcp_info.specs.declared.change.Row.{Row}
-use Rattle.srcp_info.specs.declared.change.Shown.{Shown}
-use Rattle.srcp_rules.specs.State.{State, shown_rows}
+use Rattle.srcp_core.proofs.Names.{◌≡◌, List, [], ◌∷◌, ◌++◌, map, length, refl, ap, ◌∙◌, arith, AllByRecursion, Row, Shown, State}
+use Rattle.srcp_core.proofs.Names.{shown_rows, Step, updates_of, state_after, history_from}
 use Rattle.srcp_rules.proofs.StateLaws.{shown_rows-updated_all}
-use Rattle.srcp_core.specs.Under.{Step}
-use Rattle.srcp_core.specs.Course.{updates_of, stepped, state_after, history_from}
+use Rattle.srcp_core.specs.Course.{stepped}
 use Rattle.srcp_core.proofs.CourseLaws.Histories.{rows_after}
 
 -- what holds of what each row shows
@@ -29,7 +25,7 @@ pub history_push : (state : State) (steps : List Step) (step : Step)
     ≡ history_from state steps ++ map (λ update. update.change) (updates_of (state_after state steps) step) ∷ []
 history_push state [] step = refl
 history_push state (other ∷ steps) step =
-    ap (λ h. map (λ update. update.change) (updates_of state other) ∷ h) (history_push (stepped state other) steps step)
+    cc (history_push (stepped state other) steps step)
 
 pub length_history : (state : State) (steps : List Step) → length (history_from state steps) ≡ length steps
 length_history state [] = refl

@@ -1,37 +1,24 @@
 -- Steps of a whole registry: each leaves it whole, tells only what can be told, and gives a device that is there no new row.
-use Rattle.std.proofs.Common.{◌≡◌, ℕ, zero, suc, ◌<◌, Bool, true, false, cond, List, [], ◌∷◌, ◌++◌, map, take, length, refl, ap, sym, ◌∙◌}
-use Rattle.std.proofs.Common.{subst, arith}
-use Rattle.std.specs.List.{AllByRecursion}
-use Rattle.std.specs.Prelude.{◌||◌, Option, Some, None, is_some, IsTrue}
-use Rattle.srcp_info.specs.Key.{device_of, first_key, owns}
-use Rattle.srcp_info.specs.WellFormed.{IsMoment, IsWellFormed}
-use Rattle.srcp_info.specs.declared.change.Change.{Change}
-use Rattle.srcp_info.specs.declared.change.Change.TheVariants.{Put, Gone}
-use Rattle.srcp_info.specs.declared.change.Row.{Row}
-use Rattle.srcp_info.specs.declared.key.Device.{Device}
-use Rattle.srcp_info.specs.declared.key.Key.{Key}
-use Rattle.srcp_info.specs.declared.value.Mode.{Mode}
-use Rattle.srcp_grammar.specs.declared.layout.Bus.{Bus}
-use Rattle.srcp_grammar.specs.Command.{IsCommandOf}
-use Rattle.srcp_rules.specs.Due.{began}
-use Rattle.srcp_grammar.specs.Layout.{IsLayout, IsKeyOf}
-use Rattle.srcp_grammar.specs.Devices.{key_at, session_device}
-use Rattle.srcp_rules.specs.State.{State, Update, IsWhole, AddsNoRow, row_at, has_row, is_there, shown_rows, updated, updated_by}
-use Rattle.srcp_rules.specs.State.{updated_all, opening}
+use Rattle.srcp_core.proofs.Names.{◌≡◌, ℕ, zero, suc, ◌<◌, Bool, true, false, cond, List, [], ◌∷◌, ◌++◌, map, take, length, refl, ap, sym}
+use Rattle.srcp_core.proofs.Names.{◌∙◌, subst, arith, AllByRecursion, ◌||◌, Option, Some, None, is_some, IsTrue, first_key, owns, IsMoment}
+use Rattle.srcp_core.proofs.Names.{IsWellFormed, Change, Put, Row, Device, Key, Mode, Bus, IsCommandOf, began, IsLayout, IsKeyOf}
+use Rattle.srcp_core.proofs.Names.{session_device, State, Update, IsWhole, row_at, has_row, is_there, shown_rows, updated_all, opening}
+use Rattle.srcp_core.proofs.Names.{began_kept, due_kept, freed_kept, effect_kept, same_key, same_key-true, row_at-put_other, due_told}
+use Rattle.srcp_core.proofs.Names.{freed_told, opening_whole, Step, Obeyed, Began, Moment, Ended, updates_of, state_after, history_from}
+use Rattle.srcp_core.proofs.Names.{has_key, CanBeTold}
+use Rattle.srcp_info.specs.Key.{device_of}
+use Rattle.srcp_info.specs.declared.change.Change.TheVariants.{Gone}
+use Rattle.srcp_grammar.specs.Devices.{key_at}
+use Rattle.srcp_rules.specs.State.{AddsNoRow, updated_by}
 use Rattle.srcp_rules.proofs.AddsNoRowLaws.{effect-adds_no_row, due-adds_no_row, freed-adds_no_row, began-adds_no_row}
-use Rattle.srcp_rules.proofs.DueLaws.{began_kept, due_kept, freed_kept}
-use Rattle.srcp_rules.proofs.EffectLaws.{effect_kept}
-use Rattle.srcp_rules.proofs.KeyLaws.{same_key, same_key-itself, same_key-true}
+use Rattle.srcp_rules.proofs.KeyLaws.{same_key-itself}
 use Rattle.srcp_info.proofs.KeyLaws.{device_from_owns}
 use Rattle.srcp_grammar.proofs.LayoutLaws.{key_address}
-use Rattle.srcp_rules.proofs.StateLaws.{row_at-put_other, row_at-without}
-use Rattle.srcp_rules.proofs.ToldLaws.{effect_told, due_told, freed_told}
-use Rattle.srcp_rules.proofs.OpeningLaws.{opening_whole}
+use Rattle.srcp_rules.proofs.StateLaws.{row_at-without}
+use Rattle.srcp_rules.proofs.ToldLaws.{effect_told}
 use Rattle.srcp_core.proofs.Agreement.MemoryAnswers.{effect_law}
-use Rattle.srcp_core.specs.Under.{Step, Obeyed, Began, Moment, Ended}
-use Rattle.srcp_core.specs.Course.{updates_of, stepped, state_after, history_from}
-use Rattle.srcp_core.specs.Laws.{has_key, is_there as has_device}
-use Rattle.srcp_rules.specs.Laws.{CanBeTold}
+use Rattle.srcp_core.specs.Course.{stepped}
+use Rattle.srcp_core.specs.Laws.{is_there as has_device}
 
 -- ---- steps of a layout
 
@@ -75,7 +62,7 @@ module _ (buses : List Bus) where
       → IsWhole buses (state_after state (take k steps))
   front_whole zero state steps whole a = whole
   front_whole (suc k) state [] whole a = whole
-  front_whole (suc k) state (step ∷ steps) whole a = front_whole k (stepped state step) steps (step_whole state step whole a.0) a.1
+  front_whole (suc k) state (step ∷ steps) whole a = front_whole k _ steps (step_whole state step whole a.0) a.1
 
   -- ---- what is told
 
@@ -128,16 +115,16 @@ pub record HasSome (device : Device) (state : State) : Type 0 where
 module _ (state : State) (device : Device) (some : HasSome device state) (key : Key) (own : owns device key ≡ true) where
   one_adds : (now : State) → (has_row key now ≡ true → has_row key state ≡ true) → (change : Change) (due : Option ℕ)
       → AddsNoRow state change → has_row key (updated_by change due now) ≡ true → has_row key state ≡ true
-  one_adds now f (Put shown) due adds h = by (same_key shown.key key) refl
+  one_adds now f (Put shown) due adds h = by _ refl
     where
       by : (t : Bool) → same_key shown.key key ≡ t → has_row key state ≡ true
       by true e =
-          let same : shown.key ≡ key = same_key-true shown.key key e in
-          let mine : device ≡ device_of shown.key = sym (ap device_of same ∙ device_from_owns device key own) in
-          ap (λ k. has_row k state) (sym same) ∙ adds some.port (subst (λ d. has_row (key_at d some.port) state ≡ true) mine some.here)
-      by false e = f (ap is_some (sym (row_at-put_other key (record { shown = shown; due = due }) now e)) ∙ h)
+          let same : shown.key ≡ key = same_key-true _ key e in
+          let mine : device ≡ device_of shown.key = cc (device_from_owns device key own) in
+          ap (λ k. has_row k state) (sym same) ∙ adds _ (subst (λ d. has_row (key_at d some.port) state ≡ true) mine some.here)
+      by false e = f (cc (row_at-put_other key (record { shown = shown; due = due }) now e))
   one_adds now f (Gone stamp other) due adds h =
-      f (was (owns other key) (row_at key now) (ap is_some (sym (row_at-without key other now)) ∙ h))
+      f (was _ _ (ap is_some (sym (row_at-without key other now)) ∙ h))
     where
       was : (t : Bool) (o : Option Row) → is_some (cond t None o) ≡ true → is_some o ≡ true
       was true o e = let bad : false ≡ true = e in cc
@@ -146,13 +133,13 @@ module _ (state : State) (device : Device) (some : HasSome device state) (key : 
   pub all_add : (updates : List Update) (now : State) → AllByRecursion (λ update. AddsNoRow state update.change) updates
       → (has_row key now ≡ true → has_row key state ≡ true) → has_row key (updated_all updates now) ≡ true → has_row key state ≡ true
   all_add [] now a f h = f h
-  all_add (update ∷ updates) now a f h = all_add updates (updated update now) a.1 (λ k. one_adds now f update.change update.due a.0 k) h
+  all_add (update ∷ updates) now a f h = all_add updates _ a.1 (λ k. one_adds now f _ _ a.0 k) h
 
 -- ---- shown rows and the registry's
 
 pub has_key_row : (key : Key) (state : State) → has_key key (shown_rows state) ≡ has_row key state
 has_key_row key [] = refl
-has_key_row key (row ∷ state) = by (same_key row.shown.key key) (has_key_row key state)
+has_key_row key (row ∷ state) = by _ (has_key_row key state)
   where
     by : (t : Bool) → has_key key (shown_rows state) ≡ has_row key state
         → t || has_key key (shown_rows state) ≡ is_some (cond t (Some row) (row_at key state))
@@ -161,7 +148,7 @@ has_key_row key (row ∷ state) = by (same_key row.shown.key key) (has_key_row k
 
 pub has_some : (device : Device) (state : State) → has_device device (shown_rows state) ≡ true → HasSome device state
 has_some device [] h = let bad : false ≡ true = h in cc
-has_some device (row ∷ state) h = by (owns device row.shown.key) refl (λ k. has_some device state k)
+has_some device (row ∷ state) h = by _ refl (λ k. has_some device state k)
   where
     first : (t : Bool) (o : Option Row) → t ≡ true → is_some (cond t (Some row) o) ≡ true
     first true o e = refl
@@ -175,18 +162,18 @@ has_some device (row ∷ state) h = by (owns device row.shown.key) refl (λ k. h
         → HasSome device (row ∷ state)
     by true e ih =
         let mine : device_of row.shown.key ≡ device = device_from_owns device row.shown.key e in
-        let itself : row.shown.key ≡ key_at device row.shown.key.port = ap (λ d. key_at d row.shown.key.port) mine in
+        let itself : row.shown.key ≡ key_at device row.shown.key.port = cc in
         record {
           port = row.shown.key.port;
           here =
               subst (λ k. has_row k (row ∷ state) ≡ true) itself
-              (first (same_key row.shown.key row.shown.key) (row_at row.shown.key state) (same_key-itself row.shown.key));
+              (first (same_key row.shown.key row.shown.key) _ (same_key-itself row.shown.key));
         }
     by false e ih =
         let rest = ih (rw e at h) in
         record {
           port = rest.port;
-          here = later (same_key row.shown.key (key_at device rest.port)) (row_at (key_at device rest.port) state) rest.here;
+          here = later (same_key row.shown.key (key_at device rest.port)) _ rest.here;
         }
 
 module _ (buses : List Bus) where

@@ -1,10 +1,6 @@
 -- Lists of connections that differ at one number alone, and there in two parts of one information session.
-use Rattle.std.proofs.Common.{◌≡◌, ◌≢◌, ℕ, zero, suc, true, List, [], ◌∷◌, ◌++◌, length, refl, ap, sym, ◌∙◌, arith, inl, inr, ◌⊎◌}
-use Rattle.std.proofs.Math.Nat.{suc-ne-zero, suc_inj}
-use Rattle.std.specs.List.{filter}
-use Rattle.std.specs.Prelude.{Option, Some, None, is_none}
-use Rattle.srcp_core.specs.Connection.{Connection, is_open}
-use Rattle.srcp_core.specs.Course.{numbered, with_numbered}
+use Rattle.srcp_core.proofs.Names.{◌≡◌, ◌≢◌, ℕ, zero, suc, true, List, [], ◌∷◌, ◌++◌, length, refl, ap, sym, ◌∙◌, arith, inl, inr, ◌⊎◌}
+use Rattle.srcp_core.proofs.Names.{suc-ne-zero, suc_inj, filter, Option, Some, None, Connection, is_open, numbered, with_numbered}
 use Rattle.srcp_core.proofs.Agreement.NumbersAndKeys.{opens, one_if, opens_cons}
 
 -- two parts of one information session, which others can't tell apart
@@ -45,14 +41,14 @@ pub alike_length : (n : ℕ) (xs ys : List Connection) → Alike n xs ys → len
 alike_length n [] [] a = refl
 alike_length n [] (y ∷ ys) a = absurd a
 alike_length n (x ∷ xs) [] a = absurd a
-alike_length zero (x ∷ xs) (y ∷ ys) a = ap (λ n. suc n) (alike_length zero xs ys a.1)
-alike_length (suc zero) (x ∷ xs) (y ∷ ys) a = ap (λ n. suc n) (alike_length zero xs ys a.1)
-alike_length (suc (suc n)) (x ∷ xs) (y ∷ ys) a = ap (λ n. suc n) (alike_length (suc n) xs ys a.1)
+alike_length zero (x ∷ xs) (y ∷ ys) a = cc (alike_length zero xs ys a.1)
+alike_length (suc zero) (x ∷ xs) (y ∷ ys) a = cc (alike_length zero xs ys a.1)
+alike_length (suc (suc n)) (x ∷ xs) (y ∷ ys) a = cc (alike_length (suc n) xs ys a.1)
 
 -- as many are open
 twin_open : (x y : Connection) → IsTwin x y → is_open y ≡ is_open x
-twin_open x y (inl e) = ap is_open (sym e)
-twin_open x y (inr s) = ap is_none s.shut
+twin_open x y (inl e) = cc
+twin_open x y (inr s) = cc s.shut
 
 open_more : (x y : Connection) (xs ys : List Connection) → is_open y ≡ is_open x → opens ys ≡ opens xs → opens (y ∷ ys) ≡ opens (x ∷ xs)
 open_more x y xs ys e ih =
@@ -65,9 +61,9 @@ pub alike_open : (n : ℕ) (xs ys : List Connection) → Alike n xs ys → lengt
 alike_open n [] [] a = refl
 alike_open n [] (y ∷ ys) a = absurd a
 alike_open n (x ∷ xs) [] a = absurd a
-alike_open zero (x ∷ xs) (y ∷ ys) a = open_more x y xs ys (ap is_open (sym a.0)) (alike_open zero xs ys a.1)
+alike_open zero (x ∷ xs) (y ∷ ys) a = open_more x y xs ys (cc a.0) (alike_open zero xs ys a.1)
 alike_open (suc zero) (x ∷ xs) (y ∷ ys) a = open_more x y xs ys (twin_open x y a.0) (alike_open zero xs ys a.1)
-alike_open (suc (suc n)) (x ∷ xs) (y ∷ ys) a = open_more x y xs ys (ap is_open (sym a.0)) (alike_open (suc n) xs ys a.1)
+alike_open (suc (suc n)) (x ∷ xs) (y ∷ ys) a = open_more x y xs ys (cc a.0) (alike_open (suc n) xs ys a.1)
 
 -- ---- the connection of a number
 
@@ -83,11 +79,11 @@ alike_other n zero xs ys d a = refl
 alike_other n (suc m) [] [] d a = refl
 alike_other n (suc m) [] (y ∷ ys) d a = absurd a
 alike_other n (suc m) (x ∷ xs) [] d a = absurd a
-alike_other zero (suc m) (x ∷ xs) (y ∷ ys) d a = ap (λ l. numbered (suc m) l) (sym (alike_zero (x ∷ xs) (y ∷ ys) a))
+alike_other zero (suc m) (x ∷ xs) (y ∷ ys) d a = cc (alike_zero (x ∷ xs) (y ∷ ys) a)
 alike_other (suc zero) (suc zero) (x ∷ xs) (y ∷ ys) d a = absurd (d refl)
-alike_other (suc zero) (suc (suc m)) (x ∷ xs) (y ∷ ys) d a = ap (λ l. numbered (suc m) l) (sym (alike_zero xs ys a.1))
-alike_other (suc (suc n)) (suc zero) (x ∷ xs) (y ∷ ys) d a = ap (λ l. Some l) (sym a.0)
-alike_other (suc (suc n)) (suc (suc m)) (x ∷ xs) (y ∷ ys) d a = alike_other (suc n) (suc m) xs ys (λ e. d (ap (λ k. suc k) e)) a.1
+alike_other (suc zero) (suc (suc m)) (x ∷ xs) (y ∷ ys) d a = cc (alike_zero xs ys a.1)
+alike_other (suc (suc n)) (suc zero) (x ∷ xs) (y ∷ ys) d a = cc a.0
+alike_other (suc (suc n)) (suc (suc m)) (x ∷ xs) (y ∷ ys) d a = alike_other (suc n) (suc m) xs ys (λ e. d (cc)) a.1
 
 -- the one of that number is a twin
 pub data Pair : Option Connection → Option Connection → Type 0 where
@@ -126,6 +122,6 @@ alike_change (suc (suc n)) (suc zero) f g (x ∷ xs) (y ∷ ys) t o a =
     (ap f a.0 ∙ o (λ e. suc-ne-zero n (sym (suc_inj {m = zero} {n = suc n} e))) y, a.1)
 alike_change (suc (suc n)) (suc (suc m)) f g (x ∷ xs) (y ∷ ys) t o a = (
   a.0,
-  alike_change (suc n) (suc m) f g xs ys (λ x y e p q k. t x y (ap (λ k. suc k) e) p q k)
+  alike_change (suc n) (suc m) f g xs ys (λ x y e p q k. t x y (cc) p q k)
       (λ d. o (λ e. d (suc_inj {m = suc m} {n = suc n} e))) a.1,
 )

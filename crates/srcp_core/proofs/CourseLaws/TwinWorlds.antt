@@ -1,23 +1,13 @@
 -- Worlds that differ in one connection alone, at an event of a connection that both have alike.
-use Rattle.std.proofs.Common.{◌≡◌, ℕ, ◌+◌, true, false, List, [], ◌∷◌, ◌++◌, length, refl, ap, sym, ◌∙◌, subst, inl}
-use Rattle.std.specs.List.{fold}
-use Rattle.std.specs.Prelude.{nat_lt, ◌==◌, ◌||◌, Option, Some, None, option_map, if◌then◌else◌, Result, Ok, Err}
-use Rattle.srcp_info.specs.Line.{reply_line}
-use Rattle.srcp_info.specs.declared.change.Code.{Code}
-use Rattle.srcp_info.specs.declared.change.Code.TheVariants.{C500}
-use Rattle.srcp_info.specs.declared.change.Reply.{Reply}
-use Rattle.srcp_info.specs.declared.change.Reply.TheVariants.{Protocol, Mode as ModeReply, Go, Refused}
-use Rattle.srcp_info.specs.declared.value.Mode.{Mode}
-use Rattle.srcp_grammar.specs.declared.layout.Bus.{Bus}
-use Rattle.srcp_rules.specs.Effect.{Effect}
-use Rattle.srcp_core.specs.Under.{Event, Bytes, Room, Shut, Step, Obeyed, Began, Ended, Heard, Order, effect, greets, Piece}
-use Rattle.srcp_core.specs.Connection.{Connection, given_room}
-use Rattle.srcp_core.specs.Course.{World, numbered, with_numbered, at_connection, if_open, open_connection, did, replied, counted, is_info}
-use Rattle.srcp_core.specs.Course.{state, rows, history, entered, goes, greeted, ended, obeyed, commanded, answered_as, answered, order_of}
-use Rattle.srcp_core.specs.Course.{fault, bytes_fault, absent_fault, new_lines, fed_to, shut_as, accepted, or_refused, happens}
-use Rattle.srcp_core.specs.Handshake.{Greeting, Speaks, Chooses, Goes, Refuses}
-use Rattle.srcp_core.specs.declared.record.CoreFault.{CoreFault}
-use Rattle.srcp_core.specs.declared.record.Refusal.{Refusal}
+use Rattle.srcp_core.proofs.Names.{◌≡◌, ℕ, ◌+◌, true, false, List, [], ◌∷◌, ◌++◌, length, refl, inl, fold, nat_lt, ◌==◌, ◌||◌, Option, Some}
+use Rattle.srcp_core.proofs.Names.{None, if◌then◌else◌, Result, Ok, Err, reply_line, Code, C500, Reply, Protocol, Go, Refused, Mode, Bus}
+use Rattle.srcp_core.proofs.Names.{Effect, Event, Bytes, Room, Shut, Step, Obeyed, Began, Ended, Heard, Order, greets, Piece, Connection}
+use Rattle.srcp_core.proofs.Names.{given_room, World, numbered, with_numbered, at_connection, open_connection, did, replied, counted}
+use Rattle.srcp_core.proofs.Names.{is_info, state, rows, history, entered, goes, greeted, ended, obeyed, commanded, answered_as, answered}
+use Rattle.srcp_core.proofs.Names.{order_of, fault, new_lines, fed_to, shut_as, accepted, or_refused, happens, Greeting, Speaks, Chooses}
+use Rattle.srcp_core.proofs.Names.{Goes, Refuses, CoreFault, Refusal}
+use Rattle.srcp_info.specs.declared.change.Reply.TheVariants.{Mode as ModeReply}
+use Rattle.srcp_core.specs.Under.{effect}
 use Rattle.srcp_core.proofs.Agreement.NumbersAndKeys.{numbered_with}
 use Rattle.srcp_core.proofs.CourseLaws.TwinConnections.{Alike, alike_change}
 
@@ -49,8 +39,8 @@ forget number m a b t = record { conns = t.conns; refs = t.refs; evs = t.evs; is
 link_change : (number m : ℕ) (f : Connection → Connection) (xs ys : List Connection) → Linked number m xs ys
     → Linked number m (with_numbered m f xs) (with_numbered m f ys)
 link_change number m f xs ys l = record {
-  alike = alike_change number m f f xs ys (λ x y e p q t. let s = l.same in let both : x ≡ y = cc in inl (ap f both)) (λ d x. refl) l.alike;
-  same = numbered_with m f ys ∙ ap (option_map f) l.same ∙ sym (numbered_with m f xs);
+  alike = alike_change number m f f xs ys (λ x y e p q t. let s = l.same in let both : x ≡ y = cc in inl (cc)) (λ d x. refl) l.alike;
+  same = cc (numbered_with m f ys, l.same, numbered_with m f xs);
 }
 
 -- what a connection is after one more reply, and after its session begins
@@ -72,20 +62,20 @@ module _ (buses : List Bus) (number m : ℕ) where
     refs = refs;
     evs = evs;
     is = refl;
-    link = link_change number m f a.connections conns l;
+    link = link_change number m f _ conns l;
   }
 
   twin_replied : (reply : Reply) (a : World) (conns : List Connection) (refs : List Refusal) (evs : ℕ) → Linked number m a.connections conns
       → TwinAt number m (replied m reply a) (replied m reply (twin a conns refs evs))
-  twin_replied reply a conns refs evs l = twin_change (with_reply a reply) a conns refs evs l
+  twin_replied reply a conns refs evs l = twin_change _ a conns refs evs l
 
   twin_did : (step : Step) (a b : World) → TwinAt number m a b → TwinAt number m (did step a) (did step b)
-  twin_did step a b t = record { conns = t.conns; refs = t.refs; evs = t.evs; is = ap (did step) t.is; link = t.link }
+  twin_did step a b t = record { conns = t.conns; refs = t.refs; evs = t.evs; is = cc t.is; link = t.link }
 
   twin_goes : (mode : Mode) (a : World) (conns : List Connection) (refs : List Refusal) (evs : ℕ) → Linked number m a.connections conns
       → TwinAt number m (goes buses m mode a) (goes buses m mode (twin a conns refs evs))
   twin_goes mode a conns refs evs l =
-      elim (nat_lt a.last_id 4294967295) as (λ t. TwinAt number m
+      elim (nat_lt _ _) as (λ t. TwinAt number m
       (if t
       then replied m (Go (a.last_id + 1))
       (entered buses m (a.last_id + 1) (did (Began (a.last_id + 1) a.moment mode) (record a { last_id = a.last_id + 1 })))
@@ -97,8 +87,8 @@ module _ (buses : List Bus) (number m : ℕ) where
       else replied m (Refused C500) (twin a conns refs evs))) [
         | true ↦
             twin_replied (Go (a.last_id + 1))
-            (entered buses m (a.last_id + 1) (did (Began (a.last_id + 1) a.moment mode) (record a { last_id = a.last_id + 1 })))
-            (with_numbered m (with_session a mode) conns) refs evs (link_change number m (with_session a mode) a.connections conns l)
+            _
+            _ refs evs (link_change number m (with_session a mode) a.connections conns l)
         | false ↦ twin_replied (Refused C500) a conns refs evs l
       ]
 
@@ -123,14 +113,14 @@ module _ (buses : List Bus) (number m : ℕ) where
       (if t then ended buses m session (replied m result.reply (did (Obeyed session a.moment command) (twin a conns refs evs)))
       else replied m result.reply (did (Obeyed session a.moment command) (twin a conns refs evs)))) [
         | true ↦
-            twin_did (Ended session a.moment)
-            (at_connection m (λ conn. record conn { ended = true }) (replied m result.reply (did (Obeyed session a.moment command) a)))
+            twin_did _
+            (at_connection m (λ conn. record conn { ended = true }) _)
             (at_connection m (λ conn. record conn { ended = true })
-            (replied m result.reply (did (Obeyed session a.moment command) (twin a conns refs evs))))
-            (twin_change (λ conn. record conn { ended = true }) (replied m result.reply (did (Obeyed session a.moment command) a))
-            (with_numbered m (with_reply a result.reply) conns) refs evs
+            _)
+            (twin_change (λ conn. record conn { ended = true }) _
+            _ refs evs
             (link_change number m (with_reply a result.reply) a.connections conns l))
-        | false ↦ twin_replied result.reply (did (Obeyed session a.moment command) a) conns refs evs l
+        | false ↦ twin_replied _ _ conns refs evs l
       ]
 
   twin_commanded : (session : ℕ) (command : Result Order Code) (a : World) (conns : List Connection) (refs : List Refusal) (evs : ℕ)
@@ -161,22 +151,21 @@ module _ (buses : List Bus) (number m : ℕ) where
             (if t then greeted buses m conn.mode (greets mark) a else commanded buses m conn.session (order_of buses mark) a)
             (if t then greeted buses m conn.mode (greets mark) (twin a conns refs evs)
             else commanded buses m conn.session (order_of buses mark) (twin a conns refs evs))) [
-              | true ↦ twin_greeted conn.mode (greets mark) a conns refs evs l
+              | true ↦ twin_greeted _ _ a conns refs evs l
               | false ↦ twin_commanded conn.session (order_of buses mark) a conns refs evs l
             ]
       ]
 
   twin_answered : (mark : Heard) (a b : World) → TwinAt number m a b → TwinAt number m (answered buses m a mark) (answered buses m b mark)
   twin_answered mark a b t =
-      subst (λ w. TwinAt number m (answered buses m a mark) (answered buses m w mark)) (sym t.is)
-      (subst (λ o. TwinAt number m (answered buses m a mark) (answered_as buses m (if_open o) mark (twin a t.conns t.refs t.evs)))
-      (sym t.link.same)
+      rw t.is
+      (rw t.link.same
       (twin_answered_as (open_connection a m) mark a t.conns t.refs t.evs t.link))
 
   twin_marks : (marks : List Heard) (a b : World) → TwinAt number m a b
       → TwinAt number m (fold (answered buses m) a marks) (fold (answered buses m) b marks)
   twin_marks [] a b t = t
-  twin_marks (mark ∷ marks) a b t = twin_marks marks (answered buses m a mark) (answered buses m b mark) (twin_answered mark a b t)
+  twin_marks (mark ∷ marks) a b t = twin_marks marks _ _ (twin_answered mark a b t)
 
   twin_fed : (piece : Piece) (o : Option Connection) (a : World) (conns : List Connection) (refs : List Refusal) (evs : ℕ)
       → Linked number m a.connections conns → TwinAt number m (fed_to buses m piece o a) (fed_to buses m piece o (twin a conns refs evs))
@@ -198,8 +187,8 @@ module _ (buses : List Bus) (number m : ℕ) where
       (at_connection m (λ c. record c { shut = Some (length a.steps) }) (twin a conns refs evs)))) [
         | true ↦ twin_change (λ c. record c { shut = Some (length a.steps) }) a conns refs evs l
         | false ↦
-            twin_did (Ended conn.session a.moment) (at_connection m (λ c. record c { shut = Some (length a.steps) }) a)
-            (at_connection m (λ c. record c { shut = Some (length a.steps) }) (twin a conns refs evs))
+            twin_did _ (at_connection m (λ c. record c { shut = Some (length a.steps) }) a)
+            (at_connection m (λ c. record c { shut = Some (length a.steps) }) _)
             (twin_change (λ c. record c { shut = Some (length a.steps) }) a conns refs evs l)
       ]
 
@@ -220,36 +209,22 @@ module _ (buses : List Bus) (number m : ℕ) where
       → Linked number m a.connections conns
       → TwinAt number m (happens buses a (Bytes m piece)) (happens buses (twin a conns refs evs) (Bytes m piece))
   twin_bytes piece a conns refs evs l =
-      subst (λ o.
-      TwinAt number m (happens buses a (Bytes m piece))
-      (or_refused buses (bytes_fault buses (counted a) (if_open o) piece.bytes) (Bytes m piece)
-      (counted (twin a conns refs evs))))
-      (sym l.same)
+      rw l.same
       (twin_or_refused (fault buses (counted a) (Bytes m piece)) (Bytes m piece) (counted a) conns refs (evs + 1) l
-      (subst (λ o.
-      TwinAt number m (accepted buses (Bytes m piece) (counted a))
-      (fed_to buses m piece (if_open o) (counted (twin a conns refs evs))))
-      (sym l.same)
+      (rw l.same
       (twin_fed piece (open_connection a m) (counted a) conns refs (evs + 1) l)))
 
   pub twin_room : (bytes : ℕ) (a : World) (conns : List Connection) (refs : List Refusal) (evs : ℕ) → Linked number m a.connections conns
       → TwinAt number m (happens buses a (Room m bytes)) (happens buses (twin a conns refs evs) (Room m bytes))
   twin_room bytes a conns refs evs l =
-      subst (λ o.
-      TwinAt number m (happens buses a (Room m bytes))
-      (or_refused buses (absent_fault buses (if_open o)) (Room m bytes) (counted (twin a conns refs evs))))
-      (sym l.same)
+      rw l.same
       (twin_or_refused (fault buses (counted a) (Room m bytes)) (Room m bytes) (counted a) conns refs (evs + 1) l
       (twin_change (given_room bytes (history buses a) (rows buses a)) (counted a) conns refs (evs + 1) l))
 
   pub twin_shuts : (a : World) (conns : List Connection) (refs : List Refusal) (evs : ℕ) → Linked number m a.connections conns
       → TwinAt number m (happens buses a (Shut m)) (happens buses (twin a conns refs evs) (Shut m))
   twin_shuts a conns refs evs l =
-      subst (λ o.
-      TwinAt number m (happens buses a (Shut m))
-      (or_refused buses (absent_fault buses (if_open o)) (Shut m) (counted (twin a conns refs evs))))
-      (sym l.same)
+      rw l.same
       (twin_or_refused (fault buses (counted a) (Shut m)) (Shut m) (counted a) conns refs (evs + 1) l
-      (subst (λ o. TwinAt number m (accepted buses (Shut m) (counted a)) (shut_as buses m (if_open o) (counted (twin a conns refs evs))))
-      (sym l.same)
+      (rw l.same
       (twin_shut (open_connection a m) (counted a) conns refs (evs + 1) l)))

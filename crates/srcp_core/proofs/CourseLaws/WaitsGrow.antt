@@ -1,40 +1,21 @@
 -- No more changes wait for an information session than waited before and were brought since.
-use Rattle.std.proofs.Common.{◌≡◌, ℕ, zero, suc, ◌+◌, ◌-◌, ◌<◌, ◌≤◌, Bool, true, false, List, [], ◌∷◌, ◌++◌, map, length, drop, refl, ap}
-use Rattle.std.proofs.Common.{sym, ◌∙◌, subst, arith, append-nil, length-append, length-drop}
-use Rattle.std.proofs.lemmas.List.{length_push, drop-append-le}
-use Rattle.std.proofs.lemmas.List.Concat.{flat_map-append}
-use Rattle.std.proofs.lemmas.List.Elements.{filter_map-append}
-use Rattle.std.proofs.lemmas.List.Sums.{fold-append}
-use Rattle.std.proofs.lemmas.Bool.{lt-leb, le-ltb, ltb-false}
-use Rattle.std.specs.List.{filter, fold, flat_map, AllByRecursion}
-use Rattle.std.specs.Option.{option_or}
-use Rattle.std.specs.Prelude.{nat_le, nat_lt, ◌&&◌, Option, Some, None, if◌then◌else◌, is_none}
-use Rattle.srcp_info.specs.declared.change.Change.{Change}
-use Rattle.srcp_info.specs.Line.{reply_line}
-use Rattle.srcp_info.specs.declared.change.Reply.{Reply}
-use Rattle.srcp_grammar.specs.declared.layout.Bus.{Bus}
-use Rattle.srcp_rules.specs.State.{opening}
-use Rattle.srcp_feed.specs.Cursor.{concerns}
-use Rattle.srcp_info.specs.declared.change.Cursor.TheVariants.{Done}
-use Rattle.srcp_feed.specs.declared.next.Next.{Next}
-use Rattle.srcp_core.specs.Under.{Event, Step}
-use Rattle.srcp_core.specs.Connection.{Connection, History, heard, fitting, exhausts, items_of, is_done_by, is_open, given_room, overran}
-use Rattle.srcp_core.specs.Connection.{owed, took, told_change, unsent, waiting}
-use Rattle.srcp_core.specs.Course.{World, fresh, start, numbered, at_connection, did, state_after, updates_of, history_from, history, rows}
-use Rattle.srcp_core.specs.Course.{happens, course, is_info}
-use Rattle.srcp_core.specs.Course.{entered, is_info, replied}
-use Rattle.srcp_core.specs.Waits.{brought, changes_since, IsOverrun, WaitsGrowByChanges, FewChangesCloseNone, room, slack_of, least}
-use Rattle.srcp_core.specs.Waits.{option_or_256}
-use Rattle.srcp_core.specs.declared.record.Item.{Item}
+use Rattle.srcp_core.proofs.Names.{◌≡◌, ℕ, zero, suc, ◌+◌, ◌-◌, ◌<◌, ◌≤◌, Bool, true, false, List, [], ◌∷◌, ◌++◌, map, length, drop, refl}
+use Rattle.srcp_core.proofs.Names.{ap, sym, ◌∙◌, subst, arith, append-nil, length-append, length-drop, length_push, drop-append-le}
+use Rattle.srcp_core.proofs.Names.{flat_map-append, filter_map-append, fold-append, lt-leb, le-ltb, ltb-false, filter, fold, flat_map}
+use Rattle.srcp_core.proofs.Names.{AllByRecursion, option_or, nat_lt, ◌&&◌, Option, Some, None, if◌then◌else◌, Change, Bus, opening}
+use Rattle.srcp_core.proofs.Names.{concerns, Next, Event, Step, Connection, History, fitting, exhausts, items_of, is_done_by, is_open}
+use Rattle.srcp_core.proofs.Names.{given_room, overran, owed, took, told_change, unsent, waiting, World, fresh, start, numbered}
+use Rattle.srcp_core.proofs.Names.{at_connection, did, history_from, history, rows, happens, course, is_info, entered, brought, IsOverrun}
+use Rattle.srcp_core.proofs.Names.{room, slack_of, least, option_or_256, Item, le_refl}
+use Rattle.srcp_core.specs.Waits.{changes_since, WaitsGrowByChanges, FewChangesCloseNone}
 use Rattle.srcp_core.proofs.CourseLaws.Histories.{concerning_by, concerning_push, concerning_none, concerning_same, cursor_by}
-use Rattle.srcp_core.proofs.CourseLaws.Histories.{cursor_before, last_of}
+use Rattle.srcp_core.proofs.CourseLaws.Histories.{cursor_before}
 use Rattle.srcp_core.proofs.CourseLaws.ClientHoldsPassedRows.{untold_by, tolds}
 use Rattle.srcp_core.proofs.CourseLaws.ShownRegistry.{history_push, length_history}
 use Rattle.srcp_core.proofs.Agreement.SlackAgrees.{AtMost, IsIn, least_least, least_in, slack_by, slack_conns}
 use Rattle.srcp_core.proofs.CourseLaws.SessionsOfACourse.{open_shut}
-use Rattle.std.proofs.Math.Nat.{le_refl}
 use Rattle.srcp_core.proofs.CourseLaws.OverrunAt256.{overran_open}
-use Rattle.srcp_core.proofs.CourseLaws.EventsKeep.{IsKept, IsSameSession, kept_all, numbered_after, numbered_more}
+use Rattle.srcp_core.proofs.CourseLaws.EventsKeep.{IsKept, kept_all, numbered_after, numbered_more}
 
 filter_few : (p : Change → Bool) (changes : List Change) → length (filter p changes) ≤ length changes
 filter_few p [] = omega arith
@@ -76,22 +57,11 @@ within_push most history changes conn w =
     let step = drop_push (length (tolds conn.items)) (concerning_by conn.go_step (cursor_by conn.done conn.items) history) extra in
     let same : length (untold_by conn.go_step conn.items conn.done (history ++ changes ∷ []))
     ≡ length (drop (length (tolds conn.items)) (concerning_by conn.go_step (cursor_by conn.done conn.items) history ++ extra)) =
-    ap (λ cs. length (drop (length (tolds conn.items)) cs)) con in
+    cc in
     record { began = omega arith; few = λ info shut. let before = w.few info shut in omega arith }
 
 within_more : (most more : ℕ) (history : History) (conn : Connection) → most ≤ more → Within most history conn → Within more history conn
 within_more most more history conn h w = record { began = w.began; few = λ info shut. let f = w.few info shut in omega arith }
-
-within_same : (most : ℕ) (history : History) (conn other : Connection) → IsSameSession conn other → Within most history conn
-    → Within most history other
-within_same most history conn other s w = record {
-  began = subst (λ n. n ≤ length history) (sym s.go_step) w.began;
-  few = λ info shut.
-      subst (λ g. length (untold_by g other.items other.done history) ≤ most) (sym s.go_step)
-      (subst (λ is. length (untold_by conn.go_step is other.done history) ≤ most) (sym s.items)
-      (subst (λ d. length (untold_by conn.go_step conn.items d history) ≤ most) (sym s.done)
-      (w.few (sym s.info ∙ info) (sym s.shut ∙ shut))));
-}
 
 -- a session that begins now has nothing to wait for
 within_entered : (most : ℕ) (history : History) (go : ℕ) (conn : Connection) → go ≡ length history → conn.go_step ≡ go
@@ -107,7 +77,7 @@ within_entered most history go conn e g =
         → length (untold_by conn.go_step conn.items conn.done history) ≤ most
     rest none =
         let size = length-drop (length (tolds conn.items)) (concerning_by conn.go_step (cursor_by conn.done conn.items) history) in
-        let empty : length (concerning_by conn.go_step (cursor_by conn.done conn.items) history) ≡ 0 = ap length none in
+        let empty : length (concerning_by conn.go_step (cursor_by conn.done conn.items) history) ≡ 0 = cc in
         omega arith
 
 -- what is given takes of what waits
@@ -120,19 +90,18 @@ untold_took history go items more done later now same =
     concerning_same go (cursor_by later (items ++ more)) (cursor_by done items) 0 history (λ k low high. before k high) in
     let tol : tolds (items ++ more) ≡ tolds items ++ tolds more = filter_map-append (λ (item : Item). told_change item.what) items more in
     let len : length (tolds (items ++ more)) ≡ length (tolds items) + length (tolds more) =
-    ap length tol ∙ length-append (tolds items) (tolds more) in
+    cc (length-append (tolds items) (tolds more)) in
     let low : length (tolds items) ≤ length (tolds (items ++ more)) = omega arith in
     let fewer = drop_more (length (tolds items)) (length (tolds (items ++ more))) (concerning_by go (cursor_by done items) history) low in
     let is : length (untold_by go (items ++ more) later history)
     ≡ length (drop (length (tolds (items ++ more))) (concerning_by go (cursor_by done items) history)) =
-    ap (λ cs. length (drop (length (tolds (items ++ more))) cs)) con in
+    cc in
     omega arith
   where
     before : (k : ℕ) → k < 0 + length history → cursor_by later (items ++ more) k ≡ cursor_by done items k
     before k h =
         let below : k < length history = omega arith in
-        ap (λ t. if t then Done else last_of (filter (λ item. nat_le item.steps k) (items ++ more))) (same k below)
-        ∙ cursor_before (length history) k done items more below now
+        cc (same k below, cursor_before (length history) k done items more below now)
 
 items_now : (steps : ℕ) (nexts : List Next) → AllByRecursion (λ item. item.steps ≡ steps) (items_of steps nexts)
 items_now steps [] = tt
@@ -179,11 +148,12 @@ since steps history = length (flat_map (λ (changes : List Change). changes) (dr
 since_push : (steps : ℕ) (history : History) (changes : List Change) → steps ≤ length history
     → since steps (history ++ changes ∷ []) ≡ since steps history + length changes
 since_push steps history changes h =
-    ap (λ hs. length (flat_map (λ (changes : List Change). changes) hs)) (drop-append-le steps history (changes ∷ []) h)
-    ∙ ap length
-    (flat_map-append (λ (changes : List Change). changes) (drop steps history) (changes ∷ [])
-    ∙ ap (λ cs. flat_map (λ (changes : List Change). changes) (drop steps history) ++ cs) (append-nil changes))
-    ∙ length-append (flat_map (λ (changes : List Change). changes) (drop steps history)) changes
+    cc (
+      drop-append-le steps history (changes ∷ []) h,
+      flat_map-append (λ (changes : List Change). changes) (drop steps history) (changes ∷ []),
+      append-nil changes,
+      length-append (flat_map (λ (changes : List Change). changes) (drop steps history)) changes,
+    )
 
 module _ (buses : List Bus) (Of : ℕ → Type 0) (steps most : ℕ) where
   -- of each of these sessions, after so many steps
@@ -199,7 +169,7 @@ module _ (buses : List Bus) (Of : ℕ → Type 0) (steps most : ℕ) where
   waits_push h changes conns a = (
     later,
     λ number conn of e.
-        within_more (most + since steps h + length changes) (most + since steps (h ++ changes ∷ [])) (h ++ changes ∷ []) conn counts
+        within_more _ _ _ conn counts
         (within_push (most + since steps h) h changes conn (a.1 number conn of e)),
   )
     where
@@ -211,9 +181,9 @@ module _ (buses : List Bus) (Of : ℕ → Type 0) (steps most : ℕ) where
 
   waits_did : (step : Step) (w : World) → Waits w → Waits (did step w)
   waits_did step w a =
-      subst (λ h. WaitsBy h w.connections) (sym (history_push (opening buses 0) w.steps step))
-      (waits_push (history_from (opening buses 0) w.steps)
-      (map (λ update. update.change) (updates_of (state_after (opening buses 0) w.steps) step)) w.connections a)
+      rw (history_push _ w.steps step)
+      (waits_push _
+      (map (λ update. update.change) _) _ a)
 
   waits_at : (n : ℕ) (change : Connection → Connection) (w : World)
       → ((conn : Connection) → Within (most + since steps (history buses w)) (history buses w) conn
@@ -222,15 +192,22 @@ module _ (buses : List Bus) (Of : ℕ → Type 0) (steps most : ℕ) where
   waits_at n change w f a = (
     a.0,
     λ number conn of e.
-        numbered_after (Within (most + since steps (history buses w)) (history buses w)) n number change w.connections conn e
+        numbered_after _ n number change _ conn e
         (λ other there. a.1 number other of there) (λ other here s. f other s),
   )
 
   waits_kept : IsKept buses Waits
   waits_kept = record {
-    step = waits_did;
-    other = λ w v s c a. subst (λ (xs : List Step). WaitsBy (history_from (opening buses 0) xs) v.connections) (sym s)
-        (subst (λ (cs : List Connection). WaitsBy (history_from (opening buses 0) w.steps) cs) (sym c) a);
+    lines = λ n. record {
+      step = waits_did;
+      numbers = λ id w a. a;
+      says = λ mode ends w a. waits_at n _ w (λ conn s. record { began = s.began; few = s.few }) a;
+      answers = λ reply w plain a. waits_at n _ w (λ conn s. record { began = s.began; few = s.few }) a;
+      enters = λ id reply w plain a.
+          waits_at n _ (entered buses n id w) (λ conn s. record { began = s.began; few = s.few })
+          (waits_at n _ w (λ conn s. begins w id conn) a);
+    };
+    other = λ w v a. a;
     opens =
         λ w a. (
           a.0,
@@ -238,26 +215,17 @@ module _ (buses : List Bus) (Of : ℕ → Type 0) (steps most : ℕ) where
               numbered_more (Within (most + since steps (history buses w)) (history buses w)) number w.connections fresh conn e
               (λ other there. a.1 number other of there) (fresh_within (most + since steps (history buses w)) (history buses w)),
         );
-    same = λ n change w f a. waits_at n change w
-        (λ conn s. within_same (most + since steps (history buses w)) (history buses w) conn (change conn) (f conn).session s) a;
-    answers = λ n reply w plain a. answers n reply w a;
-    enters = λ n id reply w plain a. answers n reply (entered buses n id w) (waits_at n _ w (λ conn s. begins w id conn) a);
-    shuts = λ n w a. waits_at n _ w (λ conn s. record { began = s.began; few = λ info shut. cc }) a;
-    room = λ n bytes w a. waits_at n _ w (λ conn s. within_room buses (most + since steps (history buses w)) w bytes conn s) a;
+    feeds = λ n bytes w a. waits_at n _ w (λ conn s. record { began = s.began; few = s.few }) a;
+    shuts = λ n w up a. waits_at n _ w (λ conn s. record { began = s.began; few = λ info shut. cc }) a;
+    room = λ n bytes w up a. waits_at n _ w (λ conn s. within_room buses (most + since steps (history buses w)) w bytes conn s) a;
   }
     where
-      answers : (n : ℕ) (reply : Reply) (w : World) → Waits w → Waits (replied n reply w)
-      answers n reply w a = waits_at n _ w
-          (λ conn s. within_same (most + since steps (history buses w)) (history buses w) conn
-          (record conn { out = conn.out ++ reply_line w.moment reply })
-          (record { info = refl; go_step = refl; items = refl; done = refl; shut = refl }) s) a
-
       begins : (w : World) (id : ℕ) (conn : Connection)
           → Within (most + since steps (history buses w)) (history buses w)
           (record conn { session = id; info = is_info conn.mode; go_step = length w.steps })
-      begins w id conn = within_entered (most + since steps (history buses w)) (history buses w) (length w.steps)
-          (record conn { session = id; info = is_info conn.mode; go_step = length w.steps })
-          (sym (length_history (opening buses 0) w.steps)) refl
+      begins w id conn = within_entered _ _ _
+          (record conn { session = id; info = is_info _; go_step = length w.steps })
+          (sym (length_history _ w.steps)) refl
 
       fresh_within : (most : ℕ) (h : History) → Within most h fresh
       fresh_within most h = record { began = omega arith; few = λ info shut. cc }
@@ -269,36 +237,19 @@ module _ (buses : List Bus) (Of : ℕ → Type 0) (steps most : ℕ) where
 
 waiting_is : (conn : Connection) (h : History) → conn.shut ≡ None → waiting conn h ≡ untold_by conn.go_step conn.items conn.done h
 waiting_is conn h e =
-    subst (λ x. (if is_none x then untold_by conn.go_step conn.items conn.done (heard x h) else [])
-    ≡ untold_by conn.go_step conn.items conn.done h)
-    (sym e) refl
+    rw e refl
 
 -- what waits of an open session, and of one that was shut
 waiting_within : (most : ℕ) (h : History) (conn : Connection) → Within most h conn → conn.info ≡ true → length (waiting conn h) ≤ most
-waiting_within most h conn s info = by conn.shut refl
+waiting_within most h conn s info = by _ refl
   where
     by : (shut : Option ℕ) → conn.shut ≡ shut → length (waiting conn h) ≤ most
     by None e = let f = s.few info e in let same = ap (λ (cs : List Change). length cs) (waiting_is conn h e) in omega arith
     by (Some n) e =
-        subst (λ x.
-        length (if is_none x
-        then drop (length (tolds conn.items)) (concerning_by conn.go_step (cursor_by conn.done conn.items) (heard x h))
-        else [])
-        ≤ most)
-        (sym e) none
+        rw e none
       where
         none : 0 ≤ most
         none = omega arith
-
--- no steps but those are behind
-since_none : (h : History) (n : ℕ) → n ≡ length h → since n h ≡ 0
-since_none h n e = ap (λ hs. length (flat_map (λ (changes : List Change). changes) hs)) (drop_all n h (omega arith))
-  where
-    drop_all : (n : ℕ) (h : History) → length h ≤ n → drop n h ≡ []
-    drop_all zero [] low = refl
-    drop_all (suc n) [] low = refl
-    drop_all zero (x ∷ h) low = absurd (omega arith)
-    drop_all (suc n) (x ∷ h) low = drop_all n h (omega arith)
 
 module _ (buses : List Bus) (events more : List Event) (Of : ℕ → Type 0) (most : ℕ)
     (few : (number : ℕ) (conn : Connection) → Of number → numbered number (course buses events).connections ≡ Some conn → conn.info ≡ true
@@ -330,12 +281,12 @@ module _ (buses : List Bus) (events more : List Event) (Of : ℕ → Type 0) (mo
           }
 
   next : course buses (events ++ more) ≡ fold (happens buses) (course buses events) more
-  next = fold-append (happens buses) start events more
+  next = fold-append _ start events more
 
   there : Waits buses Of (length (course buses events).steps) most (course buses (events ++ more))
   there =
       subst (Waits buses Of (length (course buses events).steps) most) (sym next)
-      (waits_all buses Of (length (course buses events).steps) most more (course buses events) here)
+      (waits_all buses Of _ most more _ here)
 
 pub waits_grow : (buses : List Bus) → WaitsGrowByChanges buses
 waits_grow buses events more number conn later p e info =
@@ -348,14 +299,14 @@ waits_grow buses events more number conn later p e info =
     own : (n : ℕ) (other : Connection) → n ≡ number → numbered n (course buses events).connections ≡ Some other → other.info ≡ true
         → other.shut ≡ None → length (waiting other h) ≤ length (waiting conn h)
     own n other same o info shut =
-        let it : Some other ≡ Some conn = sym o ∙ ap (λ k. numbered k (course buses events).connections) same ∙ p.there in
+        let it : Some other ≡ Some conn = cc p.there in
         let is : other ≡ conn = cc in
-        subst (λ (c : Connection). length (waiting other h) ≤ length (waiting c h)) is (le_refl (length (waiting other h)))
+        rw (← is) (le_refl _)
 
 -- ---- slack
 
 slack_256 : (h : History) (conn : Connection) (n : ℕ) → slack_of h conn ≡ Some n → n ≤ 256
-slack_256 h conn n e = by (is_open conn && conn.info) (overran conn h) e
+slack_256 h conn n e = by _ _ e
   where
     by : (t over : Bool) → (if t then Some (if over then 256 else 256 - length (waiting conn h)) else None) ≡ Some n → n ≤ 256
     by true true e = let same : 256 ≡ n = cc in omega arith
@@ -367,7 +318,7 @@ some_slack_256 h None n e = cc
 some_slack_256 h (Some conn) n e = slack_256 h conn n e
 
 room_256 : (xs : List (Option ℕ)) → ((n : ℕ) → IsIn xs n → n ≤ 256) → option_or_256 (least xs) ≤ 256
-room_256 xs f = by (least xs) refl
+room_256 xs f = by _ refl
   where
     by : (o : Option ℕ) → least xs ≡ o → option_or_256 o ≤ 256
     by None e = omega arith
@@ -400,11 +351,9 @@ few_close_none buses events more enough number later o = by (numbered number w.c
         → overran conn h ≡ false → length (waiting conn h) ≤ 256 - r
     waits zero conn e info shut fine = cc
     waits (suc k) conn e info shut fine =
-        let up : is_open conn ≡ true = ap (λ (s : Option ℕ). is_none s) shut in
+        let up : is_open conn ≡ true = cc in
         let is : slack_of h conn ≡ Some (256 - length (waiting conn h)) =
-        ap (λ t. if t && conn.info then Some (if overran conn h then 256 else 256 - length (waiting conn h)) else None) up
-        ∙ ap (λ t. if t then Some (if overran conn h then 256 else 256 - length (waiting conn h)) else None) info
-        ∙ ap (λ t. Some (if t then 256 else 256 - length (waiting conn h))) fine in
+        cc in
         let low : r ≤ 256 - length (waiting conn h) =
         room_most (least slacks) (256 - length (waiting conn h))
         (least_least slacks k (256 - length (waiting conn h)) (slack_conns h w.connections k ∙ ap (slack_by h) e ∙ is)) in
@@ -430,22 +379,22 @@ few_close_none buses events more enough number later o = by (numbered number w.c
       where
         few : (k : ℕ) (conn : Connection) → k ≡ number → numbered k w.connections ≡ Some conn → conn.info ≡ true → conn.shut ≡ None
             → length (waiting conn h) ≤ 256 - r
-        few k conn same e info shut = waits k conn e info shut (fine conn (ap (λ m. numbered m w.connections) (sym same) ∙ e) info shut)
+        few k conn same e info shut = waits k conn e info shut (fine conn (cc) info shut)
 
     by : (o : Option Connection) → numbered number w.connections ≡ o → (conn : Connection) × IsOverrun buses w number conn
-    by None e = absurd (one_overruns (λ conn there info shut. let bad : None ≡ Some conn = sym e ∙ there in cc))
+    by None e = absurd (one_overruns (λ conn there info shut. let bad : None ≡ Some conn = cc in cc))
     by (Some conn) e = over (overran conn h) refl conn.info refl conn.shut refl
       where
         same : (other : Connection) → numbered number w.connections ≡ Some other → other ≡ conn
-        same other there = let it : Some other ≡ Some conn = sym there ∙ e in cc
+        same other there = let it : Some other ≡ Some conn = cc in cc
 
         over : (t : Bool) → overran conn h ≡ t → (i : Bool) → conn.info ≡ i → (s : Option ℕ) → conn.shut ≡ s
             → (conn : Connection) × IsOverrun buses w number conn
-        over true t true i None s = (conn, record { there = e; info = i; open_now = ap (λ (s : Option ℕ). is_none s) s; over = t })
-        over false t i k s l = absurd (one_overruns (λ other there info shut. ap (λ (c : Connection). overran c h) (same other there) ∙ t))
+        over true t true i None s = (conn, record { there = e; info = i; open_now = cc; over = t })
+        over false t i k s l = absurd (one_overruns (λ other there info shut. cc (same other there)))
         over true t false i s l =
             absurd (one_overruns
-            (λ other there info shut. let no : other.info ≡ false = ap (λ (c : Connection). c.info) (same other there) ∙ i in cc))
+            (λ other there info shut. let no : other.info ≡ false = cc (same other there) in cc))
         over true t true i (Some n) s =
             absurd (one_overruns
-            (λ other there info shut. let no : other.shut ≡ Some n = ap (λ (c : Connection). c.shut) (same other there) ∙ s in cc))
+            (λ other there info shut. let no : other.shut ≡ Some n = cc (same other there) in cc))

@@ -1,34 +1,18 @@
 -- What the answer to a line leaves of its connection: the line that has begun, and how many bytes are unsent.
-use Rattle.std.proofs.Common.{◌≡◌, ℕ, ◌+◌, ◌<◌, ◌≤◌, ◌^◌, Bool, true, false, cond, List, [], ◌∷◌, map, length, length-append, refl, sym}
-use Rattle.std.proofs.Common.{◌∙◌, subst, arith}
-use Rattle.std.specs.Option.{option_map}
-use Rattle.std.specs.Prelude.{not, ◌||◌, ◌&&◌, nat_lt, if◌then◌else◌, Option, Some, None, Ok, Err}
-use Rattle.std.proofs.lemmas.Bool.Decides.{nat_tests}
-use Rattle.srcp_info.specs.Line.{reply_line}
-use Rattle.srcp_info.specs.WellFormed.{IsMoment, IsWellFormedReply}
-use Rattle.srcp_info.specs.declared.change.Change.{Change}
-use Rattle.srcp_info.specs.declared.change.Code.TheVariants.{C500}
-use Rattle.srcp_info.specs.declared.change.Reply.{Reply}
-use Rattle.srcp_info.specs.declared.change.Reply.TheVariants.{Accepted, Protocol, Mode as ModeReply, Go, Refused, Shows}
-use Rattle.srcp_info.specs.declared.value.Mode.{Mode}
+use Rattle.srcp_core.proofs.Names.{cond_both, ◌≡◌, ℕ, ◌+◌, ◌<◌, ◌≤◌, ◌^◌, Bool, true, false, cond, List, [], ◌∷◌, map, length}
+use Rattle.srcp_core.proofs.Names.{length-append, refl, sym, ◌∙◌, subst, arith, option_map, nat_lt, if◌then◌else◌, Option, Some, None, Ok}
+use Rattle.srcp_core.proofs.Names.{Err, nat_tests, reply_line, IsMoment, Change, C500, Reply, Accepted, Protocol, Go, Refused, Shows, Mode}
+use Rattle.srcp_core.proofs.Names.{began, freed, Effect, effect, session_device, is_there, Mark, Feed, Greeting, Speaks, Chooses, Goes}
+use Rattle.srcp_core.proofs.Names.{Refuses, Place, Held, place_at, at, IsSound, told_feed, told_place, told_all, told_each, carried}
+use Rattle.srcp_core.proofs.Names.{unsent_of, changed_in, changed_places, changed_at, with_unsent, longest, longest_answer, entered_place}
+use Rattle.srcp_core.proofs.Names.{session_begun, denied_line, one_denied, asked_of, feed_in, panel_for, Asked, Dropped, Greets, Commands}
+use Rattle.srcp_info.specs.WellFormed.{IsWellFormedReply}
+use Rattle.srcp_info.specs.declared.change.Reply.TheVariants.{Mode as ModeReply}
 use Rattle.srcp_info.proofs.LineLaws.{length-reply_line-le, length-reply_line-most}
-use Rattle.srcp_rules.specs.Due.{began, freed}
-use Rattle.srcp_rules.specs.Effect.{Effect, effect}
-use Rattle.srcp_grammar.specs.Devices.{session_device}
-use Rattle.srcp_rules.specs.State.{is_there}
 use Rattle.srcp_rules.proofs.ToldLaws.{reply_told}
-use Rattle.srcp_text.specs.Marks.{Mark}
-use Rattle.srcp_feed.specs.Cursor.{concerns}
-use Rattle.srcp_feed.specs.Feed.{Feed, is_full, told}
-use Rattle.srcp_core.specs.Handshake.{Greeting, Speaks, Chooses, Goes, Refuses}
-use Rattle.srcp_core.specs.Held.{Place, Held, place_at, at, IsSound}
-use Rattle.srcp_core.specs.Under.{wants_memory}
-use Rattle.srcp_core.specs.Machine.{told_feed, told_place, told_all, told_each, carried, unsent_of, line_begun_of, changed_in}
-use Rattle.srcp_core.specs.Machine.{changed_places, changed_at, with_unsent, replied, longest, longest_answer, entered_place, session_begun}
-use Rattle.srcp_core.specs.Machine.{goes, greeted, denied_line, one_denied, finished, obeyed, answered, asked_of, feed_in, panel_for}
-use Rattle.srcp_core.specs.declared.connection.Panel.TheVariants.{Listening, Overran}
-use Rattle.srcp_core.specs.declared.line.Asked.{Asked}
-use Rattle.srcp_core.specs.declared.line.Asked.TheVariants.{Dropped, Greets, Commands}
+use Rattle.srcp_core.specs.Machine.{line_begun_of}
+use Rattle.srcp_core.specs.Machine.{replied}
+use Rattle.srcp_core.specs.Machine.{goes, greeted, finished, obeyed, answered}
 use Rattle.srcp_core.proofs.Invariants.EveryPlaceIsTold.{told_all_at}
 use Rattle.srcp_core.proofs.Invariants.ChangesOneByOne.{change_in}
 use Rattle.srcp_core.proofs.Invariants.PlacesCover.{place_set_here}
@@ -55,12 +39,10 @@ told_begun change p = by (feed_in p.panel)
     by : (feed : Option Feed) → (told_feed change p feed).reader.begun ≡ p.reader.begun
     by None = refl
     by (Some feed) =
-        elim (concerns feed.cursor change && is_full feed)
-        as (λ t. (cond t (record p { unsent = []; panel = Overran }) (record p { panel = Listening (told change feed) })).reader.begun
-        ≡ p.reader.begun) [
-          | true ↦ refl
-          | false ↦ refl
-        ]
+        cond_both _ _ _ (λ (it : Place). it.reader.begun
+        ≡ p.reader.begun)
+        (λ _. refl)
+        (λ _. refl)
 
 told_slot : (change : Change) (o : Option Place) → Gains 0 o (option_map (told_place change) o)
 told_slot change None = record { few = omega arith; begun = refl }
@@ -68,7 +50,7 @@ told_slot change (Some p) = record { few = let t = told_shorter change p in omeg
 
 told_gains : (key : ℕ) (changes : List Change) (places : List (Option Place))
     → Gains 0 (place_at places key) (place_at (told_each changes places) key)
-told_gains key [] places = nothing (place_at places key)
+told_gains key [] places = nothing _
 told_gains key (change ∷ changes) places =
     both 0 0 (place_at places key) (place_at (told_all change places) key) _
     (subst (λ (o : Option Place). Gains 0 (place_at places key) o) (sym (told_all_at change places key))
@@ -78,11 +60,11 @@ told_gains key (change ∷ changes) places =
 -- a change of one connection
 changed_gains : (n key : ℕ) (change : Place → Place) (places : List (Option Place)) → ((p : Place) → Gains n (Some p) (Some (change p)))
     → Gains n (place_at places key) (place_at (changed_places key change places) key)
-changed_gains n key change places gains = by (place_at places key) refl
+changed_gains n key change places gains = by _ refl
   where
     by : (o : Option Place) → place_at places key ≡ o → Gains n o (place_at (changed_in key change places o) key)
-    by None e = most 0 n None (place_at places key) (omega arith) (subst (λ (o : Option Place). Gains 0 None o) (sym e) (nothing None))
-    by (Some p) e = subst (λ (o : Option Place). Gains n (Some p) o) (sym (place_set_here places key p (Some (change p)) e)) (gains p)
+    by None e = most 0 n None _ (omega arith) (rw e (nothing None))
+    by (Some p) e = rw (place_set_here places key p _ e) (gains p)
 
 -- ---- replies
 
@@ -118,7 +100,7 @@ begun_gains key id mode held =
 
 goes_gains : (granted : Bool) (key : ℕ) (mode : Mode) (held : Held) → IsMoment held.moment
     → Gains 64 (at held key) (at (goes granted key mode held) key)
-goes_gains granted key mode held now = by (nat_lt held.last_id 4294967295) refl granted
+goes_gains granted key mode held now = by _ refl granted
   where
     low : nat_lt held.last_id 4294967295 ≡ true → held.last_id + 1 < 2 ^ 32
     low t = grind (arith, nat_tests)
@@ -154,7 +136,7 @@ finished_gains true key session held =
     both 0 0 (at held key) (at mid key) _
     (changed_gains 0 key (λ p. record p { ended = true }) held.places (λ p. record { few = omega arith; begun = refl }))
     (told_gains key (map change_in (freed held.rows session held.moment)) mid.places)
-finished_gains false key session held = nothing (at held key)
+finished_gains false key session held = nothing _
 
 obeyed_gains : (key session : ℕ) (did : Effect) (held : Held) → IsMoment held.moment → IsWellFormedReply did.reply
     → Gains 126 (at held key) (at (obeyed key session did held) key)
@@ -176,18 +158,18 @@ answered_gains granted key asked held p mark there is s = by asked is
   where
     by : (asked : Asked) → asked ≡ asked_of held.buses p mark
         → Gains (longest_answer asked) (at held key) (at (answered granted key asked held) key)
-    by Dropped is = most 0 64 (at held key) (at held key) (omega arith) (nothing (at held key))
+    by Dropped is = most 0 64 _ _ (omega arith) (nothing (at held key))
     by (Greets mode greeting) is = greeted_gains granted key mode greeting held s.moment
     by (Commands session (Err code)) is = replied_gains key (Refused code) held s.moment tt
-    by (Commands session (Ok command)) is = given (granted || not (wants_memory held.rows session held.moment command))
+    by (Commands session (Ok command)) is = given _
       where
         given : (t : Bool)
             → Gains 126 (at held key)
             (at (cond t (obeyed key session (effect held.rows session held.moment command) held) (denied_line key held)) key)
-        given false = most 64 126 (at held key) (at (denied_line key held) key) (omega arith) (denied_gains key held s.moment)
+        given false = most 64 126 _ _ (omega arith) (denied_gains key held s.moment)
         given true =
-            let a = asked_by held.buses s.whole.laid_out p mark session (Ok command) is in
+            let a = asked_by _ s.whole.laid_out p mark session _ is in
             let row : is_there (session_device session) held.rows ≡ true =
-            subst (λ n. is_there (session_device n) held.rows ≡ true) a.own (s.sessions.there key p there a.live) in
+            rw (← a.own) (s.sessions.there key p there a.live) in
             obeyed_gains key session (effect held.rows session held.moment command) held s.moment
             (reply_told held.buses held.rows s.whole session held.moment row s.moment command)

@@ -1,14 +1,7 @@
 -- Changes that are carried out and told one by one are those of the whole step.
-use Rattle.std.proofs.Common.{◌≡◌, ◌<◌, List, [], ◌∷◌, map, length, refl, ap, sym, ◌∙◌, subst, arith}
-use Rattle.std.specs.Option.{option_map, option_map_or}
-use Rattle.std.specs.Prelude.{Option, Some, None, slice_get}
-use Rattle.srcp_info.specs.WellFormed.{IsWellFormed}
-use Rattle.srcp_info.specs.declared.change.Change.{Change}
-use Rattle.srcp_grammar.specs.declared.layout.Bus.{Bus}
-use Rattle.srcp_rules.specs.State.{State, Update, IsWhole, updated, updated_all}
-use Rattle.srcp_rules.specs.Laws.{CanBeTold}
-use Rattle.srcp_core.specs.Held.{Place}
-use Rattle.srcp_core.specs.Machine.{told_all, told_each}
+use Rattle.srcp_core.proofs.Names.{◌≡◌, ◌<◌, List, [], ◌∷◌, map, length, refl, ap, sym, subst, arith, option_map, option_map_or, Option}
+use Rattle.srcp_core.proofs.Names.{Some, None, slice_get, IsWellFormed, Change, Bus, State, Update, IsWhole, updated, updated_all}
+use Rattle.srcp_core.proofs.Names.{CanBeTold, Place, told_all, told_each}
 
 abbrev pub change_in : Update → Change
 change_in update = update.change
@@ -29,7 +22,7 @@ module _ (buses : List Bus) (brings : State → List Update)
     pub goes_on : (state : State) → IsWhole buses state → (change : Change) (new : State) (places : List (Option Place))
         → Some change ≡ option_map change_in (slice_get (brings state) 0)
         → new ≡ option_map_or (λ update. updated update state) (slice_get (brings state) 0) state → GoesOn state change new places
-    goes_on state whole change new places is after = by (brings state) refl (tells state whole) is after
+    goes_on state whole change new places is after = by _ refl (tells state whole) is after
       where
         by : (updates : List Update) → brings state ≡ updates → CanBeTold updates → Some change ≡ option_map change_in (slice_get updates 0)
             → new ≡ option_map_or (λ update. updated update state) (slice_get updates 0) state → GoesOn state change new places
@@ -37,14 +30,12 @@ module _ (buses : List Bus) (brings : State → List Update)
         by (update ∷ updates) e t is after =
             let l = later state whole update updates e in
             let same : change ≡ update.change = cc in
-            let left : brings new ≡ updates = ap brings after ∙ l.1 in
+            let left : brings new ≡ updates = cc l.1 in
             record {
               whole = subst (IsWhole buses) (sym after) l.0;
-              rows = ap (λ us. updated_all us new) left ∙ ap (updated_all updates) after ∙ sym (ap (λ us. updated_all us state) e);
+              rows = cc;
               slots =
-                  ap (λ us. told_each (map change_in us) (told_all change places)) left
-                  ∙ ap (λ c. told_each (map change_in updates) (told_all c places)) same
-                  ∙ sym (ap (λ us. told_each (map change_in us) places) e);
+                  cc;
               fewer = let a = ap (λ us. length us) left in let b = ap (λ us. length us) e in omega (arith, a, b);
               told = subst IsWellFormed (sym same) t.0;
             }
@@ -56,7 +47,7 @@ module _ (buses : List Bus) (brings : State → List Update)
 
     pub stops : (state new : State) → None ≡ option_map change_in (slice_get (brings state) 0)
         → new ≡ option_map_or (λ update. updated update state) (slice_get (brings state) 0) state → Stops state new
-    stops state new is after = by (brings state) refl is after
+    stops state new is after = by _ refl is after
       where
         by : (updates : List Update) → brings state ≡ updates → None ≡ option_map change_in (slice_get updates 0)
             → new ≡ option_map_or (λ update. updated update state) (slice_get updates 0) state → Stops state new

@@ -1,41 +1,20 @@
 -- What holds of every core is kept.
-use Rattle.std.proofs.Common.{inl, inr, ◌⊎◌, ◌≡◌, ◌≢◌, ℕ, ◌+◌, ◌<◌, ◌≤◌, Bool, true, false, List, [], ◌∷◌, map, refl, ap, sym, ◌∙◌, subst}
-use Rattle.std.proofs.Common.{arith}
-use Rattle.std.specs.Prelude.{◌==◌, ◌&&◌, ◌||◌, if◌then◌else◌, Option, Some, None, is_some, slice_set, count_by}
-use Rattle.srcp_info.specs.Key.{first_key}
-use Rattle.srcp_info.specs.WellFormed.{IsMoment}
-use Rattle.srcp_info.specs.declared.change.Change.{Change}
-use Rattle.srcp_grammar.specs.declared.layout.Bus.{Bus}
-use Rattle.srcp_grammar.specs.Layout.{IsLayout}
-use Rattle.srcp_grammar.specs.Devices.{session_device}
-use Rattle.srcp_rules.specs.State.{State, Update, IsWhole, opening, updated_all, is_there}
-use Rattle.srcp_core.specs.Held.{Place, Held, place_at, at, open_count, IsLive, AreSessions, IsSound, IsSessionAt}
-use Rattle.srcp_info.specs.declared.value.Mode.{Mode}
+use Rattle.srcp_core.proofs.Names.{inl, inr, ◌⊎◌, ◌≡◌, ◌≢◌, ℕ, ◌+◌, ◌<◌, ◌≤◌, Bool, true, false, List, [], ◌∷◌, map, refl, ap, sym, ◌∙◌}
+use Rattle.srcp_core.proofs.Names.{subst, arith, ◌==◌, ◌&&◌, ◌||◌, if◌then◌else◌, Option, Some, None, is_some, slice_set, count_by}
+use Rattle.srcp_core.proofs.Names.{first_key, IsMoment, Change, Bus, IsLayout, session_device, State, Update, IsWhole, opening, updated_all}
+use Rattle.srcp_core.proofs.Names.{is_there, Place, Held, place_at, at, open_count, IsLive, AreSessions, IsSound, IsSessionAt, Mode}
+use Rattle.srcp_core.proofs.Names.{Command, IsCommandOf, due, freed, began, effect, IsKeyOf, is_within, updated, began_kept, due_kept}
+use Rattle.srcp_core.proofs.Names.{freed_kept, effect_kept, session_row-updated_all, effect_elsewhere, due_elsewhere, freed_others}
+use Rattle.srcp_core.proofs.Names.{row_at-put_same, row_at-put_other, same_key, same_key-true, le-leb, eqb-false, pos_of_ne-zero, Panel}
+use Rattle.srcp_core.proofs.Names.{Absent, Listening, Overran, changed_at, changed_in, changed_places, carried, told_all, told_each}
+use Rattle.srcp_core.proofs.Names.{freed_of, freed_place, entered_place, session_begun, filled, feed_in, panel_for, Shown, opening_whole}
 use Rattle.srcp_info.specs.declared.value.Value.TheVariants as value
-use Rattle.srcp_grammar.specs.declared.command.Command.{Command}
-use Rattle.srcp_grammar.specs.Command.{IsCommandOf}
-use Rattle.srcp_rules.specs.Due.{due, freed, began}
-use Rattle.srcp_rules.specs.Effect.{effect}
-use Rattle.srcp_grammar.specs.Layout.{IsKeyOf, is_within, rows_if}
-use Rattle.srcp_rules.specs.State.{updated}
-use Rattle.srcp_rules.proofs.DueLaws.{began_kept, due_kept, freed_kept}
-use Rattle.srcp_rules.proofs.EffectLaws.{effect_kept}
-use Rattle.srcp_rules.proofs.SessionLaws.{session_row-updated_all, effect_elsewhere, due_elsewhere, freed_others}
-use Rattle.srcp_rules.proofs.StateLaws.{row_at-put_same, row_at-put_other}
-use Rattle.srcp_rules.proofs.KeyLaws.{same_key, same_key-true}
-use Rattle.std.proofs.lemmas.Bool.{le-leb, eqb-false}
-use Rattle.std.proofs.Math.Nat.{pos_of_ne-zero}
-use Rattle.srcp_core.specs.declared.connection.Panel.{Panel}
-use Rattle.srcp_core.specs.declared.connection.Panel.TheVariants.{Absent, Listening, Overran}
-use Rattle.srcp_core.specs.Machine.{changed_at, changed_in, changed_places, carried, told_all, told_each, freed_of, freed_place}
-use Rattle.srcp_core.specs.Machine.{entered_place, session_begun, filled, filled_from, live_session_of, feed_in, is_panel, panel_for}
-use Rattle.srcp_info.specs.declared.change.Shown.{Shown}
+use Rattle.srcp_core.specs.Machine.{filled_from, live_session_of}
 use Rattle.srcp_core.proofs.Invariants.ChangesOneByOne.{change_in}
 use Rattle.srcp_core.proofs.Invariants.PlacesCover.{IsMild, mild_itself, mild_live, Covers, covers_itself, covers_set, covers_free}
 use Rattle.srcp_core.proofs.Invariants.PlacesCover.{covers_told_each, told_each_count, set_count, free_other, sessions_covered, place_set}
 use Rattle.srcp_core.proofs.Invariants.PlacesCover.{place_set_here, where_is, Where, Here, Away, no_place}
 use Rattle.srcp_core.proofs.Invariants.SessionRows.{no_session-opening}
-use Rattle.srcp_rules.proofs.OpeningLaws.{opening_whole}
 
 pub sound_opening : (buses : List Bus) → IsLayout buses → (moment : ℕ) → IsMoment moment → (last_id : ℕ) (state : State)
     → state ≡ opening buses moment → (places : List (Option Place)) → places ≡ []
@@ -60,24 +39,24 @@ sound_places held places covers fewer s = record {
   moment = s.moment;
   few = omega (arith, s.few, fewer);
   whole = s.whole;
-  sessions = sessions_covered held.last_id held.rows held.places places covers s.sessions;
+  sessions = sessions_covered _ _ _ places covers s.sessions;
 }
 
 pub covers_changed : (key : ℕ) (change : Place → Place) (places : List (Option Place)) → ((p : Place) → IsMild p (change p))
     → Covers places (changed_places key change places)
-covers_changed key change places mild = by (place_at places key) refl
+covers_changed key change places mild = by _ refl
   where
     by : (o : Option Place) → place_at places key ≡ o → Covers places (changed_in key change places o)
     by None e = covers_itself places
-    by (Some p) e = covers_set places key p (change p) e (mild p)
+    by (Some p) e = covers_set places key p _ e (mild p)
 
 pub changed_count : (key : ℕ) (change : Place → Place) (places : List (Option Place))
     → count_by is_some (changed_places key change places) ≡ count_by is_some places
-changed_count key change places = by (place_at places key) refl
+changed_count key change places = by _ refl
   where
     by : (o : Option Place) → place_at places key ≡ o → count_by is_some (changed_in key change places o) ≡ count_by is_some places
     by None e = refl
-    by (Some p) e = set_count places key p (change p) e
+    by (Some p) e = set_count places key p _ e
 
 pub sound_changed_at : (key : ℕ) (change : Place → Place) (held : Held) → ((p : Place) → IsMild p (change p)) → IsSound held
     → IsSound (changed_at key change held)
@@ -92,7 +71,7 @@ pub sound_carried : (updates : List Update) (held : Held) → IsWhole held.buses
     → IsSound (carried updates held)
 sound_carried updates held whole same s =
     let places = told_each (map change_in updates) held.places in
-    let a = sessions_covered held.last_id held.rows held.places places (covers_told_each (map change_in updates) held.places) s.sessions in
+    let a = sessions_covered _ held.rows held.places places (covers_told_each (map change_in updates) held.places) s.sessions in
     record {
       moment = s.moment;
       few = let c = told_each_count (map change_in updates) held.places in omega (arith, c, s.few);
@@ -100,7 +79,7 @@ sound_carried updates held whole same s =
       sessions = record {
         ids = a.ids;
         apart = a.apart;
-        there = λ key p e live. same p.session ∙ a.there key p e live;
+        there = λ key p e live. same _ ∙ a.there key p e live;
         later = λ id low. same id ∙ a.later id low;
       };
     }
@@ -136,7 +115,7 @@ sound_freed session held now known over s =
     let a = sessions_covered held.last_id held.rows held.places places covers s.sessions in
     let others : (id : ℕ) → id ≢ session
     → is_there (session_device id) (updated_all updates held.rows) ≡ is_there (session_device id) held.rows =
-    λ id apart. ap is_some (freed_others held.buses held.rows s.whole held.moment session id apart) in
+    λ id apart. cc (freed_others held.buses held.rows s.whole held.moment session id apart) in
     record {
       moment = s.moment;
       few = let c = told_each_count (map change_in updates) held.places in omega (arith, c, s.few);
@@ -159,7 +138,7 @@ sound_freed session held now known over s =
 -- ---- the beginning of a session
 
 session_place : (buses : List Bus) (id : ℕ) → 0 < id → id ≤ 4294967295 → IsKeyOf buses (first_key (session_device id))
-session_place buses id low high = subst (λ t. 0 < rows_if t 1) (sym within) one
+session_place buses id low high = rw within one
   where
     one : 0 < 1
     one = omega arith
@@ -169,22 +148,20 @@ session_place buses id low high = subst (λ t. 0 < rows_if t 1) (sym within) one
 
 own_row : (id moment : ℕ) (mode : Mode) (rows : State) → is_there (session_device id) (updated (began id moment mode) rows) ≡ true
 own_row id moment mode rows =
-    ap is_some
-    (row_at-put_same
+    cc (row_at-put_same
     (record { shown = record { key = first_key (session_device id); stamp = moment; value = value.Session mode }; due = None })
     rows)
 
 other_row : (id other moment : ℕ) (mode : Mode) (rows : State) → other ≢ id
     → is_there (session_device other) (updated (began id moment mode) rows) ≡ is_there (session_device other) rows
 other_row id other moment mode rows apart =
-    ap is_some
-    (row_at-put_other (first_key (session_device other))
+    cc (row_at-put_other (first_key (session_device other))
     (record { shown = record { key = first_key (session_device id); stamp = moment; value = value.Session mode }; due = None }) rows
     (by (same_key (first_key (session_device id)) (first_key (session_device other))) refl))
   where
     by : (t : Bool) → same_key (first_key (session_device id)) (first_key (session_device other)) ≡ t → t ≡ false
     by true e =
-        absurd (apart (sym (ap (λ k. k.address) (same_key-true (first_key (session_device id)) (first_key (session_device other)) e))))
+        absurd (apart (cc (same_key-true (first_key (session_device id)) (first_key (session_device other)) e)))
     by false e = refl
 
 -- a place is the one whose session begins, or it was there
@@ -204,11 +181,9 @@ entered_from places key id mode m q e = by (place_at places key) refl e
         place (Here s) =
             let here : place_at (slice_set places key (Some (entered_place id (panel_for mode) p))) m
             ≡ Some (entered_place id (panel_for mode) p) =
-            subst (λ k. place_at (slice_set places key (Some (entered_place id (panel_for mode) p))) k
-            ≡ Some (entered_place id (panel_for mode) p))
-            (sym s) (place_set_here places key p (Some (entered_place id (panel_for mode) p)) at) in
+            rw s (place_set_here places key p (Some (entered_place id (panel_for mode) p)) at) in
             let same : entered_place id (panel_for mode) p ≡ q = cc in
-            inl (s, sym (ap (λ (r : Place). r.session) same))
+            inl (s, cc)
         place (Away f) = inr (sym (place_set places key m (Some (entered_place id (panel_for mode) p)) f) ∙ e)
 
 sessions_begun : (last id key : ℕ) (rows new : State) (old places : List (Option Place)) → id ≡ last + 1
@@ -239,7 +214,7 @@ sessions_begun last id key rows new old places next others own from a = record {
     older m q h s = let i = a.ids m q h in omega (arith, i, s, next)
 
     row : (m : ℕ) (q : Place) → IsLive q → IsOneOf old key id m q → is_there (session_device q.session) new ≡ true
-    row m q live (inl h) = ap (λ s. is_there (session_device s) new) h.1 ∙ own
+    row m q live (inl h) = cc h.1
     row m q live (inr h) = others q.session (older m q h) ∙ a.there m q h live
 
 pub sound_begun : (key id : ℕ) (mode : Mode) (held : Held) → IsMoment held.moment → id ≡ held.last_id + 1 → id ≤ 4294967295 → IsSound held
@@ -275,18 +250,18 @@ pub over_free : (key : ℕ) (held : Held) (p : Place) → at held key ≡ Some p
 over_free key held p e began s m q f live same =
     let c = covers_free held.places key p e m q f in
     free_other held.places key p e m q f
-    (s.sessions.apart m key c.p p c.there e (subst (λ n. 0 < n) c.mild.session live.began) (sym c.mild.session ∙ same))
+    (s.sessions.apart m key c.p p c.there e (rw (← c.mild.session) live.began) (cc c.mild.session))
 
 -- and none has that of a connection whose session ended
 pub over_ended : (key : ℕ) (held : Held) (p : Place) → at held key ≡ Some p → 0 < p.session → p.ended ≡ true → IsSound held
     → IsOver p.session held.places
 over_ended key held p e began ended s m q f live same =
     let k : m ≡ key = s.sessions.apart m key q p f e live.began same in
-    let is : Some q ≡ Some p = sym f ∙ ap (place_at held.places) k ∙ e in
+    let is : Some q ≡ Some p = cc in
     let one : q ≡ p = cc in
-    let off : q.ended ≡ true = ap (λ (r : Place). r.ended) one ∙ ended in
+    let off : q.ended ≡ true = cc in
     let on : q.ended ≡ false = live.not_ended in
-    let bad : true ≡ false = sym off ∙ on in
+    let bad : true ≡ false = cc in
     cc
 
 -- ---- as the calls find it
@@ -296,19 +271,14 @@ pub begun_is : (held : Held) (key id : ℕ) (mode : Mode) (panel : Panel) (rows 
     → told ≡ told_all change held.places → places ≡ changed_places key (entered_place id panel) told
     → record held { rows = rows; last_id = id; places = places } ≡ session_begun key id mode held
 begun_is held key id mode panel rows change told places e r c t p =
-    ap (λ (s : State). let h : Held = record held { rows = s; last_id = id; places = places } in h) r
-    ∙ ap (λ (ps : List (Option Place)).
-    let h : Held = record held { rows = updated (began id held.moment mode) held.rows; last_id = id; places = ps } in
-    h)
-    (p ∙ ap (λ panel. changed_places key (entered_place id panel) told) e
-    ∙ ap (changed_places key (entered_place id (panel_for mode))) (t ∙ ap (λ (d : Change). told_all d held.places) c))
+    cc
 
 pub sound_carried_as : (held : Held) (updates : List Update) (rows : State) (places : List (Option Place))
     → rows ≡ updated_all updates held.rows → places ≡ told_each (map change_in updates) held.places → IsSound (carried updates held)
     → IsSound (record held { rows = rows; places = places })
 sound_carried_as held updates rows places r p s =
-    subst (λ (ps : List (Option Place)). IsSound (record held { rows = rows; places = ps })) (sym p)
-    (subst (λ (st : State). IsSound (record held { rows = st; places = told_each (map change_in updates) held.places })) (sym r) s)
+    rw p
+    (rw r s)
 
 -- a connection's session ends by its own command
 pub sound_ended : (key session : ℕ) (held : Held) → IsMoment held.moment → IsSessionAt session key held → IsSound held
@@ -328,8 +298,7 @@ sound_ended key session held now here s =
     ended_here : (p : Place) → at held key ≡ Some p
         → place_at (changed_in key (λ q. record q { ended = true }) held.places (at held key)) key ≡ Some (record p { ended = true })
     ended_here p e =
-        ap (λ (o : Option Place). place_at (changed_in key (λ q. record q { ended = true }) held.places o) key) e
-        ∙ place_set_here held.places key p (Some (record p { ended = true })) e
+        cc (place_set_here held.places key p (Some (record p { ended = true })) e)
 
 pub sound_moment : (held : Held) (moment : ℕ) → IsMoment moment → IsSound held → IsSound (record held { moment = moment })
 sound_moment held moment now s = record { moment = now; few = s.few; whole = s.whole; sessions = s.sessions }
@@ -342,7 +311,7 @@ live_session_is p session e = by (p.session == 0) refl p.ended e
     by true q ended e = cc
     by false q true e = cc
     by false q false e =
-        let own : session ≡ p.session = cc in (own, subst (λ n. 0 < n) (sym own) (pos_of_ne-zero (eqb-false p.session 0 q)))
+        let own : session ≡ p.session = cc in (own, rw own (pos_of_ne-zero (eqb-false p.session 0 q)))
 
 -- a connection that is taken out, and then its session
 pub sound_hung_up : (key : ℕ) (held : Held) (p : Place) (session : ℕ) → at held key ≡ Some p → session ≡ p.session → 0 < session
@@ -358,7 +327,7 @@ filled_mild rows p = by p.unsent p.panel refl
     by : (bytes : List ℕ) (panel : Panel) → p.panel ≡ panel → IsMild p (filled_from rows p bytes (feed_in panel))
     by (byte ∷ bytes) panel e = mild_itself p
     by [] Absent e = mild_itself p
-    by [] (Listening feed) e = record { session = refl; ended = λ h. h; panel = ap is_panel (sym e) }
+    by [] (Listening feed) e = record { session = refl; ended = λ h. h; panel = cc }
     by [] Overran e = mild_itself p
 
 pub sound_place : (key : ℕ) (held : Held) (p q : Place) → at held key ≡ Some p → IsMild p q → IsSound held

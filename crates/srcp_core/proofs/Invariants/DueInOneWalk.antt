@@ -1,30 +1,17 @@
 -- The changes of a moment come by rising key, so one walk carries them out.
-use Rattle.std.specs.Prelude.{◌≡◌, ℕ, true, false, not, List, [], ◌∷◌, map, filter, find, slice_get, Option, Some, None}
-use Rattle.std.specs.Option.{option_map, option_map_or}
-use Rattle.std.proofs.Common.{refl, sym, ap, subst, ◌∙◌}
-use Rattle.std.specs.List.{AllByRecursion}
-use Rattle.std.specs.declared.cmp.Ordering.TheVariants.{Less}
-use Rattle.srcp_info.specs.declared.change.Change.{Change}
-use Rattle.srcp_info.specs.declared.change.Cursor.{Cursor}
-use Rattle.srcp_info.specs.declared.change.Cursor.TheVariants.{Start, After}
-use Rattle.srcp_info.specs.declared.change.Row.{Row}
-use Rattle.srcp_info.specs.declared.key.Key.{Key}
-use Rattle.srcp_info.specs.Client.{IsRisingBy}
-use Rattle.srcp_info.specs.Key.{key_cmp, key_of, has_reached}
-use Rattle.srcp_info.specs.WellFormed.{IsMoment}
-use Rattle.srcp_info.proofs.ClientLaws.{after_from_less, all_weaker, rising_filter}
-use Rattle.srcp_grammar.specs.declared.layout.Bus.{Bus}
-use Rattle.srcp_rules.specs.Due.{due, due_after, due_change, is_due}
-use Rattle.srcp_rules.specs.State.{State, Update, IsRowOf, IsWhole, updated, updated_if}
+use Rattle.srcp_core.proofs.Names.{not, slice_get, Option, Some, None, option_map, option_map_or, refl, ap, subst, ◌∙◌, AllByRecursion}
+use Rattle.srcp_core.proofs.Names.{Less, Change, Cursor, Start, After, Row, Key, IsRisingBy, key_cmp, has_reached, IsMoment}
+use Rattle.srcp_core.proofs.Names.{after_from_less, all_weaker, Bus, due, State, Update, IsRowOf, IsWhole, updated, each_filtered, each_of}
+use Rattle.srcp_core.proofs.Names.{row_key, due_told, Place, CanBeTold}
+use Rattle.std.specs.Prelude.{◌≡◌, ℕ, true, false, List, [], ◌∷◌, map, filter, find}
+use Rattle.srcp_info.specs.Key.{key_of}
+use Rattle.srcp_info.proofs.ClientLaws.{rising_filter}
+use Rattle.srcp_rules.specs.Due.{due_after, due_change, is_due}
+use Rattle.srcp_rules.specs.State.{updated_if}
 use Rattle.srcp_rules.proofs.DueLaws.{due_may}
 use Rattle.srcp_rules.proofs.DueStepLaws.{due_later}
-use Rattle.srcp_grammar.proofs.FindLaws.{each_filtered}
 use Rattle.srcp_rules.proofs.NextLaws.{change_key}
-use Rattle.srcp_rules.proofs.StateLaws.{each_of, row_key}
-use Rattle.srcp_rules.proofs.ToldLaws.{due_told}
-use Rattle.srcp_core.specs.Held.{Place}
 use Rattle.srcp_core.proofs.Invariants.ChangesOneByOne.{GoesOn, Stops, change_in, goes_on, stops}
-use Rattle.srcp_rules.specs.Laws.{CanBeTold}
 
 abbrev pub update_key : Update → Key
 update_key update = key_of update.change
@@ -69,7 +56,7 @@ module _ (brings : Row → Update) where
 
 pub due_rise : (buses : List Bus) (state : State) → IsWhole buses state → (moment : ℕ) → IsRisingBy update_key (due state moment)
 due_rise buses state whole moment =
-    let brings = λ (row : Row). due_change moment row.shown.key row.shown.value in
+    let brings = λ (row : Row). due_change moment _ _ in
     brought_rise brings (filter (is_due moment) state)
     (all_weaker (λ row. IsRowOf buses row × (is_due moment row ≡ true)) (IsAtRow brings)
     (λ row h. change_key moment row.shown.key row.shown.value (due_may moment row row.due refl h.0.due h.1) h.0.shown.value)
@@ -92,7 +79,7 @@ module _ (buses : List Bus) (moment : ℕ) (now : IsMoment moment) where
 
   module _ (state : State) (at : Cursor) (ahead : AreAhead at (due state moment)) where
     first : due_after state moment at ≡ slice_get (due state moment) 0
-    first = first_ahead at (due state moment) ahead
+    first = first_ahead at _ ahead
 
     after_first : (new : State) → new ≡ updated_if (due_after state moment at) state
         → new ≡ option_map_or (λ update. updated update state) (slice_get (due state moment) 0) state
@@ -114,7 +101,7 @@ module _ (buses : List Bus) (moment : ℕ) (now : IsMoment moment) where
     pub due_ahead : IsWhole buses state → (change : Change) (new : State) → Some change ≡ option_map change_in (due_after state moment at)
         → new ≡ updated_if (due_after state moment at) state
         → AreAhead (After (key_of change)) (due new moment)
-    due_ahead whole change new is after = by (due state moment) refl (is ∙ ap (option_map change_in) first) (after_first new after)
+    due_ahead whole change new is after = by _ refl (is ∙ ap (option_map change_in) first) (after_first new after)
       where
         by : (updates : List Update) → due state moment ≡ updates → Some change ≡ option_map change_in (slice_get updates 0)
             → new ≡ option_map_or (λ update. updated update state) (slice_get updates 0) state
@@ -122,7 +109,7 @@ module _ (buses : List Bus) (moment : ℕ) (now : IsMoment moment) where
         by [] e is after = let bad : Some change ≡ None = is in let f : AreAhead (After (key_of change)) (due new moment) = cc in f
         by (update ∷ updates) e is after =
             let same : update.change ≡ change = cc in
-            let left : updates ≡ due new moment = sym (ap brings after ∙ (later state whole update updates e).1) in
-            subst (λ c. AreAhead (After (key_of c)) (due new moment)) same
+            let left : updates ≡ due new moment = cc (later state whole update updates e).1 in
+            rw (← same)
             (subst (AreAhead (After (update_key update))) left
             (others_ahead update updates (subst (IsRisingBy update_key) e (due_rise buses state whole moment))))

@@ -1,14 +1,8 @@
 -- The walk that tells every connection a change.
-use Rattle.std.proofs.Common.{◌≡◌, ℕ, zero, suc, ◌+◌, List, [], ◌∷◌, map, refl, ap, sym, ◌∙◌, true≢false}
-use Rattle.std.specs.Prelude.{Option, Some, None, slice_index_or, count_by, is_some, fold, Bool, true, false}
-use Rattle.std.specs.Prelude.{if◌then◌else◌}
-use Rattle.std.specs.Option.{option_map}
-use Rattle.std.proofs.lemmas.List.Sums.{sum_by-cons}
-use Rattle.srcp_info.specs.declared.change.Change.{Change}
-use Rattle.srcp_core.specs.Held.{Place, place_at}
-use Rattle.srcp_core.specs.Machine.{told_place, told_all, told_feed, panel_keys, is_panel, feed_in, changed_places, changed_in}
-use Rattle.srcp_core.specs.declared.connection.Panel.{Panel}
-use Rattle.srcp_core.specs.declared.connection.Panel.TheVariants.{Absent, Listening, Overran}
+use Rattle.srcp_core.proofs.Names.{◌≡◌, ℕ, zero, suc, ◌+◌, List, [], ◌∷◌, map, refl, ap, sym, ◌∙◌, true≢false, Option, Some, None}
+use Rattle.srcp_core.proofs.Names.{slice_index_or, count_by, is_some, if◌then◌else◌, option_map, sum_by-cons, Change, Place, told_place}
+use Rattle.srcp_core.proofs.Names.{told_all, panel_keys, is_panel, changed_places, changed_in, Panel, Absent, Listening, Overran}
+use Rattle.std.specs.Prelude.{fold, Bool, true, false}
 
 -- the connection of that key is told the change
 abbrev pub told_key : Change → List (Option Place) → ℕ → List (Option Place)
@@ -16,7 +10,7 @@ told_key change places key = changed_places key (told_place change) places
 
 told_key_behind : (change : Change) (slot : Option Place) (places : List (Option Place)) (key : ℕ)
     → told_key change (slot ∷ places) (suc key) ≡ slot ∷ told_key change places key
-told_key_behind change slot places key = by (place_at places key)
+told_key_behind change slot places key = by _
   where
     by : (found : Option Place)
         → changed_in (suc key) (told_place change) (slot ∷ places) found ≡ slot ∷ changed_in key (told_place change) places found
@@ -27,11 +21,10 @@ told_behind : (change : Change) (slot : Option Place) (places : List (Option Pla
     → fold (told_key change) (slot ∷ places) (map suc keys) ≡ slot ∷ fold (told_key change) places keys
 told_behind change slot places [] = refl
 told_behind change slot places (key ∷ keys) =
-    ap (λ ps. fold (told_key change) ps (map suc keys)) (told_key_behind change slot places key)
-    ∙ told_behind change slot (told_key change places key) keys
+    cc (told_key_behind change slot places key, told_behind change slot (told_key change places key) keys)
 
 untold : (change : Change) (place : Place) (panel : Panel) → place.panel ≡ panel → is_panel panel ≡ false → told_place change place ≡ place
-untold change place Absent e none = ap (λ panel. told_feed change place (feed_in panel)) e
+untold change place Absent e none = cc
 untold change place (Listening feed) e none = absurd (true≢false none)
 untold change place Overran e none = absurd (true≢false none)
 
@@ -41,7 +34,7 @@ pub told_panels : (change : Change) (places : List (Option Place))
 told_panels change [] = refl
 told_panels change (None ∷ places) =
     told_behind change None places (panel_keys places) ∙ ap (λ ps. None ∷ ps) (told_panels change places)
-told_panels change (Some place ∷ places) = by (is_panel place.panel) refl (told_panels change places)
+told_panels change (Some place ∷ places) = by _ refl (told_panels change places)
   where
     by : (is : Bool) → is_panel place.panel ≡ is → fold (told_key change) places (panel_keys places) ≡ told_all change places
         → fold (told_key change) (Some place ∷ places) (if is then 0 ∷ map suc (panel_keys places) else map suc (panel_keys places))

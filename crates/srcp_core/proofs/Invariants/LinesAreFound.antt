@@ -1,25 +1,21 @@
 -- What a line that was found in a piece asks for, and what it leaves of its connection.
-use Rattle.std.proofs.Common.{◌≡◌, ℕ, zero, suc, ◌+◌, ◌-◌, ◌*◌, ◌<◌, ◌≤◌, Bool, true, false, List, [], ◌∷◌, ◌++◌, drop, take, length, inl}
-use Rattle.std.proofs.Common.{inr, refl, ap, sym, ◌∙◌, subst, arith}
-use Rattle.std.specs.Prelude.{◌||◌, ◌==◌, if◌then◌else◌, fold, Option, Some, None, Ok, Err, position, slice_set}
-use Rattle.srcp_info.specs.declared.change.Code.{Code}
-use Rattle.srcp_grammar.specs.declared.layout.Bus.{Bus}
-use Rattle.srcp_text.specs.Marks.{Mark, Line, TooLong, is_lf, without_cr}
-use Rattle.srcp_text.specs.Reading.{after_lf, extended, nothing_read}
+use Rattle.srcp_core.proofs.Names.{◌≡◌, ℕ, zero, suc, ◌+◌, ◌-◌, ◌<◌, ◌≤◌, Bool, true, false, List, [], ◌∷◌, ◌++◌, drop, take, length, inl}
+use Rattle.srcp_core.proofs.Names.{inr, refl, ap, sym, ◌∙◌, subst, arith, if◌then◌else◌, Option, Some, None, Ok, Err, slice_set, Code, Bus}
+use Rattle.srcp_core.proofs.Names.{Mark, Line, TooLong, is_lf, nothing_read, fold-append, Place, Held, IsSound, at, asked_of, heard_from}
+use Rattle.srcp_core.proofs.Names.{heard_at, longest_answer, unsent_at, line_answered, lines_answered, steps_answered, steps_in, HasRoom}
+use Rattle.srcp_core.proofs.Names.{CountsEach, denied_by, LineRecord, Asked, Dropped, Greets, Commands}
+use Rattle.std.proofs.Common.{◌*◌}
+use Rattle.std.specs.Prelude.{fold, position}
+use Rattle.srcp_text.specs.Marks.{without_cr}
+use Rattle.srcp_text.specs.Reading.{after_lf, extended}
 use Rattle.srcp_text.specs.Feeding.{feed_at, fed_at}
 use Rattle.srcp_text.proofs.ScanLaws.{position_some}
 use Rattle.std.proofs.lemmas.Bool.{cases_lt}
 use Rattle.std.proofs.lemmas.List.{length-drop}
-use Rattle.std.proofs.lemmas.List.Sums.{fold-append}
 use Rattle.srcp_core.specs.Handshake.{greets}
-use Rattle.srcp_core.specs.Held.{Place, Held, IsSound, at}
-use Rattle.srcp_core.specs.Machine.{asked_of, heard_from, heard, heard_in, heard_at, longest_answer, unsent_of, unsent_at, line_begun_of}
-use Rattle.srcp_core.specs.Machine.{line_begun_at, answered, line_answered, lines_answered, steps_answered, steps_of_line, steps_in}
-use Rattle.srcp_core.specs.Machine.{HasRoom, IsAsked, IsLineAnswered, CountsEach, is_panel}
-use Rattle.srcp_core.specs.Under.{denied_by}
-use Rattle.srcp_core.specs.declared.line.LineRecord.{LineRecord}
-use Rattle.srcp_core.specs.declared.line.Asked.{Asked}
-use Rattle.srcp_core.specs.declared.line.Asked.TheVariants.{Dropped, Greets, Commands}
+use Rattle.srcp_core.specs.Machine.{heard, heard_in}
+use Rattle.srcp_core.specs.Machine.{line_begun_at, answered}
+use Rattle.srcp_core.specs.Machine.{IsAsked, IsLineAnswered}
 use Rattle.srcp_core.proofs.Invariants.PlacesCover.{IsMild, place_set_here, where_is, Here, Away}
 use Rattle.srcp_core.proofs.Invariants.AnswersHaveRoom.{answered_gains}
 
@@ -39,10 +35,10 @@ short false true p mark code = omega arith
 short false false p mark code = omega arith
 
 too_long_short : (buses : List Bus) (p : Place) → longest_answer (asked_of buses p TooLong) ≤ 64
-too_long_short buses p = short (is_panel p.panel || p.ended) (p.session == 0) p TooLong _
+too_long_short buses p = short _ _ p TooLong _
 
 empty_short : (buses : List Bus) (p : Place) → longest_answer (asked_of buses p (Line [])) ≤ 64
-empty_short buses p = short (is_panel p.panel || p.ended) (p.session == 0) p (Line []) _
+empty_short buses p = short _ _ p (Line []) _
 
 -- ---- a line that was found
 
@@ -75,7 +71,7 @@ are_same stop s asked a new n e =
 module _ (buses : List Bus) (p new : Place) (piece : List ℕ) (start stop : ℕ) (asked : Asked) where
   pub found : ◌≡◌ {A = Option (ℕ × Asked) × Place} (Some (stop, asked), new) (heard buses piece start p)
       → IsFound buses p new piece start stop asked
-  found e = by (position is_lf (drop start piece)) refl e
+  found e = by _ refl e
     where
       ends : (len : ℕ) → len < length (drop start piece) → (whole : Option (List ℕ))
           → extended p.reader.begun (take len (drop start piece)) ≡ whole
@@ -83,7 +79,7 @@ module _ (buses : List Bus) (p new : Place) (piece : List ℕ) (start stop : ℕ
           (heard_from buses p (fed_at whole (start + len + 1), after_lf whole))
           → IsFound buses p new piece start stop asked
       ends len low None w e =
-          let same = are_same stop (start + len + 1) asked (asked_of buses p TooLong) new (record p { reader = nothing_read }) e in
+          let same = are_same stop _ asked _ new _ e in
           let place : new ≡ record p { reader = nothing_read } = same.place in
           let at : stop ≡ start + len + 1 = same.stops in
           let is : asked ≡ asked_of buses p TooLong = same.asks in
@@ -92,8 +88,8 @@ module _ (buses : List Bus) (p new : Place) (piece : List ℕ) (start stop : ℕ
             onward = omega (arith, at);
             within = omega (arith, at, low, size);
             mark = TooLong;
-            asks = is ∙ sym (ap (λ (q : Place). asked_of buses q TooLong) place);
-            unsent = ap (λ (q : Place). q.unsent) place;
+            asks = cc;
+            unsent = cc;
             begun = ap (λ (q : Place). q.reader.begun) place;
             few = λ h. let s = too_long_short buses p in let n = ap (λ (a : Asked). longest_answer a) is in omega (arith, s, n, at);
           }
@@ -109,8 +105,8 @@ module _ (buses : List Bus) (p new : Place) (piece : List ℕ) (start stop : ℕ
             onward = omega (arith, at);
             within = omega (arith, at, low, size);
             mark = Line (without_cr bytes);
-            asks = is ∙ sym (ap (λ (q : Place). asked_of buses q (Line (without_cr bytes))) place);
-            unsent = ap (λ (q : Place). q.unsent) place;
+            asks = cc;
+            unsent = cc;
             begun = ap (λ (q : Place). q.reader.begun) place;
             few = λ h. size_of len w at is h;
           }
@@ -119,7 +115,7 @@ module _ (buses : List Bus) (p new : Place) (piece : List ℕ) (start stop : ℕ
               → asked ≡ asked_of buses p (Line (without_cr bytes))
               → p.reader.begun ≡ Some [] → longest_answer asked ≤ 64 * (stop - start)
           size_of zero w at is h =
-              let none : Some [] ≡ Some bytes = ap (λ b. extended b []) (sym h) ∙ w in
+              let none : Some [] ≡ Some bytes = cc in
               let empty : [] ≡ bytes = cc in
               let n = ap (λ (a : Asked). longest_answer a) (is ∙ ap (λ bs. asked_of buses p (Line (without_cr bs))) (sym empty)) in
               let s = empty_short buses p in
@@ -134,12 +130,12 @@ module _ (buses : List Bus) (p new : Place) (piece : List ℕ) (start stop : ℕ
           let bad : ◌≡◌ {A = Option (ℕ × Asked)} (Some (stop, asked)) None = ap (λ (r : Option (ℕ × Asked) × Place). r.0) e in
           absurd (let f : ⊥ = cc in f)
       by (Some len) f e =
-          let s = position_some is_lf (drop start piece) len f in
+          let s = position_some is_lf _ len f in
           ends len s.1 (extended p.reader.begun (take len (drop start piece))) refl e
 
 -- hearing leaves the session as it is
 pub heard_mild : (buses : List Bus) (piece : List ℕ) (start : ℕ) (p : Place) → IsMild p (heard buses piece start p).1
-heard_mild buses piece start p = by (position is_lf (drop start piece))
+heard_mild buses piece start p = by _
   where
     ends : (whole : Option (List ℕ)) (stop : ℕ) → IsMild p (heard_from buses p (fed_at whole stop, after_lf whole)).1
     ends None stop = record { session = refl; ended = λ h. h; panel = refl }
@@ -147,7 +143,7 @@ heard_mild buses piece start p = by (position is_lf (drop start piece))
 
     by : (o : Option ℕ) → IsMild p (heard_from buses p (feed_at p.reader.begun start (drop start piece) o)).1
     by None = record { session = refl; ended = λ h. h; panel = refl }
-    by (Some len) = ends (extended p.reader.begun (take len (drop start piece))) (start + len + 1)
+    by (Some len) = ends _ _
 
 -- and the core is as sound as before
 
@@ -168,7 +164,7 @@ pub record IsLineFound (key : ℕ) (piece : List ℕ) (start stop : ℕ) (asked 
 pub line_found : (key : ℕ) (piece : List ℕ) (start stop : ℕ) (asked : Asked) (old new : Held)
     → ◌≡◌ {A = Option (ℕ × Asked) × Held} (Some (stop, asked), new) (heard_at key piece start old)
     → IsLineFound key piece start stop asked old new
-line_found key piece start stop asked old new e = by (at old key) refl e
+line_found key piece start stop asked old new e = by _ refl e
   where
     by : (o : Option Place) → at old key ≡ o
         → ◌≡◌ {A = Option (ℕ × Asked) × Held} (Some (stop, asked), new) (heard_in key piece start old o)
@@ -177,7 +173,7 @@ line_found key piece start stop asked old new e = by (at old key) refl e
         let bad : ◌≡◌ {A = Option (ℕ × Asked)} (Some (stop, asked)) None = ap (λ (r : Option (ℕ × Asked) × Held). r.0) e in
         absurd (let f : ⊥ = cc in f)
     by (Some p) there e =
-        let after : Place = (heard old.buses piece start p).1 in
+        let after : Place = (heard _ piece start p).1 in
         let answer : ◌≡◌ {A = Option (ℕ × Asked)} (Some (stop, asked)) (heard old.buses piece start p).0 =
         ap (λ (r : Option (ℕ × Asked) × Held). r.0) e in
         let held : new ≡ record old { places = slice_set old.places key (Some after) } = ap (λ (r : Option (ℕ × Asked) × Held). r.1) e in
@@ -192,9 +188,9 @@ line_found key piece start stop asked old new e = by (at old key) refl e
           mark = f.mark;
           here = here;
           asks = f.asks ∙ sym (ap (λ (h : Held). asked_of h.buses after f.mark) held);
-          unsent = ap unsent_of here ∙ f.unsent ∙ sym (ap unsent_of there);
-          begun = ap line_begun_of here ∙ f.begun;
-          few = λ h. f.few (sym (ap line_begun_of there) ∙ h);
+          unsent = cc f.unsent;
+          begun = cc f.begun;
+          few = λ h. f.few (cc);
         }
 
 -- reading refuses nothing
@@ -214,7 +210,7 @@ line_asks key piece start stop asked old new e =
 
 pub nothing_begun : (key : ℕ) (piece : List ℕ) (held : Held) → unsent_at key held ≡ [] → HasRoom key piece 0 held
 nothing_begun key piece held idle =
-    let none : length (unsent_at key held) ≡ 0 = ap (λ (bs : List ℕ). length bs) idle in
+    let none : length (unsent_at key held) ≡ 0 = cc in
     record { far = omega arith; idle = λ e. none; room = omega (arith, none); begun = λ low. absurd (omega (arith, low)) }
 
 module _ (key : ℕ) (piece : List ℕ) (start stop : ℕ) (asked : Asked) (held mid : Held)
@@ -257,11 +253,10 @@ module _ (key : ℕ) (piece : List ℕ) (start stop : ℕ) (asked : Asked) (held
       → IsLineAnswered key piece start stop did held new
   line_is_answered did new is steps counted s t = record {
     onward = (line_found key piece start stop asked held mid e).onward;
-    room = subst (HasRoom key piece stop) (sym is) (room_after did.granted s t);
+    room = subst (HasRoom key piece stop) (sym is) (room_after _ s t);
     is =
-        ap (λ (h : Held). let r : ℕ × Held = (stop, h) in r) is
-        ∙ ap (λ (r : Option (ℕ × Asked) × Held). line_answered key did.granted (start, held) r) e;
-    steps = steps ∙ ap (λ (r : Option (ℕ × Asked) × Held). steps_of_line did.granted r) e;
+        cc;
+    steps = cc;
     counted =
         counted
         ∙ ap (λ k. denied_by k (did.granted ∷ []))
@@ -275,16 +270,13 @@ pub record AreAnswered (key : ℕ) (piece : List ℕ) (first : Held) (start : �
   pub counted : CountsEach key piece (0, first) grants
   pub is : ◌≡◌ {A = ℕ × Held} (start, held) (lines_answered key piece grants first)
 
-pub nothing_taken : (key : ℕ) (piece : List ℕ) (first : Held) → unsent_at key first ≡ [] → AreAnswered key piece first 0 first
-nothing_taken key piece first idle = record { room = nothing_begun key piece first idle; grants = []; counted = tt; is = refl }
-
 counts_push : (key : ℕ) (piece : List ℕ) (grants : List Bool) (before : ℕ × Held) (granted : Bool) → CountsEach key piece before grants
     → CountsEach key piece (fold (λ before granted. line_answered key granted before (heard_at key piece before.0 before.1)) before grants)
     (granted ∷ [])
     → CountsEach key piece before (grants ++ granted ∷ [])
 counts_push key piece [] before granted a e = e
 counts_push key piece (g ∷ grants) before granted a e =
-    (a.0, counts_push key piece grants (line_answered key g before (heard_at key piece before.0 before.1)) granted a.1 e)
+    (a.0, counts_push key piece grants _ granted a.1 e)
 
 pub line_added : (key : ℕ) (piece : List ℕ) (first : Held) (start stop : ℕ) (did : LineRecord) (held new : Held)
     → IsLineAnswered key piece start stop did held new
@@ -292,12 +284,14 @@ pub line_added : (key : ℕ) (piece : List ℕ) (first : Held) (start stop : ℕ
 line_added key piece first start stop did held new l t = record {
   room = l.room;
   grants = t.grants ++ did.granted ∷ [];
-  counted = counts_push key piece t.grants (0, first) did.granted t.counted
-      (subst (λ (b : ℕ × Held). CountsEach key piece b (did.granted ∷ [])) t.is
+  counted = counts_push key piece t.grants (0, first) _ t.counted
+      (rw (← t.is)
       (sym (ap (λ (r : ℕ × Held). r.1.denied) l.is) ∙ l.counted, tt));
   is =
-      l.is
-      ∙ ap (λ (b : ℕ × Held). line_answered key did.granted b (heard_at key piece b.0 b.1)) t.is
-      ∙ sym (fold-append (λ before granted. line_answered key granted before (heard_at key piece before.0 before.1)) (0, first) t.grants
-      (did.granted ∷ []));
+      cc (
+        l.is,
+        t.is,
+        fold-append (λ before granted. line_answered key granted before (heard_at key piece before.0 before.1)) (0, first) t.grants
+            _,
+      );
 }

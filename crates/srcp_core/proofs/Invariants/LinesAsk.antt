@@ -1,20 +1,8 @@
 -- What a line asks for, and of whom.
-use Rattle.std.proofs.Common.{◌≡◌, ℕ, List, Bool, true, false, refl, sym, subst}
-use Rattle.std.proofs.lemmas.Bool.{eqb-false}
-use Rattle.std.proofs.Math.Nat.{pos_of_ne-zero}
-use Rattle.std.specs.Prelude.{◌||◌, ◌==◌, if◌then◌else◌, Result, IfOk}
-use Rattle.srcp_info.specs.declared.change.Code.{Code}
-use Rattle.srcp_grammar.specs.Command.{IsCommandOf}
-use Rattle.srcp_grammar.specs.Layout.{IsLayout}
-use Rattle.srcp_grammar.specs.declared.command.Command.{Command}
-use Rattle.srcp_grammar.specs.declared.layout.Bus.{Bus}
-use Rattle.srcp_grammar.proofs.GrammarLaws.{reads_fits}
-use Rattle.srcp_text.specs.Marks.{Mark, Line, TooLong}
-use Rattle.srcp_core.specs.Course.{command_of}
+use Rattle.srcp_core.proofs.Names.{◌≡◌, ℕ, List, Bool, true, false, refl, eqb-false, pos_of_ne-zero, ◌||◌, ◌==◌, if◌then◌else◌, Result}
+use Rattle.srcp_core.proofs.Names.{IfOk, Code, IsCommandOf, IsLayout, Command, Bus, reads_fits, Mark, Line, TooLong, command_of, Place}
+use Rattle.srcp_core.proofs.Names.{IsLive, asked_of, Dropped, Greets, Commands}
 use Rattle.srcp_core.specs.Handshake.{greets}
-use Rattle.srcp_core.specs.Held.{Place, IsLive}
-use Rattle.srcp_core.specs.Machine.{asked_of, is_panel}
-use Rattle.srcp_core.specs.declared.line.Asked.TheVariants.{Dropped, Greets, Commands}
 
 fits : (buses : List Bus) → IsLayout buses → (mark : Mark) → IfOk (command_of buses mark) (IsCommandOf buses)
 fits buses layout TooLong = tt
@@ -28,7 +16,7 @@ pub record IsAskedBy (buses : List Bus) (p : Place) (session : ℕ) (command : R
 
 pub asked_by : (buses : List Bus) → IsLayout buses → (p : Place) (mark : Mark) (session : ℕ) (command : Result Command Code)
     → Commands session command ≡ asked_of buses p mark → IsAskedBy buses p session command
-asked_by buses layout p mark session command e = by (is_panel p.panel) p.ended refl (p.session == 0) refl e
+asked_by buses layout p mark session command e = by _ p.ended refl _ refl e
   where
     by : (i n : Bool) → p.ended ≡ n → (z : Bool) → (p.session == 0) ≡ z
         → Commands session command
@@ -43,5 +31,5 @@ asked_by buses layout p mark session command e = by (is_panel p.panel) p.ended r
         record {
           own = own;
           live = record { began = pos_of_ne-zero (eqb-false p.session 0 q); not_ended = h };
-          of = subst (λ r. IfOk r (IsCommandOf buses)) (sym same) (fits buses layout mark);
+          of = rw same (fits buses layout mark);
         }

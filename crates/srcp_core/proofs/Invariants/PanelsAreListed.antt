@@ -1,9 +1,7 @@
 -- The panels among the entries of a slab.
-use Rattle.std.proofs.Common.{◌≡◌, ℕ, suc, ◌+◌, List, [], ◌∷◌, map, refl, ◌∙◌, arith}
-use Rattle.std.specs.Prelude.{Option, Some, None, Bool, true, false, if◌then◌else◌}
-use Rattle.slab.specs.Slab.{entries_from}
-use Rattle.srcp_core.specs.Held.{Place}
-use Rattle.srcp_core.specs.Machine.{panel_keys, is_panel}
+use Rattle.srcp_core.proofs.Names.{◌≡◌, ℕ, suc, ◌+◌, List, [], ◌∷◌, map, refl, ◌∙◌, arith, Option, Some, None, if◌then◌else◌, entries_from}
+use Rattle.srcp_core.proofs.Names.{Place, panel_keys, is_panel}
+use Rattle.std.specs.Prelude.{Bool, true, false}
 
 -- the keys of the entries that are panels
 abbrev pub listed : List (ℕ × Place) → List ℕ
@@ -18,7 +16,7 @@ shifted first (key ∷ keys) =
 listed_from : (first : ℕ) (places : List (Option Place))
     → listed (entries_from first places) ≡ map (λ key. first + key) (panel_keys places)
 listed_from first [] = refl
-listed_from first (None ∷ places) = listed_from (first + 1) places ∙ shifted first (panel_keys places)
+listed_from first (None ∷ places) = listed_from _ places ∙ shifted first _
 listed_from first (Some place ∷ places) =
     one (is_panel place.panel) _ _ (listed_from (first + 1) places ∙ shifted first (panel_keys places))
   where
@@ -33,4 +31,4 @@ from_zero (key ∷ keys) = let e : 0 + key ≡ key = omega arith in λ i. e i �
 
 -- the panels are those among the entries
 pub listed_all : (places : List (Option Place)) → listed (entries_from 0 places) ≡ panel_keys places
-listed_all places = listed_from 0 places ∙ from_zero (panel_keys places)
+listed_all places = listed_from 0 places ∙ from_zero _

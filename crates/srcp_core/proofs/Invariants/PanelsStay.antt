@@ -1,15 +1,11 @@
 -- Which connections have an information session, and what keeps that as it is.
-use Rattle.std.proofs.Common.{◌≡◌, ◌≤◌, ℕ, zero, suc, ◌+◌, List, [], ◌∷◌, map, length, refl, ap, sym, ◌∙◌, true≢false, arith}
-use Rattle.std.proofs.lemmas.List.{length-map}
-use Rattle.std.specs.Prelude.{Bool, true, false, if◌then◌else◌, Option, Some, None, slice_set, count_by, is_some}
-use Rattle.slab.specs.Slab.{Slab, get, Updates}
-use Rattle.srcp_info.specs.declared.change.Change.{Change}
-use Rattle.srcp_core.specs.Held.{Place, place_at}
-use Rattle.srcp_core.specs.Machine.{fresh_place, has_panel, is_panel, panel_keys, slack_in, slack_at, told_all}
-use Rattle.srcp_core.specs.Machine.{told_each}
-use Rattle.srcp_core.specs.Waits.{least, lesser, option_or_256}
-use Rattle.srcp_core.specs.declared.connection.Panel.{Panel}
-use Rattle.srcp_core.specs.declared.connection.Panel.TheVariants.{Absent, Listening, Overran}
+use Rattle.srcp_core.proofs.Names.{◌≡◌, ◌≤◌, ℕ, zero, suc, ◌+◌, List, [], ◌∷◌, map, length, refl, ◌∙◌, true≢false, arith, length-map}
+use Rattle.srcp_core.proofs.Names.{if◌then◌else◌, Option, Some, None, slice_set, count_by, is_some, Slab, Change, Place, place_at, is_panel}
+use Rattle.srcp_core.proofs.Names.{panel_keys, slack_in, slack_at, told_all, told_each, least, lesser, option_or_256, Panel, Absent}
+use Rattle.srcp_core.proofs.Names.{Listening, Overran}
+use Rattle.std.specs.Prelude.{Bool, true, false}
+use Rattle.slab.specs.Slab.{get, Updates}
+use Rattle.srcp_core.specs.Machine.{fresh_place, has_panel}
 use Rattle.srcp_core.proofs.Invariants.EveryPlaceIsTold.{count_by_cons}
 use Rattle.srcp_core.proofs.Invariants.PlacesCover.{told_mild, Here, Away, where_is}
 
@@ -46,47 +42,47 @@ slack_most (Some place ∷ places) = by place.panel (least (map slack_at places)
 pub no_slack : (places : List (Option Place)) → panel_keys places ≡ [] → least (map slack_at places) ≡ None
 no_slack [] none = refl
 no_slack (None ∷ places) none = no_slack places (unlisted _ none)
-no_slack (Some place ∷ places) none = by (is_panel place.panel) refl none (no_slack places)
+no_slack (Some place ∷ places) none = by _ refl none (no_slack places)
   where
     by : (is : Bool) → is_panel place.panel ≡ is → with_key is (panel_keys places) ≡ []
         → (panel_keys places ≡ [] → least (map slack_at places) ≡ None) → least (map slack_at (Some place ∷ places)) ≡ None
     by true e none rest = cc
     by false e none rest =
-        ap (λ one. lesser one (least (map slack_at places))) (slack_none place.panel e) ∙ rest (unlisted _ none)
+        cc (slack_none _ e, rest (unlisted _ none))
 
 -- with one there is
 pub some_slack : (places : List (Option Place)) → (panel_keys places ≡ [] → ⊥)
     → least (map slack_at places) ≡ Some (option_or_256 (least (map slack_at places)))
 some_slack [] some = absurd (some refl)
-some_slack (None ∷ places) some = some_slack places (λ none. some (ap (map suc) none))
-some_slack (Some place ∷ places) some = by place.panel refl (some_slack places)
+some_slack (None ∷ places) some = some_slack places (λ none. some (cc))
+some_slack (Some place ∷ places) some = by _ refl (some_slack places)
   where
     by : (panel : Panel) → place.panel ≡ panel
         → ((panel_keys places ≡ [] → ⊥) → least (map slack_at places) ≡ Some (option_or_256 (least (map slack_at places))))
         → lesser (slack_in panel) (least (map slack_at places))
         ≡ Some (option_or_256 (lesser (slack_in panel) (least (map slack_at places))))
     by Absent e rest =
-        rest (λ none. some (ap (λ panel. with_key (is_panel panel) (panel_keys places)) e ∙ ap (map suc) none))
-    by (Listening feed) e rest = lesser_some _ (least (map slack_at places))
-    by Overran e rest = lesser_some _ (least (map slack_at places))
+        rest (λ none. some (cc))
+    by (Listening feed) e rest = lesser_some _ _
+    by Overran e rest = lesser_some _ _
 
 -- a change that is told keeps the panels
 pub panels_told : (change : Change) (places : List (Option Place)) → panel_keys (told_all change places) ≡ panel_keys places
 panels_told change [] = refl
-panels_told change (None ∷ places) = ap (map suc) (panels_told change places)
+panels_told change (None ∷ places) = cc (panels_told change places)
 panels_told change (Some place ∷ places) = λ i. with_key ((told_mild change place).panel i) (panels_told change places i)
 
 pub panels_told_each : (changes : List Change) (places : List (Option Place))
     → panel_keys (told_each changes places) ≡ panel_keys places
 panels_told_each [] places = refl
-panels_told_each (change ∷ changes) places = panels_told_each changes (told_all change places) ∙ panels_told change places
+panels_told_each (change ∷ changes) places = panels_told_each changes _ ∙ panels_told change places
 
 -- so does a place that keeps its panel
 pub panels_set : (places : List (Option Place)) (key : ℕ) (p q : Place) → place_at places key ≡ Some p → is_panel q.panel ≡ is_panel p.panel
     → panel_keys (slice_set places key (Some q)) ≡ panel_keys places
 panels_set [] key p q there same = refl
-panels_set (slot ∷ places) zero p q there same = ap (λ first. with_key first (panel_keys places)) (same ∙ sym (ap has_panel there))
-panels_set (slot ∷ places) (suc key) p q there same = ap (with_key (has_panel slot)) (panels_set places key p q there same)
+panels_set (slot ∷ places) zero p q there same = cc
+panels_set (slot ∷ places) (suc key) p q there same = cc (panels_set places key p q there same)
 
 same_panels : (some others : List (Option Place)) → ((key : ℕ) → has_panel (place_at some key) ≡ has_panel (place_at others key))
     → panel_keys some ≡ panel_keys others
@@ -99,7 +95,7 @@ same_panels (slot ∷ some) (other ∷ others) same = λ i. with_key (same 0 i) 
 pub panels_inserted : (old new : Slab Place) (key : ℕ) → Updates old new key (Some fresh_place) → get old key ≡ None
     → panel_keys new.slots ≡ panel_keys old.slots
 panels_inserted old new key updates free = same_panels new.slots old.slots (λ other.
-    elim (where_is other key) [ Here e ↦ rw (e, updates.changed, free) refl | Away f ↦ ap has_panel (updates.others other f) ])
+    elim (where_is other key) [ Here e ↦ rw (e, updates.changed, free) refl | Away f ↦ cc (updates.others other f) ])
 
 with_key_few : (is : Bool) (keys : List ℕ) → length (with_key is keys) ≤ 1 + length keys
 with_key_few true keys = let e = length-map keys (λ key. suc key) in omega (arith, e)

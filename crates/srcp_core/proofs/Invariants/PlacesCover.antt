@@ -1,16 +1,8 @@
 -- Places whose connections come from those of other places, with the sessions that these have.
-use Rattle.std.proofs.Common.{◌≡◌, ◌≢◌, ℕ, zero, suc, ◌+◌, ◌<◌, ◌≤◌, true, false, cond, List, [], ◌∷◌, refl, ap, sym, ◌∙◌, subst, arith}
-use Rattle.std.specs.Option.{option_map}
-use Rattle.std.specs.Prelude.{◌&&◌, Option, Some, None, is_some, slice_set, count_by, if◌then◌else◌}
-use Rattle.srcp_info.specs.declared.change.Change.{Change}
-use Rattle.srcp_grammar.specs.Devices.{session_device}
-use Rattle.srcp_rules.specs.State.{State, is_there}
-use Rattle.srcp_feed.specs.Cursor.{concerns}
-use Rattle.srcp_feed.specs.Feed.{is_full, told}
-use Rattle.srcp_core.specs.Held.{Place, place_at, IsLive, AreSessions}
-use Rattle.srcp_core.specs.Machine.{is_panel, told_feed, told_place, told_all, told_each, feed_in, changed_in, changed_places}
-use Rattle.srcp_core.specs.declared.connection.Panel.{Panel}
-use Rattle.srcp_core.specs.declared.connection.Panel.TheVariants.{Absent, Listening, Overran}
+use Rattle.srcp_core.proofs.Names.{◌≡◌, ◌≢◌, ℕ, zero, suc, true, false, cond, List, [], ◌∷◌, refl, sym, ◌∙◌, subst, arith, option_map, ◌&&◌}
+use Rattle.srcp_core.proofs.Names.{Option, Some, None, is_some, slice_set, count_by, Change, State, concerns, is_full, told, Place}
+use Rattle.srcp_core.proofs.Names.{place_at, IsLive, AreSessions, is_panel, told_feed, told_place, told_all, told_each, feed_in}
+use Rattle.srcp_core.proofs.Names.{changed_places, Panel, Absent, Listening, Overran}
 use Rattle.srcp_core.proofs.Invariants.EveryPlaceIsTold.{count_by_cons, told_all_count, told_all_at}
 
 -- the session is the same, an end is not undone, and a panel stays one
@@ -23,7 +15,7 @@ pub mild_itself : (p : Place) → IsMild p p
 mild_itself p = record { session = refl; ended = λ h. h; panel = refl }
 
 pub mild_live : (p q : Place) → IsMild p q → IsLive q → IsLive p
-mild_live p q m l = record { began = subst (λ n. 0 < n) m.session l.began; not_ended = m.ended l.not_ended }
+mild_live p q m l = record { began = rw (← m.session) l.began; not_ended = m.ended l.not_ended }
 
 -- where a connection comes from
 pub record Source (places : List (Option Place)) (key : ℕ) (q : Place) : Type 0 where
@@ -63,7 +55,7 @@ place_set [] key m slot h = refl
 place_set (x ∷ places) zero zero slot h = absurd (h refl)
 place_set (x ∷ places) zero (suc m) slot h = refl
 place_set (x ∷ places) (suc key) zero slot h = refl
-place_set (x ∷ places) (suc key) (suc m) slot h = place_set places key m slot (λ e. h (ap (λ n. suc n) e))
+place_set (x ∷ places) (suc key) (suc m) slot h = place_set places key m slot (λ e. h (cc))
 
 pub place_set_here : (places : List (Option Place)) (key : ℕ) (p : Place) (slot : Option Place) → place_at places key ≡ Some p
     → place_at (slice_set places key slot) key ≡ slot
@@ -79,7 +71,7 @@ pub where_is : (m n : ℕ) → Where m n
 where_is zero zero = Here refl
 where_is zero (suc n) = Away (λ e. omega (arith, e))
 where_is (suc m) zero = Away (λ e. omega (arith, e))
-where_is (suc m) (suc n) = elim (where_is m n) [ Here e ↦ Here (ap (λ k. suc k) e) | Away f ↦ Away (λ e. f (omega (arith, e))) ]
+where_is (suc m) (suc n) = elim (where_is m n) [ Here e ↦ Here (cc) | Away f ↦ Away (λ e. f (omega (arith, e))) ]
 
 pub covers_set : (places : List (Option Place)) (key : ℕ) (p q : Place) → place_at places key ≡ Some p → IsMild p q
     → Covers places (slice_set places key (Some q))
@@ -88,10 +80,10 @@ covers_set places key p q at mild m r e = by (where_is m key)
     by : Where m key → Source places m r
     by (Here s) =
         let here : place_at (slice_set places key (Some q)) m ≡ Some q =
-        subst (λ k. place_at (slice_set places key (Some q)) k ≡ Some q) (sym s) (place_set_here places key p (Some q) at) in
+        rw s (place_set_here places key p _ at) in
         let same : q ≡ r = cc in
-        record { p = p; there = subst (λ k. place_at places k ≡ Some p) (sym s) at; mild = subst (IsMild p) same mild }
-    by (Away f) = record { p = r; there = sym (place_set places key m (Some q) f) ∙ e; mild = mild_itself r }
+        record { p = p; there = rw s at; mild = subst (IsMild p) same mild }
+    by (Away f) = record { p = r; there = sym (place_set places key m _ f) ∙ e; mild = mild_itself r }
 
 pub covers_free : (places : List (Option Place)) (key : ℕ) (p : Place) → place_at places key ≡ Some p
     → Covers places (slice_set places key None)
@@ -100,8 +92,8 @@ covers_free places key p at m r e = by (where_is m key)
     by : Where m key → Source places m r
     by (Here s) =
         let here : place_at (slice_set places key None) m ≡ None =
-        subst (λ k. place_at (slice_set places key None) k ≡ None) (sym s) (place_set_here places key p None at) in
-        let bad : Some r ≡ None = sym e ∙ here in
+        rw s (place_set_here places key p None at) in
+        let bad : Some r ≡ None = cc in
         cc
     by (Away f) = record { p = r; there = sym (place_set places key m None f) ∙ e; mild = mild_itself r }
 
@@ -109,8 +101,8 @@ pub free_other : (places : List (Option Place)) (key : ℕ) (p : Place) → plac
     → place_at (slice_set places key None) m ≡ Some r → m ≢ key
 free_other places key p at m r e s =
     let here : place_at (slice_set places key None) m ≡ None =
-    subst (λ k. place_at (slice_set places key None) k ≡ None) (sym s) (place_set_here places key p None at) in
-    let bad : Some r ≡ None = sym e ∙ here in
+    rw s (place_set_here places key p None at) in
+    let bad : Some r ≡ None = cc in
     cc
 
 -- ---- a change is told
@@ -121,14 +113,14 @@ told_mild change p = by p.panel refl
     by : (panel : Panel) → p.panel ≡ panel → IsMild p (told_feed change p (feed_in panel))
     by Absent e = mild_itself p
     by Overran e = mild_itself p
-    by (Listening feed) e = elim (concerns feed.cursor change && is_full feed)
+    by (Listening feed) e = elim (concerns _ change && is_full feed)
         as (λ t. IsMild p (cond t (record p { unsent = []; panel = Overran }) (record p { panel = Listening (told change feed) }))) [
-          | true ↦ record { session = refl; ended = λ h. h; panel = ap is_panel (sym e) }
-          | false ↦ record { session = refl; ended = λ h. h; panel = ap is_panel (sym e) }
+          | true ↦ record { session = refl; ended = λ h. h; panel = cc }
+          | false ↦ record { session = refl; ended = λ h. h; panel = cc }
         ]
 
 pub covers_told : (change : Change) (places : List (Option Place)) → Covers places (told_all change places)
-covers_told change places key q e = by (place_at places key) refl (sym (told_all_at change places key) ∙ e)
+covers_told change places key q e = by _ refl (sym (told_all_at change places key) ∙ e)
   where
     by : (o : Option Place) → place_at places key ≡ o → option_map (told_place change) o ≡ Some q → Source places key q
     by None at h = cc
@@ -147,7 +139,7 @@ covers_told_each (change ∷ changes) places =
 pub told_each_count : (changes : List Change) (places : List (Option Place))
     → count_by is_some (told_each changes places) ≡ count_by is_some places
 told_each_count [] places = refl
-told_each_count (change ∷ changes) places = told_each_count changes (told_all change places) ∙ told_all_count change places
+told_each_count (change ∷ changes) places = told_each_count changes _ ∙ told_all_count change places
 
 -- ---- how many are open
 
@@ -157,22 +149,21 @@ set_count [] key p q h = refl
 set_count (None ∷ places) zero p q h = cc
 set_count (Some x ∷ places) zero p q h = count_by_cons is_some (Some q) places ∙ sym (count_by_cons is_some (Some x) places)
 set_count (x ∷ places) (suc key) p q h =
-    count_by_cons is_some x (slice_set places key (Some q)) ∙ ap (λ n. (if is_some x then 1 else 0) + n) (set_count places key p q h)
-    ∙ sym (count_by_cons is_some x places)
+    cc (count_by_cons is_some x (slice_set places key (Some q)), set_count places key p q h, count_by_cons is_some x places)
 
 -- ---- the sessions
 
 pub sessions_covered : (last : ℕ) (rows : State) (old new : List (Option Place)) → Covers old new → AreSessions last rows old
     → AreSessions last rows new
 sessions_covered last rows old new f a = record {
-  ids = λ key q e. let s = f key q e in subst (λ n. n ≤ last) (sym s.mild.session) (a.ids key s.p s.there);
+  ids = λ key q e. let s = f key q e in rw s.mild.session (a.ids key s.p s.there);
   apart = λ m n q r e g low same.
       let s = f m q e in
       let t = f n r g in
-      a.apart m n s.p t.p s.there t.there (subst (λ i. 0 < i) s.mild.session low) (sym s.mild.session ∙ same ∙ t.mild.session);
+      a.apart m n s.p t.p s.there t.there (rw (← s.mild.session) low) (sym s.mild.session ∙ same ∙ t.mild.session);
   there = λ key q e live.
       let s = f key q e in
-      ap (λ i. is_there (session_device i) rows) s.mild.session ∙ a.there key s.p s.there (mild_live s.p q s.mild live);
+      cc (s.mild.session, a.there key s.p s.there (mild_live s.p q s.mild live));
   later = a.later;
 }
 
@@ -181,9 +172,9 @@ sessions_covered last rows old new f a = record {
 -- by the connection that was found there
 pub set_as : (places : List (Option Place)) (key : ℕ) (change : Place → Place) (p q : Place) → place_at places key ≡ Some p → q ≡ change p
     → slice_set places key (Some q) ≡ changed_places key change places
-set_as places key change p q there is = ap (λ (q : Place). slice_set places key (Some q)) is ∙ sym (ap (changed_in key change places) there)
+set_as places key change p q there is = cc
 
 -- nothing, where there is none
 pub none_as : (places : List (Option Place)) (key : ℕ) (change : Place → Place) → place_at places key ≡ None
     → places ≡ changed_places key change places
-none_as places key change none = sym (ap (changed_in key change places) none)
+none_as places key change none = cc

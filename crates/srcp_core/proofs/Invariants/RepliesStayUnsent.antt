@@ -1,22 +1,12 @@
 -- What is unsent, and whose session goes on, while lines are answered.
-use Rattle.std.proofs.Common.{◌≡◌, ℕ, ◌+◌, ◌<◌, ◌≤◌, true, false, cond, List, [], ◌∷◌, map, length, refl, ap, sym, ◌∙◌, subst, arith}
-use Rattle.std.specs.Option.{option_map}
-use Rattle.std.specs.Prelude.{◌&&◌, if◌then◌else◌, Option, Some, None}
-use Rattle.std.proofs.lemmas.Bool.{lt-ltb}
-use Rattle.srcp_info.specs.declared.change.Code.TheVariants.{C500}
-use Rattle.srcp_info.specs.Line.{reply_line}
-use Rattle.srcp_info.specs.declared.change.Change.{Change}
-use Rattle.srcp_info.specs.declared.change.Reply.{Reply}
-use Rattle.srcp_info.specs.declared.change.Reply.TheVariants.{Accepted, Protocol, Mode as ModeReply, Go, Refused, Shows}
-use Rattle.srcp_info.specs.declared.value.Mode.{Mode}
-use Rattle.srcp_grammar.specs.Devices.{session_device}
-use Rattle.srcp_rules.specs.State.{Update, is_there}
-use Rattle.srcp_feed.specs.Cursor.{concerns}
-use Rattle.srcp_feed.specs.Feed.{Feed, is_full, told}
-use Rattle.srcp_core.specs.Held.{Place, Held, place_at, IsLive, IsSound, IsSessionAt}
-use Rattle.srcp_core.specs.Machine.{told_feed, told_place, told_all, told_each, carried, unsent_of, changed_in, with_unsent, replied}
-use Rattle.srcp_core.specs.Machine.{longest, session_begun, goes, feed_in}
-use Rattle.srcp_core.specs.declared.connection.Panel.TheVariants.{Listening, Overran}
+use Rattle.srcp_core.proofs.Names.{◌≡◌, ℕ, ◌+◌, ◌<◌, ◌≤◌, true, false, cond, List, [], ◌∷◌, map, length, refl, ap, sym, ◌∙◌, subst, arith}
+use Rattle.srcp_core.proofs.Names.{option_map, ◌&&◌, if◌then◌else◌, Option, Some, None, lt-ltb, C500, Change, Reply, Accepted, Protocol, Go}
+use Rattle.srcp_core.proofs.Names.{Refused, Shows, Mode, session_device, Update, is_there, concerns, Feed, is_full, told, Place, Held}
+use Rattle.srcp_core.proofs.Names.{place_at, IsLive, IsSound, IsSessionAt, told_feed, told_place, told_all, told_each, carried, unsent_of}
+use Rattle.srcp_core.proofs.Names.{changed_in, with_unsent, longest, session_begun, feed_in, Listening, Overran}
+use Rattle.srcp_info.specs.declared.change.Reply.TheVariants.{Mode as ModeReply}
+use Rattle.srcp_core.specs.Machine.{replied}
+use Rattle.srcp_core.specs.Machine.{goes}
 use Rattle.srcp_core.proofs.Invariants.EveryPlaceIsTold.{told_all_at}
 use Rattle.srcp_core.proofs.Invariants.ChangesOneByOne.{change_in}
 use Rattle.srcp_core.proofs.Invariants.PlacesCover.{place_set_here}
@@ -29,7 +19,7 @@ told_shorter change p = by (feed_in p.panel)
     by : (feed : Option Feed) → length (told_feed change p feed).unsent ≤ length p.unsent
     by None = omega arith
     by (Some feed) =
-        elim (concerns feed.cursor change && is_full feed)
+        elim (concerns _ change && is_full feed)
         as (λ t. length (cond t (record p { unsent = []; panel = Overran }) (record p { panel = Listening (told change feed) })).unsent
         ≤ length p.unsent) [
           | true ↦ omega arith
@@ -65,7 +55,7 @@ told_live change p = by (feed_in p.panel)
     by : (feed : Option Feed) → ((told_feed change p feed).session ≡ p.session) × ((told_feed change p feed).ended ≡ p.ended)
     by None = (refl, refl)
     by (Some feed) =
-        elim (concerns feed.cursor change && is_full feed)
+        elim (concerns _ change && is_full feed)
         as (λ t.
         ((cond t (record p { unsent = []; panel = Overran }) (record p { panel = Listening (told change feed) })).session
         ≡ p.session)
@@ -100,12 +90,12 @@ session_replied session key reply updates held s =
     let t =
     told_session session key (map change_in updates) held.places
     (record { place = s.place; here = s.here; own = s.own; live = s.live }) in
-    let line = with_unsent (reply_line held.moment reply) in
+    let line = with_unsent _ in
     record {
       place = line t.place;
       here =
           ap (λ (o : Option Place). place_at (changed_in key line (carried updates held).places o) key) t.here
-          ∙ place_set_here (carried updates held).places key t.place (Some (line t.place)) t.here;
+          ∙ place_set_here (carried updates held).places key t.place _ t.here;
       own = t.own;
       live = record { began = t.live.began; not_ended = t.live.not_ended };
     }
@@ -114,7 +104,7 @@ session_replied session key reply updates held s =
 pub session_row : (session key : ℕ) (held : Held) → IsSound held → IsSessionAt session key held
     → is_there (session_device session) held.rows ≡ true
 session_row session key held s h =
-    subst (λ n. is_there (session_device n) held.rows ≡ true) h.own (s.sessions.there key h.place h.here h.live)
+    rw (← h.own) (s.sessions.there key h.place h.here h.live)
 
 -- a session that was given memory begins
 pub goes_granted : (held : Held) (key : ℕ) (mode : Mode) (last : ℕ) (mid new : Held) → last < 4294967295 → last ≡ held.last_id
@@ -124,4 +114,4 @@ goes_granted held key mode last mid new low is m n =
     ∙ sym (ap
     (λ t. if t then replied key (Go (held.last_id + 1)) (session_begun key (held.last_id + 1) mode held)
     else replied key (Refused C500) held)
-    (lt-ltb held.last_id 4294967295 (subst (λ k. k < 4294967295) is low)))
+    (lt-ltb _ _ (rw (← is) low)))

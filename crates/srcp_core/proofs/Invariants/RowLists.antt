@@ -1,39 +1,34 @@
 -- The rows of a registry, listed one after another.
-use Rattle.std.proofs.Common.{◌≡◌, [], ◌∷◌, ◌++◌, Some, None, refl, sym, ap, subst, ◌∙◌}
+use Rattle.srcp_core.proofs.Names.{◌≡◌, [], ◌∷◌, ◌++◌, refl, sym, subst, Cursor, Start, After, Row, Result, Ok, Err, IfOk, AllByRecursion}
+use Rattle.srcp_core.proofs.Names.{IsWellFormedShown, Bus, State, IsRising, IsWhole, row_after, shown_rows}
+use Rattle.std.proofs.Common.{Some, None}
 use Rattle.std.proofs.lemmas.List.{append_assoc, append-nil}
-use Rattle.srcp_info.specs.declared.change.Cursor.{Cursor}
-use Rattle.srcp_info.specs.declared.change.Cursor.TheVariants.{Start, After}
-use Rattle.srcp_info.specs.declared.change.Row.{Row}
-use Rattle.std.specs.Prelude.{List, Result, Ok, Err, IfOk}
-use Rattle.std.specs.List.{AllByRecursion}
-use Rattle.srcp_info.specs.WellFormed.{IsWellFormedShown}
-use Rattle.srcp_grammar.specs.declared.layout.Bus.{Bus}
-use Rattle.srcp_rules.specs.State.{State, IsRising, IsWhole, row_after, shown_rows}
+use Rattle.std.specs.Prelude.{List}
 use Rattle.srcp_rules.proofs.CursorLaws.{beyond, beyond-next, beyond-none}
 use Rattle.srcp_rules.proofs.StateLaws.{each_found}
 use Rattle.srcp_core.proofs.CourseLaws.ShownRegistry.{all_shown}
 
 pub beyond_start : (state : State) → beyond Start state ≡ state
 beyond_start [] = refl
-beyond_start (row ∷ state) = ap (λ (rows : State). row ∷ rows) (beyond_start state)
+beyond_start (row ∷ state) = cc (beyond_start state)
 
 -- the row that is found is the next to be listed
 pub one_listed : (told : State) (at : Cursor) (state : State) (row : Row) → IsRising state → row_after at state ≡ Some row
     → told ++ beyond at state ≡ state → (told ++ row ∷ []) ++ beyond (After row.shown.key) state ≡ state
 one_listed told at state row rising next all =
-    append_assoc told (row ∷ []) _ ∙ ap (λ (rows : State). told ++ rows) (sym (beyond-next at row state rising next)) ∙ all
+    cc (append_assoc told _ _, beyond-next at row state rising next)
 
 -- and where none is found, all are listed
 pub all_listed : (told : State) (at : Cursor) (state : State) → row_after at state ≡ None → told ++ beyond at state ≡ state → told ≡ state
-all_listed told at state none all = sym (append-nil told) ∙ ap (λ (rows : State). told ++ rows) (sym (beyond-none at state none)) ∙ all
+all_listed told at state none all = cc (append-nil told, beyond-none at state none)
 
 -- each row of a whole registry can be written
 rows_well_formed : (buses : List Bus) (state : State) → IsWhole buses state → AllByRecursion (λ row. IsWellFormedShown row.shown) state
 rows_well_formed buses state whole =
-    each_found (λ row. IsWellFormedShown row.shown) state whole.rising (λ key row h. (whole.rows key row h).shown)
+    each_found (λ row. IsWellFormedShown _) state whole.rising (λ key row h. (whole.rows key row h).shown)
 
 pub shown_tellable : (buses : List Bus) (state : State) → IsWhole buses state → AllByRecursion IsWellFormedShown (shown_rows state)
-shown_tellable buses state whole = all_shown IsWellFormedShown state (rows_well_formed buses state whole)
+shown_tellable buses state whole = all_shown _ state (rows_well_formed buses state whole)
 
 pub told_well_formed : {E : Type 0} (buses : List Bus) (state : State) (told : Result State E) → IsWhole buses state
     → IfOk told (λ rows. rows ≡ state) → IfOk told (AllByRecursion (λ row. IsWellFormedShown row.shown))

@@ -1,7 +1,5 @@
-use Rattle.std.proofs.Common.{sym, subst}
-use Rattle.srcp_rules.specs.State.{shown_rows}
+use Rattle.srcp_core.proofs.Names.{sym, subst, shown_rows, IsTellable}
 use Rattle.srcp_feed.proofs.FeedLaws.{empty_of}
-use Rattle.srcp_core.specs.Machine.{IsTellable}
 use Rattle.srcp_core.proofs.Invariants.PlaceLaws.{next_tellable}
 use Rattle.srcp_core.proofs.connection.give.Goals as goal
 

@@ -1,5 +1,4 @@
-use Rattle.std.proofs.Common.{◌≡◌, take}
-use Rattle.srcp_core.specs.Recording.{finished}
+use Rattle.srcp_core.proofs.Names.{◌≡◌, take, finished}
 use Rattle.srcp_core.proofs.recorder.finish_all.Given as goal
 
 abbrev pub invariant-loop-index : goal.invariant-loop-index

@@ -1,5 +1,4 @@
-use Rattle.std.proofs.Common.{[], ◌∷◌}
-use Rattle.srcp_core.specs.Recording.{stepped}
+use Rattle.srcp_core.proofs.Names.{[], ◌∷◌, stepped}
 use Rattle.srcp_core.specs.declared.record.Step.TheVariants.{Moment}
 use Rattle.srcp_core.proofs.Agreement.OutlinesAreKept.{keeps_changed}
 use Rattle.srcp_core.proofs.Agreement.RunsAnEvent.{at_happens}

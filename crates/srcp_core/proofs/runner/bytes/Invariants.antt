@@ -1,6 +1,4 @@
-use Rattle.std.proofs.Common.{length, ◌-◌, ◌≤◌}
-use Rattle.srcp_core.specs.Machine.{HasRoom}
-use Rattle.srcp_core.specs.Recording.{Keeps}
+use Rattle.srcp_core.proofs.Names.{length, ◌-◌, ◌≤◌, HasRoom, Keeps}
 use Rattle.srcp_core.proofs.Agreement.RunsBytes.{ReadsOn}
 use Rattle.srcp_core.proofs.runner.bytes.Given as goal
 

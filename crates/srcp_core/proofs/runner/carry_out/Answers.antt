@@ -1,7 +1,5 @@
-use Rattle.std.proofs.Common.{◌≤◌, length, ◌∙◌, refl, ap, arith}
+use Rattle.srcp_core.proofs.Names.{◌≤◌, length, ◌∙◌, refl, arith, nothing_recorded, all_under}
 use Rattle.std.proofs.lemmas.Option.{slice_get_read}
-use Rattle.srcp_core.specs.Recording.{nothing_recorded}
-use Rattle.srcp_core.specs.Under.{all_under}
 use Rattle.srcp_core.proofs.Agreement.OutlinesAreKept.{nothing_kept, record_at, record_from, record_kept}
 use Rattle.srcp_core.proofs.Agreement.RunPromises.{moments_all, moments_more}
 use Rattle.srcp_core.proofs.Agreement.RecordIsOfTheCourse.{record_is, runs_all, runs_none, follows_more}
@@ -24,14 +22,17 @@ returns-clause-record g c =
         is = record_is c.args.layout.now (all_under u.grants c.args.events.now) r held (record_at r held) c.buses.ensures.laid_out
             u.runs refl refl refl refl;
       };
-      is = record_from c.in_ok-record.field-0 c.loop-index.recorder held e.steps e.refused e.connections e.rows e.denied
-          ∙ ap (λ x. record_at x held) c.loop-index.invariant.runs.1 ∙ record_kept g.D.Detail.IN_FULL r held;
+      is = cc (
+        record_from c.in_ok-record.field-0 c.loop-index.recorder held e.steps e.refused e.connections e.rows e.denied,
+        c.loop-index.invariant.runs.1,
+        record_kept g.D.Detail.IN_FULL r held,
+      );
     }
 
 pub returns-clause-moments : goal.returns-clause-moments
 returns-clause-moments g c =
     let all : length c.args.events.now ≤ c.loop-index.index = omega (arith, c.loop-index-test.false) in
-    moments_all c.args.events.now c.loop-index.index all c.loop-index.invariant.moments
+    moments_all _ _ all c.loop-index.invariant.moments
 
 pub returns-clause-laid_out : goal.returns-clause-laid_out
 returns-clause-laid_out g c = c.buses.ensures.laid_out
@@ -40,8 +41,8 @@ pub loop-index-init : goal.loop-index-init
 loop-index-init g c = record {
   runs = (
     nothing_recorded,
-    c.new-recorder.ensures ∙ nothing_kept g.D.Detail.IN_FULL,
-    runs_none c.args.layout.now c.args.events.now nothing_recorded c.in_ok-core.core refl
+    c.new-recorder.ensures ∙ nothing_kept _,
+    runs_none _ c.args.events.now _ _ refl
         c.in_ok-core.ensures,
   );
   moments = tt;
@@ -49,7 +50,7 @@ loop-index-init g c = record {
 
 pub loop-index-preserved : goal.loop-index-preserved
 loop-index-preserved g c =
-    let at = slice_get_read c.args.events.now (length c.args.events.now) c.loop-index.index c.index-events-index.result refl
+    let at = slice_get_read c.args.events.now _ c.loop-index.index _ refl
     c.loop-index-test.true c.index-events-index.is in
     let i = c.loop-index.invariant in
     let course = c.in_ok-follow.ensures.course in
@@ -58,8 +59,8 @@ loop-index-preserved g c =
       runs = (
         next.0,
         next.1,
-        follows_more c.args.layout.now c.args.events.now c.loop-index.index c.index-events-index.result i.runs.0 next.0
-            c.loop-index.core c.follow.new.core c.buses.ensures.laid_out at next.2 i.runs.2,
+        follows_more _ _ _ _ i.runs.0 next.0
+            _ _ c.buses.ensures.laid_out at next.2 i.runs.2,
       );
-      moments = moments_more c.args.events.now c.loop-index.index c.index-events-index.result at c.follow.ensures.moment i.moments;
+      moments = moments_more _ _ _ at c.follow.ensures.moment i.moments;
     }

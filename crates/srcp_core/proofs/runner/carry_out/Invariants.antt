@@ -1,7 +1,4 @@
-use Rattle.std.proofs.Common.{◌≡◌, take}
-use Rattle.std.specs.List.{AllByRecursion}
-use Rattle.srcp_core.specs.Recording.{Recording, kept}
-use Rattle.srcp_core.specs.Run.{RunsUnder, HasPlainMoment}
+use Rattle.srcp_core.proofs.Names.{◌≡◌, take, AllByRecursion, Recording, kept, RunsUnder, HasPlainMoment}
 use Rattle.srcp_core.proofs.runner.carry_out.Given as goal
 
 abbrev pub invariant-loop-index : goal.invariant-loop-index

@@ -1,7 +1,6 @@
-use Rattle.std.proofs.Common.{◌≡◌, ℕ, ◌-◌, ◌⊎◌, inl, inr, refl, ap, sym, ◌∙◌, arith, None}
-use Rattle.srcp_core.specs.Run.{taking, taken_at, count_at}
+use Rattle.srcp_core.proofs.Names.{◌≡◌, ℕ, ◌-◌, ◌⊎◌, inl, inr, refl, ◌∙◌, arith, taking, taken_at, count_at}
+use Rattle.std.proofs.Common.{None}
 use Rattle.srcp_core.specs.declared.event.Event.TheVariants.{Room}
-use Rattle.srcp_core.specs.Recording.{key_of}
 use Rattle.srcp_core.proofs.Agreement.OutlinesAreKept.{keeps_same, keeps_then}
 use Rattle.srcp_core.proofs.Agreement.RunsAnEvent.{told_as, no_room_happens, gives_first, gives_as, room_happens}
 use Rattle.srcp_core.proofs.runner.room.Goals as goal
@@ -9,17 +8,17 @@ use Rattle.srcp_core.proofs.runner.room.Goals.{then-left-eq0-via-then-left-eq0, 
 
 pub returns-in_default : goal.returns-in_default
 returns-in_default g c =
-    keeps_same c.args.recorder.now
+    keeps_same _
     (λ r e.
-    no_room_happens c.args.conn c.args.bytes r c.args.core.now
-    (ap (key_of c.args.conn) (sym e) ∙ sym c.key.ensures ∙ c.in_default.is))
+    no_room_happens _ _ r _
+    (cc (c.key.ensures, c.in_default.is)))
 
 pub loop-count-init : goal.loop-count-init
 loop-count-init g c = record {
-  gives = keeps_same c.args.recorder.now
+  gives = keeps_same _
       (λ r e.
-      gives_first c.args.conn c.in-Some.key c.args.bytes r c.args.core.now
-      (ap (key_of c.args.conn) (sym e) ∙ sym c.key.ensures ∙ c.in-Some.is));
+      gives_first _ _ _ r _
+      (cc (c.key.ensures, c.in-Some.is)));
   denied = refl;
 }
 

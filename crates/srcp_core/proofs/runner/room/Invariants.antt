@@ -1,5 +1,4 @@
-use Rattle.std.proofs.Common.{◌≡◌}
-use Rattle.srcp_core.specs.Recording.{Keeps}
+use Rattle.srcp_core.proofs.Names.{◌≡◌, Keeps}
 use Rattle.srcp_core.proofs.Agreement.RunsAnEvent.{GivesOn}
 use Rattle.srcp_core.proofs.runner.room.Given as goal
 

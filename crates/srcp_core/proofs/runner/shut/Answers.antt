@@ -1,6 +1,5 @@
-use Rattle.std.proofs.Common.{sym, ◌∙◌, refl, ap, None, Some, [], ◌∷◌}
-use Rattle.srcp_core.specs.Machine.{live_session}
-use Rattle.srcp_core.specs.Recording.{Recording, key_of, shut, stepped}
+use Rattle.srcp_core.proofs.Names.{sym, ◌∙◌, refl, ap, [], ◌∷◌, live_session, Recording, key_of, shut, stepped}
+use Rattle.std.proofs.Common.{None}
 use Rattle.srcp_core.specs.declared.event.Event.TheVariants.{Shut}
 use Rattle.srcp_core.specs.declared.record.Step.TheVariants.{Ended}
 use Rattle.srcp_core.proofs.Agreement.OutlinesAreKept.{keeps_changed, keeps_same, keeps_then}
@@ -9,13 +8,13 @@ use Rattle.srcp_core.proofs.runner.shut.Goals as goal
 
 pub returns-in_default : goal.returns-in_default
 returns-in_default g c =
-    keeps_same c.args.recorder.now
-    (λ r e. no_shut_happens c.args.conn r c.args.core.now (ap (key_of c.args.conn) (sym e) ∙ sym c.key.ensures ∙ c.in_default.is))
+    keeps_same _
+    (λ r e. no_shut_happens _ r _ (cc (c.key.ensures, c.in_default.is)))
 
 pub returns-in-Err : goal.returns-in-Err
 returns-in-Err g c =
-    keeps_same c.args.recorder.now
-    (λ r e. gone_happens (Shut c.args.conn) (Some c.in-Err.fault) c.args.conn c.in-Some.key r c.args.core.now r c.hangup.new.self (ap
+    keeps_same _
+    (λ r e. gone_happens _ _ _ _ r _ r _ (ap
     (key_of c.args.conn) (sym e) ∙ sym c.key.ensures ∙ c.in-Some.is)
     c.in-Err.ensures.absent.1 (shut_count c.in-Some.key c.args.core.now c.hangup.new.self c.hangup.ensures.core))
 
@@ -29,7 +28,7 @@ returns-in_ok-step g c =
     ∙ ap (λ (x : Recording). stepped (Ended c.in-Some-session.session c.moment.result ∷ []) x) gone
     ∙ ap (λ o. with_end o c.moment.result (shut c.args.conn r)) (sym c.in-Some-session.is ∙ c.live_session-session.ensures)) refl
     (shut_happens c.args.conn c.in-Some.key r c.args.core.now c.hangup.new.self c.moment.result
-    (ap (key_of c.args.conn) (sym e) ∙ sym c.key.ensures ∙ c.in-Some.is) c.hangup.ensures.core c.moment.ensures))
+    (cc (c.key.ensures, c.in-Some.is)) c.hangup.ensures.core c.moment.ensures))
     c.shut.ensures c.in_ok-step.ensures
 
 pub returns-in_default-session : goal.returns-in_default-session
@@ -41,5 +40,5 @@ returns-in_default-session g c =
     (ap (λ o. with_end o c.hangup.new.self.moment (shut c.args.conn r)) (sym c.in_default-session.is
     ∙ c.live_session-session.ensures)) refl
     (shut_happens c.args.conn c.in-Some.key r c.args.core.now c.hangup.new.self c.hangup.new.self.moment
-    (ap (key_of c.args.conn) (sym e) ∙ sym c.key.ensures ∙ c.in-Some.is) c.hangup.ensures.core refl))
+    (cc (c.key.ensures, c.in-Some.is)) c.hangup.ensures.core refl))
     c.shut.ensures

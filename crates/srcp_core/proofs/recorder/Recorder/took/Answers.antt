@@ -1,4 +1,5 @@
-use Rattle.std.proofs.Common.{Result, Ok, Err, ap, ◌∙◌}
+use Rattle.srcp_core.proofs.Names.{ap, ◌∙◌}
+use Rattle.std.proofs.Common.{Result, Ok, Err}
 use Rattle.std.specs.Prelude.{OnOk}
 use Rattle.srcp_core.specs.Recording.{took}
 use Rattle.srcp_core.proofs.Agreement.OutlinesAreKept.{becomes, took_kept}

@@ -1,6 +1,4 @@
-use Rattle.std.proofs.Common.{◌≤◌, ◌<◌, ◌^◌, sym, ◌∙◌, subst}
-use Rattle.srcp_rules.specs.Due.{due}
-use Rattle.srcp_core.specs.Held.{Held}
+use Rattle.srcp_core.proofs.Names.{◌<◌, ◌^◌, ◌∙◌, due, Held}
 use Rattle.srcp_core.proofs.Invariants.CoreStaysSound.{sound_due, sound_moment, sound_carried_as}
 use Rattle.srcp_core.proofs.Invariants.PanelsStay.{panels_told_each}
 use Rattle.srcp_core.proofs.server_core.Core.advance.Goals as goal
@@ -22,6 +20,6 @@ invariant_of-self g c =
           (sound_due c.max-self-inside.result (record held { moment = c.max-self-inside.result }) now
           (sound_moment held c.max-self-inside.result now c.self.invariant.0)),
       c.carry_out_due.ensures.layout ∙ c.self.invariant.1,
-      subst (λ n. 64 ≤ n) (sym c.carry_out_due.ensures.capacity) c.self.invariant.2,
+      rw c.carry_out_due.ensures.capacity c.self.invariant.2,
       rw (c.carry_out_due.ensures.slots, panels_told_each) c.self.invariant.3,
     )

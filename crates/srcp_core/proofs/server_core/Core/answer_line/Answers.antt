@@ -3,7 +3,7 @@ use Rattle.srcp_core.proofs.server_core.Core.answer_line.Goals as goal
 
 pub answer-requires-clause-asked : goal.answer-requires-clause-asked
 answer-requires-clause-asked g c =
-    line_asks c.args.conn c.args.piece.now c.args.start c.in_ok-stop.stop c.hear.new.asked c.args.self.now c.hear.new.self
+    line_asks _ c.args.piece.now c.args.start c.in_ok-stop.stop _ c.args.self.now _
     c.in_ok-stop.ensures.heard
 
 pub answer-requires-clause-room : goal.answer-requires-clause-room

@@ -2,4 +2,4 @@ use Rattle.srcp_core.proofs.Invariants.LinesAreFound.{line_added}
 use Rattle.srcp_core.proofs.server_core.Core.answer_lines.Goals as goal
 
 pub loop-stop-preserved : goal.loop-stop-preserved
-loop-stop-preserved g c = line_added c.args.conn c.args.piece.now c.args.self.now _ _ _ _ _ c.in-Some.ensures.line c.loop-stop.invariant
+loop-stop-preserved g c = line_added _ _ _ _ _ _ _ _ c.in-Some.ensures.line c.loop-stop.invariant

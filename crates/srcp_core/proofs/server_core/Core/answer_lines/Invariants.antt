@@ -1,4 +1,4 @@
-use Rattle.std.proofs.Common.{◌-◌, length}
+use Rattle.srcp_core.proofs.Names.{◌-◌, length}
 use Rattle.srcp_core.proofs.Invariants.LinesAreFound.{AreAnswered}
 use Rattle.srcp_core.proofs.server_core.Core.answer_lines.Given as goal
 

@@ -1,8 +1,4 @@
-use Rattle.std.proofs.Common.{◌≡◌, ◌+◌, ◌≤◌, sym, ap, ◌∙◌, subst, arith}
-use Rattle.std.specs.Prelude.{count_by, is_some}
-use Rattle.std.specs.Option.{option_copied_mut}
-use Rattle.srcp_core.specs.Held.{Held, IsSound}
-use Rattle.srcp_core.specs.Machine.{session_begun}
+use Rattle.srcp_core.proofs.Names.{◌≡◌, ◌+◌, sym, ap, ◌∙◌, subst, arith, count_by, is_some, option_copied_mut, Held, IsSound, session_begun}
 use Rattle.srcp_core.proofs.Invariants.CoreStaysSound.{begun_is, sound_begun}
 use Rattle.srcp_core.proofs.Invariants.EveryPlaceIsTold.{told_all_count}
 use Rattle.srcp_core.proofs.Invariants.PlacesCover.{set_as, none_as, set_count}
@@ -22,14 +18,14 @@ returns-clause-ok g c =
     let held : Held =
     record {
       buses = c.self.inside.layout.now;
-      rows = g.R.Rows.state c.self.inside.rows;
+      rows = g.R.Rows.state _;
       moment = c.self.inside.moment;
       last_id = c.self.inside.last_id;
       places = c.self.inside.connections.slots;
       denied = c.self.inside.denied;
     } in
     let there = sym c.get_mut.ensures.value ∙ ap option_copied_mut c.in-Some.is in
-    begun_is held c.args.conn c.args.id c.args.mode _ _ _ _ _ c.in_ok-panel.ensures c.in_ok-change.ensures.rows
+    begun_is held _ _ _ _ _ _ _ _ c.in_ok-panel.ensures c.in_ok-change.ensures.rows
     c.in_ok-change.ensures.change c.tell_all.ensures.slots
     (set_as _ _ _ _ _ there c.enter.ensures)
     ∙ ap (session_begun c.args.conn c.args.id c.args.mode) c.self.view_is
@@ -39,14 +35,14 @@ returns-in_default-clause-ok g c =
     let held : Held =
     record {
       buses = c.self.inside.layout.now;
-      rows = g.R.Rows.state c.self.inside.rows;
+      rows = g.R.Rows.state _;
       moment = c.self.inside.moment;
       last_id = c.self.inside.last_id;
       places = c.self.inside.connections.slots;
       denied = c.self.inside.denied;
     } in
     let none = sym c.get_mut.ensures.value ∙ ap option_copied_mut c.in_default.is in
-    begun_is held c.args.conn c.args.id c.args.mode _ _ _ _ _ c.in_ok-panel.ensures c.in_ok-change.ensures.rows
+    begun_is held _ _ _ _ _ _ _ _ c.in_ok-panel.ensures c.in_ok-change.ensures.rows
     c.in_ok-change.ensures.change c.tell_all.ensures.slots
     (none_as _ _ _ none)
     ∙ ap (session_begun c.args.conn c.args.id c.args.mode) c.self.view_is
@@ -63,7 +59,7 @@ invariant_of-self-2 g c =
       denied = c.self.inside.denied;
     } in
     let last = ap (λ (h : Held). h.last_id) c.self.view_is in
-    let next : c.args.id ≡ held.last_id + 1 = c.requires ∙ ap (λ n. n + 1) (sym last) in
+    let next : c.args.id ≡ held.last_id + 1 = cc c.requires in
     let there = sym c.get_mut.ensures.value ∙ ap option_copied_mut c.in-Some.is in (
       subst IsSound
           (sym
@@ -72,7 +68,7 @@ invariant_of-self-2 g c =
           (set_as _ _ _ _ _ there c.enter.ensures)))
           (sound_begun c.args.conn c.args.id c.args.mode held c.self.invariant.0.moment next (omega arith) c.self.invariant.0),
       c.in_ok-change.ensures.layout ∙ c.self.invariant.1,
-      subst (λ n. 64 ≤ n) (sym c.tell_all.ensures.capacity) c.self.invariant.2,
+      rw c.tell_all.ensures.capacity c.self.invariant.2,
       c.panel_keys-self-inside.ensures,
     )
 
@@ -88,7 +84,7 @@ invariant_of-self-in_default g c =
       denied = c.self.inside.denied;
     } in
     let last = ap (λ (h : Held). h.last_id) c.self.view_is in
-    let next : c.args.id ≡ held.last_id + 1 = c.requires ∙ ap (λ n. n + 1) (sym last) in
+    let next : c.args.id ≡ held.last_id + 1 = cc c.requires in
     let none = sym c.get_mut.ensures.value ∙ ap option_copied_mut c.in_default.is in (
       subst IsSound
           (sym
@@ -97,6 +93,6 @@ invariant_of-self-in_default g c =
           (none_as _ _ _ none)))
           (sound_begun c.args.conn c.args.id c.args.mode held c.self.invariant.0.moment next (omega arith) c.self.invariant.0),
       c.in_ok-change.ensures.layout ∙ c.self.invariant.1,
-      subst (λ n. 64 ≤ n) (sym c.tell_all.ensures.capacity) c.self.invariant.2,
+      rw c.tell_all.ensures.capacity c.self.invariant.2,
       rw (c.tell_all.ensures.slots, panels_told) c.self.invariant.3,
     )

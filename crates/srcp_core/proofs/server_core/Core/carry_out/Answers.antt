@@ -1,10 +1,6 @@
-use Rattle.std.proofs.Common.{◌≡◌, ◌≤◌, true, length, List, Option, sym, ap, ◌∙◌, subst, arith}
-use Rattle.srcp_grammar.specs.Command.{IsCommandOf}
-use Rattle.srcp_rules.specs.Effect.{effect}
-use Rattle.srcp_grammar.specs.Devices.{session_device}
-use Rattle.srcp_rules.specs.State.{State, is_there}
-use Rattle.srcp_core.specs.Held.{Held, IsSound, Place, place_at}
-use Rattle.srcp_core.specs.Machine.{told_each, unsent_at, unsent_of}
+use Rattle.srcp_core.proofs.Names.{◌≡◌, true, length, List, sym, ap, ◌∙◌, subst, arith, IsCommandOf, effect, session_device, is_there, Held}
+use Rattle.srcp_core.proofs.Names.{Place, place_at, unsent_at, unsent_of}
+use Rattle.std.proofs.Common.{Option}
 use Rattle.srcp_core.proofs.Invariants.RefusalsChangeNothing.{denied_same, given_took}
 use Rattle.srcp_core.proofs.Invariants.CoreStaysSound.{sound_obeyed, sound_carried_as}
 use Rattle.srcp_core.proofs.Invariants.PanelsStay.{panels_told_each}
@@ -25,7 +21,7 @@ invariant_of-self-2 g c =
     let held : Held =
     record {
       buses = c.self.inside.layout.now;
-      rows = g.R.Rows.state c.self.inside.rows;
+      rows = g.R.Rows.state _;
       moment = c.self.inside.moment;
       last_id = c.self.inside.last_id;
       places = c.self.inside.connections.slots;
@@ -39,10 +35,10 @@ invariant_of-self-2 g c =
     given_took held.rows _ c.args.session held.moment c.args.command.now _ c.obey_into.ensures.obeyed
     (c.is_denied.ensures.given c.if-is_denied.false) in (
       sound_carried_as held (effect held.rows c.args.session held.moment c.args.command.now).updates _ _ did.rows
-          (c.tell_each.ensures.slots ∙ ap (λ cs. told_each cs held.places) (c.as_slice-2.ensures.value ∙ did.told.changes))
+          (cc (c.tell_each.ensures.slots, c.as_slice-2.ensures.value, did.told.changes))
           (sound_obeyed c.args.session held.moment c.args.command.now held c.self.invariant.0.moment of row c.self.invariant.0),
       c.obey_into.ensures.layout ∙ c.self.invariant.1,
-      subst (λ n. 64 ≤ n) (sym c.tell_each.ensures.capacity) c.self.invariant.2,
+      rw c.tell_each.ensures.capacity c.self.invariant.2,
       rw (c.tell_each.ensures.slots, panels_told_each) c.self.invariant.3,
     )
 
@@ -58,9 +54,9 @@ invariant_of-self g c =
       denied = c.self.inside.denied;
     } in
     let same =
-    denied_same held.rows _ c.args.session held.moment c.args.command.now _ c.obey_into.ensures.obeyed
+    denied_same _ _ c.args.session held.moment c.args.command.now _ c.obey_into.ensures.obeyed
     (c.is_denied.ensures.denied c.if-is_denied.true) in (
-      subst (λ (s : State). IsSound (record held { rows = s })) (sym same) c.self.invariant.0,
+      rw same c.self.invariant.0,
       c.obey_into.ensures.layout ∙ c.self.invariant.1,
       c.self.invariant.2,
       c.self.invariant.3,

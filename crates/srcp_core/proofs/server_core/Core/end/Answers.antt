@@ -1,10 +1,5 @@
-use Rattle.std.proofs.Common.{◌≤◌, true, sym, ap, ◌∙◌, subst, map}
-use Rattle.std.specs.Option.{option_copied_mut}
-use Rattle.srcp_rules.specs.Due.{freed}
-use Rattle.srcp_core.specs.Held.{Held, Place, IsSessionAt}
-use Rattle.srcp_core.specs.Machine.{is_panel, told_each, changed_at}
+use Rattle.srcp_core.proofs.Names.{true, sym, ap, ◌∙◌, subst, option_copied_mut, freed, Held, Place, IsSessionAt, is_panel, changed_at}
 use Rattle.srcp_core.proofs.Invariants.CoreStaysSound.{sound_ended, sound_carried_as}
-use Rattle.srcp_core.proofs.Invariants.ChangesOneByOne.{change_in}
 use Rattle.srcp_core.proofs.Invariants.PlacesCover.{set_as}
 use Rattle.srcp_core.proofs.Invariants.PanelsStay.{panels_set, panels_told_each}
 use Rattle.srcp_core.proofs.server_core.Core.end.Goals as goal
@@ -20,7 +15,7 @@ invariant_of-self-2 g c =
     let held : Held =
     record {
       buses = c.self.inside.layout.now;
-      rows = g.R.Rows.state c.self.inside.rows;
+      rows = g.R.Rows.state _;
       moment = c.self.inside.moment;
       last_id = c.self.inside.last_id;
       places = c.self.inside.connections.slots;
@@ -31,11 +26,10 @@ invariant_of-self-2 g c =
     let there = sym c.get_mut.ensures.value ∙ ap option_copied_mut c.in-Some.is in (
       sound_carried_as (changed_at c.args.conn (λ p. record p { ended = true }) held)
           (freed held.rows c.args.session held.moment) _ _ c.free_all.ensures.rows
-          (c.free_all.ensures.slots
-          ∙ ap (told_each (map change_in (freed held.rows c.args.session held.moment))) (set_as _ _ _ _ _ there c.end.ensures))
+          (cc (c.free_all.ensures.slots, set_as _ _ _ _ _ there c.end.ensures))
           (sound_ended c.args.conn c.args.session held c.self.invariant.0.moment here c.self.invariant.0),
       c.free_all.ensures.layout ∙ c.self.invariant.1,
-      subst (λ n. 64 ≤ n) (sym c.free_all.ensures.capacity) c.self.invariant.2,
+      rw c.free_all.ensures.capacity c.self.invariant.2,
       rw (c.free_all.ensures.slots, panels_told_each)
           (c.self.invariant.3 ∙ sym (panels_set _ c.args.conn _ c.end.new.self there (ap (λ (p : Place). is_panel p.panel) c.end.ensures))),
     )

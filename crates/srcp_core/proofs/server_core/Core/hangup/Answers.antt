@@ -1,9 +1,7 @@
-use Rattle.std.proofs.Common.{◌≡◌, ◌≤◌, map, Some, sym, ap, ◌∙◌, subst, arith}
-use Rattle.std.specs.Prelude.{is_some, count_by, Option, List}
-use Rattle.srcp_rules.specs.Due.{freed}
-use Rattle.srcp_core.specs.Held.{Held, Place, at, open_count}
-use Rattle.srcp_core.specs.Machine.{freed_place, told_each}
-use Rattle.srcp_core.proofs.Invariants.ChangesOneByOne.{change_in}
+use Rattle.srcp_core.proofs.Names.{◌≡◌, ◌≤◌, sym, ap, ◌∙◌, arith, is_some, count_by, Option, freed, Held, Place, at, open_count}
+use Rattle.srcp_core.proofs.Names.{freed_place}
+use Rattle.std.proofs.Common.{Some}
+use Rattle.std.specs.Prelude.{List}
 use Rattle.srcp_core.proofs.Invariants.CoreStaysSound.{live_session_is, sound_hung_up, sound_carried_as}
 use Rattle.srcp_core.proofs.Invariants.PanelsStay.{panels_told_each}
 use Rattle.srcp_core.proofs.server_core.Core.hangup.Goals as goal
@@ -13,7 +11,7 @@ invariant_of-self-in-Some-live_session g c =
     let held : Held =
     record {
       buses = c.self.inside.layout.now;
-      rows = g.R.Rows.state c.self.inside.rows;
+      rows = g.R.Rows.state _;
       moment = c.self.inside.moment;
       last_id = c.self.inside.last_id;
       places = c.self.inside.connections.slots;
@@ -25,9 +23,9 @@ invariant_of-self-in-Some-live_session g c =
     let session = c.in-Some-live_session.session in
     let live = live_session_is c.in-Some.connection session c.in-Some-live_session.ensures in (
       sound_carried_as (freed_place c.args.conn held) (freed held.rows session held.moment) _ _ c.free_all.ensures.rows
-          (c.free_all.ensures.slots ∙ ap (told_each (map change_in (freed held.rows session held.moment))) c.in-Some.ensures.slots)
+          (cc (c.free_all.ensures.slots, c.in-Some.ensures.slots))
           (sound_hung_up c.args.conn held c.in-Some.connection session there live.0 live.1 count c.self.invariant.0),
       c.free_all.ensures.layout ∙ c.self.invariant.1,
-      subst (λ n. 64 ≤ n) (sym (c.free_all.ensures.capacity ∙ c.in-Some.ensures.capacity)) c.self.invariant.2,
+      rw (c.free_all.ensures.capacity ∙ c.in-Some.ensures.capacity) c.self.invariant.2,
       rw (c.free_all.ensures.slots, panels_told_each) c.panel_keys-self-inside.ensures,
     )

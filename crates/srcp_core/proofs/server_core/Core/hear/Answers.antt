@@ -1,5 +1,4 @@
-use Rattle.std.proofs.Common.{sym, ap, ◌∙◌, subst}
-use Rattle.std.specs.Option.{option_copied_mut}
+use Rattle.srcp_core.proofs.Names.{sym, ap, ◌∙◌, subst, option_copied_mut}
 use Rattle.srcp_core.proofs.Invariants.PlacesCover.{IsMild}
 use Rattle.srcp_core.proofs.Invariants.CoreStaysSound.{sound_place}
 use Rattle.srcp_core.proofs.Invariants.LinesAreFound.{heard_mild}
@@ -12,7 +11,7 @@ invariant_of-self-2 g c =
     let there = sym c.get_mut.ensures.value ∙ ap option_copied_mut c.in_ok-connection.was in
     let mild =
     subst (IsMild p) (sym (ap (λ r. r.1) c.hear.ensures)) (heard_mild c.self.inside.layout.now c.args.piece.now c.args.start p) in (
-      sound_place c.args.conn _ p c.hear.new.self there mild c.self.invariant.0,
+      sound_place _ _ p _ there mild c.self.invariant.0,
       c.self.invariant.1,
       c.self.invariant.2,
       c.self.invariant.3 ∙ sym (panels_set _ c.args.conn _ c.hear.new.self there mild.panel),

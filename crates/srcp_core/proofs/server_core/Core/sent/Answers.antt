@@ -1,4 +1,4 @@
-use Rattle.std.proofs.Common.{refl, sym, ◌∙◌, subst}
+use Rattle.srcp_core.proofs.Names.{refl, sym, ◌∙◌, subst}
 use Rattle.srcp_core.proofs.Invariants.PlacesCover.{IsMild}
 use Rattle.srcp_core.proofs.Invariants.CoreStaysSound.{sound_place}
 use Rattle.srcp_core.proofs.Invariants.PanelsStay.{panels_set}
@@ -9,7 +9,7 @@ invariant_of-self g c =
     let p = c.index_mut.result.now in
     let there = c.index_mut.ensures.value in
     let mild = subst (IsMild p) (sym c.took.ensures) (record { session = refl; ended = λ h. h; panel = refl }) in (
-      sound_place c.args.conn _ p c.took.new.self there mild c.self.invariant.0,
+      sound_place _ _ p _ there mild c.self.invariant.0,
       c.self.invariant.1,
       c.self.invariant.2,
       c.self.invariant.3 ∙ sym (panels_set _ c.args.conn _ c.took.new.self there mild.panel),

@@ -1,9 +1,5 @@
-use Rattle.std.proofs.Common.{refl, sym, ap, subst, ◌∙◌}
-use Rattle.std.specs.List.{AllByRecursion}
-use Rattle.srcp_info.specs.declared.change.Cursor.TheVariants.{Start, After}
-use Rattle.srcp_rules.specs.State.{State, IsRising, IsRowOf, IsWhole}
-use Rattle.srcp_rules.proofs.StateLaws.{each_of}
-use Rattle.srcp_core.proofs.Invariants.OpeningRowsAreStamped.{fewer_stamped, opening_stamped, row_found, stamped_beyond, stamped_each}
+use Rattle.srcp_core.proofs.Names.{refl, sym, ◌∙◌, IsWhole, each_of}
+use Rattle.srcp_core.proofs.Invariants.OpeningRowsAreStamped.{fewer_stamped, opening_stamped, row_found, stamped_each}
 use Rattle.srcp_core.proofs.Invariants.OpeningRowsAreStamped.{stamped_fits, stamped_next, stamped_none, stamped_rising, stamped_there}
 use Rattle.srcp_core.proofs.CourseLaws.StepsKeepWhole.{whole_opening}
 use Rattle.srcp_core.proofs.server_core.stamp.stamp_all.Goals as goal
@@ -16,52 +12,51 @@ set-requires g c =
     let inv = c.loop-row.invariant in
     let next = sym c.in-Some.ensures in
     record {
-      there = stamped_there c.args.moment c.loop-row.at state row inv.rising next;
-      fits = subst (λ bs. IsRowOf bs (record row { shown = record row.shown { stamp = c.args.moment } })) (sym inv.layout)
-          (stamped_fits buses c.args.moment row c.ranges.moment.fits (row_found buses c.loop-row.at state row inv.each next));
+      there = stamped_there c.args.moment _ state row inv.rising next;
+      fits = rw inv.layout
+          (stamped_fits buses _ row c.ranges.moment.fits (row_found buses c.loop-row.at state row inv.each next));
     }
 
 pub loop-row-init : goal.loop-row-init
 loop-row-init g c =
-    let buses = g.R.Rows.buses c.args.rows.now in
+    let buses = g.R.Rows.buses _ in
     let whole : IsWhole buses (g.R.Rows.state c.args.rows.now) =
-    subst (λ (state : State). IsWhole buses state) (sym c.requires.opens) (whole_opening buses c.requires.laid_out) in
+    rw c.requires.opens (whole_opening buses c.requires.laid_out) in
     record {
       layout = refl;
       rising = whole.rising;
-      each = each_of buses (g.R.Rows.state c.args.rows.now) whole;
-      stamps = ap (stamped_beyond c.args.moment Start) c.requires.opens ∙ opening_stamped c.args.moment buses;
+      each = each_of buses _ whole;
+      stamps = cc (c.requires.opens, opening_stamped _ buses);
     }
 
 pub loop-row-smaller : goal.loop-row-smaller
 loop-row-smaller g c =
-    let state = g.R.Rows.state c.loop-row.rows in
+    let state = g.R.Rows.state _ in
     let row = c.in-Some.row.now in
     rw c.set.ensures.rows (fewer_stamped c.args.moment c.loop-row.at state row c.loop-row.invariant.rising (sym c.in-Some.ensures))
 
 pub loop-row-preserved : goal.loop-row-preserved
 loop-row-preserved g c =
-    let buses = g.R.Rows.buses c.args.rows.now in
-    let state = g.R.Rows.state c.loop-row.rows in
+    let buses = g.R.Rows.buses _ in
+    let state = g.R.Rows.state _ in
     let row = c.in-Some.row.now in
     let inv = c.loop-row.invariant in
     let next = sym c.in-Some.ensures in
-    let of = stamped_fits buses c.args.moment row c.ranges.moment.fits (row_found buses c.loop-row.at state row inv.each next) in
+    let of = stamped_fits buses _ row c.ranges.moment.fits (row_found buses c.loop-row.at state row inv.each next) in
     record {
       layout = c.set.ensures.layout ∙ inv.layout;
-      rising = subst (λ (rows : State). IsRising rows) (sym c.set.ensures.rows) (stamped_rising c.args.moment state row inv.rising);
+      rising = rw c.set.ensures.rows (stamped_rising _ state row inv.rising);
       each =
-          subst (λ (rows : State). AllByRecursion (IsRowOf buses) rows) (sym c.set.ensures.rows)
-          (stamped_each buses (record row { shown = record row.shown { stamp = c.args.moment } }) state of inv.each);
+          rw c.set.ensures.rows
+          (stamped_each buses _ state of inv.each);
       stamps =
-          ap (stamped_beyond c.args.moment (After row.shown.key)) c.set.ensures.rows
-          ∙ stamped_next c.args.moment c.loop-row.at state row inv.rising next ∙ inv.stamps;
+          cc (c.set.ensures.rows, stamped_next _ _ state row inv.rising next, inv.stamps);
     }
 
 pub returns : goal.returns
 returns g c = record {
   layout = c.loop-row.invariant.layout;
   rows =
-      sym (stamped_none c.args.moment c.loop-row.at (g.R.Rows.state c.loop-row.rows) (sym c.in_default.ensures))
+      sym (stamped_none _ _ _ (sym c.in_default.ensures))
       ∙ c.loop-row.invariant.stamps;
 }

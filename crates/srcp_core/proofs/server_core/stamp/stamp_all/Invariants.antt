@@ -1,6 +1,4 @@
-use Rattle.std.proofs.Common.{◌≡◌, length}
-use Rattle.std.specs.List.{AllByRecursion}
-use Rattle.srcp_rules.specs.State.{IsRising, IsRowOf, opening}
+use Rattle.srcp_core.proofs.Names.{◌≡◌, length, AllByRecursion, IsRising, IsRowOf, opening}
 use Rattle.srcp_rules.proofs.CursorLaws.{beyond}
 use Rattle.srcp_core.proofs.Invariants.OpeningRowsAreStamped.{stamped_beyond}
 use Rattle.srcp_core.proofs.server_core.stamp.stamp_all.Given as goal

@@ -1,4 +1,4 @@
-use Rattle.std.proofs.Common.{◌≡◌, length, ◌++◌}
+use Rattle.srcp_core.proofs.Names.{◌≡◌, length, ◌++◌}
 use Rattle.srcp_rules.proofs.CursorLaws.{beyond}
 use Rattle.srcp_core.proofs.server_core.status.all_rows.Given as goal
 

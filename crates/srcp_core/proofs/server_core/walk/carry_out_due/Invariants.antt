@@ -1,7 +1,4 @@
-use Rattle.std.proofs.Common.{◌≡◌, length, map}
-use Rattle.srcp_rules.specs.Due.{due}
-use Rattle.srcp_rules.specs.State.{IsWhole, updated_all}
-use Rattle.srcp_core.specs.Machine.{panel_keys, told_each}
+use Rattle.srcp_core.proofs.Names.{◌≡◌, length, map, due, IsWhole, updated_all, panel_keys, told_each}
 use Rattle.srcp_core.proofs.Invariants.DueInOneWalk.{AreAhead}
 use Rattle.srcp_core.proofs.Invariants.ChangesOneByOne.{change_in}
 use Rattle.srcp_core.proofs.server_core.walk.carry_out_due.Given as goal

@@ -1,7 +1,5 @@
-use Rattle.std.proofs.Common.{◌≡◌, ◌≤◌, min}
+use Rattle.srcp_core.proofs.Names.{◌≡◌, ◌≤◌, min, slack_at, slack_in, least, option_or_256}
 use Rattle.std.specs.Prelude.{map}
-use Rattle.srcp_core.specs.Machine.{slack_at, slack_in}
-use Rattle.srcp_core.specs.Waits.{least, option_or_256}
 use Rattle.srcp_core.proofs.server_core.walk.least_slack.Given as goal
 
 -- the least so far and those that are left are together the least of all

@@ -1,4 +1,4 @@
-use Rattle.std.proofs.Common.{◌≡◌, ◌∷◌, refl, ap, sym, ◌∙◌, length, length-append, arith}
+use Rattle.srcp_core.proofs.Names.{◌≡◌, ◌∷◌, refl, ap, sym, ◌∙◌, length, length-append, arith}
 use Rattle.srcp_core.proofs.Invariants.PanelsAreListed.{listed, listed_all}
 use Rattle.srcp_core.proofs.Invariants.PanelsStay.{panels_few}
 use Rattle.srcp_core.proofs.server_core.walk.panel_keys.Goals as goal

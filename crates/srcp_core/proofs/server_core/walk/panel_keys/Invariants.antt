@@ -1,5 +1,4 @@
-use Rattle.std.proofs.Common.{◌≡◌, ◌++◌}
-use Rattle.srcp_core.specs.Machine.{panel_keys}
+use Rattle.srcp_core.proofs.Names.{◌≡◌, ◌++◌, panel_keys}
 use Rattle.srcp_core.proofs.Invariants.PanelsAreListed.{listed}
 use Rattle.srcp_core.proofs.server_core.walk.panel_keys.Given as goal
 

@@ -1,4 +1,4 @@
-use Rattle.std.proofs.Common.{◌≡◌, take}
+use Rattle.srcp_core.proofs.Names.{◌≡◌, take}
 use Rattle.std.specs.Prelude.{fold}
 use Rattle.srcp_core.proofs.Invariants.EveryPlaceIsTold.{told_key}
 use Rattle.srcp_core.proofs.server_core.walk.tell_all.Given as goal

@@ -1,5 +1,4 @@
-use Rattle.std.proofs.Common.{◌≡◌, take}
-use Rattle.srcp_core.specs.Machine.{told_each}
+use Rattle.srcp_core.proofs.Names.{◌≡◌, take, told_each}
 use Rattle.srcp_core.proofs.server_core.walk.tell_each.Given as goal
 
 abbrev pub invariant-loop-change : goal.invariant-loop-change
