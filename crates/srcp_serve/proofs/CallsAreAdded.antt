@@ -1,69 +1,106 @@
--- What a door told, call after call.
-use Rattle.std.proofs.Common.{◌≡◌, ◌∙◌, List, [], ◌∷◌, ◌++◌, map, Option, Some, None, Result, refl, ap, sym, subst, append_assoc}
-use Rattle.std.proofs.Common.{append-nil, ℕ, ◌+◌, if◌then◌else◌}
+-- What a door told and what the core counted, call after call.
+use Rattle.std.proofs.Common.{◌≡◌, ◌∙◌, List, [], ◌∷◌, ◌++◌, map, Some, None, Result, refl, sym, append_assoc, append-nil, ℕ, ◌+◌}
+use Rattle.std.proofs.Common.{if◌then◌else◌, Ok, Err}
 use Rattle.std.proofs.lemmas.List.{append_cancel_left, map-append}
 use Rattle.std.proofs.lemmas.Grind.{flat_map-append}
 use Rattle.std.proofs.lemmas.List.Sums.{fold-append}
-use Rattle.std.proofs.lemmas.Option.{same_Some}
-use Rattle.std.specs.Prelude.{IfSome, min}
+use Rattle.std.specs.Prelude.{min}
 use Rattle.srcp_core.specs.Held.{Held}
-use Rattle.srcp_core.specs.Under.{denied_by}
+use Rattle.srcp_core.specs.Under.{At, Event, Room}
 use Rattle.srcp_core.proofs.Agreement.MemoryAnswers.{none_denied}
-use Rattle.srcp_serve.specs.Calls.{Call as DoorCall, Tells, CloseCall, Adds}
-use Rattle.srcp_serve.specs.Given.{Call, CountsRefusals, GivesUnlessCounted, answers_in, answers_of, door_call}
-use Rattle.srcp_serve.specs.Visits.{AddsGiven, Closes}
+use Rattle.srcp_serve.specs.Calls.{Call as DoorCall, Tells, CloseCall, Adds, Trace}
+use Rattle.srcp_serve.specs.Given.{Call, CountsRefusals, GivesUnlessCounted, answers_in, answers_of, NowCall}
+use Rattle.srcp_serve.specs.Visits.{AddsGiven, Closes, CountsAsked, Makes}
 use Rattle.srcp_serve.specs.declared.door.DoorFault.{DoorFault}
+use Rattle.srcp_grammar.specs.declared.layout.Bus.{Bus}
+use Rattle.srcp_core.specs.Course.{counted, course, denied_in, start}
+use Rattle.srcp_core.proofs.Agreement.RefusalsAreCounted.{denied_over_push}
+use Rattle.srcp_serve.specs.Serving.{Stand, timed}
 
 -- one call more
-pub adds_one : (call : DoorCall) (old new : Option (List DoorCall)) (trace : List DoorCall) → Tells old call new → new ≡ Some trace
+pub adds_one : (call : DoorCall) (old new : Trace) (trace : List DoorCall) → Tells old call new → new ≡ Some trace
     → Adds old trace (call ∷ [])
-adds_one call None new trace e is = absurd (none_some (sym e ∙ is))
-  where
-    none_some : None ≡ Some trace → ⊥
-    none_some e = cc
-adds_one call (Some calls) new trace h is = record {
-  before = calls;
-  was = refl;
-  is = subst (λ (o : Option (List DoorCall)). IfSome o (λ trace. trace ≡ calls ++ call ∷ [])) is h;
-}
+adds_one call None new trace e is = cc
+adds_one call (Some calls) new trace h is = record { before = calls; was = refl; is = rw is at h }
 
 -- no call
-pub adds_none : (old : Option (List DoorCall)) (trace : List DoorCall) → old ≡ Some trace → Adds old trace []
-adds_none old trace e = record { before = trace; was = e; is = sym (append-nil trace) }
+pub adds_none : {old : Trace} {trace : List DoorCall} → old ≡ Some trace → Adds old trace []
+adds_none {trace = trace} e = record { before = trace; was = e; is = sym (append-nil trace) }
 
 -- these calls, and then those
-pub adds_then : (old mid_trace : Option (List DoorCall)) (mid trace xs ys : List DoorCall) → mid_trace ≡ Some mid → Adds old mid xs
-    → Adds mid_trace trace ys → Adds old trace (xs ++ ys)
-adds_then old mid_trace mid trace xs ys e a b =
-    let same : b.before ≡ mid = same_Some b.before mid (sym b.was ∙ e) in
-    record { before = a.before; was = a.was; is = b.is ∙ ap (λ calls. calls ++ ys) (same ∙ a.is) ∙ append_assoc a.before xs ys }
+pub adds_then : {old trace_mid : Trace} {mid trace xs ys : List DoorCall} → trace_mid ≡ Some mid → Adds old mid xs
+    → Adds trace_mid trace ys → Adds old trace (xs ++ ys)
+adds_then {mid = mid} {xs = xs} {ys = ys} e a b =
+    let same : b.before ≡ mid = cc in
+    record { before = a.before; was = a.was; is = b.is ∙ rw (same, a.is) (append_assoc a.before xs ys) }
 
 -- the same of calls with the answers of memory
-pub given_then : (old mid_trace : Option (List DoorCall)) (mid trace : List DoorCall) (xs ys : List Call) → mid_trace ≡ Some mid
-    → AddsGiven old mid xs → AddsGiven mid_trace trace ys → AddsGiven old trace (xs ++ ys)
-given_then old mid_trace mid trace xs ys e a b =
-    subst (λ (calls : List DoorCall). Adds old trace calls) (sym (map-append door_call xs ys))
-    (adds_then old mid_trace mid trace (map door_call xs) (map door_call ys) e a b)
+pub given_then : {old trace_mid : Trace} {mid trace : List DoorCall} (xs ys : List Call) → trace_mid ≡ Some mid
+    → AddsGiven old mid xs → AddsGiven trace_mid trace ys → AddsGiven old trace (xs ++ ys)
+given_then xs ys e a b = rw map-append (adds_then e a b)
 
 -- the refusals of these calls were counted, and then those of the others
 pub refusals_then : (old mid new : Held) (xs ys : List Call) → CountsRefusals old xs mid → CountsRefusals mid ys new
     → CountsRefusals old (xs ++ ys) new
 refusals_then old mid new xs ys a b =
-    b ∙ ap (λ k. denied_by k (answers_of ys)) a
-    ∙ sym (fold-append (λ count granted. if granted then count else min (count + 1) 18446744073709551615) old.denied (answers_of xs)
-    (answers_of ys))
-    ∙ ap (denied_by old.denied) (sym (flat_map-append answers_in xs ys))
+    cc (
+      fold-append (λ count granted. if granted then count else min (count + 1) 18446744073709551615) old.denied (answers_of xs)
+          (answers_of ys),
+      flat_map-append answers_in xs ys,
+    )
 
 -- if no refusal is counted, memory was given in each answer
 pub gives_all : GivesUnlessCounted
-gives_all old calls new counted none = (none_denied (answers_of calls) old.denied (sym counted ∙ none)).1
+gives_all old calls new counted none = (none_denied _ old.denied (sym counted ∙ none)).1
 
 -- the same calls were added
-pub same_calls : (old : Option (List DoorCall)) (trace xs ys : List DoorCall) → Adds old trace xs → Adds old trace ys → xs ≡ ys
-same_calls old trace xs ys a b =
-    let same : b.before ≡ a.before = same_Some b.before a.before (sym b.was ∙ a.was) in
-    append_cancel_left a.before xs ys (sym a.is ∙ b.is ∙ ap (λ calls. calls ++ ys) same)
+pub same_calls : {old : Trace} {trace xs ys : List DoorCall} → Adds old trace xs → Adds old trace ys → xs ≡ ys
+same_calls {xs = xs} {ys = ys} a b =
+    let same : b.before ≡ a.before = cc in append_cancel_left _ xs ys (sym a.is ∙ b.is ∙ rw same refl)
 
-pub closes_by : (peer : ℕ) (answer : Result Unit DoorFault) (old new : Option (List DoorCall)) → Tells old (CloseCall peer answer) new
+-- what was refused of memory was asked for in the course, event after event
+module _ (buses : List Bus) where
+  -- after one event
+  pub asked_one : (events : List Event) (event : Event) (old new : Held) → new.denied
+      ≡ denied_in buses old.denied (counted (course buses events)) event → CountsAsked buses events (events ++ event ∷ []) old new
+  asked_one events event old new e first h = cc (denied_over_push buses first start events event)
+
+  -- after none
+  pub asked_none : (events : List Event) (old : Held) → CountsAsked buses events (events ++ []) old old
+  asked_none events old first h = simp (h, append-nil)
+
+  -- room asks for no memory
+  pub asked_rooms : (n : ℕ) (counts : List ℕ) (events : List Event) (old new : Held) → new.denied ≡ old.denied
+      → CountsAsked buses events (events ++ map (Room n) counts) old new
+  asked_rooms n [] events old new same first h = same ∙ asked_none events old first h
+  asked_rooms n (count ∷ counts) events old new same first h =
+      cc (
+        asked_rooms n counts (events ++ Room n count ∷ []) old new same first (asked_one events (Room n count) old old refl first h),
+        append_assoc events (Room n count ∷ []) (map (Room n) counts),
+      )
+
+  -- nor does a moment
+  pub asked_moment : (answer : Result ℕ DoorFault) (stand : Stand) (old new : Held) → new.denied ≡ old.denied
+      → CountsAsked buses stand.events (timed buses stand (NowCall answer ∷ [])).events old new
+  asked_moment (Ok moment) stand old new same first h = asked_one stand.events (At moment) old new same first h
+  asked_moment (Err failed) stand old new same first h = same ∙ h
+
+-- these calls, and then those
+pub makes_then : {buses : List Bus} {before between after : List Event} {xs ys : List Call} {trace_old trace_mid : Trace}
+    {mid trace : List DoorCall} {old held new : Held} → trace_mid ≡ Some mid → Makes buses before between xs trace_old mid old held
+    → Makes buses between after ys trace_mid trace held new → Makes buses before after (xs ++ ys) trace_old trace old new
+makes_then {xs = xs} {ys = ys} {old = old} {held = held} {new = new} is x y = record {
+  adds = given_then xs ys is x.adds y.adds;
+  counted = refusals_then old held new xs ys x.counted y.counted;
+  asked_for = λ first h. y.asked_for first (x.asked_for first h);
+}
+
+-- no call
+pub makes_none : (buses : List Bus) (events : List Event) (trace_old : Trace) (trace : List DoorCall) (old : Held) → trace_old ≡ Some trace
+    → Makes buses events (events ++ []) [] trace_old trace old old
+makes_none buses events trace_old trace old is =
+    record { adds = adds_none is; counted = refl; asked_for = asked_none buses events old }
+
+pub closes_by : (peer : ℕ) (answer : Result Unit DoorFault) (old new : Trace) → Tells old (CloseCall peer answer) new
     → Closes peer old new
-closes_by peer answer old new h trace is = record { answer = answer; adds = adds_one (CloseCall peer answer) old new trace h is }
+closes_by peer answer old new h trace is = record { answer = answer; adds = adds_one _ old new trace h is }

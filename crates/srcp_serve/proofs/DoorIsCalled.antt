@@ -1,13 +1,170 @@
--- What the methods of a server do to its door, call after call.
-use Rattle.std.proofs.Common.{◌≡◌, ◌∙◌, ℕ, ◌≤◌, true, List, Option, refl}
-use Rattle.srcp_serve.specs.Calls.{Call, IsFair, Tells}
-use Rattle.srcp_serve.specs.Tally.{CallsDoor, CountsFaults}
-use Rattle.srcp_serve.specs.Turns.{AsksPeers, is_of_peer}
+-- What the methods of a server ask of its door, call after call, and how failed calls are counted.
+use Rattle.std.proofs.Common.{◌≡◌, ◌∙◌, ℕ, ◌+◌, true, not, List, [], ◌∷◌, ◌++◌, Option, Result, refl, append-nil, length-append, ◌<◌, ◌≤◌}
+use Rattle.std.proofs.Common.{length, Ok, Err, arith}
+use Rattle.std.proofs.lemmas.Grind.{flat_map-append}
+use Rattle.std.proofs.lemmas.List.Folds.{list_all-append}
+use Rattle.srcp_info.proofs.ClientLaws.{all_append}
+use Rattle.std.specs.List.{list_all}
+use Rattle.std.specs.Prelude.{IfOk}
+use Rattle.srcp_serve.specs.Calls.{Call, Tells, ExpectCall, NowCall, AcceptCall, ReadCall, WriteCall, CloseCall, IsFair, is_expect, turns}
+use Rattle.srcp_serve.specs.Calls.{Trace, one_more}
+use Rattle.srcp_serve.specs.Turns.{AreAboutPeers, AreTurns, AsksMoment, AsksAccept, AsksPeers, AsksTurns, IsTurn, is_of_peer, AreAccept}
+use Rattle.srcp_serve.specs.Turns.{AreMoment, Asks}
+use Rattle.srcp_serve.specs.declared.door.DoorFault.{DoorFault}
+use Rattle.srcp_serve.proofs.CallsByTurnAndPeer.{one_part, parts-append}
+use Rattle.srcp_serve.proofs.CallsAreAdded.{adds_none, adds_one, adds_then}
+use Rattle.srcp_serve.specs.declared.door.Got.{Got}
+use Rattle.srcp_serve.specs.Tally.{CountsFaults, CallsDoor}
 use Rattle.srcp_serve.specs.declared.serving.Server.{Server}
-use Rattle.srcp_serve.proofs.FaultsAreCounted.{counts_then, none_failed}
-use Rattle.srcp_serve.proofs.TurnsAskInOrder.{asks_none, asks_one, asks_then}
+use Rattle.srcp_serve.specs.declared.door.Got.TheVariants as got
 
-module _ {D : Type 0} (faults : D → ℕ) (trace : D → Option (List Call)) where
+pub of_peers_then : (xs ys : List Call) → AreAboutPeers xs → AreAboutPeers ys → AreAboutPeers (xs ++ ys)
+of_peers_then xs ys x y = record {
+  peers = rw (list_all-append, x.peers) y.peers;
+  fair = all_append IsFair xs ys x.fair y.fair;
+}
+
+pub asks_none : (old : Trace) → AsksPeers old old
+asks_none old trace is = record { calls = []; adds = adds_none is; are = record { peers = refl; fair = tt } }
+
+pub asks_one : (Are : List Call → Type 0) (call : Call) (old new : Trace) → Are (call ∷ []) → Tells old call new → Asks Are old new
+asks_one Are call old new are h trace is = record { calls = call ∷ []; adds = adds_one call old new trace h is; are = are }
+
+-- calls that are so, and then others
+pub asks_then : {A B C : List Call → Type 0} → ((xs ys : List Call) → A xs → B ys → C (xs ++ ys)) → (old mid new : Trace)
+    → Asks A old mid → Asks B mid new → Asks C old new
+asks_then join old mid new first second trace is =
+    let y = second trace is in
+    let x = first _ y.adds.was in
+    record {
+      calls = x.calls ++ y.calls;
+      adds = adds_then y.adds.was x.adds y.adds;
+      are = join x.calls y.calls x.are y.are;
+    }
+
+pub asks_moment : (due slack : Option ℕ) (answer : Result ℕ DoorFault) (old mid new : Trace) → Tells old (ExpectCall due slack) mid
+    → Tells mid (NowCall answer) new → AsksMoment old new
+asks_moment due slack answer old mid new first second =
+    asks_then {A = λ xs. xs ≡ ExpectCall due slack ∷ []} {B = λ ys. ys ≡ NowCall answer ∷ []}
+    (λ xs ys x y. record { due = due; slack = slack; answer = answer; is = rw (x, y) refl }) old mid new
+    (asks_one _ _ old mid refl first) (asks_one _ _ mid new refl second)
+
+pub asks_accept : (answer : Result (Option ℕ) DoorFault) (old mid new : Trace) → Tells old (AcceptCall answer) mid
+    → AsksPeers mid new → AsksAccept old new
+asks_accept answer old mid new first later =
+    asks_then {A = λ xs. xs ≡ AcceptCall answer ∷ []}
+    (λ xs ys x peers. record { answer = answer; rest = ys; is = rw x refl; peers = peers }) old mid new
+    (asks_one _ _ old mid refl first) later
+
+pub turn_begins : (xs ys : List Call) → AreMoment xs → AreAccept ys → IsTurn (xs ++ ys)
+turn_begins xs ys x y = record {
+  due = x.due;
+  slack = x.slack;
+  now = x.answer;
+  accept = y.answer;
+  rest = y.rest;
+  is = rw (x.is, y.is) refl;
+  peers = y.peers;
+}
+
+pub turn_goes_on : (xs ys : List Call) → IsTurn xs → AreAboutPeers ys → IsTurn (xs ++ ys)
+turn_goes_on xs ys t y = record {
+  due = t.due;
+  slack = t.slack;
+  now = t.now;
+  accept = t.accept;
+  rest = t.rest ++ ys;
+  is = rw t.is refl;
+  peers = of_peers_then t.rest ys t.peers y;
+}
+
+-- ---- turn after turn
+
+pub not_now : (calls : List Call) → list_all is_of_peer calls ≡ true → list_all (λ call. not (is_expect call)) calls ≡ true
+not_now [] h = refl
+not_now (ExpectCall due slack ∷ calls) h = cc
+not_now (NowCall answer ∷ calls) h = cc
+not_now (AcceptCall answer ∷ calls) h = cc
+not_now (ReadCall peer answer buffer ∷ calls) h = not_now calls h
+not_now (WriteCall peer bytes answer ∷ calls) h = not_now calls h
+not_now (CloseCall peer answer ∷ calls) h = not_now calls h
+
+pub turns_none : (old : Trace) → AsksTurns 0 old old
+turns_none old trace is = record {
+  calls = [];
+  adds = adds_none is;
+  are = record { many = refl; each = tt; all = refl; fair = tt };
+}
+
+pub one_more_turn : {count : ℕ} (trace calls : List Call) → AreTurns count trace → IsTurn calls → AreTurns (count + 1) (trace ++ calls)
+one_more_turn trace calls so t =
+    let rest = NowCall t.now ∷ AcceptCall t.accept ∷ t.rest in
+    let whole = ExpectCall t.due t.slack ∷ rest in
+    let alone = one_part is_expect rest (not_now t.rest t.peers.peers) in
+    let last : turns whole ≡ whole ∷ [] = rw (alone.0, alone.1) refl in
+    let all : turns (trace ++ calls) ≡ turns trace ++ calls ∷ [] =
+    rw (t.is, parts-append, last) refl in
+    record {
+      many = rw (all, length-append, so.many) refl;
+      each = rw all (all_append IsTurn (turns trace) (calls ∷ []) so.each (t, tt));
+      all = rw (all, flat_map-append, so.all, append-nil) refl;
+      fair = all_append IsFair trace calls so.fair (rw t.is (tt, (tt, (tt, t.peers.fair))));
+    }
+
+-- ---- what a door answers is within what it was asked
+
+pub fair_read : (peer : ℕ) (answer : Result Got DoorFault) (most : ℕ) (buffer : List ℕ)
+    → ((n : ℕ) → answer ≡ Ok (got.Bytes n) → (0 < n) × (n ≤ most)) → length buffer ≡ most → IsFair (ReadCall peer answer buffer)
+fair_read peer (Ok (got.Bytes n)) most buffer count same =
+    let within = count n refl in (within.0, rw same within.1)
+fair_read peer (Ok got.Nothing) most buffer count same = tt
+fair_read peer (Ok got.Ended) most buffer count same = tt
+fair_read peer (Err fault) most buffer count same = tt
+
+pub fair_write : (peer : ℕ) (bytes : List ℕ) (answer : Result ℕ DoorFault) → IfOk answer (λ n. n ≤ length bytes)
+    → IsFair (WriteCall peer bytes answer)
+fair_write peer bytes (Ok n) count = count
+fair_write peer bytes (Err fault) count = tt
+
+-- ---- counting the failures of a door
+
+-- one call failed, and was counted
+pub one_failed : (tally count tally_later count_later : ℕ) → tally ≤ count → tally_later ≡ one_more tally → count_later ≡ one_more count
+    → CountsFaults tally count tally_later count_later
+one_failed tally count _ _ le t c = record {
+  within = omega (arith, le, t, c);
+  onward = λ low. omega (arith, low, c);
+  exact = λ low. omega (arith, le, low, t, c);
+}
+
+-- no call failed
+pub none_failed : (tally count count_later : ℕ) → tally ≤ count → count_later ≡ count → CountsFaults tally count tally count_later
+none_failed tally count _ le same = record {
+  within = omega (arith, le, same);
+  onward = λ low. omega (arith, same);
+  exact = λ low. omega (arith, same);
+}
+
+-- some calls, and then others
+pub counts_then : (a b c d e f : ℕ) → CountsFaults a b c d → CountsFaults c d e f → CountsFaults a b e f
+counts_then a b c d e f first second = record {
+  within = second.within;
+  onward = λ low.
+      let later = second.onward low in
+      let below : d < 18446744073709551615 = omega (arith, later, low) in
+      let sooner = first.onward below in
+      omega (arith, later, sooner);
+  exact = λ low.
+      let later = second.onward low in
+      let below : d < 18446744073709551615 = omega (arith, later, low) in
+      let x = first.exact below in
+      let y = second.exact low in
+      omega (arith, x, y);
+}
+
+-- ---- what the methods of a server do to its door, call after call
+
+module _ {D : Type 0} (faults : D → ℕ) (trace : D → Trace) where
   -- no call
   pub calls_none : (s : Server D) → s.tally.faults ≤ faults s.door.now → CallsDoor faults trace AsksPeers s s
   calls_none s counted = record { same_door = refl; counted = none_failed _ _ _ counted refl; asks = asks_none (trace s.door.now) }
@@ -19,20 +176,19 @@ module _ {D : Type 0} (faults : D → ℕ) (trace : D → Option (List Call)) wh
   calls_one call s t same counted of_peer fair tells = record {
     same_door = same;
     counted = counted;
-    asks = asks_one call (trace s.door.now) (trace t.door.now) of_peer fair tells;
+    asks = asks_one _ call _ _ (record { peers = rw of_peer refl; fair = (fair, tt) }) tells;
   }
 
   -- some calls, and then others
-  pub calls_then : (A B C : (old new : Option (List Call)) → Type 0)
-      → ((old mid new : Option (List Call)) → A old mid → B mid new → C old new)
-      → (s t u : Server D) → CallsDoor faults trace A s t → CallsDoor faults trace B t u → CallsDoor faults trace C s u
-  calls_then A B C join s t u first second = record {
+  pub calls_then : {A B C : List Call → Type 0} → ((xs ys : List Call) → A xs → B ys → C (xs ++ ys)) → (s t u : Server D)
+      → CallsDoor faults trace (Asks A) s t → CallsDoor faults trace (Asks B) t u → CallsDoor faults trace (Asks C) s u
+  calls_then join s t u first second = record {
     same_door = second.same_door ∙ first.same_door;
     counted = counts_then _ _ _ _ _ _ first.counted second.counted;
-    asks = join (trace s.door.now) (trace t.door.now) (trace u.door.now) first.asks second.asks;
+    asks = asks_then join _ _ _ first.asks second.asks;
   }
 
   -- calls about peers, and then others about peers
   pub calls_on : (s t u : Server D) → CallsDoor faults trace AsksPeers s t → CallsDoor faults trace AsksPeers t u
       → CallsDoor faults trace AsksPeers s u
-  calls_on = calls_then AsksPeers AsksPeers AsksPeers asks_then
+  calls_on = calls_then of_peers_then

@@ -161,7 +161,7 @@ two_peers_take = refl
 
 -- ---- memory is refused
 
--- to a newcomer, which is turned away, and to the GO of the next one
+-- to a peer that is accepted, which is closed, and to the GO of the next one
 abbrev refused : List Call
 refused =
     (ExpectCall None None ∷ NowCall (Ok 0) ∷ AcceptCall (Ok (Some 1)) false ∷ CloseCall 1 (Ok tt) ∷ [])
@@ -200,7 +200,7 @@ eager = asked_in (quiet 1 ∷ greeting ∷ [])
 eager_is_not : IsServed buses 1 eager → ⊥
 eager_is_not h = cc
 
--- one that keeps a newcomer to which memory was refused
+-- one that keeps an accepted peer to which memory was refused
 abbrev keeping : List Call
 keeping = ExpectCall None None ∷ NowCall (Ok 0) ∷ AcceptCall (Ok (Some 1)) false ∷ []
 

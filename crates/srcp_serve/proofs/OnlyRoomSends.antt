@@ -1,11 +1,11 @@
--- What the events but room leave of what the connections were sent.
-use Rattle.std.proofs.Common.{◌≡◌, ◌∙◌, ℕ, zero, suc, ◌≤◌, Bool, true, false, List, [], ◌∷◌, ◌++◌, map, take, length, if◌then◌else◌, Option}
-use Rattle.std.proofs.Common.{Some, None, option_map, Result, Ok, Err, refl, ap, sym, subst, arith, append-nil, length-append}
-use Rattle.std.specs.Prelude.{◌+◌, ◌||◌, ◌==◌, fold, nat_lt}
+-- What the events but room leave of a connection, and what events of others leave of it.
+use Rattle.std.proofs.Common.{◌≡◌, ◌∙◌, ℕ, zero, suc, ◌≤◌, Bool, true, false, List, [], ◌∷◌, ◌++◌, map, length, if◌then◌else◌, Option, Some}
+use Rattle.std.proofs.Common.{None, option_map, Result, Ok, Err, refl, ap, sym, subst, arith, append-nil, length-append, ◌+◌}
+use Rattle.std.specs.Prelude.{◌||◌, ◌==◌, fold, nat_lt}
 use Rattle.std.specs.List.{AllByRecursion}
 use Rattle.std.proofs.lemmas.List.{take-append-le}
 use Rattle.std.proofs.lemmas.Option.{same_Some}
-use Rattle.srcp_core.specs.Under.{Piece, Order, effect, Heard, greets}
+use Rattle.srcp_core.specs.Under.{Piece, Order, effect, Heard, greets, Open, Bytes, At, Shut, Obeyed, Began, Ended, Event, Room}
 use Rattle.srcp_info.specs.Line.{reply_line}
 use Rattle.srcp_info.specs.declared.change.Code.{Code}
 use Rattle.srcp_info.specs.declared.change.Code.TheVariants.{C500}
@@ -14,15 +14,16 @@ use Rattle.srcp_info.specs.declared.change.Reply.TheVariants.{Protocol, Mode as 
 use Rattle.srcp_info.specs.declared.value.Mode.{Mode}
 use Rattle.srcp_grammar.specs.declared.layout.Bus.{Bus}
 use Rattle.srcp_rules.specs.Effect.{Effect}
-use Rattle.srcp_core.specs.Under.{Open, Bytes, At, Shut, Obeyed, Began, Ended, Piece, Order, effect, Heard, greets}
-use Rattle.srcp_core.specs.Connection.{Connection, given, sent, text}
+use Rattle.srcp_core.specs.Connection.{Connection, given, sent, given_room}
 use Rattle.srcp_core.specs.Course.{World, fresh, numbered, with_numbered, open_connection, at_connection, did, replied, counted, is_info}
 use Rattle.srcp_core.specs.Course.{state, entered, goes, greeted, ended, obeyed, commanded, answered_as, answered, order_of, fault}
-use Rattle.srcp_core.specs.Course.{new_lines, fed_to, shut_as, or_refused, happens}
+use Rattle.srcp_core.specs.Course.{new_lines, fed_to, shut_as, or_refused, happens, rows, history}
 use Rattle.srcp_core.proofs.Agreement.MemoryAnswers.{line_law}
 use Rattle.srcp_core.specs.declared.record.CoreFault.{CoreFault}
 use Rattle.srcp_core.proofs.Agreement.NumbersAndKeys.{numbered_with}
 use Rattle.srcp_core.proofs.CourseLaws.SessionsAreKept.{all_numbered, all_push, opened}
+use Rattle.std.proofs.lemmas.Bool.{eqb-false}
+use Rattle.srcp_core.proofs.CourseLaws.NothingAfterTheEnd.{numbered_other, numbered_push}
 
 -- it was given no line unless it is an information session, which no command of its own ends, and no more was taken of it
 -- than it was given
@@ -37,12 +38,12 @@ pub record IsSending (texts : List (List ℕ)) (conns : List Connection) : Type 
   pub sends : map sent conns ≡ texts
 
 -- it may have been given more replies
-record IsGrown (c d : Connection) : Type 0 where
-  items : d.items ≡ c.items
-  ended : d.ended ≡ c.ended
-  taken : d.taken ≡ c.taken
-  more : List ℕ
-  out : d.out ≡ c.out ++ more
+pub record IsGrown (c d : Connection) : Type 0 where
+  pub items : d.items ≡ c.items
+  pub ended : d.ended ≡ c.ended
+  pub taken : d.taken ≡ c.taken
+  pub more : List ℕ
+  pub out : d.out ≡ c.out ++ more
 
 -- so they are, and that one was given no line and did not end
 record IsQuiet (n : ℕ) (texts : List (List ℕ)) (conns : List Connection) : Type 0 where
@@ -68,22 +69,22 @@ sending_with : (n : ℕ) (f : Connection → Connection) (texts : List (List ℕ
     → ((conn : Connection) → numbered n conns ≡ Some conn → IsSteady conn → IsSteady (f conn) × (sent (f conn) ≡ sent conn))
     → IsSending texts conns → IsSending texts (with_numbered n f conns)
 sending_with n f texts conns h a = record {
-  steady = all_numbered IsSteady n f conns (λ conn e s. (h conn e s).0) a.steady;
+  steady = all_numbered _ n f conns (λ conn e s. (h conn e s).0) a.steady;
   sends = sent_with n f conns (λ conn e s. (h conn e s).1) a.steady ∙ a.sends;
 }
 
 grown_sent : (c d : Connection) → IsGrown c d → c.items ≡ [] → c.ended ≡ false → IsSteady c → IsSteady d × (sent d ≡ sent c)
 grown_sent c d g i e s =
-    let none : d.items ≡ [] = g.items ∙ i in
-    let before : given c ≡ c.out = ap (λ is. c.out ++ text is) i ∙ append-nil c.out in
-    let now : given d ≡ c.out ++ g.more = ap (λ is. d.out ++ text is) none ∙ append-nil d.out ∙ g.out in
-    let low : c.taken ≤ length c.out = subst (λ (l : List ℕ). c.taken ≤ length l) before s.within in
+    let none = g.items ∙ i in
+    let before : given c ≡ c.out = simp (i, append-nil) in
+    let now : given d ≡ c.out ++ g.more = cc (append-nil d.out) in
+    let low = rw before at s.within in
     let size = length-append c.out g.more in
     let whole = ap length now in
     let taken = g.taken in
     let fits : d.taken ≤ length (given d) = omega (arith, low, size, whole, taken) in (
       record { plain = λ h. none; goes_on = λ h. g.ended ∙ e; within = fits },
-      ap (λ k. take k (given d)) g.taken ∙ ap (take c.taken) now ∙ take-append-le c.taken c.out g.more low ∙ ap (take c.taken) (sym before),
+      cc (take-append-le c.taken c.out g.more low),
     )
 
 quiet_with : (n : ℕ) (f : Connection → Connection) (texts : List (List ℕ)) (conns : List Connection)
@@ -95,173 +96,173 @@ quiet_with n f texts conns h q = record {
   where
     by : (o : Option Connection) → numbered n conns ≡ o → (conn : Connection) → option_map f (numbered n conns) ≡ Some conn
         → (conn.items ≡ []) × (conn.ended ≡ false)
-    by None t conn e = let no : option_map f None ≡ Some conn = ap (option_map f) (sym t) ∙ e in cc
+    by None t conn e = let no : option_map f None ≡ Some conn = cc in cc
     by (Some c) t conn e =
-        let is : Some (f c) ≡ Some conn = ap (option_map f) (sym t) ∙ e in
+        let is : Some (f c) ≡ Some conn = cc in
         let same = sym (same_Some (f c) conn is) in (
-          ap (λ (x : Connection). x.items) same ∙ (h c).items ∙ (q.none c t).0,
-          ap (λ (x : Connection). x.ended) same ∙ (h c).ended
-              ∙ (q.none c t).1,
+          cc ((h c).items, (q.none c t).0),
+          cc ((h c).ended, (q.none c t).1),
         )
 
-module _ (buses : List Bus) (n : ℕ) (texts : List (List ℕ)) where
-  abbrev Quiet : World → Type 0
-  Quiet w = IsQuiet n texts w.connections
+-- ---- what comes of the bytes of a connection and of its end
 
-  abbrev Sending : World → Type 0
-  Sending w = IsSending texts w.connections
+-- these keep a law of connections: `Quiet` holds while the connection is answered, which is no information session
+pub record IsKeptBy (n : ℕ) (Law Quiet : List Connection → Type 0) : Type 0 where
+  pub begins : (conns : List Connection) (conn : Connection) → numbered n conns ≡ Some conn → conn.info ≡ false → conn.ended ≡ false
+      → Law conns → Quiet conns
+  pub grows : (f : Connection → Connection) (conns : List Connection) → ((conn : Connection) → IsGrown conn (f conn)) → Quiet conns
+      → Quiet (with_numbered n f conns)
+  pub ends : (conns : List Connection) → ((conn : Connection) → numbered n conns ≡ Some conn → conn.info ≡ false) → Quiet conns
+      → Law (with_numbered n (λ c. record c { ended = true }) conns)
+  pub leaves : (conns : List Connection) → Quiet conns → Law conns
+  pub feeds : (bytes : List ℕ) (conns : List Connection) → Law conns → Law (with_numbered n (λ c. record c { fed = c.fed ++ bytes }) conns)
+  pub shuts : (steps : ℕ) (conns : List Connection) → Law conns → Law (with_numbered n (λ c. record c { shut = Some steps }) conns)
 
-  quiet_replied : (reply : Reply) (w : World) → Quiet w → Quiet (replied n reply w)
-  quiet_replied reply w q = quiet_with n (λ conn. record conn { out = conn.out ++ reply_line w.moment reply }) texts w.connections
+module _ (buses : List Bus) (n : ℕ) (Law Quiet : List Connection → Type 0) (kept : IsKeptBy n Law Quiet) where
+  abbrev IsQuietNow : World → Type 0
+  IsQuietNow w = Quiet w.connections
+
+  abbrev Holds : World → Type 0
+  Holds w = Law w.connections
+
+  kept_replied : (reply : Reply) (w : World) → IsQuietNow w → IsQuietNow (replied n reply w)
+  kept_replied reply w q = kept.grows (λ conn. record conn { out = conn.out ++ reply_line w.moment reply }) _
       (λ conn. record { items = refl; ended = refl; taken = refl; more = reply_line w.moment reply; out = refl }) q
 
-  quiet_goes : (mode : Mode) (w : World) → Quiet w → Quiet (goes buses n mode w)
-  quiet_goes mode w q =
+  kept_goes : (mode : Mode) (w : World) → IsQuietNow w → IsQuietNow (goes buses n mode w)
+  kept_goes mode w q =
       let id : ℕ = w.last_id + 1 in
-      let begun : World = did (Began id w.moment mode) (record w { last_id = id }) in
+      let begun = did (Began id w.moment mode) (record w { last_id = id }) in
       elim (nat_lt w.last_id 4294967295)
-      as (λ t. Quiet (if t then replied n (Go id) (entered buses n id begun) else replied n (Refused C500) w)) [
-        | true ↦ quiet_replied (Go id) (entered buses n id begun)
-            (quiet_with n (λ conn. record conn {
-              session = id;
-              info = is_info conn.mode;
-              go_step =
-                  length begun.steps;
-            }) texts w.connections
+      as (λ t. IsQuietNow (if t then replied n (Go id) (entered buses n id begun) else replied n (Refused C500) w)) [
+        | true ↦ kept_replied (Go id) (entered buses n id begun)
+            (kept.grows (λ conn. record conn { session = id; info = is_info conn.mode; go_step = length begun.steps }) w.connections
             (λ conn. record { items = refl; ended = refl; taken = refl; more = []; out = sym (append-nil conn.out) }) q)
-        | false ↦ quiet_replied (Refused C500) w q
+        | false ↦ kept_replied (Refused C500) w q
       ]
 
-  quiet_chosen : (mode : Mode) (w : World) → Quiet w → Quiet (replied n ModeReply (at_connection n (λ conn. record conn { mode = mode }) w))
-  quiet_chosen mode w q =
-      quiet_replied ModeReply (at_connection n (λ conn. record conn { mode = mode }) w)
-      (quiet_with n (λ conn. record conn { mode = mode }) texts w.connections
-      (λ conn. record { items = refl; ended = refl; taken = refl; more = []; out = sym (append-nil conn.out) }) q)
-
-  module _ (mode : Mode) (w : World) (q : Quiet w) where
-    refuses : (code : Code) → Quiet (replied n (Refused code) w)
-    refuses code = quiet_replied (Refused code) w q
-
-    quiet_greeted : (line : Heard) → Quiet (greeted buses n mode (greets line) w)
-    quiet_greeted line =
-        line_law Quiet buses n mode line w (quiet_replied Protocol w q) (λ chosen. quiet_chosen chosen w q) (quiet_goes mode w q) refuses
+  kept_greeted : (mode : Mode) (w : World) → IsQuietNow w → (line : Heard) → IsQuietNow (greeted buses n mode (greets line) w)
+  kept_greeted mode w q line =
+      line_law IsQuietNow buses n mode line w (kept_replied Protocol w q)
+      (λ chosen. kept_replied ModeReply (at_connection n (λ conn. record conn { mode = chosen }) w)
+      (kept.grows (λ conn. record conn { mode = chosen }) _
+      (λ conn. record { items = refl; ended = refl; taken = refl; more = []; out = sym (append-nil _) }) q))
+      (kept_goes mode w q) (λ code. kept_replied (Refused code) w q)
 
   -- the connection is no information session
   abbrev IsPlain : World → Type 0
   IsPlain w = (conn : Connection) → numbered n w.connections ≡ Some conn → conn.info ≡ false
 
-  sending_obeyed : (session : ℕ) (command : Order) (result : Effect) (w : World) → IsPlain w → Quiet w
-      → Sending (obeyed buses n session command result w)
-  sending_obeyed session command result w p q =
-      let once : World = replied n result.reply (did (Obeyed session w.moment command) w) in
-      let still : Quiet once = quiet_replied result.reply (did (Obeyed session w.moment command) w) q in
-      elim result.ends as (λ t. Sending (if t then ended buses n session once else once)) [
-        | true ↦ sending_with n (λ conn. record conn { ended = true }) texts once.connections
-            (λ conn e s. (
-              record { plain = s.plain; goes_on = λ info. absurd (plain_still conn e info); within = s.within },
-              refl,
-            )) still.sending
-        | false ↦ still.sending
+  kept_obeyed : (session : ℕ) (command : Order) (result : Effect) (w : World) → IsPlain w → IsQuietNow w
+      → Holds (obeyed buses n session command result w)
+  kept_obeyed session command result w plain q =
+      let once = replied n result.reply (did (Obeyed session w.moment command) w) in
+      let still = kept_replied result.reply (did (Obeyed session w.moment command) w) q in
+      elim result.ends as (λ t. Holds (if t then ended buses n session once else once)) [
+        | true ↦ kept.ends once.connections (λ conn e. by (numbered n w.connections) refl conn (sym (numbered_with n _ w.connections) ∙ e))
+            still
+        | false ↦ kept.leaves once.connections still
       ]
     where
-      plain_still : (conn : Connection) → numbered n (replied n result.reply (did (Obeyed session w.moment command) w)).connections
-          ≡ Some conn → conn.info ≡ true → ⊥
-      plain_still conn e info = by (numbered n w.connections) refl (sym (numbered_with n _ w.connections) ∙ e)
-        where
-          by : (o : Option Connection) → numbered n w.connections ≡ o
-              → option_map (λ (c : Connection). record c { out = c.out ++ reply_line w.moment result.reply }) (numbered n w.connections)
-              ≡ Some conn → ⊥
-          by None t e = let no : None ≡ Some conn =
-              ap (option_map (λ (c : Connection). record c { out = c.out ++ reply_line w.moment result.reply })) (sym t) ∙ e in cc
-          by (Some c) t e =
-              let is : Some (record c { out = c.out ++ reply_line w.moment result.reply }) ≡ Some conn =
-              ap (option_map (λ (c : Connection). record c { out = c.out ++ reply_line w.moment result.reply })) (sym t) ∙ e in
-              let same : c.info ≡ conn.info =
-              ap (λ (x : Connection). x.info) (same_Some (record c { out = c.out ++ reply_line w.moment result.reply }) conn is) in
-              let no : c.info ≡ false = p c t in
-              cc
+      by : (o : Option Connection) → numbered n w.connections ≡ o → (conn : Connection)
+          → option_map (λ (c : Connection). record c { out = c.out ++ reply_line w.moment result.reply }) (numbered n w.connections)
+          ≡ Some conn → conn.info ≡ false
+      by None t conn e = let no : None ≡ Some conn =
+          cc in cc
+      by (Some c) t conn e =
+          let is : Some (record c { out = c.out ++ reply_line w.moment result.reply }) ≡ Some conn =
+          cc in
+          cc (same_Some (record c { out = c.out ++ reply_line w.moment result.reply }) conn is, plain c t)
 
-  sending_commanded : (session : ℕ) (command : Result Order Code) (w : World) → IsPlain w → Quiet w
-      → Sending (commanded buses n session command w)
-  sending_commanded session (Err code) w p q = (quiet_replied (Refused code) w q).sending
-  sending_commanded session (Ok command) w p q = sending_obeyed session command (effect (state buses w) session w.moment command) w p q
+  kept_commanded : (session : ℕ) (command : Result Order Code) (w : World) → IsPlain w → IsQuietNow w
+      → Holds (commanded buses n session command w)
+  kept_commanded session (Err code) w plain q = kept.leaves _ (kept_replied (Refused code) w q)
+  kept_commanded session (Ok command) w plain q = kept_obeyed session command (effect (state buses w) session w.moment command) w plain q
 
-  sending_answered_as : (o : Option Connection) (mark : Heard) (w : World)
-      → ((conn : Connection) → o ≡ Some conn → numbered n w.connections ≡ Some conn) → Sending w → Sending (answered_as buses n o mark w)
-  sending_answered_as None mark w f a = a
-  sending_answered_as (Some conn) mark w f a = by conn.info refl
+  kept_answered : (o : Option Connection) (line : Heard) (w : World) → ((conn : Connection) → o ≡ Some conn → numbered n w.connections ≡ o)
+      → Holds w → Holds (answered_as buses n o line w)
+  kept_answered None line w there a = a
+  kept_answered (Some conn) line w there a = by conn.info refl conn.ended refl
     where
-      is : (c : Connection) → numbered n w.connections ≡ Some c → c ≡ conn
-      is c t = same_Some c conn (sym t ∙ f conn refl)
+      by : (t : Bool) → conn.info ≡ t → (b : Bool) → conn.ended ≡ b
+          → Holds (if t || b then w
+          else (if conn.session == 0 then greeted buses n conn.mode (greets line) w
+          else commanded buses n conn.session (order_of buses line) w))
+      by true e b on = a
+      by false e true on = a
+      by false e false on =
+          let here = there conn refl in
+          let quiet = kept.begins w.connections conn here e on a in
+          elim (conn.session == 0) as
+          (λ t. Holds (if t then greeted buses n conn.mode (greets line) w else commanded buses n conn.session (order_of buses line) w)) [
+            | true ↦ kept.leaves _ (kept_greeted conn.mode w quiet line)
+            | false ↦ kept_commanded conn.session (order_of buses line) w
+                (λ c t. ap (λ (x : Connection). x.info) (same_Some c conn (sym t ∙ here)) ∙ e) quiet
+          ]
 
-      quiet : conn.info ≡ false → conn.ended ≡ false → Quiet w
-      quiet e on = record {
-        sending = a;
-        none = λ c t. (
-          ap (λ (x : Connection). x.items) (is c t) ∙ (steady_at n w.connections conn (f conn refl) a.steady).plain e,
-          ap (λ (x : Connection). x.ended) (is c t) ∙ on,
-        );
-      }
+  kept_lines : (lines : List Heard) (w : World) → Holds w → Holds (fold (answered buses n) w lines)
+  kept_lines [] w a = a
+  kept_lines (line ∷ lines) w a =
+      kept_lines lines _
+      (kept_answered _ line w (λ conn e. (opened _ conn e).0 ∙ sym e) a)
 
-      plain : conn.info ≡ false → IsPlain w
-      plain e c t = ap (λ (x : Connection). x.info) (is c t) ∙ e
+  kept_fed : (piece : Piece) (o : Option Connection) (w : World) → Holds w → Holds (fed_to buses n piece o w)
+  kept_fed piece None w a = a
+  kept_fed piece (Some conn) w a =
+      kept_lines (new_lines buses conn.fed piece) (at_connection n (λ c. record c { fed = c.fed ++ piece.bytes }) w)
+      (kept.feeds _ _ a)
 
-      by : (t : Bool) → conn.info ≡ t
-          → Sending (if t || conn.ended then w
-          else (if conn.session == 0 then greeted buses n conn.mode (greets mark) w
-          else commanded buses n conn.session (order_of buses mark) w))
-      by true e = a
-      by false e = still conn.ended refl
-        where
-          still : (t : Bool) → conn.ended ≡ t
-              → Sending (if t then w else (if conn.session ==
-              0 then greeted buses n conn.mode (greets mark) w else commanded buses n conn.session (order_of buses mark) w))
-          still true on = a
-          still false on = elim (conn.session == 0) as
-              (λ t. Sending (if t then greeted buses n conn.mode (greets mark) w else commanded buses n conn.session
-              (order_of buses mark) w)) [
-                | true ↦ (quiet_greeted conn.mode w (quiet e on) mark).sending
-                | false ↦ sending_commanded conn.session (order_of buses mark) w (plain e) (quiet e on)
-              ]
-
-  sending_marks : (marks : List Heard) (w : World) → Sending w → Sending (fold (answered buses n) w marks)
-  sending_marks [] w a = a
-  sending_marks (mark ∷ marks) w a =
-      sending_marks marks (answered buses n w mark)
-      (sending_answered_as (open_connection w n) mark w (λ conn e. (opened (numbered n w.connections) conn e).0) a)
-
-  sending_fed : (piece : Piece) (o : Option Connection) (w : World) → Sending w → Sending (fed_to buses n piece o w)
-  sending_fed piece None w a = a
-  sending_fed piece (Some conn) w a =
-      sending_marks (new_lines buses conn.fed piece) (at_connection n (λ c. record c { fed = c.fed ++ piece.bytes }) w)
-      (sending_with n (λ c. record c { fed = c.fed ++ piece.bytes }) texts w.connections
-      (λ c e s. (record { plain = s.plain; goes_on = s.goes_on; within = s.within }, refl)) a)
-
-  sending_shut_as : (o : Option Connection) (w : World) → Sending w → Sending (shut_as buses n o w)
-  sending_shut_as None w a = a
-  sending_shut_as (Some conn) w a =
-      let f : Connection → Connection = λ c. record c { shut = Some (length w.steps) } in
-      let once : Sending (at_connection n f w) =
-      sending_with n f texts w.connections (λ c e s. (record { plain = s.plain; goes_on = s.goes_on; within = s.within }, refl)) a in
-      elim ((conn.session == 0) || conn.ended)
-      as (λ t. Sending (if t then at_connection n f w else did (Ended conn.session w.moment) (at_connection n f w))) [
-        | true ↦ once
-        | false ↦ once
+  kept_shut_as : (o : Option Connection) (w : World) → Holds w → Holds (shut_as buses n o w)
+  kept_shut_as None w a = a
+  kept_shut_as (Some conn) w a =
+      let once = at_connection n (λ c. record c { shut = Some _ }) w in
+      elim ((conn.session == 0) || conn.ended) as (λ t. Holds (if t then once else did (Ended conn.session w.moment) once)) [
+        | true ↦ kept.shuts _ _ a
+        | false ↦ kept.shuts (length w.steps) w.connections a
       ]
 
-  pub sending_bytes : (piece : Piece) (w : World) → Sending w → Sending (happens buses w (Bytes n piece))
-  sending_bytes piece w a =
-      elim (fault buses (counted w) (Bytes n piece)) as (λ o. Sending (or_refused buses o (Bytes n piece) (counted w))) [
-        | None ↦ sending_fed piece (open_connection (counted w) n) (counted w) a
+  pub kept_bytes : (piece : Piece) (w : World) → Holds w → Holds (happens buses w (Bytes n piece))
+  kept_bytes piece w a =
+      elim (fault buses (counted w) (Bytes n piece)) as (λ o. Holds (or_refused buses o (Bytes n piece) (counted w))) [
+        | None ↦ kept_fed piece (open_connection (counted w) n) (counted w) a
         | Some cause ↦ a
       ]
 
-  pub sending_shut : (w : World) → Sending w → Sending (happens buses w (Shut n))
-  sending_shut w a =
-      elim (fault buses (counted w) (Shut n)) as (λ o. Sending (or_refused buses o (Shut n) (counted w))) [
-        | None ↦ sending_shut_as (open_connection (counted w) n) (counted w) a
+  pub kept_shut : (w : World) → Holds w → Holds (happens buses w (Shut n))
+  kept_shut w a =
+      elim (fault buses (counted w) (Shut n)) as (λ o. Holds (or_refused buses o (Shut n) (counted w))) [
+        | None ↦ kept_shut_as (open_connection (counted w) n) (counted w) a
         | Some cause ↦ a
       ]
+
+sending_kept : (n : ℕ) (texts : List (List ℕ)) → IsKeptBy n (IsSending texts) (IsQuiet n texts)
+sending_kept n texts = record {
+  begins = λ conns conn there e on a. record {
+    sending = a;
+    none = λ c t.
+        let same = same_Some conn c (sym there ∙ t) in
+        subst (λ (x : Connection). (x.items ≡ []) × (x.ended ≡ false)) same ((steady_at n conns conn there a.steady).plain e, on);
+  };
+  grows = λ f conns grown q. quiet_with n f texts conns grown q;
+  ends = λ conns plain q. sending_with n (λ c. record c { ended = true }) texts conns
+      (λ conn e s. (
+        record { plain = s.plain; goes_on = λ info. let no = plain conn e in cc; within = s.within },
+        refl,
+      )) q.sending;
+  leaves = λ conns q. q.sending;
+  feeds = λ bytes conns a. sending_with n (λ c. record c { fed = c.fed ++ bytes }) texts conns
+      (λ c e s. (record { plain = s.plain; goes_on = s.goes_on; within = s.within }, refl)) a;
+  shuts = λ steps conns a. sending_with n (λ c. record c { shut = Some steps }) texts conns
+      (λ c e s. (record { plain = s.plain; goes_on = s.goes_on; within = s.within }, refl)) a;
+}
+
+pub sending_bytes : (buses : List Bus) (n : ℕ) (texts : List (List ℕ)) (piece : Piece) (w : World) → IsSending texts w.connections
+    → IsSending texts (happens buses w (Bytes n piece)).connections
+sending_bytes buses n texts = kept_bytes buses n (IsSending texts) (IsQuiet n texts) (sending_kept n texts)
+
+pub sending_shut : (buses : List Bus) (n : ℕ) (texts : List (List ℕ)) (w : World) → IsSending texts w.connections
+    → IsSending texts (happens buses w (Shut n)).connections
+sending_shut buses n texts = kept_shut buses n _ (IsQuiet n texts) (sending_kept n texts)
 
 sent_push : (conns : List Connection) (conn : Connection) → map sent (conns ++ conn ∷ []) ≡ map sent conns ++ sent conn ∷ []
 sent_push [] conn = refl
@@ -275,14 +276,66 @@ module _ (buses : List Bus) (texts : List (List ℕ)) where
   pub sending_opened : (granted : Bool) (w : World) → IsSending texts w.connections → fault buses w (Open granted) ≡ None
       → IsSending (texts ++ [] ∷ []) (happens buses w (Open granted)).connections
   sending_opened granted w a e =
-      let more : AllByRecursion IsSteady (w.connections ++ fresh ∷ []) =
-      all_push IsSteady w.connections fresh a.steady (record { plain = λ h. refl; goes_on = λ h. refl; within = omega arith }) in
+      let more =
+      all_push IsSteady _ fresh a.steady (record { plain = λ h. refl; goes_on = λ h. refl; within = omega arith }) in
       let one : IsSending (texts ++ [] ∷ []) (w.connections ++ fresh ∷ []) =
-      record { steady = more; sends = sent_push w.connections fresh ∙ ap (λ ts. ts ++ [] ∷ []) a.sends } in
-      subst (λ (o : Option CoreFault). IsSending (texts ++ [] ∷ []) (or_refused buses o (Open granted) (counted w)).connections) (sym e) one
+      record { steady = more; sends = cc (sent_push w.connections fresh) } in
+      rw e one
 
   -- one that is not accepted changes nothing
   pub sending_refused : (granted : Bool) (w : World) (cause : CoreFault) → IsSending texts w.connections
       → fault buses w (Open granted) ≡ Some cause → IsSending texts (happens buses w (Open granted)).connections
   sending_refused granted w cause a e =
-      subst (λ (o : Option CoreFault). IsSending texts (or_refused buses o (Open granted) (counted w)).connections) (sym e) a
+      rw e a
+
+-- ---- what happens to others leaves a connection as it is
+
+-- the event is of that connection
+abbrev pub is_of : ℕ → Event → Bool
+is_of n (Open granted) = false
+is_of n (Bytes m piece) = m == n
+is_of n (Room m bytes) = m == n
+is_of n (At moment) = false
+is_of n (Shut m) = m == n
+
+-- none of them is
+abbrev pub AreOfOthers : ℕ → List Event → Type 0
+AreOfOthers n events = AllByRecursion (λ event. is_of n event ≡ false) events
+
+module _ (buses : List Bus) (n : ℕ) (conn : Connection) where
+  abbrev Stays : World → Type 0
+  Stays w = numbered n w.connections ≡ Some conn
+
+  module _ (m : ℕ) (apart : (m == n) ≡ false) where
+    stays_with : (f : Connection → Connection) (conns : List Connection) → numbered n conns ≡ Some conn
+        → numbered n (with_numbered m f conns) ≡ Some conn
+    stays_with f conns s = numbered_other n m f conns (eqb-false m n apart) ∙ s
+
+    stays_kept : IsKeptBy m (λ conns. numbered n conns ≡ Some conn) (λ conns. numbered n conns ≡ Some conn)
+    stays_kept = record {
+      begins = λ conns other there e on s. s;
+      grows = λ f conns grown s. stays_with f conns s;
+      ends = λ conns plain s. stays_with _ conns s;
+      leaves = λ conns s. s;
+      feeds = λ bytes conns s. stays_with _ conns s;
+      shuts = λ steps conns s. stays_with _ conns s;
+    }
+
+  stays_happens : (event : Event) (w : World) → is_of n event ≡ false → Stays w → Stays (happens buses w event)
+  stays_happens (Open granted) w e s = elim (fault buses (counted w) (Open granted)) as
+      (λ o. Stays (or_refused buses o (Open granted) (counted w))) [
+        | None ↦ numbered_push n w.connections fresh conn s
+        | Some cause ↦ s
+      ]
+  stays_happens (Bytes m piece) w e s = kept_bytes buses m _ _ (stays_kept m e) piece w s
+  stays_happens (Room m bytes) w e s = elim (fault buses (counted w) (Room m bytes)) as
+      (λ o. Stays (or_refused buses o (Room m bytes) (counted w))) [
+        | None ↦ stays_with m e (given_room bytes (history buses w) (rows buses w)) w.connections s
+        | Some cause ↦ s
+      ]
+  stays_happens (At moment) w e s = s
+  stays_happens (Shut m) w e s = kept_shut buses m _ _ (stays_kept m e) w s
+
+  pub stays_all : (events : List Event) (w : World) → AreOfOthers n events → Stays w → Stays (fold (happens buses) w events)
+  stays_all [] w e s = s
+  stays_all (event ∷ events) w e s = stays_all events (happens buses w event) e.1 (stays_happens event w e.0 s)

@@ -1,21 +1,70 @@
 -- A turn that brings no more changes than the door was told makes no panel overrun.
-use Rattle.std.proofs.Common.{◌≡◌, ◌∙◌, refl, ℕ, zero, suc, ◌≤◌, List, [], ◌∷◌, map, length, ap, subst}
-use Rattle.std.specs.Prelude.{◌+◌, drop, fold}
+use Rattle.std.proofs.Common.{drop, ◌≡◌, ◌∙◌, ℕ, true, false, List, [], ◌∷◌, ◌++◌, map, if◌then◌else◌, refl, ap, sym, append-nil}
+use Rattle.std.proofs.Common.{append_assoc, zero, suc, ◌≤◌, length}
+use Rattle.std.specs.Prelude.{filter_map, flat_map, fold}
 use Rattle.srcp_grammar.specs.declared.layout.Bus.{Bus}
+use Rattle.srcp_core.specs.Under.{Event, At, Open}
+use Rattle.srcp_serve.specs.Given.{Accepted, Call, ExpectCall, NowCall, AcceptCall, ReadCall, WriteCall, CloseCall}
+use Rattle.srcp_serve.specs.Serving.{Stand, begun, connects, with_connection, moment_of, accept_of, clients, timed, turned, visit_events}
+use Rattle.srcp_serve.specs.Serving.{with_accept, with_moment, Expects, OfEachTurn, empty_stand, expects, question, turn_asks, turns}
 use Rattle.srcp_core.specs.Connection.{Connection}
-use Rattle.srcp_core.specs.Course.{World, course}
+use Rattle.srcp_core.specs.Course.{course}
 use Rattle.srcp_grammar.specs.Layout.{IsLayout}
 use Rattle.std.proofs.lemmas.List.{drop_at}
-use Rattle.srcp_core.specs.Under.{Event}
-use Rattle.srcp_core.specs.Waits.{IsOverrun, brought, brought_besides, changes_since, may_bring, option_or_256, slack, room, weighs}
+use Rattle.srcp_core.specs.Waits.{IsOverrun, option_or_256, slack, room}
 use Rattle.srcp_core.proofs.CourseLaws.WaitsGrow.{few_close_none}
 use Rattle.srcp_core.proofs.CourseLaws.LinesBringTheirWeight.{light_lines}
-use Rattle.srcp_serve.specs.Given.{Call, ExpectCall, NowCall, AcceptCall, ReadCall, WriteCall, CloseCall}
-use Rattle.srcp_serve.specs.Serving.{Expects, Stand, OfEachTurn, empty_stand, expects, question, turned, turn_asks, turns}
 use Rattle.srcp_serve.specs.Pacing.{IsLight, IsPaced, LightServingSparesAll, LightTurnsSpare, PacedServingSparesAll, PacedTurnsSpare}
-use Rattle.srcp_serve.specs.Pacing.{SparesPanels, besides_in, brought_in, events_in, trace_room, weighs_in}
+use Rattle.srcp_serve.specs.Pacing.{SparesPanels, trace_room}
 use Rattle.srcp_serve.proofs.CallsByTurnAndPeer.{AreTurnsAsked, turns_parted}
-use Rattle.srcp_serve.proofs.EventsOfATurn.{turn_events, turned_events}
+
+-- a peer that was accepted
+abbrev pub opens : Accepted → Event
+opens accept = Open accept.granted
+
+-- the moments and the accepts
+abbrev pub opening_events : List Call → List Event
+opening_events calls = map At (filter_map moment_of calls) ++ map opens (filter_map accept_of calls)
+
+module _ (buses : List Bus) where
+  moments_events : (stand : Stand) (moments : List ℕ) → (fold (with_moment buses) stand moments).events ≡ stand.events ++ map At moments
+  moments_events stand [] = sym (append-nil stand.events)
+  moments_events stand (moment ∷ moments) = moments_events (with_moment buses stand moment) moments
+      ∙ append_assoc stand.events (At moment ∷ []) (map At moments)
+
+  accept_events : (stand : Stand) (accept : Accepted) → (with_accept buses stand accept).events ≡ stand.events ++ opens accept ∷ []
+  accept_events stand accept =
+      elim (connects buses stand.events accept.granted) as
+      (λ t. (if t then with_connection buses stand accept else record stand { events = stand.events ++ opens accept ∷ [] }).events
+      ≡ stand.events ++ opens accept ∷ []) [ true ↦ refl | false ↦ refl ]
+
+  accepts_events : (stand : Stand) (connected : List Accepted)
+      → (fold (with_accept buses) stand connected).events ≡ stand.events ++ map opens connected
+  accepts_events stand [] = sym (append-nil _)
+  accepts_events stand (accept ∷ connected) =
+      cc (
+        accepts_events (with_accept buses stand accept) connected,
+        accept_events stand accept,
+        append_assoc stand.events (opens accept ∷ []) (map opens connected),
+      )
+
+  pub begun_events : (stand : Stand) (calls : List Call) → (begun buses stand calls).events ≡ stand.events ++ opening_events calls
+  begun_events stand calls =
+      cc (
+        accepts_events (timed buses stand calls) (filter_map accept_of calls),
+        moments_events stand (filter_map moment_of calls),
+        append_assoc stand.events (map At (filter_map moment_of calls)) (map opens (filter_map accept_of calls)),
+      )
+
+  -- all events of the turn
+  abbrev pub turn_events : Stand → List Call → List Event
+  turn_events stand calls = opening_events calls ++ flat_map (visit_events calls) (clients (begun buses stand calls).slots)
+
+  pub turned_events : (stand : Stand) (calls : List Call) → (turned buses stand calls).events ≡ stand.events ++ turn_events stand calls
+  turned_events stand calls =
+      simp (begun_events, append_assoc)
+
+-- ---- a turn that brings no more changes than the door was told makes no panel overrun
 
 module _ (buses : List Bus) where
   -- what the door was told is how many changes may come
@@ -35,34 +84,30 @@ module _ (buses : List Bus) where
   -- what was told, of the course before the turn
   room_within : (stand : Stand) (calls : List Call) (n : ℕ) → map question calls ≡ turn_asks buses stand calls → n ≤ trace_room calls
       → n ≤ room buses (course buses stand.events)
-  room_within stand calls n asked few = subst (λ k. n ≤ k) (room_trace stand calls asked) few
+  room_within stand calls n asked few = rw (room_trace stand calls asked) at few
 
   spares : (stand : Stand) (calls : List Call) → map question calls ≡ turn_asks buses stand calls → IsPaced buses stand calls
       → SparesPanels buses stand calls
   spares stand calls asked paced number later over =
-      let more : List Event = turn_events buses stand calls in
+      let more = turn_events buses stand calls in
       let same = turned_events buses stand calls in
-      let few : brought buses stand.events more ≤ room buses (course buses stand.events) =
-      subst (λ (es : List Event). changes_since buses (length (course buses stand.events).steps) (course buses es) ≤ room buses
-      (course buses stand.events)) same (room_within stand calls (brought_in buses stand calls) asked paced) in
+      let few =
+      rw same at (room_within stand calls _ asked paced) in
       few_close_none buses stand.events more few number later
-      (subst (λ (es : List Event). IsOverrun buses (course buses es) number later) same over)
+      (rw same at over)
 
   light_spares : IsLayout buses → (stand : Stand) (calls : List Call) → map question calls ≡ turn_asks buses stand calls
       → IsLight buses stand calls → SparesPanels buses stand calls
   light_spares layout stand calls asked light number later over =
-      let w : World = course buses stand.events in
-      let more : List Event = turn_events buses stand calls in
+      let w = course buses stand.events in
+      let more = turn_events buses stand calls in
       let same = turned_events buses stand calls in
-      let events : events_in buses stand calls ≡ more = ap (drop (length stand.events)) same
-      ∙ drop_at stand.events more (length stand.events) refl in
-      let few : may_bring buses stand.events more ≤ room buses w =
-      subst (λ (es : List Event). weighs buses w more + brought_besides buses w (course buses es) ≤ room buses w) same
-      (subst (λ (es : List Event). weighs buses w es + brought_besides buses w
-      (course buses (turned buses stand calls).events) ≤ room buses w) events
-      (room_within stand calls (weighs_in buses stand calls + besides_in buses stand calls) asked light)) in
+      let events : drop (length stand.events) (turned buses stand calls).events ≡ more =
+      cc (drop_at stand.events more (length stand.events) refl) in
+      let few =
+      rw same at (rw events at (room_within stand calls _ asked light)) in
       light_lines buses layout stand.events more few number later
-      (subst (λ (es : List Event). IsOverrun buses (course buses es) number later) same over)
+      (rw same at over)
 
   -- ---- turn after turn
 
@@ -88,7 +133,8 @@ module _ (buses : List Bus) where
   none_first (suc number) later over = let e = over.there in cc
 
   pub paced_spare : PacedTurnsSpare buses
-  paced_spare count trace served = each_spares _ spares empty_stand (turns trace) (turns_parted buses empty_stand trace [] tt served.asked).1
+  paced_spare count trace served =
+      each_spares _ spares empty_stand (turns trace) (turns_parted buses empty_stand trace [] tt served.asked).1
 
   pub paced_spares_all : PacedServingSparesAll buses
   paced_spares_all count trace served paced =
@@ -100,4 +146,4 @@ module _ (buses : List Bus) where
 
   pub light_spares_all : LightServingSparesAll buses
   light_spares_all layout count trace served light =
-      all_spared (IsLight buses) empty_stand (turns trace) (light_spare layout count trace served) light none_first
+      all_spared _ _ _ (light_spare layout count trace served) light none_first

@@ -1,35 +1,155 @@
 -- What a connection lends and its peer then takes is what the course says was sent.
-use Rattle.std.proofs.Common.{◌≡◌, ◌∙◌, ℕ, zero, suc, ◌≤◌, Bool, true, false, List, [], ◌∷◌, ◌++◌, take, length, if◌then◌else◌, Option}
-use Rattle.std.proofs.Common.{Some, None, option_map, refl, ap, sym, subst, arith, append-nil, append_assoc, map}
+use Rattle.std.proofs.Common.{◌≡◌, ◌∙◌, ℕ, zero, suc, ◌+◌, ◌-◌, ◌≤◌, min, Bool, true, false, ◌==◌, List, [], ◌∷◌, ◌++◌, take, drop, length}
+use Rattle.std.proofs.Common.{refl, ap, sym, subst, arith, length-append, length-drop, take-add, append-nil, append_assoc, add-zero}
+use Rattle.std.proofs.Common.{if◌then◌else◌, Option, Some, None, map}
+use Rattle.std.specs.Prelude.{◌<◌, ◌&&◌, flat_map, fold}
+use Rattle.std.proofs.lemmas.Bool.Decides.{nat_tests}
+use Rattle.std.proofs.Math.Nat.{zero-min, min-eq_left}
+use Rattle.std.proofs.lemmas.List.{take-append-le, drop_at}
+use Rattle.std.proofs.lemmas.Grind.{flat_map-append}
+use Rattle.srcp_info.specs.declared.change.Shown.{Shown}
+use Rattle.srcp_feed.specs.declared.answers.Next.{Next}
+use Rattle.srcp_core.specs.Connection.{Connection, History, line_of, text, given, sent, unsent, front, fitting, available, items_of, owed}
+use Rattle.srcp_core.specs.Connection.{overran, took, given_room, is_open}
 use Rattle.std.proofs.Math.Seq.{take-nil}
-use Rattle.std.specs.Option.{option_map_or}
 use Rattle.std.proofs.lemmas.List.Sums.{fold-append}
 use Rattle.std.proofs.lemmas.Option.{same_Some}
-use Rattle.std.specs.Prelude.{fold}
 use Rattle.std.specs.List.{AllByRecursion}
 use Rattle.srcp_core.specs.Under.{Event, Open, Bytes, Room, At, Shut}
-use Rattle.srcp_info.specs.declared.change.Shown.{Shown}
 use Rattle.srcp_grammar.specs.declared.layout.Bus.{Bus}
-use Rattle.srcp_core.specs.Agrees.{lent_of}
-use Rattle.srcp_core.specs.Connection.{Connection, History, is_open, fitting, items_of, sent, unsent, overran, owed, took, given_room}
 use Rattle.srcp_core.specs.Course.{World, fresh, fault, start, numbered, with_numbered, if_open, open_connection, at_connection, counted}
-use Rattle.srcp_core.specs.Course.{or_refused, absent_fault, happens, course, history, rows}
+use Rattle.srcp_core.specs.Course.{or_refused, happens, course, history, rows}
 use Rattle.srcp_core.specs.declared.record.CoreFault.TheVariants.{NoSuch}
 use Rattle.srcp_core.proofs.CourseLaws.RoomsAddUp.{owed_plain}
 use Rattle.srcp_core.proofs.Agreement.NumbersAndKeys.{numbered_with}
 use Rattle.srcp_core.proofs.CourseLaws.RoomGivesWhatIsOwed.{fitting_none, took_within}
 use Rattle.srcp_core.proofs.CourseLaws.SessionsAreKept.{all_numbered, all_push}
 use Rattle.srcp_serve.specs.Serving.{lent}
-use Rattle.srcp_serve.proofs.LentAndTakenIsSent.{IsWithin, sends_lent}
 use Rattle.srcp_serve.proofs.OnlyRoomSends.{IsSteady, IsSending, sending_bytes, sending_shut, steady_at}
+
+-- the text that is given after room for this many bytes, and how many bytes of it are taken then
+abbrev pub now_given : (left got : List ℕ) → List Next → ℕ → List ℕ
+now_given left got nexts bytes = got ++ flat_map line_of (fitting bytes left nexts)
+
+abbrev pub now_taken : (left : List ℕ) (taken : ℕ) → List Next → ℕ → ℕ
+now_taken left taken nexts bytes = taken + min bytes (length (available left nexts))
+
+-- what room for none leaves unsent
+abbrev lent_text : (left got : List ℕ) (taken : ℕ) → List Next → List ℕ
+lent_text left got taken nexts = drop (now_taken left taken nexts 0) (now_given left got nexts 0)
+
+and_false : (b : Bool) → b && false ≡ false
+and_false true = refl
+and_false false = refl
+
+-- if something is unsent, room for no more than that gives nothing new
+pub fits_left : (bytes byte : ℕ) (left : List ℕ) (nexts : List Next) → bytes ≤ length (byte ∷ left) → fitting bytes (byte ∷ left) nexts ≡ []
+fits_left bytes byte left nexts h =
+    let none : bytes - length (byte ∷ left) ≡ 0 = omega arith in
+    rw (and_false, none) refl
+
+-- room for no more than the next line gives that line
+first_line : (bytes : ℕ) (what : Next) (nexts : List Next) → suc bytes ≤ length (line_of what)
+    → fitting (suc bytes) [] (what ∷ nexts) ≡ what ∷ []
+first_line bytes what nexts h =
+    let positive : (suc bytes == 0) ≡ false = grind (arith, nat_tests) in
+    let whole : suc bytes - 0 ≡ suc bytes = omega arith in
+    let none : suc bytes - length (line_of what) ≡ 0 = omega arith in
+    rw (positive, whole) (ap (λ n. what ∷ front n nexts) none)
+
+pub first_some : (bytes : ℕ) (what : Next) (nexts : List Next) → 0 < bytes → bytes ≤ length (line_of what)
+    → fitting bytes [] (what ∷ nexts) ≡ what ∷ []
+first_some zero what nexts some h = absurd (omega arith)
+first_some (suc bytes) what nexts some h = first_line bytes what nexts h
+
+taken_none : (left : List ℕ) (taken : ℕ) (nexts : List Next) → now_taken left taken nexts 0 ≡ taken
+taken_none left taken nexts = simp (zero-min, add-zero)
+
+takes_none : (left got : List ℕ) (taken : ℕ) (nexts : List Next) → taken ≤ length got
+    → take (now_taken left taken nexts 0) (now_given left got nexts 0) ≡ take taken got ++ take 0 (lent_text left got taken nexts)
+takes_none left got taken nexts within =
+    simp (taken_none, take-append-le, append-nil)
+
+takes_by : (left got : List ℕ) (taken : ℕ) (nexts : List Next) (bytes : ℕ) → drop taken got ≡ left → taken ≤ length got
+    → bytes ≤ length (lent_text left got taken nexts)
+    → take (now_taken left taken nexts bytes) (now_given left got nexts bytes)
+    ≡ take taken got ++ take bytes (lent_text left got taken nexts)
+takes_by (byte ∷ left) got taken nexts bytes e within h =
+    let all : List ℕ = byte ∷ left in
+    let none : fitting 0 all nexts ≡ [] = fits_left 0 byte left nexts (omega arith) in
+    let lent : lent_text all got taken nexts ≡ all =
+    cc (taken_none all taken nexts, append-nil got) in
+    let inside : bytes ≤ length all = rw lent at h in
+    let size : bytes ≤ length (available all nexts) = omega (arith, inside, length-append all (flat_map line_of nexts)) in
+    ap (λ n. take n (now_given all got nexts bytes)) (ap (λ n. taken + n) (min-eq_left size))
+    ∙ ap (λ ns. take (taken + bytes) (got ++ flat_map line_of ns)) (fits_left bytes byte left nexts inside)
+    ∙ ap (take (taken + bytes)) (append-nil got)
+    ∙ take-add taken bytes got
+    ∙ ap (λ l. take taken got ++ take bytes l) (e ∙ sym lent)
+takes_by [] got taken [] bytes e within h =
+    let lent : lent_text [] got taken [] ≡ [] =
+    simp (taken_none, append-nil, e) in
+    let nil : List ℕ = [] in
+    let inside : bytes ≤ length nil = rw lent at h in
+    let zero_bytes : 0 ≡ bytes = omega (arith, inside) in
+    subst (λ (n : ℕ). take (now_taken [] taken [] n) (now_given [] got [] n)
+    ≡ take taken got ++ take n (lent_text [] got taken [])) zero_bytes
+    (takes_none [] got taken [] within)
+takes_by [] got taken (what ∷ nexts) zero e within h = takes_none [] got taken (what ∷ nexts) within
+takes_by [] got taken (what ∷ nexts) (suc bytes) e within h =
+    let text : List ℕ = line_of what in
+    let full : length got ≡ taken = omega (arith, within, length-drop taken got, ap length e) in
+    let joined : got ++ (text ++ []) ≡ got ++ text = ap (λ l. got ++ l) (append-nil text) in
+    let behind : drop taken (got ++ (text ++ [])) ≡ text = cc (drop_at got text taken full) in
+    let lent : lent_text [] got taken (what ∷ nexts) ≡ text =
+    cc (taken_none [] taken (what ∷ nexts)) in
+    let inside : suc bytes ≤ length text = rw lent at h in
+    let size : suc bytes ≤ length (available [] (what ∷ nexts)) = omega (arith, inside, length-append text (flat_map line_of nexts)) in
+    cc (
+      min-eq_left size,
+      first_line bytes what nexts inside,
+      take-add taken (suc bytes) (got ++ (text ++ [])),
+      take-append-le taken got (text ++ []) within,
+    )
+
+-- ---- of a connection
+
+text_of_items : (steps : ℕ) (nexts : List Next) → text (items_of steps nexts) ≡ flat_map line_of nexts
+text_of_items steps [] = refl
+text_of_items steps (what ∷ nexts) = ap (λ l. line_of what ++ l) (text_of_items steps nexts)
+
+-- what was given, and what was given since
+pub given_more : (conn : Connection) (steps bytes : ℕ) (nexts : List Next)
+    → given (took bytes steps nexts conn) ≡ now_given (unsent conn) (given conn) nexts bytes
+given_more conn steps bytes nexts =
+    simp (flat_map-append, append_assoc, text_of_items)
+
+-- no more was taken than was given
+abbrev pub IsWithin : Connection → Type 0
+IsWithin conn = conn.taken ≤ length (given conn)
+
+-- if the connection did not overrun, room for no more than it lends sends a prefix of what it lends
+pub sends_lent : (history : History) (rows : List Shown) (conn : Connection) (bytes : ℕ) → overran conn history ≡ false → IsWithin conn
+    → bytes ≤ length (unsent (given_room 0 history rows conn))
+    → sent (given_room bytes history rows conn) ≡ sent conn ++ take bytes (unsent (given_room 0 history rows conn))
+sends_lent history rows conn bytes over within h =
+    let nexts : List Next = owed conn history rows in
+    let steps : ℕ = length history in
+    let room : (n : ℕ) → given_room n history rows conn ≡ took n steps nexts conn = λ n. rw over refl in
+    let lent : unsent (given_room 0 history rows conn) ≡ lent_text (unsent conn) (given conn) conn.taken nexts =
+    cc (room 0, given_more conn steps 0 nexts) in
+    let inside : bytes ≤ length (lent_text (unsent conn) (given conn) conn.taken nexts) = rw lent at h in
+    cc (room bytes, given_more conn steps bytes nexts, takes_by (unsent conn) (given conn) conn.taken nexts bytes refl within inside)
+
+-- ---- what a connection lends and its peer then takes is what the course says was sent
 
 -- the connection that was changed
 opened : (o : Option Connection) (conn : Connection) → if_open o ≡ Some conn → (o ≡ Some conn) × (is_open conn ≡ true)
 opened None conn e = cc
-opened (Some found) conn e = by (is_open found) refl e
+opened (Some found) conn e = by _ refl e
   where
     by : (b : Bool) → is_open found ≡ b → (if b then Some found else None) ≡ Some conn → (Some found ≡ Some conn) × (is_open conn ≡ true)
-    by true t e = (e, subst (λ (c : Connection). is_open c ≡ true) (same_Some found conn e) t)
+    by true t e = (e, rw (same_Some found conn e) at t)
     by false t e = cc
 
 open_room : (bytes : ℕ) (past : History) (shown : List Shown) (conn : Connection)
@@ -53,19 +173,18 @@ conn_sends : (past : History) (shown : List Shown) (conn : Connection) (bytes : 
 conn_sends past shown conn bytes true over' e e' within h =
     let same : (k : ℕ) → given_room k past shown conn ≡ conn = λ k. rw e refl in
     let none : lends past shown conn ≡ [] = rw (same 0, e) refl in
-    let zero_bytes = no_bytes bytes (lends past shown conn) none h in
+    let zero_bytes = no_bytes bytes _ none h in
     subst (λ (k : ℕ). sent (given_room k past shown conn) ≡ sent conn ++ take k (lends past shown conn)) zero_bytes
-    (ap sent (same 0) ∙ sym (append-nil (sent conn)))
+    (simp (same, append-nil))
 conn_sends past shown conn bytes false true e e' within h =
-    let none : lends past shown conn ≡ [] = ap (λ b. if b then [] else unsent (given_room 0 past shown conn)) e' in
-    let zero_bytes = no_bytes bytes (lends past shown conn) none h in
+    let none = ap (λ b. if b then [] else unsent (given_room 0 past shown conn)) e' in
+    let zero_bytes = no_bytes bytes _ none h in
     subst (λ (k : ℕ). sent (given_room k past shown conn) ≡ sent conn ++ take k (lends past shown conn)) zero_bytes
     (sends_lent past shown conn 0 e within (omega arith))
 conn_sends past shown conn bytes false false e e' within h =
-    let all : lends past shown conn ≡ unsent (given_room 0 past shown conn) =
+    let all =
     ap (λ b. if b then [] else unsent (given_room 0 past shown conn)) e' in
-    sends_lent past shown conn bytes e within (subst (λ (l : List ℕ). bytes ≤ length l) all h)
-    ∙ ap (λ l. sent conn ++ take bytes l) (sym all)
+    cc (sends_lent past shown conn bytes e within (rw all at h))
 
 -- ---- of all connections
 
@@ -92,7 +211,7 @@ put_with : (n : ℕ) (f : Connection → Connection) (more : List ℕ) (conns : 
     → ((conn : Connection) → numbered n conns ≡ Some conn → sent (f conn) ≡ sent conn ++ more)
     → map sent (with_numbered n f conns) ≡ put n more (map sent conns)
 put_with n f more [] h = refl
-put_with zero f more (conn ∷ conns) h = refl
+put_with zero f more _ h = refl
 put_with (suc zero) f more (conn ∷ conns) h = ap (λ t. t ∷ map sent conns) (h conn refl)
 put_with (suc (suc n)) f more (conn ∷ conns) h = ap (λ ts. sent conn ∷ ts) (put_with (suc n) f more conns h)
 
@@ -104,9 +223,9 @@ steady_room bytes past shown conn s =
       | false ↦ record {
         plain =
             λ h. ap (λ ns. conn.items ++ items_of (length past) (fitting bytes (unsent conn) ns)) (owed_plain conn past shown h)
-            ∙ ap (λ ns. conn.items ++ items_of (length past) ns) (fitting_none bytes (unsent conn)) ∙ append-nil conn.items ∙ s.plain h;
+            ∙ ap (λ ns. conn.items ++ items_of (length past) ns) (fitting_none bytes _) ∙ append-nil _ ∙ s.plain h;
         goes_on = s.goes_on;
-        within = took_within bytes (length past) (owed conn past shown) conn s.within;
+        within = took_within bytes _ _ conn s.within;
       }
     ]
 
@@ -117,41 +236,35 @@ module _ (buses : List Bus) where
       ≡ at_connection n (given_room bytes (history buses (course buses events)) (rows buses (course buses events)))
       (counted (course buses events))
   after_room events n bytes conn e =
-      let w : World = course buses events in
-      fold-append (happens buses) start events (Room n bytes ∷ [])
-      ∙ ap (λ o. or_refused buses (absent_fault buses o) (Room n bytes) (counted w)) e
+      let w = course buses events in
+      simp (fold-append, e)
 
   pub there_after : (events : List Event) (n bytes : ℕ) (conn : Connection) → open_connection (course buses events) n ≡ Some conn
       → numbered n (course buses (events ++ Room n bytes ∷ [])).connections
       ≡ Some (given_room bytes (history buses (course buses events)) (rows buses (course buses events)) conn)
   there_after events n bytes conn e =
-      let w : World = course buses events in
-      let change : Connection → Connection = given_room bytes (history buses w) (rows buses w) in
-      ap (λ (v : World). numbered n v.connections) (after_room events n bytes conn e) ∙ numbered_with n change w.connections
-      ∙ ap (option_map change) (opened (numbered n w.connections) conn e).0
+      let w = course buses events in
+      let change = given_room bytes (history buses w) (rows buses w) in
+      cc (after_room events n bytes conn e, numbered_with n change w.connections, (opened (numbered n w.connections) conn e).0)
 
   pub lent_is : (events : List Event) (n : ℕ) (conn : Connection) → open_connection (course buses events) n ≡ Some conn
       → lent buses n events ≡ lends (history buses (course buses events)) (rows buses (course buses events)) conn
   lent_is events n conn e =
-      let w : World = course buses events in
-      let past : History = history buses w in
-      let shown : List Shown = rows buses w in
-      let now : Connection = given_room 0 past shown conn in
-      let v : World = course buses (events ++ Room n 0 ∷ []) in
-      let stays : is_open now ≡ true = open_room 0 past shown conn ∙ (opened (numbered n w.connections) conn e).1 in
-      let same : history buses v ≡ past = ap (history buses) (after_room events n 0 conn e) in
-      ap (λ o. option_map_or (lent_of buses v) (if_open o) []) (there_after events n 0 conn e)
-      ∙ ap (λ b. option_map_or (lent_of buses v) (if b then Some now else None) []) stays
-      ∙ ap (λ (h : History). if overran now h then [] else unsent now) same
+      let w = course buses events in
+      let past = history buses w in
+      let shown = rows buses w in
+      let now = given_room 0 past shown conn in
+      let v = course buses (events ++ Room n 0 ∷ []) in
+      let stays = open_room 0 past shown conn ∙ (opened _ conn e).1 in
+      let same = ap (history buses) (after_room events n 0 conn e) in
+      cc (there_after events n 0 conn e)
 
   closed_lends : (events : List Event) (n : ℕ) → open_connection (course buses events) n ≡ None → lent buses n events ≡ []
   closed_lends events n e =
-      let w : World = course buses events in
+      let w = course buses events in
       let next : course buses (events ++ Room n 0 ∷ []) ≡ or_refused buses (Some NoSuch) (Room n 0) (counted w) =
-      fold-append (happens buses) start events (Room n 0 ∷ [])
-      ∙ ap (λ o. or_refused buses (absent_fault buses o) (Room n 0) (counted w)) e in
-      ap (λ (v : World). option_map_or (lent_of buses v) (open_connection v n) []) next
-      ∙ ap (λ o. option_map_or (lent_of buses (or_refused buses (Some NoSuch) (Room n 0) (counted w))) o []) e
+      simp (fold-append, e) in
+      cc
 
   -- a prefix of what is lent is sent, of an open connection
   room_sends : (events : List Event) (n bytes : ℕ) (texts : List (List ℕ)) (conn : Connection)
@@ -159,27 +272,23 @@ module _ (buses : List Bus) where
       → IsSending texts (course buses events).connections
       → IsSending (put n (take bytes (lent buses n events)) texts) (course buses (events ++ Room n bytes ∷ [])).connections
   room_sends events n bytes texts conn e h a =
-      let w : World = course buses events in
-      let past : History = history buses w in
-      let shown : List Shown = rows buses w in
+      let w = course buses events in
+      let past = history buses w in
+      let shown = rows buses w in
       let is = lent_is events n conn e in
-      let there : numbered n w.connections ≡ Some conn = (opened (numbered n w.connections) conn e).0 in
-      let steady : IsSteady conn = steady_at n w.connections conn there a.steady in
+      let there = (opened _ conn e).0 in
+      let steady = steady_at n _ conn there a.steady in
       let one : sent (given_room bytes past shown conn) ≡ sent conn ++ take bytes (lent buses n events) =
-      conn_sends past shown conn bytes (overran conn past) (overran (given_room 0 past shown conn) past) refl refl steady.within
-      (subst (λ (l : List ℕ). bytes ≤ length l) is h)
-      ∙ ap (λ l. sent conn ++ take bytes l) (sym is) in
+      cc (conn_sends past shown conn bytes (overran conn past) (overran (given_room 0 past shown conn) past) refl refl steady.within
+      (rw is at h)) in
       let same : (c : Connection) → numbered n w.connections ≡ Some c
       → sent (given_room bytes past shown c) ≡ sent c ++ take bytes (lent buses n events) =
       λ c t.
-      subst (λ (d : Connection). sent (given_room bytes past shown d) ≡ sent d ++ take bytes (lent buses n events))
-      (same_Some conn c (sym there ∙ t)) one in
-      subst (λ (v : World). IsSending (put n (take bytes (lent buses n events)) texts) v.connections)
-      (sym (after_room events n bytes conn e)) (record {
-        steady = all_numbered IsSteady n (given_room bytes past shown) w.connections (λ c t s. steady_room bytes past shown c s) a.steady;
+      rw (same_Some conn c (sym there ∙ t)) at one in
+      rw (after_room events n bytes conn e) (record {
+        steady = all_numbered _ n _ _ (λ c t s. steady_room bytes past shown c s) a.steady;
         sends =
-            put_with n (given_room bytes past shown) (take bytes (lent buses n events)) w.connections same
-            ∙ ap (put n (take bytes (lent buses n events))) a.sends;
+            cc (put_with n (given_room bytes past shown) (take bytes (lent buses n events)) w.connections same);
       })
 
   -- so it is of any connection, for nothing is lent of one that is not open
@@ -192,13 +301,11 @@ module _ (buses : List Bus) where
           → IsSending (put n (take bytes (lent buses n events)) texts) (course buses (events ++ Room n bytes ∷ [])).connections
       by (Some conn) e = room_sends events n bytes texts conn e h a
       by None e =
-          let w : World = course buses events in
-          let none : take bytes (lent buses n events) ≡ [] = ap (take bytes) (closed_lends events n e) ∙ take-nil bytes in
+          let w = course buses events in
+          let none : take bytes (lent buses n events) ≡ [] = simp (closed_lends, take-nil) in
           let next : course buses (events ++ Room n bytes ∷ []) ≡ or_refused buses (Some NoSuch) (Room n bytes) (counted w) =
-          fold-append (happens buses) start events (Room n bytes ∷ [])
-          ∙ ap (λ o. or_refused buses (absent_fault buses o) (Room n bytes) (counted w)) e in
-          subst (λ (v : World). IsSending (put n (take bytes (lent buses n events)) texts) v.connections) (sym next)
-          (subst (λ (ts : List (List ℕ)). IsSending ts w.connections) (sym (ap (λ t. put n t texts) none ∙ put_none n texts)) a)
+          simp (fold-append, e) in
+          rw next (subst (λ (ts : List (List ℕ)). IsSending ts w.connections) (sym (cc (put_none n texts))) a)
 
   -- every connection of a course is steady
   steady_happens : (w : World) (event : Event) → AllByRecursion IsSteady w.connections
@@ -206,24 +313,24 @@ module _ (buses : List Bus) where
   steady_happens w (Open granted) a =
       elim (fault buses (counted w) (Open granted)) as
       (λ o. AllByRecursion IsSteady (or_refused buses o (Open granted) (counted w)).connections) [
-        | None ↦ all_push IsSteady w.connections fresh a (record { plain = λ h. refl; goes_on = λ h. refl; within = omega arith })
+        | None ↦ all_push _ _ fresh a (record { plain = λ h. refl; goes_on = λ h. refl; within = omega arith })
         | Some cause ↦ a
       ]
-  steady_happens w (Bytes n piece) a = (sending_bytes buses n (map sent w.connections) piece w (record { steady = a; sends = refl })).steady
+  steady_happens w (Bytes n piece) a = (sending_bytes buses n _ piece w (record { steady = a; sends = refl })).steady
   steady_happens w (Room n bytes) a =
       elim (fault buses (counted w) (Room n bytes)) as
       (λ o. AllByRecursion IsSteady (or_refused buses o (Room n bytes) (counted w)).connections) [
-        | None ↦ all_numbered IsSteady n (given_room bytes (history buses w) (rows buses w)) w.connections
-            (λ c t s. steady_room bytes (history buses w) (rows buses w) c s) a
+        | None ↦ all_numbered _ n _ _
+            (λ c t s. steady_room bytes _ _ c s) a
         | Some cause ↦ a
       ]
   steady_happens w (At moment) a = a
-  steady_happens w (Shut n) a = (sending_shut buses n (map sent w.connections) w (record { steady = a; sends = refl })).steady
+  steady_happens w (Shut n) a = (sending_shut buses n _ w (record { steady = a; sends = refl })).steady
 
   steady_all : (events : List Event) (w : World) → AllByRecursion IsSteady w.connections
       → AllByRecursion IsSteady (fold (happens buses) w events).connections
   steady_all [] w a = a
-  steady_all (event ∷ events) w a = steady_all events (happens buses w event) (steady_happens w event a)
+  steady_all (event ∷ events) w a = steady_all events _ (steady_happens w event a)
 
   pub steady_course : (events : List Event) → AllByRecursion IsSteady (course buses events).connections
   steady_course events = steady_all events start tt

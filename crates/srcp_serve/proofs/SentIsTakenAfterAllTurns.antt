@@ -1,144 +1,317 @@
--- Turn after turn: each guest's connection was sent what was taken of the guest in all the turns so far.
-use Rattle.std.proofs.Common.{◌≡◌, ◌∙◌, ℕ, Bool, true, false, not, cond, List, [], ◌∷◌, ◌++◌, map, if◌then◌else◌, Some, None, Ok, Err, refl}
-use Rattle.std.proofs.Common.{ap, sym, subst, append-nil, append_assoc, ◌==◌}
-use Rattle.std.specs.Prelude.{filter_map, flat_map, fold}
-use Rattle.std.specs.List.{AllByRecursion, IsDistinct}
+-- Turn after turn: each connection was sent what was taken of its peer in all the turns so far.
+use Rattle.std.proofs.Common.{◌≡◌, ◌∙◌, ℕ, Bool, true, false, List, [], ◌∷◌, ◌++◌, map, filter, cond, if◌then◌else◌, Option, Some, None}
+use Rattle.std.proofs.Common.{◌⊎◌, inl, inr, refl, ap, sym, subst, arith, ◌==◌, ⊎_elim, not, Ok, Err, append-nil, append_assoc}
+use Rattle.std.specs.Prelude.{filter_map, fold, flat_map}
+use Rattle.std.specs.List.{cons_option, AllByRecursion, IsDistinct}
+use Rattle.std.proofs.lemmas.Bool.Decides.{nat_tests}
+use Rattle.srcp_core.specs.Under.{Event, Open}
+use Rattle.srcp_grammar.specs.declared.layout.Bus.{Bus}
+use Rattle.srcp_serve.specs.Given.{Accepted, Call, ExpectCall, NowCall, AcceptCall, ReadCall, WriteCall, CloseCall, door_call}
+use Rattle.srcp_serve.specs.Serving.{Question, Expects, Moments, Accepts, Closes, Client, Stand, question, accept_of, with_moment, connects}
+use Rattle.srcp_serve.specs.Serving.{refuses, asks_of, expects, IsFair, moment_of, clients, taken, timed, turned, visits_ask, with_accept}
+use Rattle.srcp_serve.specs.Serving.{with_connection, turn_asks, is_expect, taken_in, empty_stand, begun, turns, IsServed, OfEachTurn}
+use Rattle.srcp_serve.specs.Serving.{PeersDiffer, SendsWhatIsTaken, SentIsTaken}
+use Rattle.srcp_serve.proofs.CallsByTurnAndPeer.{IsNoneOf, IsOfNone, AreOfPeers, asks_peer, refused_peers, visits_peers, AreAsked}
+use Rattle.srcp_serve.proofs.CallsByTurnAndPeer.{AreTurnsAsked, PeersApart, in_turn, turns_parted, visits_parted}
+use Rattle.srcp_serve.proofs.PeersAreSentTheirVisits.{IsSentAsTaken, sent_after_moment, IsNew, sent_after_accept, new_unconnected}
+use Rattle.srcp_serve.proofs.PeersAreSentTheirVisits.{sent_after_visits, ArePeersOf, new_push, nothing_taken, same_each}
+use Rattle.srcp_core.specs.Course.{course}
+use Rattle.srcp_core.specs.Waits.{due_next, slack}
+use Rattle.srcp_info.proofs.ClientLaws.{all_append}
+use Rattle.srcp_serve.proofs.VisitsSendWhatIsTaken.{no_writes, all_parts}
 use Rattle.std.proofs.lemmas.Grind.{flat_map-append}
 use Rattle.std.proofs.lemmas.List.Elements.{filter_map-append}
 use Rattle.std.proofs.lemmas.List.Sums.{take_while-cons}
 use Rattle.std.proofs.lemmas.Map.Keys.{IsDistinct-head, IsDistinct-tail}
-use Rattle.srcp_core.specs.Under.{Event, Open}
-use Rattle.srcp_grammar.specs.declared.layout.Bus.{Bus}
 use Rattle.srcp_core.specs.Connection.{sent}
-use Rattle.srcp_core.specs.Course.{course}
 use Rattle.srcp_serve.specs.Calls.{peer_of}
-use Rattle.srcp_serve.specs.Given.{Guest, Call, ExpectCall, NowCall, AcceptCall, ReadCall, WriteCall, CloseCall, door_call}
-use Rattle.srcp_serve.specs.Serving.{Question, Moments, expects, Newcomers, Closes, Stand, IsFair, question, is_expect, moment_of}
-use Rattle.srcp_serve.specs.Serving.{newcomer_of, taken, taken_in, clients, empty_stand, is_let_in, let_in, welcomed, timed, begun, turned}
-use Rattle.srcp_serve.specs.Serving.{turns, turns_away, turn_asks, stand_after, IsServed, OfEachTurn, PeersDiffer, SendsWhatIsTaken}
-use Rattle.srcp_serve.specs.Serving.{SentIsTaken}
-use Rattle.srcp_serve.proofs.VisitsSendWhatIsTaken.{all_parts, no_writes}
-use Rattle.srcp_serve.proofs.CallsByTurnAndPeer.{AreAsked, AreTurnsAsked, IsNoneOf, PeersApart, in_turn, turns_parted, visits_parted}
-use Rattle.srcp_serve.proofs.GuestsAreSentTheirVisits.{AreGuests}
-use Rattle.srcp_serve.proofs.SlotsAreOfGuests.{IsSentAsTaken, IsNew, sent_after_newcomer, new_push, new_unconnected}
-use Rattle.srcp_serve.proofs.SentIsTakenAfterVisits.{nothing_taken, same_each}
-use Rattle.srcp_serve.proofs.OneNewcomerATurn.{sent_after_moments}
-use Rattle.srcp_serve.proofs.SentIsTakenAfterATurn.{sent_after_turn, turn_begins}
 
--- ---- newcomers
+-- after the moments of a turn
+pub sent_after_moments : (buses : List Bus) (before : ℕ → List ℕ) (stand : Stand) (moments : List ℕ) → IsSentAsTaken buses before stand
+    → IsSentAsTaken buses before (fold (with_moment buses) stand moments)
+    × ((fold (with_moment buses) stand moments).connected ≡ stand.connected)
+sent_after_moments buses before stand [] h = (h, refl)
+sent_after_moments buses before stand (moment ∷ moments) h =
+    sent_after_moments buses before (with_moment buses stand moment) moments (sent_after_moment buses before stand moment h)
 
--- none of these peers is a guest, and no two of them are one
-record AreNew (guests : List ℕ) (peers : List Guest) : Type 0 where
-  new : AllByRecursion (λ peer. IsNew peer.peer guests) peers
+no_accept_first : (due slack : Option ℕ) (call : Call) → question call ≡ Expects due slack → accept_of call ≡ None
+no_accept_first due slack (ExpectCall d s) e = refl
+no_accept_first due slack (NowCall answer) e = refl
+no_accept_first due slack (AcceptCall answer granted) e = cc
+no_accept_first due slack (ReadCall peer answer buffer grants) e = refl
+no_accept_first due slack (WriteCall peer bytes answer) e = refl
+no_accept_first due slack (CloseCall peer answer) e = refl
+
+no_accept : (call : Call) → question call ≡ Moments → accept_of call ≡ None
+no_accept (ExpectCall due slack) e = refl
+no_accept (NowCall answer) e = refl
+no_accept (AcceptCall answer granted) e = cc
+no_accept (ReadCall peer answer buffer grants) e = refl
+no_accept (WriteCall peer bytes answer) e = refl
+no_accept (CloseCall peer answer) e = refl
+
+pub no_accepts : (calls : List Call) → AreOfPeers (map question calls) → filter_map accept_of calls ≡ []
+no_accepts [] h = refl
+no_accepts (ExpectCall due slack ∷ calls) h = cc
+no_accepts (NowCall answer ∷ calls) h = cc
+no_accepts (AcceptCall answer granted ∷ calls) h = let no = h.0 in cc
+no_accepts (ReadCall peer answer buffer grants ∷ calls) h = no_accepts calls h.1
+no_accepts (WriteCall peer bytes answer ∷ calls) h = no_accepts calls h.1
+no_accepts (CloseCall peer answer ∷ calls) h = no_accepts calls h.1
+
+-- a turn accepts at most one peer
+pub one_accept : (due slack : Option ℕ) (calls : List Call) (questions : List Question)
+    → map question calls ≡ Expects due slack ∷ Moments ∷ Accepts ∷ questions → AreOfPeers questions
+    → (filter_map accept_of calls ≡ []) ⊎ ((peer : Accepted) × (filter_map accept_of calls ≡ peer ∷ []))
+one_accept due slack [] questions e h = cc
+one_accept due slack (first ∷ []) questions e h = cc
+one_accept due slack (first ∷ timed_now ∷ []) questions e h = cc
+one_accept due slack (first ∷ timed_now ∷ call ∷ calls) questions e h =
+    let begin : question first ≡ Expects due slack = cc in
+    let second : question timed_now ≡ Moments = cc in
+    let rest : map question calls ≡ questions = cc in
+    let none = no_accepts calls (rw rest h) in
+    by (accept_of call)
+    (cc (no_accept_first due slack first begin, no_accept timed_now second))
+  where
+    by : (o : Option Accepted) → filter_map accept_of (first ∷ timed_now ∷ call ∷ calls) ≡ cons_option o []
+        → (filter_map accept_of (first ∷ timed_now ∷ call ∷ calls) ≡ [])
+        ⊎ ((peer : Accepted) × (filter_map accept_of (first ∷ timed_now ∷ call ∷ calls) ≡ peer ∷ []))
+    by None e = inl e
+    by (Some peer) e = inr (peer, e)
+
+-- a peer that is accepted and not connected has no slot
+pub refused_of_none : (due slack : Option ℕ) (buses : List Bus) (events : List Event) (peer : Accepted) (all : List Client)
+    → IsNoneOf peer.peer all
+    → IsOfNone buses (Expects due slack ∷ Moments ∷ Accepts ∷ (refuses buses events peer ++ [])) all
+refused_of_none due slack buses events peer [] h = tt
+refused_of_none due slack buses events peer (client ∷ all) h =
+    (by _, refused_of_none due slack buses events peer all h.1)
+  where
+    other : (peer.peer == client.peer) ≡ false
+    other = let e = h.0 in grind (arith, nat_tests)
+
+    by : (b : Bool) → filter (asks_of client.peer) ((if b then [] else Closes peer.peer ∷ []) ++ []) ≡ []
+    by true = refl
+    by false = ap (λ b. cond b (Closes peer.peer ∷ []) []) other
+
+-- ---- after a turn
+
+module _ (buses : List Bus) (before : ℕ → List ℕ) (stand : Stand) (calls : List Call) (fair : AllByRecursion IsFair calls)
+    (fresh : (peer : ℕ) → IsNew peer stand.connected → before peer ≡ []) (as_taken : IsSentAsTaken buses before stand) where
+  abbrev timed_now : Stand
+  timed_now = timed buses stand calls
+
+  abbrev after : List Accepted → Stand
+  after peers = fold (with_accept buses) timed_now peers
+
+  abbrev Asks : List Accepted → Type 0
+  Asks peers = map question calls
+      ≡ expects buses stand.events ∷ Moments ∷ Accepts ∷
+      (flat_map (refuses buses timed_now.events) peers ++ visits_ask buses (after peers).events calls (clients (after peers).slots))
+
+  -- what is asked before the visits, none of it about a peer that has a slot, and then the visits
+  pub record Begins (peers : List Accepted) : Type 0 where
+    pub first : List Question
+    pub still : no_writes first ≡ true
+    pub asked : map question calls ≡ first ++ visits_ask buses (after peers).events calls (clients (after peers).slots)
+    pub none : IsOfNone buses first (clients (after peers).slots)
+    pub sent_before_visits : IsSentAsTaken buses before (after peers)
+
+  none_first : (all : List Client) → IsOfNone buses (expects buses stand.events ∷ Moments ∷ Accepts ∷ []) all
+  none_first [] = tt
+  none_first (client ∷ all) = (refl, none_first all)
+
+  begins_one : (peer : Accepted) → Asks (peer ∷ []) → AllByRecursion (λ peer. IsNew peer.peer stand.connected) (peer ∷ [])
+      → Begins (peer ∷ [])
+  begins_one peer asked new =
+      let t = sent_after_moments buses before stand (filter_map moment_of calls) as_taken in
+      let here : IsNew peer.peer timed_now.connected = rw t.1 new.0 in
+      record {
+        first = expects buses stand.events ∷ Moments ∷ Accepts ∷ (refuses buses timed_now.events peer ++ []);
+        still = still (connects buses timed_now.events peer.granted);
+        asked = asked;
+        none = none here (connects buses timed_now.events peer.granted) refl;
+        sent_before_visits = sent_after_accept buses before timed_now peer here (fresh peer.peer new.0) t.0;
+      }
+    where
+      still : (b : Bool)
+          → no_writes (expects buses stand.events ∷ Moments ∷ Accepts ∷ ((if b then [] else Closes peer.peer ∷ []) ++ [])) ≡ true
+      still true = refl
+      still false = refl
+
+      none : IsNew peer.peer timed_now.connected → (b : Bool) → connects buses timed_now.events peer.granted ≡ b
+          → IsOfNone buses (expects buses stand.events ∷ Moments ∷ Accepts ∷ (refuses buses timed_now.events peer ++ []))
+          (clients (with_accept buses timed_now peer).slots)
+      none here true e =
+          let nobody = ap (λ b. (if b then [] else Closes peer.peer ∷ []) ++ []) e in
+          subst (λ (qs : List Question).
+          IsOfNone buses (expects buses stand.events ∷ Moments ∷ Accepts ∷ qs) (clients (with_accept buses timed_now peer).slots))
+          (sym nobody) (none_first (clients (with_accept buses timed_now peer).slots))
+      none here false e =
+          let same =
+          ap (λ b. if b then with_connection buses timed_now peer
+          else record timed_now { events = timed_now.events ++ Open peer.granted ∷ [] })
+          e in
+          let t = sent_after_moments buses before stand (filter_map moment_of calls) as_taken in
+          rw same
+          (refused_of_none (due_next buses (course buses stand.events))
+          (slack buses (course buses stand.events)) buses timed_now.events peer
+          (clients timed_now.slots) (new_unconnected peer.peer timed_now.connected (clients timed_now.slots) here t.0.known))
+
+  begins : (peers : List Accepted) → (peers ≡ []) ⊎ ((peer : Accepted) × (peers ≡ peer ∷ [])) → Asks peers
+      → AllByRecursion (λ peer. IsNew peer.peer stand.connected) peers → Begins peers
+  begins [] few asked new = record {
+    first = expects buses stand.events ∷ Moments ∷ Accepts ∷ [];
+    still = refl;
+    asked = asked;
+    none = none_first _;
+    sent_before_visits = (sent_after_moments buses before stand (filter_map moment_of calls) as_taken).0;
+  }
+  begins (peer ∷ []) few asked new = begins_one peer asked new
+  begins _ few asked new =
+      absurd (⊎_elim (λ e. let no = e in cc) (λ s. let no = s.1 in cc) few)
+
+  pub turn_begins : map question calls ≡ turn_asks buses stand calls
+      → AllByRecursion (λ peer. IsNew peer.peer stand.connected) (filter_map accept_of calls) → Begins (filter_map accept_of calls)
+  turn_begins asked new =
+      let peers = filter_map accept_of calls in
+      let refused = flat_map (refuses buses timed_now.events) peers in
+      let visits = visits_ask buses (after peers).events calls (clients (after peers).slots) in
+      let of_peers =
+      all_append (λ q. asks_peer q ≡ true) refused visits (refused_peers buses timed_now.events peers)
+      (visits_peers buses (after peers).events calls (clients (after peers).slots)) in
+      begins peers (one_accept _ _ calls (refused ++ visits) asked of_peers) asked new
+
+  -- the step of an induction over turns
+  pub sent_after_turn : Begins (filter_map accept_of calls)
+      → IsSentAsTaken buses (λ peer. before peer ++ taken peer calls) (turned buses stand calls)
+  sent_after_turn b =
+      sent_after_visits buses before _ calls b.first b.still b.asked fair b.none b.sent_before_visits
+
+-- ---- turn after turn
+
+-- ---- peers that are accepted
+
+-- none of these peers has a connection, and no two of them are one
+record AreNew (connected : List ℕ) (peers : List Accepted) : Type 0 where
+  new : AllByRecursion (λ peer. IsNew peer.peer connected) peers
   differ : IsDistinct (λ a b. a.peer == b.peer) peers
 
-all_new_push : (other : ℕ) (guests : List ℕ) (peers : List Guest) → AllByRecursion (λ peer. IsNew peer.peer guests) peers
-    → AllByRecursion (λ peer. (other == peer.peer) ≡ false) peers → AllByRecursion (λ peer. IsNew peer.peer (guests ++ other ∷ [])) peers
-all_new_push other guests [] h k = tt
-all_new_push other guests (peer ∷ peers) h k = (new_push peer.peer other guests h.0 k.0, all_new_push other guests peers h.1 k.1)
+all_new_push : (other : ℕ) (connected : List ℕ) (peers : List Accepted) → AllByRecursion (λ peer. IsNew peer.peer connected) peers
+    → AllByRecursion (λ peer. (other == peer.peer) ≡ false) peers → AllByRecursion (λ peer. IsNew peer.peer (connected ++ other ∷ [])) peers
+all_new_push other _ [] h k = tt
+all_new_push other connected (peer ∷ peers) h k = (new_push peer.peer other connected h.0 k.0, all_new_push other connected peers h.1 k.1)
 
-all_new_first : (peers : List Guest) → AllByRecursion (λ peer. IsNew peer.peer []) peers
+all_new_first : (peers : List Accepted) → AllByRecursion (λ peer. IsNew peer.peer []) peers
 all_new_first [] = tt
 all_new_first (peer ∷ peers) = (tt, all_new_first peers)
 
--- nothing was taken of a peer that is no guest
+-- nothing was taken of a peer that has no connection
 abbrev IsFresh : (ℕ → List ℕ) → List ℕ → Type 0
-IsFresh before guests = (peer : ℕ) → IsNew peer guests → before peer ≡ []
+IsFresh before connected = (peer : ℕ) → IsNew peer connected → before peer ≡ []
 
 module _ (buses : List Bus) where
   -- those that are still to come stay new
-  new_welcomed : (stand : Stand) (peer : Guest) (more : List Guest) → AreNew stand.guests (peer ∷ more)
-      → AreNew (welcomed buses stand peer).guests more
-  new_welcomed stand peer more h = by (is_let_in buses stand.events peer.granted)
+  new_accept : (stand : Stand) (peer : Accepted) (more : List Accepted) → AreNew stand.connected (peer ∷ more)
+      → AreNew (with_accept buses stand peer).connected more
+  new_accept stand peer more h = by (connects buses stand.events peer.granted)
     where
       differ : IsDistinct (λ a b. a.peer == b.peer) more
       differ = IsDistinct-tail (λ a b. a.peer == b.peer) peer more h.differ
 
       by : (b : Bool)
-          → AreNew (if b then let_in buses stand peer else record stand { events = stand.events ++ Open peer.granted ∷ [] }).guests more
+          → AreNew (if b then with_connection buses stand peer
+          else record stand { events = stand.events ++ Open peer.granted ∷ [] }).connected
+          more
       by true = record {
-        new = all_new_push peer.peer stand.guests more h.new.1 (IsDistinct-head (λ a b. a.peer == b.peer) peer more h.differ);
+        new = all_new_push peer.peer stand.connected more h.new.1 (IsDistinct-head (λ a b. a.peer == b.peer) peer more h.differ);
         differ = differ;
       }
       by false = record { new = h.new.1; differ = differ }
 
-  new_begun : (peers more : List Guest) (stand : Stand) → AreNew stand.guests (peers ++ more)
-      → AreNew (fold (welcomed buses) stand peers).guests more
+  new_begun : (peers more : List Accepted) (stand : Stand) → AreNew stand.connected (peers ++ more)
+      → AreNew (fold (with_accept buses) stand peers).connected more
   new_begun [] more stand h = h
-  new_begun (peer ∷ peers) more stand h = new_begun peers more (welcomed buses stand peer) (new_welcomed stand peer (peers ++ more) h)
+  new_begun (peer ∷ peers) more stand h = new_begun peers more _ (new_accept stand peer (peers ++ more) h)
 
-  -- the guests only grow
-  was_new_welcomed : (peer : ℕ) (other : Guest) (stand : Stand) → IsNew peer (welcomed buses stand other).guests → IsNew peer stand.guests
-  was_new_welcomed peer other stand = by (is_let_in buses stand.events other.granted)
+  -- the connected peers only grow
+  was_new_accept : (peer : ℕ) (other : Accepted) (stand : Stand) → IsNew peer (with_accept buses stand other).connected
+      → IsNew peer stand.connected
+  was_new_accept peer other stand = by _
     where
       by : (b : Bool)
-          → IsNew peer (if b then let_in buses stand other else record stand { events = stand.events ++ Open other.granted ∷ [] }).guests
-          → IsNew peer stand.guests
-      by true h = (all_parts (λ guest. (guest == peer) ≡ false) stand.guests (other.peer ∷ []) h).0
+          → IsNew peer
+          (if b then with_connection buses stand other else record stand { events = stand.events ++ Open other.granted ∷ [] }).connected
+          → IsNew peer stand.connected
+      by true h = (all_parts (λ accept. (accept == peer) ≡ false) _ _ h).0
       by false h = h
 
-  was_new : (peer : ℕ) (peers : List Guest) (stand : Stand) → IsNew peer (fold (welcomed buses) stand peers).guests
-      → IsNew peer stand.guests
+  was_new : (peer : ℕ) (peers : List Accepted) (stand : Stand) → IsNew peer (fold (with_accept buses) stand peers).connected
+      → IsNew peer stand.connected
   was_new peer [] stand h = h
-  was_new peer (other ∷ peers) stand h = was_new_welcomed peer other stand (was_new peer peers (welcomed buses stand other) h)
+  was_new peer (other ∷ peers) stand h = was_new_accept peer other stand (was_new peer peers (with_accept buses stand other) h)
 
-  even_begun : (before : ℕ → List ℕ) (peers more : List Guest) (stand : Stand) → AreNew stand.guests (peers ++ more)
-      → IsFresh before stand.guests → IsSentAsTaken buses before stand → IsSentAsTaken buses before (fold (welcomed buses) stand peers)
+  even_begun : (before : ℕ → List ℕ) (peers more : List Accepted) (stand : Stand) → AreNew stand.connected (peers ++ more)
+      → IsFresh before stand.connected → IsSentAsTaken buses before stand
+      → IsSentAsTaken buses before (fold (with_accept buses) stand peers)
   even_begun before [] more stand new fresh as_taken = as_taken
   even_begun before (peer ∷ peers) more stand new fresh as_taken =
-      even_begun before peers more (welcomed buses stand peer) (new_welcomed stand peer (peers ++ more) new)
-      (λ other h. fresh other (was_new_welcomed other peer stand h))
-      (sent_after_newcomer buses before stand peer new.new.0 (fresh peer.peer new.new.0) as_taken)
+      even_begun before peers more (with_accept buses stand peer) (new_accept stand peer (peers ++ more) new)
+      (λ other h. fresh other (was_new_accept other peer stand h))
+      (sent_after_accept buses before stand peer new.new.0 (fresh peer.peer new.new.0) as_taken)
 
-  -- those that are turned away are written nothing
-  away_no_writes : (events : List Event) (peers : List Guest) → no_writes (flat_map (turns_away buses events) peers) ≡ true
-  away_no_writes events [] = refl
-  away_no_writes events (peer ∷ peers) = by (is_let_in buses events peer.granted) (away_no_writes events peers)
+  -- those that are not connected are written nothing
+  refused_no_writes : (events : List Event) (peers : List Accepted) → no_writes (flat_map (refuses buses events) peers) ≡ true
+  refused_no_writes events [] = refl
+  refused_no_writes events (peer ∷ peers) = by _ (refused_no_writes events peers)
     where
-      by : (b : Bool) → no_writes (flat_map (turns_away buses events) peers) ≡ true
-          → no_writes ((if b then [] else Closes peer.peer ∷ []) ++ flat_map (turns_away buses events) peers) ≡ true
+      by : (b : Bool) → no_writes (flat_map (refuses buses events) peers) ≡ true
+          → no_writes ((if b then [] else Closes peer.peer ∷ []) ++ flat_map (refuses buses events) peers) ≡ true
       by true h = h
       by false h = h
 
 -- ---- after a turn
 
-module _ (buses : List Bus) (before : ℕ → List ℕ) (stand : Stand) (calls : List Call) (more : List Guest)
-    (new : AreNew stand.guests (filter_map newcomer_of calls ++ more)) (fresh : IsFresh before stand.guests)
+module _ (buses : List Bus) (before : ℕ → List ℕ) (stand : Stand) (calls : List Call) (more : List Accepted)
+    (new : AreNew stand.connected (filter_map accept_of calls ++ more)) (fresh : IsFresh before stand.connected)
     (as_taken : IsSentAsTaken buses before stand) where
-  abbrev peers : List Guest
-  peers = filter_map newcomer_of calls
+  abbrev peers : List Accepted
+  peers = filter_map accept_of calls
 
   abbrev now : Stand
   now = timed buses stand calls
 
-  same_guests : now.guests ≡ stand.guests
-  same_guests = (sent_after_moments buses before stand (filter_map moment_of calls) as_taken).1
+  same_connected : now.connected ≡ stand.connected
+  same_connected = (sent_after_moments buses before stand (filter_map moment_of calls) as_taken).1
 
-  new_now : AreNew now.guests (peers ++ more)
-  new_now = subst (λ (guests : List ℕ). AreNew guests (peers ++ more)) (sym same_guests) new
+  new_now : AreNew now.connected (peers ++ more)
+  new_now = rw same_connected new
 
-  new_turned : AreNew (turned buses stand calls).guests more
+  new_turned : AreNew (turned buses stand calls).connected more
   new_turned = new_begun buses peers more now new_now
 
   fresh_turned : map question calls ≡ turn_asks buses stand calls
-      → IsFresh (λ peer. before peer ++ taken peer calls) (turned buses stand calls).guests
+      → IsFresh (λ peer. before peer ++ taken peer calls) (turned buses stand calls).connected
   fresh_turned asked peer none =
-      let after : Stand = begun buses stand calls in
-      let first : List Question = expects buses stand.events ∷ Moments ∷ Newcomers ∷ flat_map (turns_away buses now.events) peers in
-      let none_now : IsNew peer now.guests = was_new buses peer peers now none in
-      let none_before : IsNew peer stand.guests = subst (λ (guests : List ℕ). IsNew peer guests) same_guests none_now in
-      let fresh_now : IsFresh before now.guests = λ other h. fresh other (subst (λ (guests : List ℕ). IsNew other guests) same_guests h) in
-      let even_after : IsSentAsTaken buses before after =
+      let after = begun buses stand calls in
+      let first = expects buses stand.events ∷ Moments ∷ Accepts ∷ flat_map (refuses buses now.events) peers in
+      let none_now = was_new buses peer peers now none in
+      let none_before = rw same_connected at none_now in
+      let fresh_now : IsFresh before now.connected = λ other h. fresh other (rw same_connected at h) in
+      let even_after =
       even_begun buses before peers more now new_now fresh_now
       (sent_after_moments buses before stand (filter_map moment_of calls) as_taken).0 in
-      let unconnected : IsNoneOf peer (clients after.slots) = new_unconnected peer after.guests (clients after.slots) none even_after.known in
-      ap (λ t. t ++ taken peer calls) (fresh peer none_before)
-      ∙ nothing_taken buses before after calls first (away_no_writes buses now.events peers) asked peer unconnected
+      let unconnected = new_unconnected peer _ _ none even_after.known in
+      cc (
+        fresh peer none_before,
+        nothing_taken buses before after calls first (refused_no_writes buses now.events peers) asked peer unconnected,
+      )
 
--- ---- who came in
+-- ---- who was accepted
 
 -- as the door tells it
-pub peers_trace : (calls : List Call) → filter_map peer_of (map door_call calls) ≡ map (λ guest. guest.peer) (filter_map newcomer_of calls)
+pub peers_trace : (calls : List Call) → filter_map peer_of (map door_call calls) ≡ map (λ accept. accept.peer) (filter_map accept_of calls)
 peers_trace [] = refl
 peers_trace (ExpectCall due slack ∷ calls) = peers_trace calls
 peers_trace (NowCall answer ∷ calls) = peers_trace calls
@@ -149,16 +322,17 @@ peers_trace (ReadCall peer answer buffer grants ∷ calls) = peers_trace calls
 peers_trace (WriteCall peer bytes answer ∷ calls) = peers_trace calls
 peers_trace (CloseCall peer answer ∷ calls) = peers_trace calls
 
-apart_guests : (peer : ℕ) (guests : List Guest) → AllByRecursion (λ other. (peer == other) ≡ false) (map (λ guest. guest.peer) guests)
-    → AllByRecursion (λ guest. (peer == guest.peer) ≡ false) guests
-apart_guests peer [] h = tt
-apart_guests peer (guest ∷ guests) h = (h.0, apart_guests peer guests h.1)
+apart_accepts : (peer : ℕ) (connected : List Accepted)
+    → AllByRecursion (λ other. (peer == other) ≡ false) (map (λ accept. accept.peer) connected)
+    → AllByRecursion (λ accept. (peer == accept.peer) ≡ false) connected
+apart_accepts peer [] h = tt
+apart_accepts peer (accept ∷ connected) h = (h.0, apart_accepts peer connected h.1)
 
-differ_guests : (guests : List Guest) → IsDistinct (λ a b. a == b) (map (λ guest. guest.peer) guests)
-    → IsDistinct (λ a b. a.peer == b.peer) guests
+differ_accepts : (connected : List Accepted) → IsDistinct (λ a b. a == b) (map (λ accept. accept.peer) connected)
+    → IsDistinct (λ a b. a.peer == b.peer) connected
 unfolding IsDistinct
-differ_guests [] h = tt
-differ_guests (guest ∷ guests) h = (apart_guests guest.peer guests h.0, differ_guests guests h.1)
+differ_accepts [] h = tt
+differ_accepts (accept ∷ connected) h = (apart_accepts accept.peer connected h.0, differ_accepts connected h.1)
 
 -- ---- after all turns
 
@@ -167,34 +341,34 @@ abbrev joined : List (List Call) → List Call
 joined all = flat_map (λ calls. calls) all
 
 module _ (buses : List Bus) where
-  -- in the turn, each peer that has a slot is a guest, no two are one peer, and each visit asked what it was to ask
-  pub record IsTurnOfGuests (stand : Stand) (calls : List Call) : Type 0 where
-    pub known : AreGuests (begun buses stand calls).guests (clients (begun buses stand calls).slots)
+  -- in the turn, each peer that has a slot is a who, no two are one peer, and each visit asked what it was to ask
+  pub record IsTurnOfPeers (stand : Stand) (calls : List Call) : Type 0 where
+    pub known : ArePeersOf (begun buses stand calls).connected (clients (begun buses stand calls).slots)
     pub apart : PeersApart (clients (begun buses stand calls).slots)
     pub asked : AreAsked buses (begun buses stand calls).events calls (clients (begun buses stand calls).slots)
     pub fair : AllByRecursion IsFair calls
 
   abbrev SentAfter : (all : List (List Call)) (before : ℕ → List ℕ) (stand : Stand) → Type 0
   SentAfter all before stand = map sent (course buses (fold (turned buses) stand all).events).connections
-      ≡ map (λ peer. before peer ++ taken peer (joined all)) (fold (turned buses) stand all).guests
+      ≡ map (λ peer. before peer ++ taken peer (joined all)) (fold (turned buses) stand all).connected
 
   turns_taken : (all : List (List Call)) (before : ℕ → List ℕ) (stand : Stand) → AreTurnsAsked buses stand all
-      → AllByRecursion IsFair (joined all) → AreNew stand.guests (filter_map newcomer_of (joined all)) → IsFresh before stand.guests
+      → AllByRecursion IsFair (joined all) → AreNew stand.connected (filter_map accept_of (joined all)) → IsFresh before stand.connected
       → IsSentAsTaken buses before stand
-      → OfEachTurn buses IsTurnOfGuests stand all × SentAfter all before stand
+      → OfEachTurn buses IsTurnOfPeers stand all × SentAfter all before stand
   turns_taken [] before stand asked fair new fresh as_taken =
-      (tt, as_taken.sending.sends ∙ same_each before (λ peer. before peer ++ []) stand.guests (λ peer. sym (append-nil (before peer))))
+      (tt, as_taken.sending.sends ∙ same_each before (λ peer. before peer ++ []) stand.connected (λ peer. sym (append-nil (before peer))))
   turns_taken (calls ∷ all) before stand asked fair new fresh as_taken =
       let parts = all_parts IsFair calls (joined all) fair in
-      let peers : List Guest = filter_map newcomer_of calls in
-      let more : List Guest = filter_map newcomer_of (joined all) in
-      let apart : AreNew stand.guests (peers ++ more) =
-      subst (λ (ps : List Guest). AreNew stand.guests ps) (filter_map-append newcomer_of calls (joined all)) new in
-      let coming : AllByRecursion (λ peer. IsNew peer.peer stand.guests) peers =
-      (all_parts (λ peer. IsNew peer.peer stand.guests) peers more apart.new).0 in
+      let peers = filter_map accept_of calls in
+      let more = filter_map accept_of (joined all) in
+      let apart =
+      rw filter_map-append at new in
+      let coming =
+      (all_parts (λ peer. IsNew peer.peer stand.connected) peers more apart.new).0 in
       let b = turn_begins buses before stand calls parts.0 fresh as_taken asked.0 coming in
-      let now : Stand = begun buses stand calls in
-      let here : IsTurnOfGuests stand calls =
+      let now = begun buses stand calls in
+      let here : IsTurnOfPeers stand calls =
       record {
         known = b.sent_before_visits.known;
         apart = b.sent_before_visits.apart;
@@ -209,22 +383,20 @@ module _ (buses : List Bus) where
         (here, rest.0),
         rest.1
             ∙ same_each (λ peer. (before peer ++ taken peer calls) ++ taken peer (joined all))
-            (λ peer. before peer ++ taken peer (joined (calls ∷ all))) (fold (turned buses) (turned buses stand calls) all).guests
+            (λ peer. before peer ++ taken peer (joined (calls ∷ all))) (fold (turned buses) (turned buses stand calls) all).connected
             (regrouped before calls (joined all)),
       )
     where
       regrouped : (before : ℕ → List ℕ) (calls others : List Call) (peer : ℕ)
           → (before peer ++ taken peer calls) ++ taken peer others ≡ before peer ++ taken peer (calls ++ others)
       regrouped before calls others peer =
-          append_assoc (before peer) (taken peer calls) (taken peer others)
-          ∙ ap (λ t. before peer ++ t) (sym (flat_map-append (taken_in peer) calls others))
+          cc (append_assoc (before peer) (taken peer calls) (taken peer others), flat_map-append (taken_in peer) calls others)
 
   -- the calls before the first moment, and then the turns, are all the calls
   turns_joined : (trace : List Call) → in_turn buses trace ++ joined (turns trace) ≡ trace
   turns_joined [] = refl
   turns_joined (call ∷ trace) =
-      ap (λ cs. cs ++ joined (turns (call ∷ trace))) (take_while-cons (λ next. not (is_expect next)) call trace)
-      ∙ by (turns_joined trace) (is_expect call)
+      cc (take_while-cons (λ next. not (is_expect next)) call trace, by (turns_joined trace) (is_expect call))
     where
       by : in_turn buses trace ++ joined (turns trace) ≡ trace → (b : Bool)
           → cond (not b) (call ∷ in_turn buses trace) [] ++ joined (if b then (call ∷ in_turn buses trace) ∷ turns trace else turns trace)
@@ -242,27 +414,26 @@ module _ (buses : List Bus) where
   module _ (count : ℕ) (trace : List Call) (served : IsServed buses count trace) (differ : PeersDiffer buses trace)
       (fair : AllByRecursion IsFair trace) where
     whole : joined (turns trace) ≡ trace
-    whole = ap (λ cs. cs ++ joined (turns trace))
-        (sym (no_calls (in_turn buses trace) (turns_parted buses empty_stand trace [] tt served.asked).0)) ∙ turns_joined trace
+    whole = cc (no_calls (in_turn buses trace) (turns_parted buses empty_stand trace [] tt served.asked).0, turns_joined trace)
 
-    all_turns : OfEachTurn buses IsTurnOfGuests empty_stand (turns trace) × SentAfter (turns trace) (λ peer. []) empty_stand
+    all_turns : OfEachTurn buses IsTurnOfPeers empty_stand (turns trace) × SentAfter (turns trace) (λ peer. []) empty_stand
     all_turns =
-        let guests : List Guest = filter_map newcomer_of trace in
-        let first : AreNew [] guests =
+        let connected = filter_map accept_of trace in
+        let first : AreNew [] connected =
         record {
-          new = all_new_first guests;
+          new = all_new_first connected;
           differ =
-              differ_guests guests (subst (λ (peers : List ℕ). IsDistinct (λ a b. a == b) peers) (peers_trace trace) differ);
+              differ_accepts connected (rw peers_trace at differ);
         } in
         turns_taken (turns trace) (λ peer. []) empty_stand (turns_parted buses empty_stand trace [] tt served.asked).1
-        (subst (λ (cs : List Call). AllByRecursion IsFair cs) (sym whole) fair)
-        (subst (λ (cs : List Call). AreNew [] (filter_map newcomer_of cs)) (sym whole) first) (λ peer h. refl) sent_at_first
+        (rw whole fair)
+        (rw whole first) (λ peer h. refl) sent_at_first
 
-    pub turns_of_guests : OfEachTurn buses IsTurnOfGuests empty_stand (turns trace)
-    turns_of_guests = all_turns.0
+    pub turns_of_peers : OfEachTurn buses IsTurnOfPeers empty_stand (turns trace)
+    turns_of_peers = all_turns.0
 
     pub sends_taken : SendsWhatIsTaken buses trace
-    sends_taken = all_turns.1 ∙ ap (λ cs. map (λ peer. taken peer cs) (stand_after buses trace).guests) whole
+    sends_taken = rw (all_turns.1, whole)
 
   pub sent_taken : SentIsTaken buses
   sent_taken count trace served differ fair = sends_taken count trace served differ fair

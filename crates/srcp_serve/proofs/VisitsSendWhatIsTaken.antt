@@ -12,7 +12,7 @@ use Rattle.srcp_grammar.specs.declared.layout.Bus.{Bus}
 use Rattle.srcp_core.specs.Under.{Piece, Event, Bytes, Room, Shut}
 use Rattle.srcp_core.specs.Course.{World, start, happens, course}
 use Rattle.srcp_serve.specs.Given.{Call, ExpectCall, NowCall, AcceptCall, ReadCall, WriteCall, CloseCall}
-use Rattle.srcp_serve.specs.Serving.{Question, Expects, Moments, Newcomers, Reads, Writes, Closes, Client, question, IsFair, taken, taken_in}
+use Rattle.srcp_serve.specs.Serving.{Question, Expects, Moments, Accepts, Reads, Writes, Closes, Client, question, IsFair, taken, taken_in}
 use Rattle.srcp_serve.specs.Serving.{piece_of, count_of, is_close, loses, loses_reading, lent_none_last, exchange, is_ready, is_closing}
 use Rattle.srcp_serve.specs.Serving.{lent, handed, unless_nil, reads_of, writes_of, closes_of, visit_asks}
 use Rattle.srcp_serve.proofs.OnlyRoomSends.{IsSending, sending_bytes, sending_shut}
@@ -23,7 +23,7 @@ use Rattle.srcp_serve.proofs.RoomSendsWhatIsLent.{put, put_none, put_put, sendin
 abbrev pub asks_write : Question → Bool
 asks_write (Expects due slack) = false
 asks_write Moments = false
-asks_write Newcomers = false
+asks_write Accepts = false
 asks_write (Reads peer most) = false
 asks_write (Writes peer bytes) = true
 asks_write (Closes peer) = false
@@ -47,11 +47,11 @@ pub record IsSplit (calls : List Call) (first others : List Question) : Type 0 w
   pub xs : List Call
   pub ys : List Call
   pub is : calls ≡ xs ++ ys
-  pub front : map question xs ≡ first
-  pub back : map question ys ≡ others
+  pub prefix : map question xs ≡ first
+  pub suffix : map question ys ≡ others
 
 pub split : (calls : List Call) (first others : List Question) → map question calls ≡ first ++ others → IsSplit calls first others
-split calls [] others e = record { xs = []; ys = calls; is = refl; front = refl; back = e }
+split calls [] others e = record { xs = []; ys = calls; is = refl; prefix = refl; suffix = e }
 split [] (q ∷ first) others e = cc
 split (call ∷ calls) (q ∷ first) others e =
     let head : question call ≡ q = cc in
@@ -61,8 +61,8 @@ split (call ∷ calls) (q ∷ first) others e =
       xs = call ∷ more.xs;
       ys = more.ys;
       is = ap (λ cs. call ∷ cs) more.is;
-      front = ap (λ a. a ∷ map question more.xs) head ∙ ap (λ qs. q ∷ qs) more.front;
-      back = more.back;
+      prefix = cc;
+      suffix = more.suffix;
     }
 
 pub all_parts : {X : Type 0} (P : X → Type 0) (xs ys : List X) → AllByRecursion P (xs ++ ys) → AllByRecursion P xs × AllByRecursion P ys
@@ -89,7 +89,7 @@ pub no_write : (peer : ℕ) (q : Question) (questions : List Question) (texts : 
     ≡ map (Writes peer) texts → ⊥
 no_write peer q questions [] h e = cc
 no_write peer q questions (text ∷ texts) h e =
-    let same : q ≡ Writes peer text = cc in let t : asks_write q ≡ true = ap asks_write same in cc
+    let same : q ≡ Writes peer text = cc in let t = ap asks_write same in cc
 
 module _ (buses : List Bus) (peer conn : ℕ) where
   abbrev Sends : List (List ℕ) → List Event → Type 0
@@ -100,10 +100,8 @@ module _ (buses : List Bus) (peer conn : ℕ) where
   sends_bytes texts events [] a = subst (λ (all : List Event). Sends texts all) (sym (append-nil events)) a
   sends_bytes texts events (piece ∷ pieces) a =
       let one : Sends texts (events ++ Bytes conn piece ∷ []) =
-      subst (λ (v : World). IsSending texts v.connections) (sym (fold-append (happens buses) start events (Bytes conn piece ∷ [])))
-      (sending_bytes buses conn texts piece (course buses events) a) in
-      subst (λ (all : List Event). Sends texts all) (append_assoc events (Bytes conn piece ∷ []) (map (Bytes conn) pieces))
-      (sends_bytes texts (events ++ Bytes conn piece ∷ []) pieces one)
+      rw fold-append (sending_bytes buses conn texts piece (course buses events) a) in
+      rw append_assoc at (sends_bytes texts (events ++ Bytes conn piece ∷ []) pieces one)
 
   -- what a number of writes does
   abbrev WritesSend : List Call → Type 0
@@ -123,16 +121,13 @@ module _ (buses : List Bus) (peer conn : ℕ) where
       → Sends (put conn (take count (lent buses conn events) ++ taken peer calls) texts)
       (events ++ (Room conn count ∷ map (Room conn) (filter_map count_of calls)))
   then_sends calls ih most count events texts h e a =
-      let now : List ℕ = lent buses conn events in
-      let counts : List ℕ = filter_map count_of calls in
-      let next : List Event = events ++ Room conn count ∷ [] in
+      let now = lent buses conn events in
+      let counts = filter_map count_of calls in
+      let next = events ++ Room conn count ∷ [] in
       let one = sending_room buses events conn count texts h a in
-      let all : Sends (put conn (taken peer calls) (put conn (take count now) texts)) (next ++ map (Room conn) counts) =
+      let all =
       by (count == length now) e one in
-      subst (λ (ts : List (List ℕ)). Sends ts (events ++ (Room conn count ∷ map (Room conn) counts)))
-      (put_put conn (take count now) (taken peer calls) texts)
-      (subst (λ (es : List Event). Sends (put conn (taken peer calls) (put conn (take count now) texts)) es)
-      (append_assoc events (Room conn count ∷ []) (map (Room conn) counts)) all)
+      rw put_put at (rw append_assoc at all)
     where
       by : (b : Bool)
           → map question calls
@@ -144,7 +139,7 @@ module _ (buses : List Bus) (peer conn : ℕ) where
       by true e one = ih most (events ++ Room conn count ∷ []) (put conn (take count (lent buses conn events)) texts) e one
       by false e one =
           ih 0 (events ++ Room conn count ∷ []) (put conn (take count (lent buses conn events)) texts)
-          (e ∙ ap (map (Writes peer)) (none most)) one
+          (cc (e, none most)) one
         where
           none : (n : ℕ) → take {A = List ℕ} n [] ≡ []
           none zero = refl
@@ -154,37 +149,37 @@ module _ (buses : List Bus) (peer conn : ℕ) where
       → (if who == peer then take count bytes else []) ≡ take count now
   taken_here who count bytes now p b =
       let own : (who == peer) ≡ true = grind (arith, nat_tests) in
-      ap (λ t. if t then take count bytes else []) own ∙ ap (take count) b
+      cc
 
   pub sending_writes : (calls : List Call) → AllByRecursion IsFair calls → WritesSend calls
   sending_writes [] fair most events texts e a =
       subst (λ (ts : List (List ℕ)). Sends ts (events ++ [])) (sym (put_none conn texts))
-      (subst (λ (all : List Event). Sends texts all) (sym (append-nil events)) a)
+      (rw append-nil a)
   sending_writes (ExpectCall due slack ∷ calls) fair most events texts e a =
-      absurd (no_write peer (Expects due slack) (map question calls) _ refl e)
-  sending_writes (NowCall answer ∷ calls) fair most events texts e a = absurd (no_write peer Moments (map question calls) _ refl e)
+      absurd (no_write peer _ _ _ refl e)
+  sending_writes (NowCall answer ∷ calls) fair most events texts e a = absurd (no_write peer Moments _ _ refl e)
   sending_writes (AcceptCall answer granted ∷ calls) fair most events texts e a =
-      absurd (no_write peer Newcomers (map question calls) _ refl e)
+      absurd (no_write peer Accepts _ _ refl e)
   sending_writes (ReadCall who answer buffer grants ∷ calls) fair most events texts e a =
-      absurd (no_write peer (Reads who (length buffer)) (map question calls) _ refl e)
+      absurd (no_write peer _ _ _ refl e)
   sending_writes (CloseCall who answer ∷ calls) fair most events texts e a =
-      absurd (no_write peer (Closes who) (map question calls) _ refl e)
+      absurd (no_write peer _ _ _ refl e)
   sending_writes (WriteCall who bytes (Ok count) ∷ calls) fair most events texts e a =
-      let now : List ℕ = lent buses conn events in
-      let counts : List ℕ = filter_map count_of calls in
+      let now = lent buses conn events in
+      let counts = filter_map count_of calls in
       let f =
-      first_of_writes peer who most bytes now (map question calls)
-      (if count == length now then handed buses conn (events ++ Room conn count ∷ []) counts else []) e in
-      let fits : count ≤ length now = subst (λ (l : List ℕ). count ≤ length l) f.bytes_are fair.0 in
+      first_of_writes peer who most bytes now _
+      _ e in
+      let fits = rw f.bytes_are at fair.0 in
       subst (λ (t : List ℕ). Sends (put conn (t ++ taken peer calls) texts) (events ++ (Room conn count ∷ map (Room conn) counts)))
       (sym (taken_here who count bytes now f.peer_is f.bytes_are))
       (then_sends calls (sending_writes calls fair.1) f.left count events texts fits f.others a)
   sending_writes (WriteCall who bytes (Err failed) ∷ calls) fair most events texts e a =
-      let now : List ℕ = lent buses conn events in
-      let counts : List ℕ = filter_map count_of calls in
+      let now = lent buses conn events in
+      let counts = filter_map count_of calls in
       let f =
-      first_of_writes peer who most bytes now (map question calls)
-      (if 0 == length now then handed buses conn (events ++ Room conn 0 ∷ []) counts else []) e in
+      first_of_writes peer who most bytes now _
+      _ e in
       then_sends calls (sending_writes calls fair.1) f.left 0 events texts (omega arith) f.others a
 
   -- ---- a whole visit
@@ -194,14 +189,14 @@ module _ (buses : List Bus) (peer conn : ℕ) where
   last_room events texts true a =
       subst (λ (ts : List (List ℕ)). Sends ts (events ++ Room conn 0 ∷ [])) (put_none conn texts)
       (sending_room buses events conn 0 texts (omega arith) a)
-  last_room events texts false a = subst (λ (all : List Event). Sends texts all) (sym (append-nil events)) a
+  last_room events texts false a = rw append-nil a
 
   last_shut : (events : List Event) (texts : List (List ℕ)) (b : Bool) → Sends texts events
       → Sends texts (events ++ (if b then Shut conn ∷ [] else []))
   last_shut events texts true a =
       subst (λ (v : World). IsSending texts v.connections) (sym (fold-append (happens buses) start events (Shut conn ∷ [])))
       (sending_shut buses conn texts (course buses events) a)
-  last_shut events texts false a = subst (λ (all : List Event). Sends texts all) (sym (append-nil events)) a
+  last_shut events texts false a = rw append-nil a
 
 -- what a visit makes happen
 abbrev pub made_of : ℕ → List Call → List Event
@@ -241,42 +236,32 @@ module _ (buses : List Bus) (client : Client) (events : List Event) (calls : Lis
       let s =
       split calls (reads_of buses events client) (writes_asked ++ closes_asked)
       (e ∙ append_assoc (reads_of buses events client) writes_asked closes_asked) in
-      let t = split s.ys writes_asked closes_asked s.back in
-      let reads = none_taken client.peer s.xs (ap no_writes s.front ∙ reads_none) in
-      let closes = none_taken client.peer t.ys (ap no_writes t.back ∙ closes_none) in
+      let t = split s.ys writes_asked closes_asked s.suffix in
+      let reads = none_taken client.peer s.xs (cc (s.prefix, reads_none)) in
+      let closes = none_taken client.peer t.ys (cc (t.suffix, closes_none)) in
       record {
         writes = t.xs;
-        asked = t.front;
+        asked = t.prefix;
         each = λ P all. (all_parts P t.xs t.ys
-            (subst (λ (cs : List Call). AllByRecursion P cs) t.is
-            (all_parts P s.xs s.ys (subst (λ (cs : List Call). AllByRecursion P cs) s.is all)).1)).0;
-        counts = ap (filter_map count_of) s.is
-            ∙ filter_map-append count_of s.xs s.ys
-            ∙ ap (λ cs. cs ++ filter_map count_of s.ys) reads.0
-            ∙ ap (filter_map count_of) t.is
-            ∙ filter_map-append count_of t.xs t.ys
-            ∙ ap (λ cs. filter_map count_of t.xs ++ cs) closes.0
-            ∙ append-nil (filter_map count_of t.xs);
-        took = ap (taken client.peer) s.is
-            ∙ flat_map-append (taken_in client.peer) s.xs s.ys
-            ∙ ap (λ cs. cs ++ taken client.peer s.ys) reads.1
-            ∙ ap (taken client.peer) t.is
-            ∙ flat_map-append (taken_in client.peer) t.xs t.ys
-            ∙ ap (λ cs. taken client.peer t.xs ++ cs) closes.1
-            ∙ append-nil (taken client.peer t.xs);
+            (rw t.is at (all_parts P s.xs s.ys (rw s.is at all)).1)).0;
+        counts = cc (filter_map-append count_of s.xs s.ys, filter_map-append count_of t.xs t.ys, append-nil (filter_map count_of t.xs));
+        took =
+            cc (
+              flat_map-append (taken_in client.peer) s.xs s.ys,
+              flat_map-append (taken_in client.peer) t.xs t.ys,
+              append-nil (taken client.peer t.xs),
+            );
       }
 
   joined : (room : List ℕ) (shut : List Event)
       → ((read_events ++ map (Room client.conn) (filter_map count_of calls)) ++ map (Room client.conn) room) ++ shut
-      ≡ events ++ ((map (Bytes client.conn) (filter_map piece_of calls) ++ map (Room client.conn) (filter_map count_of calls ++ room)) ++ shut)
+      ≡ events
+      ++ ((map (Bytes client.conn) (filter_map piece_of calls) ++ map (Room client.conn) (filter_map count_of calls ++ room)) ++ shut)
   joined room shut =
-      let b : List Event = map (Bytes client.conn) (filter_map piece_of calls) in
-      let r : List Event = map (Room client.conn) (filter_map count_of calls) in
-      let l : List Event = map (Room client.conn) room in
-      ap (λ es. es ++ shut)
-      (append_assoc (events ++ b) r l ∙ append_assoc events b (r ++ l)
-      ∙ ap (λ es. events ++ (b ++ es)) (sym (map-append (Room client.conn) (filter_map count_of calls) room)))
-      ∙ append_assoc events (b ++ map (Room client.conn) (filter_map count_of calls ++ room)) shut
+      let b = map (Bytes client.conn) (filter_map piece_of calls) in
+      let r = map (Room client.conn) (filter_map count_of calls) in
+      let l = map (Room client.conn) room in
+      simp (append_assoc, map-append)
 
   -- what the calls of a visit say was taken is sent
   pub sending_visit : (texts : List (List ℕ)) → map question calls ≡ visit_asks buses events calls client → AllByRecursion IsFair calls
@@ -284,18 +269,11 @@ module _ (buses : List Bus) (client : Client) (events : List Event) (calls : Lis
       → IsSending (put client.conn (taken client.peer calls) texts) (course buses (events ++ made_of client.conn calls)).connections
   sending_visit texts e fair a =
       let h = has_writes e in
-      let now : List (List ℕ) = put client.conn (taken client.peer calls) texts in
+      let now = put client.conn (taken client.peer calls) texts in
       let wrote = by h (list_any loses_reading calls) h.asked in
       let wrote' : IsSending now (course buses (read_events ++ map (Room client.conn) (filter_map count_of calls))).connections =
-      subst (λ (t : List ℕ).
-      IsSending (put client.conn t texts)
-      (course buses (read_events ++ map (Room client.conn) (filter_map count_of calls))).connections)
-      (sym h.took)
-      (subst (λ (cs : List ℕ).
-      IsSending (put client.conn (taken client.peer h.writes) texts)
-      (course buses (read_events ++ map (Room client.conn) cs)).connections)
-      (sym h.counts) wrote) in
-      let room : List ℕ = if lent_none_last calls then 0 ∷ [] else [] in
+      rw h.took (rw h.counts wrote) in
+      let room = if lent_none_last calls then 0 ∷ [] else [] in
       let roomed =
       last_room buses client.peer client.conn (read_events ++ map (Room client.conn) (filter_map count_of calls)) now
       (lent_none_last calls) wrote' in
@@ -303,8 +281,7 @@ module _ (buses : List Bus) (client : Client) (events : List Event) (calls : Lis
       last_shut buses client.peer client.conn
       ((read_events ++ map (Room client.conn) (filter_map count_of calls)) ++ map (Room client.conn) room) now
       (list_any is_close calls) roomed in
-      subst (λ (es : List Event). IsSending now (course buses es).connections)
-      (joined room (if list_any is_close calls then Shut client.conn ∷ [] else [])) shut
+      rw joined at shut
     where
       by : (h : HasWrites) (b : Bool)
           → map question h.writes
@@ -315,5 +292,5 @@ module _ (buses : List Bus) (client : Client) (events : List Event) (calls : Lis
           (sends_bytes buses client.peer client.conn texts events (filter_map piece_of calls) a)
       by h false q =
           sending_writes buses client.peer client.conn h.writes (h.each IsFair fair) 300 read_events texts
-          (q ∙ ap (λ cs. map (Writes client.peer) (take 300 (handed buses client.conn read_events cs))) h.counts)
+          (cc (q, h.counts))
           (sends_bytes buses client.peer client.conn texts events (filter_map piece_of calls) a)

@@ -1,28 +1,70 @@
 -- The writes of a visit: all but the last took all that was lent.
-use Rattle.std.proofs.Common.{◌≡◌, ◌∙◌, ℕ, zero, suc, ◌+◌, ◌<◌, ◌≤◌, Bool, true, false, cond, ◌==◌, not, List, [], ◌∷◌, ◌++◌, map, take}
-use Rattle.std.proofs.Common.{length, Option, Some, Ok, Err, ⊎_elim, refl, ap, sym, subst, arith, append_assoc, append-nil, length-append}
-use Rattle.std.proofs.Math.Seq.{take-append_seam}
+use Rattle.std.proofs.Common.{◌≡◌, ◌∙◌, ℕ, ◌<◌, true, ◌==◌, List, [], ◌∷◌, ◌++◌, map, length, if◌then◌else◌, refl, ap, sym, arith}
+use Rattle.std.proofs.Common.{append_assoc, append-nil, zero, suc, ◌+◌, ◌≤◌, Bool, false, cond, not, take, Some, Ok, Err, ⊎_elim}
+use Rattle.std.proofs.Common.{length-append}
 use Rattle.std.proofs.lemmas.Bool.Decides.{nat_tests}
+use Rattle.srcp_core.specs.Under.{Event, Room}
+use Rattle.srcp_grammar.specs.declared.layout.Bus.{Bus}
+use Rattle.srcp_serve.specs.Serving.{lent, handed, unless_nil, Writes, question, count_of, is_write, loses, loses_writing, falls_short}
+use Rattle.srcp_serve.specs.Serving.{rooms}
+use Rattle.std.proofs.Math.Seq.{take-append_seam}
 use Rattle.std.proofs.lemmas.List.{map-append}
 use Rattle.std.proofs.lemmas.List.Sums.{sum_by-cons}
 use Rattle.std.specs.List.{list_any, filter_map, count_by}
-use Rattle.std.specs.Prelude.{◌||◌, ◌&&◌, nat_lt, if◌then◌else◌}
-use Rattle.srcp_grammar.specs.declared.layout.Bus.{Bus}
+use Rattle.std.specs.Prelude.{◌||◌, ◌&&◌, nat_lt}
 use Rattle.srcp_core.specs.Course.{course}
 use Rattle.srcp_core.specs.Held.{Held}
 use Rattle.srcp_core.specs.Stands.{StandsFor}
-use Rattle.srcp_core.specs.Under.{Event, Room}
-use Rattle.srcp_serve.specs.Calls.{Call as DoorCall}
+use Rattle.srcp_serve.specs.Calls.{Call as DoorCall, Trace}
 use Rattle.srcp_serve.specs.Given.{Call, WriteCall}
-use Rattle.srcp_serve.specs.Serving.{Writes, question, count_of, is_write, loses, loses_writing, falls_short, lent, lent_none_last, rooms}
-use Rattle.srcp_serve.specs.Serving.{handed, unless_nil}
 use Rattle.srcp_serve.specs.Turns.{AsksPeers}
-use Rattle.srcp_serve.specs.Visits.{AddsGiven, AreWritesTo, FromEveryCourse, IsWrittenTo, TookAll, TookLess, TookNone, WasLentNone}
-use Rattle.srcp_serve.specs.Visits.{WritesOnce}
-use Rattle.srcp_serve.specs.Visits.{WritesOut}
+use Rattle.srcp_serve.specs.Visits.{AddsGiven, FromEveryCourse, IsWrittenTo, TookAll, TookLess, TookNone, WasLentNone, WritesOnce}
+use Rattle.srcp_serve.specs.Visits.{WritesOut, Keys}
 use Rattle.srcp_serve.specs.declared.serving.visit.Wrote.TheVariants.{All, Less, Failed}
-use Rattle.srcp_serve.proofs.HandedWriteAfterWrite.{AreFull, texts, handed-append, full-more, unless_some}
 use Rattle.srcp_serve.proofs.CallsAreAdded.{adds_none, given_then}
+
+-- if there is something, it is the first
+pub unless_some : (bytes : List ℕ) (more : List (List ℕ)) → 0 < length bytes → unless_nil bytes more ≡ bytes ∷ more
+unless_some [] more h = absurd (omega arith)
+unless_some (byte ∷ bytes) more h = refl
+
+module _ (buses : List Bus) (conn : ℕ) where
+  -- each time all was taken, and it was something
+  abbrev pub AreFull : List Event → List ℕ → Type 0
+  AreFull events [] = Unit {0}
+  AreFull events (count ∷ counts) =
+      (count ≡ length (lent buses conn events)) × (0 < count) × AreFull (events ++ Room conn count ∷ []) counts
+
+  -- what was handed over each time
+  abbrev pub texts : List Event → List ℕ → List (List ℕ)
+  texts events [] = []
+  texts events (count ∷ counts) = lent buses conn events ∷ texts (events ++ Room conn count ∷ []) counts
+
+  -- after writes that took all, the rest is handed over as from there
+  pub handed-append : (events : List Event) (counts more : List ℕ) → AreFull events counts
+      → handed buses conn events (counts ++ more) ≡ texts events counts ++ handed buses conn (events ++ map (Room conn) counts) more
+  handed-append events [] more h = ap (λ all. handed buses conn all more) (sym (append-nil events))
+  handed-append events (count ∷ counts) more h =
+      let now = lent buses conn events in
+      let whole : (count == length now) ≡ true = let full = h.0 in grind (arith, nat_tests) in
+      let some = rw h.0 at h.1 in
+      let later = handed-append (events ++ Room conn count ∷ []) counts more h.2 in
+      cc (unless_some now _ some, append_assoc events (Room conn count ∷ []) (map (Room conn) counts))
+
+  -- one write more that took all
+  pub full-more : (events : List Event) (counts : List ℕ) (count : ℕ) → AreFull events counts
+      → count ≡ length (lent buses conn (events ++ map (Room conn) counts)) → 0 < count → AreFull events (counts ++ count ∷ [])
+  full-more events [] count h e some = (rw append-nil at e, some, tt)
+  full-more events (first ∷ counts) count h e some =
+      let all =
+      append_assoc events (Room conn first ∷ []) (map (Room conn) counts) in (
+        h.0,
+        h.1,
+        full-more (events ++ Room conn first ∷ []) counts count h.2
+            (rw all e) some,
+      )
+
+-- ---- the writes of a visit: all but the last took all that was lent
 
 -- room for nothing, or no more room
 abbrev last_room : Bool → List ℕ
@@ -46,7 +88,7 @@ module _ (buses : List Bus) (peer conn : ℕ) where
 
   after-more : (events : List Event) (count : ℕ) (counts : List ℕ)
       → after (events ++ Room conn count ∷ []) counts ≡ after events (count ∷ counts)
-  after-more events count counts = append_assoc events (Room conn count ∷ []) (map (Room conn) counts)
+  after-more events count counts = append_assoc events _ _
 
   pub written-append : (events : List Event) (counts : List ℕ) (last : List Call)
       → written events counts [] ++ last ≡ written events counts last
@@ -60,9 +102,7 @@ module _ (buses : List Bus) (peer conn : ℕ) where
   written-more events [] count = ap (λ all. WriteCall peer (lent buses conn all) (Ok count) ∷ []) (sym (append-nil events))
   written-more events (first ∷ counts) count =
       ap (λ calls. WriteCall peer (lent buses conn events) (Ok first) ∷ calls)
-      (written-more (events ++ Room conn first ∷ []) counts count
-      ∙ ap (λ all. written (events ++ Room conn first ∷ []) counts (WriteCall peer (lent buses conn all) (Ok count) ∷ []))
-      (after-more events first counts))
+      (cc (written-more (events ++ Room conn first ∷ []) counts count, after-more events first counts))
 
   written-counts : (events : List Event) (counts : List ℕ) (last : List Call)
       → filter_map count_of (written events counts last) ≡ counts ++ filter_map count_of last
@@ -94,27 +134,17 @@ module _ (buses : List Bus) (peer conn : ℕ) where
   written-short events [] last full = refl
   written-short events (count ∷ counts) last full =
       let all : nat_lt count (length (lent buses conn events)) ≡ false = let e = full.0 in grind (arith, nat_tests) in
-      ap (λ t. t || list_any falls_short (written (events ++ Room conn count ∷ []) counts last)) all
-      ∙ written-short (events ++ Room conn count ∷ []) counts last full.2
+      cc (written-short (events ++ Room conn count ∷ []) counts last full.2)
 
   written-count : (events : List Event) (counts : List ℕ) (last : List Call)
       → count_by is_write (written events counts last) ≡ length counts + count_by is_write last
   written-count events [] last = let k = count_by is_write last in omega arith
   written-count events (count ∷ counts) last =
       let h = written-count (events ++ Room conn count ∷ []) counts last in
-      let one : count_by is_write (written events (count ∷ counts) last)
-      ≡ 1 + count_by is_write (written (events ++ Room conn count ∷ []) counts last) =
+      let one =
       sum_by-cons (λ x. cond (is_write x) 1 0) (WriteCall peer (lent buses conn events) (Ok count))
       (written (events ++ Room conn count ∷ []) counts last) in
       omega (arith, one, h)
-
-  written-own : (events : List Event) (counts : List ℕ) (last : List Call) → AreWritesTo peer last
-      → AreWritesTo peer (written events counts last)
-  written-own events [] last own = own
-  written-own events (count ∷ counts) last own = (
-    record { bytes = lent buses conn events; answer = Ok count; is = refl },
-    written-own (events ++ Room conn count ∷ []) counts last own,
-  )
 
   -- what was handed over before the last write, and by it
   handed_then : (events : List Event) (counts last : List ℕ) (end : List (List ℕ)) → AreFull buses conn events counts
@@ -122,10 +152,10 @@ module _ (buses : List Bus) (peer conn : ℕ) where
       → take 300 (handed buses conn events (counts ++ last)) ≡ texts buses conn events counts ++ end
   handed_then events counts last end full e few =
       let all : handed buses conn events (counts ++ last) ≡ texts buses conn events counts ++ end =
-      handed-append buses conn events counts last full ∙ ap (λ more. texts buses conn events counts ++ more) e in
+      simp (handed-append, e) in
       let size : length (texts buses conn events counts ++ end) ≤ 300 =
       omega (arith, length-append (texts buses conn events counts) end, length-texts events counts, few) in
-      ap (take 300) all ∙ take_within 300 (texts buses conn events counts ++ end) size
+      cc (take_within 300 (texts buses conn events counts ++ end) size)
 
   -- the rooms of the writes
   rooms_are : (events : List Event) (counts : List ℕ) (last : List Call) (lost short : Bool) → AreFull buses conn events counts
@@ -134,16 +164,16 @@ module _ (buses : List Bus) (peer conn : ℕ) where
       ≡ (counts ++ filter_map count_of last)
       ++ (if not lost && (not short && nat_lt (length counts + count_by is_write last) 300) then 0 ∷ [] else [])
   rooms_are events counts last lost short full l s =
-      let all : List Call = written events counts last in
-      let front : List ℕ = counts ++ filter_map count_of last in
-      ap (λ xs. xs ++ (if lent_none_last all then 0 ∷ [] else [])) (written-counts events counts last)
-      ∙ ap (λ t. front ++ (if not t && (not (list_any falls_short all) && nat_lt (count_by is_write all) 300) then 0 ∷ [] else []))
-      (written-loses events counts last ∙ l)
-      ∙ ap (λ t. front ++ (if not lost && (not t && nat_lt (count_by is_write all) 300) then 0 ∷ [] else []))
-      (written-short events counts last full ∙ s)
-      ∙ ap (λ k. front ++ (if not lost && (not short && nat_lt k 300) then 0 ∷ [] else [])) (written-count events counts last)
+      let all = written events counts last in
+      let prefix = counts ++ filter_map count_of last in
+      cc (
+        written-counts events counts last,
+        written-loses events counts last,
+        written-short events counts last full,
+        written-count events counts last,
+      )
 
-  module _ (keys : List (Option ℕ)) (old : Option (List DoorCall)) where
+  module _ (keys : Keys) (old : Trace) where
     -- this many writes took all
     pub record IsTaking (events : List Event) (trace : List DoorCall) (now : Held) (times : ℕ) : Type 0 where
       pub counts : List ℕ
@@ -159,55 +189,53 @@ module _ (buses : List Bus) (peer conn : ℕ) where
     ended_by : (events : List Event) (trace : List DoorCall) (new : Held) (counts : List ℕ) (last : List Call) (end : List (List ℕ))
         (room : List ℕ) (stays : Bool)
         → AreFull buses conn events counts → AddsGiven old trace (written events counts last)
-        → AreWritesTo peer last → handed buses conn (after events counts) (filter_map count_of last) ≡ end
+        → handed buses conn (after events counts) (filter_map count_of last) ≡ end
         → map question last ≡ map (Writes peer) end → length counts + length end ≤ 300
         → list_any loses_writing last ≡ not stays → rooms (written events counts last) ≡ counts ++ room
         → StandsFor buses keys new (course buses (after events counts ++ map (Room conn) room)) → Writes_out events trace new stays
-    ended_by events trace new counts last end room stays full adds own hands asks few lost are stands = record {
+    ended_by events trace new counts last end room stays full adds hands asks few lost are stands = record {
       calls = written events counts last;
       adds = adds;
-      own = written-own events counts last own;
-      asked = written-asked events counts last
-          ∙ ap (λ more. map (Writes peer) (texts buses conn events counts) ++ more) asks
-          ∙ sym (map-append (Writes peer) (texts buses conn events counts) end)
-          ∙ ap (map (Writes peer))
-          (sym (handed_then events counts (filter_map count_of last) end full hands few)
-          ∙ ap (λ all. take 300 (handed buses conn events all)) (sym (written-counts events counts last)));
+      asked =
+          cc (
+            written-asked events counts last,
+            map-append (Writes peer) (texts buses conn events counts) end,
+            handed_then events counts (filter_map count_of last) end full hands few,
+            written-counts events counts last,
+          );
       stays_is = written-loses_writing events counts last ∙ lost;
-      stands = subst (λ (all : List Event). StandsFor buses keys new (course buses all))
-          (append_assoc events (map (Room conn) counts) (map (Room conn) room)
+      stands = rw (append_assoc events (map (Room conn) counts) (map (Room conn) room)
           ∙ ap (λ more. events ++ more) (sym (map-append (Room conn) counts room))
-          ∙ ap (λ all. events ++ map (Room conn) all) (sym are))
-          stands;
+          ∙ ap (λ all. events ++ map (Room conn) all) (sym are)) at stands;
     }
 
     -- the peer took less, or the write failed
     last_write : (events : List Event) (trace : List DoorCall) (new : Held) (counts : List ℕ) (call : Call) (count : ℕ)
         (stays lost short : Bool)
         → AreFull buses conn events counts → AddsGiven old trace (written events counts (call ∷ []))
-        → AreWritesTo peer (call ∷ []) → count_of call ≡ Some count → question call ≡ Writes peer (lent buses conn (after events counts))
+        → count_of call ≡ Some count → question call ≡ Writes peer (lent buses conn (after events counts))
         → count < length (lent buses conn (after events counts)) → length counts < 300
         → list_any loses_writing (call ∷ []) ≡ not stays → list_any loses (call ∷ []) ≡ lost → list_any falls_short (call ∷ []) ≡ short
         → not lost && not short ≡ false
         → StandsFor buses keys new (course buses (after events counts ++ Room conn count ∷ [])) → Writes_out events trace new stays
-    last_write events trace new counts call count stays lost short full adds own count_is asks short_of few stays_is lost_is short_is ends
+    last_write events trace new counts call count stays lost short full adds count_is asks short_of few stays_is lost_is short_is ends
         stands =
-        let bytes : List ℕ = lent buses conn (after events counts) in
+        let bytes = lent buses conn (after events counts) in
         let differs : (count == length bytes) ≡ false = grind (arith, nat_tests) in
         let some : 0 < length bytes = omega arith in
         let counted : filter_map count_of (call ∷ []) ≡ count ∷ [] = rw count_is refl in
-        let hands : handed buses conn (after events counts) (count ∷ []) ≡ bytes ∷ [] =
+        let hands =
         unless_some bytes _ some
         ∙ ap (λ t. bytes ∷ (if t then handed buses conn (after events counts ++ Room conn count ∷ []) [] else [])) differs in
         let size : length counts + 1 ≤ 300 = omega arith in
-        let no_more : last_room (not lost && (not short && nat_lt (length counts + count_by is_write (call ∷ [])) 300)) ≡ [] =
+        let no_more =
         stops lost short (nat_lt (length counts + count_by is_write (call ∷ [])) 300) ends in
-        let are : rooms (written events counts (call ∷ [])) ≡ counts ++ count ∷ [] =
+        let are =
         rooms_are events counts (call ∷ []) lost short full lost_is short_is
         ∙ ap (λ xs. (counts ++ filter_map count_of (call ∷ [])) ++ xs) no_more
         ∙ append-nil (counts ++ filter_map count_of (call ∷ []))
         ∙ ap (λ xs. counts ++ xs) counted in
-        ended_by events trace new counts (call ∷ []) (bytes ∷ []) (count ∷ []) stays full adds own
+        ended_by events trace new counts (call ∷ []) (bytes ∷ []) (count ∷ []) stays full adds
         (ap (handed buses conn (after events counts)) counted ∙ hands) (ap (λ q. q ∷ []) asks) size stays_is are stands
       where
         stops : (lost short few : Bool) → not lost && not short ≡ false → last_room (not lost && (not short && few)) ≡ []
@@ -222,125 +250,118 @@ module _ (buses : List Bus) (peer conn : ℕ) where
       counts = [];
       many = refl;
       full = tt;
-      adds = adds_none old trace is;
-      stands = subst (λ (all : List Event). StandsFor buses keys now (course buses all)) (sym (append-nil events)) stands;
+      adds = adds_none is;
+      stands = rw append-nil stands;
     }
 
     -- more calls after these writes
-    adds_last : (events : List Event) (counts : List ℕ) (mid trace : List DoorCall) (calls : List Call) (trace_mid : Option (List DoorCall))
+    adds_last : (events : List Event) (counts : List ℕ) (mid trace : List DoorCall) (calls : List Call) (trace_mid : Trace)
         → trace_mid ≡ Some mid → AddsGiven old mid (written events counts []) → AddsGiven trace_mid trace calls
         → AddsGiven old trace (written events counts calls)
-    adds_last events counts mid trace calls trace_mid is first second =
-        subst (λ (all : List Call). AddsGiven old trace all) (written-append events counts calls)
-        (given_then old trace_mid mid trace (written events counts []) calls is first second)
+    adds_last events counts mid trace calls _ is first second =
+        rw written-append at (given_then _ calls is first second)
 
-    takes_more : (events : List Event) (mid trace : List DoorCall) (before new : Held) (times : ℕ) (trace_mid : Option (List DoorCall))
+    takes_more : (events : List Event) (mid trace : List DoorCall) (before new : Held) (times : ℕ) (trace_mid : Trace)
         → trace_mid ≡ Some mid → (t : IsTaking events mid before times)
         → TookAll buses (after events t.counts) keys conn peer trace_mid trace new → IsTaking events trace new (times + 1)
     takes_more events mid trace before new times trace_mid is t took = record {
       counts = t.counts ++ took.count ∷ [];
-      many = length-append t.counts (took.count ∷ []) ∙ ap (λ k. k + 1) t.many;
+      many = cc (length-append t.counts (took.count ∷ []));
       full = full-more buses conn events t.counts took.count t.full took.all took.some;
       adds =
-          subst (λ (all : List Call). AddsGiven old trace all) (sym (written-more events t.counts took.count))
-          (adds_last events t.counts mid trace
+          rw written-more (adds_last events t.counts mid trace
           (WriteCall peer (lent buses conn (after events t.counts)) (Ok took.count) ∷ []) trace_mid is t.adds took.adds);
-      stands = subst (λ (all : List Event). StandsFor buses keys new (course buses all))
-          (append_assoc events (map (Room conn) t.counts) (Room conn took.count ∷ [])
-          ∙ ap (λ more. events ++ more) (sym (map-append (Room conn) t.counts (took.count ∷ []))))
-          took.stands;
+      stands = rw (append_assoc events (map (Room conn) t.counts) (Room conn took.count ∷ [])
+          ∙ ap (λ more. events ++ more) (sym (map-append (Room conn) t.counts (took.count ∷ [])))) at took.stands;
     }
 
     -- the most writes there may be took all
     out_full : (events : List Event) (trace : List DoorCall) (now : Held) → IsTaking events trace now 300 → Writes_out events trace now true
     out_full events trace now t =
-        let counts : List ℕ = t.counts in
-        let front : List (List ℕ) = texts buses conn events counts in
-        let many : length counts ≡ 300 = t.many in
-        let size : 300 ≡ length front = sym (length-texts events counts ∙ many) in
-        let no_more : last_room (true && (true && nat_lt (length counts + count_by is_write []) 300)) ≡ [] =
+        let counts = t.counts in
+        let prefix = texts buses conn events counts in
+        let many = t.many in
+        let size = sym (length-texts events counts ∙ many) in
+        let no_more =
         ap last_room (over (length counts) many) in
         let are : rooms (written events counts []) ≡ counts =
-        rooms_are events counts [] false false t.full refl refl ∙ ap (λ xs. (counts ++ []) ++ xs) no_more ∙ append-nil (counts ++ [])
-        ∙ append-nil counts in
+        cc (rooms_are events counts [] false false t.full refl refl, append-nil (counts ++ []), append-nil counts) in
         record {
           calls = written events counts [];
           adds = t.adds;
-          own = written-own events counts [] tt;
-          asked = written-asked events counts []
-              ∙ append-nil (map (Writes peer) front)
-              ∙ ap (map (Writes peer)) (sym (
-              ap (λ all. take 300 (handed buses conn events all)) (written-counts events counts [])
-              ∙ ap (take 300) (handed-append buses conn events counts [] t.full)
-              ∙ ap (λ k. take k (front ++ handed buses conn (after events counts) [])) size
-              ∙ take-append_seam front (handed buses conn (after events counts) [])));
+          asked =
+              cc (
+                written-asked events counts [],
+                append-nil (map (Writes peer) prefix),
+                take-append_seam prefix (handed buses conn (after events counts) []),
+                handed-append buses conn events counts [] t.full,
+                written-counts events counts [],
+              );
           stays_is = written-loses_writing events counts [];
           stands =
-              subst (λ (all : List Event). StandsFor buses keys now (course buses all))
-              (ap (λ all. events ++ map (Room conn) all) (sym are)) t.stands;
+              rw (ap (λ all. events ++ map (Room conn) all) (sym are)) at t.stands;
         }
       where
         over : (k : ℕ) → k ≡ 300 → nat_lt (k + 0) 300 ≡ false
         over k e = grind (arith, nat_tests)
 
     -- nothing was lent
-    out_none : (events : List Event) (mid trace : List DoorCall) (before new : Held) (times : ℕ) (trace_mid : Option (List DoorCall))
+    out_none : (events : List Event) (mid trace : List DoorCall) (before new : Held) (times : ℕ) (trace_mid : Trace)
         → trace_mid ≡ Some mid → times < 300 → (t : IsTaking events mid before times)
         → WasLentNone buses (after events t.counts) keys conn peer trace_mid trace new → Writes_out events trace new true
     out_none events mid trace before new times trace_mid is few t was =
-        let counts : List ℕ = t.counts in
-        let many : length counts ≡ times = t.many in
+        let counts = t.counts in
+        let many = t.many in
         let size : length counts + 0 ≤ 300 = omega (arith, many, few) in
-        let more : last_room (true && (true && nat_lt (length counts + count_by is_write []) 300)) ≡ 0 ∷ [] =
+        let more =
         ap last_room (below (length counts) (omega (arith, many, few))) in
         let are : rooms (written events counts []) ≡ counts ++ 0 ∷ [] =
-        rooms_are events counts [] false false t.full refl refl ∙ ap (λ xs. (counts ++ []) ++ xs) more
-        ∙ ap (λ xs. xs ++ 0 ∷ []) (append-nil counts) in
-        ended_by events trace new counts [] [] (0 ∷ []) true t.full (adds_last events counts mid trace [] trace_mid is t.adds was.adds) tt
+        cc (rooms_are events counts [] false false t.full refl refl, append-nil counts) in
+        ended_by events trace new counts [] [] (0 ∷ []) true t.full (adds_last events counts mid trace [] trace_mid is t.adds was.adds)
         (ap (λ l. unless_nil l []) was.none) refl size refl are was.stands
       where
         below : (k : ℕ) → k < 300 → nat_lt (k + 0) 300 ≡ true
         below k h = grind (arith, nat_tests)
 
-    out_less : (events : List Event) (mid trace : List DoorCall) (before new : Held) (times : ℕ) (trace_mid : Option (List DoorCall))
+    out_less : (events : List Event) (mid trace : List DoorCall) (before new : Held) (times : ℕ) (trace_mid : Trace)
         → trace_mid ≡ Some mid → times < 300 → (t : IsTaking events mid before times)
         → TookLess buses (after events t.counts) keys conn peer trace_mid trace new → Writes_out events trace new true
     out_less events mid trace before new times trace_mid is few t took =
-        let bytes : List ℕ = lent buses conn (after events t.counts) in
-        let many : length t.counts ≡ times = t.many in
-        let call : Call = WriteCall peer bytes (Ok took.count) in
+        let bytes = lent buses conn (after events t.counts) in
+        let many = t.many in
+        let call = WriteCall peer bytes (Ok took.count) in
         let size : length t.counts < 300 = omega (arith, many, few) in
         let short : nat_lt took.count (length bytes) ≡ true = let less = took.short in grind (arith, nat_tests) in
         last_write events trace new t.counts call took.count true false true t.full
         (adds_last events t.counts mid trace (call ∷ []) trace_mid is t.adds took.adds)
-        (record { bytes = bytes; answer = Ok took.count; is = refl }, tt) refl refl took.short size refl refl
+        refl refl took.short size refl refl
         (ap (λ b. b || false) short) refl took.stands
 
-    out_failed : (events : List Event) (mid trace : List DoorCall) (before new : Held) (times : ℕ) (trace_mid : Option (List DoorCall))
+    out_failed : (events : List Event) (mid trace : List DoorCall) (before new : Held) (times : ℕ) (trace_mid : Trace)
         → trace_mid ≡ Some mid → times < 300 → (t : IsTaking events mid before times)
         → TookNone buses (after events t.counts) keys conn peer trace_mid trace new → Writes_out events trace new false
     out_failed events mid trace before new times trace_mid is few t took =
-        let bytes : List ℕ = lent buses conn (after events t.counts) in
-        let many : length t.counts ≡ times = t.many in
-        let call : Call = WriteCall peer bytes (Err took.fault) in
+        let bytes = lent buses conn (after events t.counts) in
+        let many = t.many in
+        let call = WriteCall peer bytes (Err took.fault) in
         let size : length t.counts < 300 = omega (arith, many, few) in
         last_write events trace new t.counts call 0 false true false t.full
         (adds_last events t.counts mid trace (call ∷ []) trace_mid is t.adds took.adds)
-        (record { bytes = bytes; answer = Err took.fault; is = refl }, tt) refl refl took.some size refl refl refl refl took.stands
+        refl refl took.some size refl refl refl refl took.stands
 
 -- ---- the loop of the writes
 
 -- this many writes took all
-abbrev pub TakesSoFar : (peer key : ℕ) (old : Held) (trace_old : Option (List DoorCall)) (now : Held) (trace_now : Option (List DoorCall))
+abbrev pub TakesSoFar : (peer key : ℕ) (old : Held) (trace_old : Trace) (now : Held) (trace_now : Trace)
     (times : ℕ)
     → Type 0
 TakesSoFar peer key old trace_old now trace_now times =
     FromEveryCourse (λ buses events keys n trace. IsTaking buses peer n keys trace_old events trace now times) key old trace_now
 
-pub takes_first : (peer key : ℕ) (old : Held) (trace_old : Option (List DoorCall)) → TakesSoFar peer key old trace_old old trace_old 0
+pub takes_first : (peer key : ℕ) (old : Held) (trace_old : Trace) → TakesSoFar peer key old trace_old old trace_old 0
 takes_first peer key old trace_old buses events keys n trace s is = takes_none buses peer n keys trace_old events trace old is s.stands
 
-module _ (peer key : ℕ) (old mid new : Held) (trace_old trace_mid trace_new : Option (List DoorCall)) (times : ℕ)
+module _ (peer key : ℕ) (old mid new : Held) (trace_old trace_mid trace_new : Trace) (times : ℕ)
     (so : TakesSoFar peer key old trace_old mid trace_mid times) (asks : AsksPeers trace_mid trace_new) where
   pub takes_on : WritesOnce peer key mid trace_mid new trace_new All → TakesSoFar peer key old trace_old new trace_new (times + 1)
   takes_on once buses events keys n trace s is =
@@ -359,7 +380,8 @@ module _ (peer key : ℕ) (old mid new : Held) (trace_old trace_mid trace_new : 
       (λ took. out_less buses peer n keys trace_old events w.before trace mid new times trace_mid w.was few t took)
       (once buses (after buses peer n events t.counts) keys n trace (record { layout = s.layout; named = s.named; stands = t.stands }) is)
 
-  pub ends_failed : times < 300 → WritesOnce peer key mid trace_mid new trace_new Failed → WritesOut peer key old trace_old new trace_new false
+  pub ends_failed : times < 300 → WritesOnce peer key mid trace_mid new trace_new Failed
+      → WritesOut peer key old trace_old new trace_new false
   ends_failed few once buses events keys n trace s is =
       let w = (asks trace is).adds in
       let t = so buses events keys n w.before s w.was in
@@ -367,8 +389,8 @@ module _ (peer key : ℕ) (old mid new : Held) (trace_old trace_mid trace_new : 
       (once buses (after buses peer n events t.counts) keys n trace
       (record { layout = s.layout; named = s.named; stands = t.stands }) is)
 
-pub ends_full : (peer key : ℕ) (old now : Held) (trace_old trace_now : Option (List DoorCall)) (times : ℕ) → times ≡ 300
+pub ends_full : (peer key : ℕ) (old now : Held) (trace_old trace_now : Trace) (times : ℕ) → times ≡ 300
     → TakesSoFar peer key old trace_old now trace_now times → WritesOut peer key old trace_old now trace_now true
 ends_full peer key old now trace_old trace_now times e so buses events keys n trace s is =
-    out_full buses peer n keys trace_old events trace now
-    (subst (λ (k : ℕ). IsTaking buses peer n keys trace_old events trace now k) e (so buses events keys n trace s is))
+    out_full buses peer n keys _ events trace now
+    (rw e at (so buses events keys n trace s is))

@@ -19,6 +19,10 @@ pub data Call : Type 0 where
 abbrev pub one_more : ℕ → ℕ
 one_more n = min (n + 1) 18446744073709551615
 
+-- the calls of a door so far, if it keeps them
+abbrev pub Trace : Type 0
+Trace = Option (List Call)
+
 -- the door keeps this call behind those that it kept, or keeps none from now on
 abbrev pub Tells : Option (List Call) → Call → Option (List Call) → Type 0
 Tells None call new = new ≡ None

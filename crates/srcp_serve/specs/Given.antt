@@ -4,9 +4,9 @@ use Rattle.std.specs.List.{AllByRecursion}
 use Rattle.srcp_core.specs.Held.{Held}
 use Rattle.srcp_core.specs.Under.{denied_by}
 use Rattle.srcp_serve.specs.Calls.{Call as DoorCall}
-use Rattle.srcp_serve.specs.Calls as door
 use Rattle.srcp_serve.specs.declared.door.DoorFault.{DoorFault}
 use Rattle.srcp_serve.specs.declared.door.Got.{Got}
+use Rattle.srcp_serve.specs.Calls as door
 
 -- a call of a door with its answer: if a peer was accepted, whether its connection was given memory; if bytes were
 -- read, for each line that ends in them whether it was given memory
@@ -47,6 +47,6 @@ GivesUnlessCounted = (old : Held) (calls : List Call) (new : Held) → CountsRef
     → AllByRecursion IsTrue (answers_of calls)
 
 -- a peer that was accepted, and whether its connection was given memory
-pub record Guest : Type 0 where
+pub record Accepted : Type 0 where
   pub peer : ℕ
   pub granted : Bool

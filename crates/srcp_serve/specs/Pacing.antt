@@ -4,7 +4,6 @@ use Rattle.srcp_grammar.specs.Layout.{IsLayout}
 use Rattle.srcp_grammar.specs.declared.layout.Bus.{Bus}
 use Rattle.srcp_core.specs.Connection.{Connection}
 use Rattle.srcp_core.specs.Course.{course}
-use Rattle.srcp_core.specs.Under.{Event}
 use Rattle.srcp_core.specs.Waits.{IsOverrun, brought_besides, changes_since, option_or_256, weighs}
 use Rattle.srcp_serve.specs.Given.{Call, ExpectCall}
 use Rattle.srcp_serve.specs.Serving.{Stand, IsServed, OfEachTurn, empty_stand, events_of, turned, turns}
@@ -32,43 +31,37 @@ module _ (buses : List Bus) where
   abbrev pub IsPaced : Stand → List Call → Type 0
   IsPaced stand calls = brought_in stand calls ≤ trace_room calls
 
-  -- such a turn makes no panel overrun
-  abbrev pub PacedTurnsSpare : Type 0
-  PacedTurnsSpare = (count : ℕ) (trace : List Call) → IsServed buses count trace
-      → OfEachTurn buses (λ stand calls. IsPaced stand calls → SparesPanels stand calls) empty_stand (turns trace)
+  -- over all calls that are served, a turn that is so makes no panel overrun
+  abbrev pub TurnsSpare : (Stand → List Call → Type 0) → Type 0
+  TurnsSpare Law = (count : ℕ) (trace : List Call) → IsServed buses count trace
+      → OfEachTurn buses (λ stand calls. Law stand calls → SparesPanels stand calls) empty_stand (turns trace)
 
   -- if each turn is so, no panel ever overran
-  abbrev pub PacedServingSparesAll : Type 0
-  PacedServingSparesAll = (count : ℕ) (trace : List Call) → IsServed buses count trace
-      → OfEachTurn buses IsPaced empty_stand (turns trace)
+  abbrev pub ServingSparesAll : (Stand → List Call → Type 0) → Type 0
+  ServingSparesAll Law = (count : ℕ) (trace : List Call) → IsServed buses count trace
+      → OfEachTurn buses Law empty_stand (turns trace)
       → (number : ℕ) (later : Connection) → IsOverrun buses (course buses (events_of buses trace)) number later → ⊥
+
+  abbrev pub PacedTurnsSpare : Type 0
+  PacedTurnsSpare = TurnsSpare IsPaced
+
+  abbrev pub PacedServingSparesAll : Type 0
+  PacedServingSparesAll = ServingSparesAll IsPaced
 
   -- ---- by the lines that the door handed out
 
-  -- the events of the turn
-  abbrev pub events_in : Stand → List Call → List Event
-  events_in stand calls = drop (length stand.events) (turned buses stand calls).events
-
-  -- the weight of the lines that end in the bytes of the turn
-  abbrev pub weighs_in : Stand → List Call → ℕ
-  weighs_in stand calls = weighs buses (course buses stand.events) (events_in stand calls)
-
-  -- how many changes its moment and the ends of sessions brought
-  abbrev pub besides_in : Stand → List Call → ℕ
-  besides_in stand calls = brought_besides buses (course buses stand.events)
-      (course buses (turned buses stand calls).events)
-
-  -- the two together are no more than the door was told
+  -- the weight of the lines that end in the bytes of the turn, and how many changes its moment and the ends of sessions
+  -- brought, are together no more than the door was told
   abbrev pub IsLight : Stand → List Call → Type 0
-  IsLight stand calls = weighs_in stand calls + besides_in stand calls ≤ trace_room calls
+  IsLight stand calls =
+      let w = course buses stand.events in
+      let later = (turned buses stand calls).events in
+      weighs buses w (drop (length stand.events) later) + brought_besides buses w (course buses later)
+      ≤ trace_room calls
 
-  -- over any layout, such a turn makes no panel overrun
+  -- so it is of turns that are so, over any layout
   abbrev pub LightTurnsSpare : Type 0
-  LightTurnsSpare = IsLayout buses → (count : ℕ) (trace : List Call) → IsServed buses count trace
-      → OfEachTurn buses (λ stand calls. IsLight stand calls → SparesPanels stand calls) empty_stand (turns trace)
+  LightTurnsSpare = IsLayout buses → TurnsSpare IsLight
 
-  -- if each turn is so, no panel ever overran
   abbrev pub LightServingSparesAll : Type 0
-  LightServingSparesAll = IsLayout buses → (count : ℕ) (trace : List Call) → IsServed buses count trace
-      → OfEachTurn buses IsLight empty_stand (turns trace)
-      → (number : ℕ) (later : Connection) → IsOverrun buses (course buses (events_of buses trace)) number later → ⊥
+  LightServingSparesAll = IsLayout buses → ServingSparesAll IsLight

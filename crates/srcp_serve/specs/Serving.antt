@@ -12,9 +12,9 @@ use Rattle.srcp_core.specs.Connection.{sent}
 use Rattle.srcp_core.specs.Course.{course, fault}
 use Rattle.srcp_core.specs.Under.{Event, Piece, Open, Bytes, Room, At, Shut, giving}
 use Rattle.srcp_core.specs.Waits.{due_next, slack}
-use Rattle.srcp_serve.specs.Calls as door
-use Rattle.srcp_serve.specs.Given.{Guest, Call, door_call, ExpectCall, NowCall, AcceptCall, ReadCall, WriteCall}
+use Rattle.srcp_serve.specs.Given.{Accepted, Call, door_call, ExpectCall, NowCall, AcceptCall, ReadCall, WriteCall}
 use Rattle.srcp_serve.specs.Given.{CloseCall}
+use Rattle.srcp_serve.specs.Calls as door
 use Rattle.srcp_serve.specs.declared.door.Got.TheVariants as got
 
 -- ---- calls and their answers
@@ -25,9 +25,9 @@ moment_of (NowCall (Ok moment)) = Some moment
 moment_of other = None
 
 -- the peer that the door accepted, if it accepted one
-abbrev pub newcomer_of : Call → Option Guest
-newcomer_of (AcceptCall (Ok peer) granted) = option_map (λ peer. record { peer = peer; granted = granted }) peer
-newcomer_of other = None
+abbrev pub accept_of : Call → Option Accepted
+accept_of (AcceptCall (Ok peer) granted) = option_map (λ peer. record { peer = peer; granted = granted }) peer
+accept_of other = None
 
 -- the bytes that were read, if some were
 abbrev pub piece_of : Call → Option Piece
@@ -50,11 +50,6 @@ abbrev pub is_write : Call → Bool
 is_write (WriteCall peer bytes answer) = true
 is_write other = false
 
--- the call closes a peer
-abbrev pub is_close : Call → Bool
-is_close (CloseCall peer answer) = true
-is_close other = false
-
 -- the read found the end of the input, or failed
 abbrev pub loses_reading : Call → Bool
 loses_reading (ReadCall peer (Ok got.Ended) buffer grants) = true
@@ -75,20 +70,11 @@ abbrev pub falls_short : Call → Bool
 falls_short (WriteCall peer bytes (Ok count)) = nat_lt count (length bytes)
 falls_short other = false
 
--- the call is about that peer
-abbrev pub is_about : ℕ → Call → Bool
-is_about peer (ExpectCall due slack) = false
-is_about peer (NowCall answer) = false
-is_about peer (AcceptCall answer granted) = false
-is_about peer (ReadCall who answer buffer grants) = who == peer
-is_about peer (WriteCall who bytes answer) = who == peer
-is_about peer (CloseCall who answer) = who == peer
-
 -- what a call asks
 pub data Question : Type 0 where
   Expects : (due slack : Option ℕ) → Question
   Moments : Question
-  Newcomers : Question
+  Accepts : Question
   Reads : (peer : ℕ) (most : ℕ) → Question
   Writes : (peer : ℕ) (bytes : List ℕ) → Question
   Closes : (peer : ℕ) → Question
@@ -97,10 +83,30 @@ pub data Question : Type 0 where
 abbrev pub question : Call → Question
 question (ExpectCall due slack) = Expects due slack
 question (NowCall answer) = Moments
-question (AcceptCall answer granted) = Newcomers
+question (AcceptCall answer granted) = Accepts
 question (ReadCall peer answer buffer grants) = Reads peer (length buffer)
 question (WriteCall peer bytes answer) = Writes peer bytes
 question (CloseCall peer answer) = Closes peer
+
+-- the question is about that peer
+abbrev pub asks_of : ℕ → Question → Bool
+asks_of peer (Reads who most) = who == peer
+asks_of peer (Writes who bytes) = who == peer
+asks_of peer (Closes who) = who == peer
+asks_of peer other = false
+
+-- the call is about that peer
+abbrev pub is_about : ℕ → Call → Bool
+is_about peer call = asks_of peer (question call)
+
+-- the question is to close a peer
+abbrev pub asks_close : Question → Bool
+asks_close (Closes peer) = true
+asks_close other = false
+
+-- the call closes a peer
+abbrev pub is_close : Call → Bool
+is_close call = asks_close (question call)
 
 -- the answer is one that the door may give
 abbrev pub IsFair : Call → Type 0
@@ -122,25 +128,29 @@ pub record Client : Type 0 where
   pub peer : ℕ
   pub conn : ℕ
 
+-- who has which slot
+abbrev pub Slots : Type 0
+Slots = List (Option Client)
+
 -- the state of a server
 pub record Stand : Type 0 where
   pub events : List Event  -- the events so far
-  pub guests : List ℕ  -- the peers that were let in: the first has connection 1, the next 2, and so on
-  pub slots : List (Option Client)  -- who has which slot
+  pub connected : List ℕ  -- the peers that got a connection: the first has connection 1, the next 2, and so on
+  pub slots : Slots
 
--- the state before the first turn: no event, no guest, all 64 slots free
+-- the state before the first turn: no event, no connection, all 64 slots free
 abbrev pub empty_stand : Stand
-empty_stand = record { events = []; guests = []; slots = replicate 64 None }
+empty_stand = record { events = []; connected = []; slots = replicate 64 None }
 
 -- those that have a slot, in the order of the slots
-abbrev pub clients : List (Option Client) → List Client
+abbrev pub clients : Slots → List Client
 clients slots = filter_map (λ slot. slot) slots
 
--- a newcomer takes the first free slot
-abbrev pub connected : Client → List (Option Client) → List (Option Client)
-connected client [] = []
-connected client (None ∷ slots) = Some client ∷ slots
-connected client (Some other ∷ slots) = Some other ∷ connected client slots
+-- a peer that is connected takes the first free slot
+abbrev pub with_client : Client → Slots → Slots
+with_client client [] = []
+with_client client (None ∷ slots) = Some client ∷ slots
+with_client client (Some other ∷ slots) = Some other ∷ with_client client slots
 
 -- the calls of a turn about a peer that has a slot: its visit
 abbrev pub visit : List Call → Client → List Call
@@ -186,26 +196,27 @@ module _ (buses : List Bus) where
   -- ---- what the turns make happen
 
   -- the core accepts a connection
-  abbrev pub is_let_in : List Event → Bool → Bool
-  is_let_in events granted = is_none (fault buses (course buses events) (Open granted))
+  abbrev pub connects : List Event → Bool → Bool
+  connects events granted = is_none (fault buses (course buses events) (Open granted))
 
-  -- the state after a newcomer was let in: it has the next connection and the first free slot
-  abbrev pub let_in : Stand → Guest → Stand
-  let_in stand guest = record {
-    events = stand.events ++ Open guest.granted ∷ [];
-    guests = stand.guests ++ guest.peer ∷ [];
-    slots = connected (record { peer = guest.peer; conn = length stand.guests + 1 }) stand.slots;
+  -- the state after a peer was connected: it has the next connection and the first free slot
+  abbrev pub with_connection : Stand → Accepted → Stand
+  with_connection stand accept = record {
+    events = stand.events ++ Open accept.granted ∷ [];
+    connected = stand.connected ++ accept.peer ∷ [];
+    slots = with_client (record { peer = accept.peer; conn = length stand.connected + 1 }) stand.slots;
   }
 
-  -- the state after a newcomer, let in or not
-  abbrev pub welcomed : Stand → Guest → Stand
-  welcomed stand guest = if is_let_in stand.events guest.granted then let_in stand guest else record stand {
-    events = stand.events ++ Open guest.granted ∷ [];
-  }
+  -- the state after a peer was accepted, whether it was connected or not
+  abbrev pub with_accept : Stand → Accepted → Stand
+  with_accept stand accept =
+      if connects stand.events accept.granted then with_connection stand accept else record stand {
+        events = stand.events ++ Open accept.granted ∷ [];
+      }
 
-  -- the state after the answer to whether a peer wants in
-  abbrev pub accepted : Stand → Call → Stand
-  accepted stand call = fold welcomed stand (filter_map newcomer_of (call ∷ []))
+  -- the state after an accept
+  abbrev pub after_accept : Stand → Call → Stand
+  after_accept stand call = fold with_accept stand (filter_map accept_of (call ∷ []))
 
   -- the state after a moment
   abbrev pub with_moment : Stand → ℕ → Stand
@@ -215,9 +226,9 @@ module _ (buses : List Bus) where
   abbrev pub timed : Stand → List Call → Stand
   timed stand calls = fold with_moment stand (filter_map moment_of calls)
 
-  -- and then after its newcomer
+  -- and then after its accept
   abbrev pub begun : Stand → List Call → Stand
-  begun stand calls = fold welcomed (timed stand calls) (filter_map newcomer_of calls)
+  begun stand calls = fold with_accept (timed stand calls) (filter_map accept_of calls)
 
   -- the state after the visits of a turn
   abbrev pub visited : Stand → List Call → Stand
@@ -271,12 +282,14 @@ module _ (buses : List Bus) where
   -- then it closes the peer, if that is lost or its connection is to be closed
   abbrev pub closes_of : List Event → List Call → Client → List Question
   closes_of events calls client =
-      if list_any loses calls || is_closing client.conn (events ++ exchange client.conn calls) then Closes client.peer ∷ []
+      if list_any loses calls || is_closing client.conn (events ++ exchange client.conn calls)
+      then Closes client.peer ∷ []
       else []
 
   -- what the whole visit asks
   abbrev pub visit_asks : List Event → List Call → Client → List Question
-  visit_asks events calls client = reads_of events client ++ writes_of events calls client ++ closes_of events calls client
+  visit_asks events calls client =
+      reads_of events client ++ writes_of events calls client ++ closes_of events calls client
 
   -- what the visits of a turn ask, one after another
   abbrev pub visits_ask : List Event → List Call → List Client → List Question
@@ -284,9 +297,9 @@ module _ (buses : List Bus) where
   visits_ask events calls (client ∷ more) =
       visit_asks events (visit calls client) client ++ visits_ask (events ++ visit_events calls client) calls more
 
-  -- a newcomer that is not let in is closed
-  abbrev pub turns_away : List Event → Guest → List Question
-  turns_away events guest = if is_let_in events guest.granted then [] else Closes guest.peer ∷ []
+  -- a peer that was accepted and is not connected is closed
+  abbrev pub refuses : List Event → Accepted → List Question
+  refuses events accept = if connects events accept.granted then [] else Closes accept.peer ∷ []
 
   -- what the door is told: when the next row falls due, and how many more changes each information session can take
   abbrev pub expects : List Event → Question
@@ -294,8 +307,8 @@ module _ (buses : List Bus) where
 
   -- what a turn asks
   abbrev pub turn_asks : Stand → List Call → List Question
-  turn_asks stand calls = expects stand.events ∷ Moments ∷ Newcomers
-      ∷ (flat_map (turns_away (timed stand calls).events) (filter_map newcomer_of calls)
+  turn_asks stand calls = expects stand.events ∷ Moments ∷ Accepts
+      ∷ (flat_map (refuses (timed stand calls).events) (filter_map accept_of calls)
       ++ visits_ask (begun stand calls).events calls (clients (begun stand calls).slots))
 
   -- what the turns ask, one after another
@@ -328,7 +341,7 @@ module _ (buses : List Bus) where
   -- each connection was sent exactly what its peer took
   abbrev pub SendsWhatIsTaken : List Call → Type 0
   SendsWhatIsTaken trace = map sent (course buses (events_of trace)).connections
-      ≡ map (λ peer. taken peer trace) (stand_after trace).guests
+      ≡ map (λ peer. taken peer trace) (stand_after trace).connected
 
   -- so it is in every list of calls that is served
   abbrev pub SentIsTaken : Type 0

@@ -57,11 +57,10 @@ module _ (buses : List Bus) where
   abbrev pub SettlesSoon : Type 0
   SettlesSoon = IsLayout buses → (count : ℕ) (trace : List Call) → IsServed buses count trace → PeersDiffer buses trace
       → AllByRecursion IsFair trace → (before after : List (List Call)) → turns trace ≡ before ++ after
-      → (slot : ℕ) (client : Client) → slice_get (after_turns before).slots slot ≡ Some (Some client)
-      → (conn : Connection) → IsPanel buses (course buses (after_turns before).events) client.conn conn
-      → OfEachTurn buses (IsStill client) (after_turns before) after
-      → writes_left (course buses (after_turns before).events) conn ≤ 300 * length after
-      → (later : Connection) → numbered client.conn (course buses (events_of buses trace)).connections ≡ Some later
-      → is_settled later (history buses (course buses (events_of buses trace)))
-      (rows buses (course buses (events_of buses trace)))
-      ≡ true
+      → let now = after_turns before in
+      let w = course buses (events_of buses trace) in
+      (slot : ℕ) (client : Client) → slice_get now.slots slot ≡ Some (Some client)
+      → (conn : Connection) → IsPanel buses (course buses now.events) client.conn conn
+      → OfEachTurn buses (IsStill client) now after → writes_left (course buses now.events) conn ≤ 300 * length after
+      → (later : Connection) → numbered client.conn w.connections ≡ Some later
+      → is_settled later (history buses w) (rows buses w) ≡ true

@@ -1,7 +1,8 @@
 -- What a method of a server does to its door, and how the failures of a door are counted.
-use Rattle.std.specs.Prelude.{◌≡◌, ℕ, ◌+◌, ◌<◌, ◌≤◌, List, Option}
-use Rattle.srcp_serve.specs.Calls.{Call}
+use Rattle.std.specs.Prelude.{◌≡◌, ℕ, ◌+◌, ◌<◌, ◌≤◌}
+use Rattle.srcp_serve.specs.Calls.{Trace}
 use Rattle.srcp_serve.specs.declared.serving.Server.{Server}
+use Rattle.srcp_serve.specs.Turns.{Asks}
 
 -- the tally grew as the door's own count did, as long as that stayed below the greatest u64
 pub record CountsFaults (tally count tally_later count_later : ℕ) : Type 0 where
@@ -10,8 +11,8 @@ pub record CountsFaults (tally count tally_later count_later : ℕ) : Type 0 whe
   pub exact : count_later < 18446744073709551615 → tally_later + count ≡ tally + count_later
 
 -- the server has the same door, made calls of it that `Asks` allows, and counted each that failed
-pub record CallsDoor {D : Type 0} (faults : D → ℕ) (trace : D → Option (List Call))
-    (Asks : (old new : Option (List Call)) → Type 0) (old new : Server D) : Type 0 where
+pub record CallsDoor {D : Type 0} (faults : D → ℕ) (trace : D → Trace)
+    (Asks : (old new : Trace) → Type 0) (old new : Server D) : Type 0 where
   pub same_door : new.door.ghost_name ≡ old.door.ghost_name
   pub counted : CountsFaults old.tally.faults (faults old.door.now) new.tally.faults (faults new.door.now)
   pub asks : Asks (trace old.door.now) (trace new.door.now)

@@ -5,7 +5,7 @@ ghost use Rattle.srcp_core.specs.declared.limits.TheConstants.{MOST_CONNECTIONS}
 ghost use Rattle.srcp_serve.specs.Slots.{AcceptsOne, MakesTurn, MayFree, Connects, ServesCourse, TakesMoment, one_if};
 ghost use Rattle.srcp_serve.specs.Slots.{VisitsSlot, VisitsSlots};
 ghost use Rattle.srcp_serve.specs.Tally.{CallsDoor};
-ghost use Rattle.srcp_serve.specs.Turns.{AsksMoment, AsksNewcomer, AsksPeers, AsksTurn, AsksTurns};
+ghost use Rattle.srcp_serve.specs.Turns.{AsksMoment, AsksAccept, AsksPeers, AsksTurn, AsksTurns};
 
 mod slots;
 mod visit;
@@ -15,8 +15,8 @@ use crate::tally::Tally;
 use slots::Slots;
 use srcp_core::{Core, MOST_IN_PIECE};
 use srcp_rules::Rows;
-pub use visit::MOST_WRITES;
 use visit::Client;
+pub use visit::MOST_WRITES;
 
 /// A server over a door, with the slots of its peers.
 #[derive(Drop)]
@@ -78,7 +78,7 @@ impl<'d, D: Door> Server<'d, D> {
         }
     }
 
-    /// Makes a turn. Returns whether a peer was let in.
+    /// Makes a turn. Returns whether a peer was connected.
     fn turn<R: Rows>(&mut self, core: &mut Core<'_, R>) -> bool
         requires { self.old.tally.faults ≤ D.faults self.old.door.now }
         ensures calls { CallsDoor D.faults D.trace AsksTurn self.old self.new }
@@ -141,7 +141,7 @@ impl<'d, D: Door> Server<'d, D> {
     /// Accepts one peer, if one is pending. Returns whether it got a slot.
     fn accept_one<R: Rows>(&mut self, core: &mut Core<'_, R>) -> bool
         requires { self.old.tally.faults ≤ D.faults self.old.door.now }
-        ensures calls { CallsDoor D.faults D.trace AsksNewcomer self.old self.new }
+        ensures calls { CallsDoor D.faults D.trace AsksAccept self.old self.new }
         ensures course { AcceptsOne core.old (D.trace self.old.door.now) self.old.slots
             core.new (D.trace self.new.door.now) self.new.slots result }
     {

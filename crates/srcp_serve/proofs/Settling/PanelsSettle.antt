@@ -1,32 +1,277 @@
--- The laws of panels that take what they are handed.
-use Rattle.std.proofs.Common.{◌≡◌, ◌∙◌, ℕ, ◌+◌, ◌*◌, ◌≤◌, true, List, [], ◌∷◌, ◌++◌, map, length, if◌then◌else◌, Some, ◌⊎◌, inl, inr, refl}
-use Rattle.std.proofs.Common.{ap, sym, subst, arith}
-use Rattle.std.specs.Prelude.{fold, ◌&&◌}
-use Rattle.std.specs.List.{AllByRecursion}
+-- A panel that takes what it is handed is settled: its visits, turn after turn, and the two laws.
+use Rattle.std.proofs.Common.{◌≡◌, ◌∙◌, ℕ, zero, suc, Bool, true, false, List, [], ◌∷◌, ◌++◌, map, if◌then◌else◌, Some, None, refl, ap, sym}
+use Rattle.std.proofs.Common.{subst, arith, append-nil, append_assoc, ◌==◌, ◌+◌, ◌*◌, ◌≤◌, length, ◌⊎◌, inl, inr, length-append}
+use Rattle.std.specs.Prelude.{filter_map, flat_map, fold, slice_get, ◌&&◌}
+use Rattle.std.specs.List.{list_any, AllByRecursion}
+use Rattle.std.proofs.lemmas.Bool.Decides.{nat_tests}
+use Rattle.srcp_info.proofs.ClientLaws.{all_append, all_filter}
+use Rattle.srcp_grammar.specs.declared.layout.Bus.{Bus}
+use Rattle.srcp_core.specs.Under.{Event, Open, Bytes, Room, Shut}
+use Rattle.srcp_serve.specs.Given.{Accepted, Call}
+use Rattle.srcp_serve.specs.Serving.{OfEachVisit, Client, Stand, begun, exchange, is_close, connects, with_connection, moment_of, accept_of}
+use Rattle.srcp_serve.specs.Serving.{piece_of, rooms, with_client, clients, timed, visit, visit_events, with_accept, with_moment, Slots}
+use Rattle.srcp_serve.specs.Serving.{IsFair, OfEachTurn, question, turned, visit_asks, is_about, empty_stand}
+use Rattle.srcp_serve.proofs.PeersAreSentTheirVisits.{ArePeersOf, IsPeerOf, turned_round}
+use Rattle.srcp_serve.proofs.CallsByTurnAndPeer.{IsNoneOf, PeersApart, AreAsked}
+use Rattle.srcp_serve.proofs.PacedTurnsSparePanels.{opening_events, opens, begun_events, turn_events, turned_events}
+use Rattle.srcp_serve.proofs.OnlyRoomSends.{AreOfOthers, is_of}
+use Rattle.srcp_serve.proofs.SlotsAreTakenAndFreed.{all_here}
+use Rattle.std.proofs.lemmas.List.Concat.{flat_map-append}
+use Rattle.std.proofs.lemmas.Option.{slice_get-map}
+use Rattle.srcp_feed.specs.declared.answers.Next.{Next}
+use Rattle.srcp_grammar.specs.Layout.{IsLayout}
+use Rattle.srcp_core.specs.Course.{course, history, numbered, rows}
+use Rattle.srcp_core.specs.Waits.{brought}
+use Rattle.srcp_serve.specs.Settling.{IsStill, SettlesSoon, TakesWaits, WaitsAreGoneAfterAVisit}
+use Rattle.srcp_serve.proofs.SentIsTakenAfterAllTurns.{IsTurnOfPeers, turns_of_peers}
+use Rattle.srcp_serve.proofs.Settling.PanelsTakeTheirLines.{Panel, panel_others, brought_adds, no_map}
+use Rattle.srcp_serve.proofs.Settling.VisitsWriteUntilNothingIsLeft.{one_unless_nil, visited_whole}
 use Rattle.std.proofs.lemmas.Bool.{ltb-false}
 use Rattle.std.proofs.lemmas.List.Sums.{fold-append}
 use Rattle.srcp_info.specs.declared.change.Change.{Change}
 use Rattle.srcp_info.specs.declared.change.Shown.{Shown}
 use Rattle.srcp_feed.specs.Cursor.{beyond}
-use Rattle.srcp_feed.specs.declared.next.Next.{Next}
-use Rattle.srcp_feed.specs.declared.next.Next.TheVariants.{Told, Listed}
-use Rattle.srcp_grammar.specs.declared.layout.Bus.{Bus}
-use Rattle.srcp_grammar.specs.Layout.{IsLayout}
+use Rattle.srcp_feed.specs.declared.answers.Next.TheVariants.{Told, Listed}
 use Rattle.srcp_core.specs.Connection.{Connection, History, cursor_at, is_nil, is_open, is_settled, owed, unsent, untold, waiting}
-use Rattle.srcp_core.specs.Course.{World, course, history, numbered, rows}
-use Rattle.srcp_core.specs.Under.{Event}
 use Rattle.srcp_core.proofs.CourseLaws.RoomGivesWhatIsOwed.{no_lists}
-use Rattle.srcp_serve.specs.Given.{Call}
-use Rattle.srcp_serve.specs.Serving.{IsFair, OfEachTurn, OfEachVisit, Client, Stand, begun, empty_stand, question, clients, turned, turns}
-use Rattle.srcp_serve.specs.Serving.{visit, visit_asks, visit_events}
-use Rattle.srcp_serve.specs.Settling.{SettlesSoon, TakesWaits, WaitsAreGoneAfterAVisit}
-use Rattle.srcp_serve.proofs.GuestsAreSentTheirVisits.{fair_visit}
-use Rattle.srcp_serve.proofs.CallsByTurnAndPeer.{AreAsked}
-use Rattle.srcp_serve.proofs.SentIsTakenAfterAllTurns.{IsTurnOfGuests, turns_of_guests}
-use Rattle.srcp_serve.proofs.Settling.PanelsTakeTheirLines.{Panel}
-use Rattle.srcp_serve.proofs.Settling.StepsFollow.{no_map}
-use Rattle.srcp_serve.proofs.Settling.TurnsTakeFromWhatIsOwed.{stays_exchange, turns_settle}
-use Rattle.srcp_serve.proofs.Settling.VisitsWriteUntilNothingIsLeft.{one_unless_nil, visited_whole}
+
+-- ---- slots
+
+abbrev pub HasSlot : ℕ → Client → Slots → Type 0
+HasSlot slot client slots = slice_get slots slot ≡ Some (Some client)
+
+connected_stays : (new : Client) (slots : Slots) (slot : ℕ) (client : Client) → HasSlot slot client slots
+    → HasSlot slot client (with_client new slots)
+connected_stays new [] slot client e = cc
+connected_stays new (None ∷ slots) zero client e = cc
+connected_stays new (None ∷ slots) (suc slot) client e = e
+connected_stays new (Some other ∷ slots) zero client e = e
+connected_stays new (Some other ∷ slots) (suc slot) client e = connected_stays new slots slot client e
+
+-- those that are visited before it and after it
+pub record IsAmong (client : Client) (all : List Client) : Type 0 where
+  pub before : List Client
+  pub rest : List Client
+  pub are : all ≡ before ++ client ∷ rest
+
+pub among_clients : (slots : Slots) (slot : ℕ) (client : Client) → HasSlot slot client slots → IsAmong client (clients slots)
+among_clients [] slot client e = cc
+among_clients (None ∷ slots) zero client e = cc
+among_clients (None ∷ slots) (suc slot) client e = among_clients slots slot client e
+among_clients (Some other ∷ slots) zero client e = let same : other ≡ client =
+    cc in record { before = []; rest = clients slots; are = ap (λ s. s ∷ clients slots) same }
+among_clients (Some other ∷ slots) (suc slot) client e =
+    let more = among_clients slots slot client e in
+    record { before = other ∷ more.before; rest = more.rest; are = ap (λ all. other ∷ all) more.are }
+
+module _ (buses : List Bus) (slot : ℕ) (client : Client) where
+  moments_stay : (stand : Stand) (moments : List ℕ) → HasSlot slot client stand.slots
+      → HasSlot slot client (fold (with_moment buses) stand moments).slots
+  moments_stay stand [] e = e
+  moments_stay stand (moment ∷ moments) e = moments_stay (with_moment buses stand moment) moments e
+
+  accept_stays : (stand : Stand) (accept : Accepted) → HasSlot slot client stand.slots
+      → HasSlot slot client (with_accept buses stand accept).slots
+  accept_stays stand accept e =
+      elim (connects buses stand.events accept.granted) as
+      (λ t. HasSlot slot client (if t then with_connection buses stand accept else record stand {
+        events =
+            stand.events ++ Open accept.granted ∷ [];
+      }).slots) [
+        | true ↦ connected_stays _ stand.slots slot client e
+        | false ↦ e
+      ]
+
+  accepts_stay : (stand : Stand) (connected : List Accepted) → HasSlot slot client stand.slots
+      → HasSlot slot client (fold (with_accept buses) stand connected).slots
+  accepts_stay stand [] e = e
+  accepts_stay stand (accept ∷ connected) e = accepts_stay (with_accept buses stand accept) connected (accept_stays stand accept e)
+
+  pub begun_stays : (stand : Stand) (calls : List Call) → HasSlot slot client stand.slots
+      → HasSlot slot client (begun buses stand calls).slots
+  begun_stays stand calls e = accepts_stay (timed buses stand calls) (filter_map accept_of calls)
+      (moments_stay stand (filter_map moment_of calls) e)
+
+-- ---- numbers
+
+peer_same : (n a b : ℕ) (connected : List ℕ) → IsPeerOf n a connected → IsPeerOf n b connected → a ≡ b
+peer_same n a b [] x y = absurd x
+peer_same zero a b (who ∷ connected) x y = absurd x
+peer_same (suc zero) a b (who ∷ connected) x y = sym x.0 ∙ y.0
+peer_same (suc (suc n)) a b (who ∷ connected) x y = peer_same (suc n) a b _ x.1 y.1
+
+-- peers that differ have connections that differ
+conns_differ : (m a n b : ℕ) (connected : List ℕ) → IsPeerOf m a connected → IsPeerOf n b connected → (a == b) ≡ false → (m == n) ≡ false
+conns_differ m a n b connected x y e = by (m == n) refl
+  where
+    by : (t : Bool) → (m == n) ≡ t → t ≡ false
+    by false t = refl
+    by true t =
+        let same : m ≡ n = grind (arith, nat_tests) in
+        let one = peer_same n a b _ (rw same at x) y in
+        let yes : (a == b) ≡ true = grind (arith, nat_tests) in
+        cc
+
+-- none of them has that connection
+abbrev pub AreOthers : ℕ → List Client → Type 0
+AreOthers n all = AllByRecursion (λ client. (client.conn == n) ≡ false) all
+
+rest_others : (connected : List ℕ) (client : Client) (rest : List Client) → IsPeerOf client.conn client.peer connected
+    → ArePeersOf connected rest
+    → IsNoneOf client.peer rest → AreOthers client.conn rest
+rest_others connected client [] g k h = tt
+rest_others connected client (other ∷ rest) g k h =
+    (conns_differ _ _ _ _ _ k.0 g h.0, rest_others _ client rest g k.1 h.1)
+
+-- none of the others has its connection
+pub others_apart : (connected : List ℕ) (before : List Client) (client : Client) (rest : List Client)
+    → ArePeersOf connected (before ++ client ∷ rest)
+    → PeersApart (before ++ client ∷ rest) → AreOthers client.conn before × AreOthers client.conn rest
+others_apart connected [] client rest k h = (tt, rest_others _ client rest k.0 k.1 h.0)
+others_apart connected (other ∷ before) client rest k h =
+    let more = others_apart _ before client rest k.1 h.1 in
+    let own = all_here (λ (s : Client). IsPeerOf s.conn s.peer _) before client rest k.1 in
+    let differs = all_here (λ (s : Client). (s.peer == other.peer) ≡ false) before client rest h.0 in
+    ((conns_differ _ _ _ _ _ k.0 own (turned_round client.peer other.peer differs), more.0), more.1)
+
+-- ---- events
+
+module _ (n : ℕ) where
+  each_of : {X : Type 0} (event : X → Event) (xs : List X) → ((x : X) → is_of n (event x) ≡ false) → AreOfOthers n (map event xs)
+  each_of event [] h = tt
+  each_of event (x ∷ xs) h = (h x, each_of event xs h)
+
+  pub opening_others : (calls : List Call) → AreOfOthers n (opening_events calls)
+  opening_others calls = all_append (λ event. is_of n event ≡ false) _ _ (each_of _ (filter_map moment_of calls) (λ x. refl))
+      (each_of opens (filter_map accept_of calls) (λ x. refl))
+
+  pub visits_others : (calls : List Call) (all : List Client) → AreOthers n all → AreOfOthers n (flat_map (visit_events calls) all)
+  visits_others calls [] h = tt
+  visits_others calls (client ∷ all) h =
+      let own = visit calls client in
+      let Other : Event → Type 0 = λ event. is_of n event ≡ false in
+      all_append Other (visit_events calls client) (flat_map (visit_events calls) all)
+      (all_append Other (exchange client.conn own) (if list_any is_close own then Shut client.conn ∷ [] else [])
+      (all_append Other (map (Bytes client.conn) (filter_map piece_of own)) (map (Room client.conn) (rooms own))
+      (each_of (Bytes client.conn) (filter_map piece_of own) (λ x. h.0)) (each_of (Room client.conn) (rooms own) (λ x. h.0)))
+      (shuts (list_any is_close own)))
+      (visits_others calls all h.1)
+    where
+      shuts : (b : Bool) → AreOfOthers n (if b then Shut client.conn ∷ [] else [])
+      shuts true = (h.0, tt)
+      shuts false = tt
+
+-- what holds of the visit in the middle
+pub visit_in : (buses : List Bus) (Law : List Event → List Call → Client → Type 0) (events : List Event) (calls : List Call)
+    (before : List Client) (client : Client) (rest : List Client)
+    → OfEachVisit buses Law events calls (before ++ client ∷ rest) → Law (events ++ flat_map (visit_events calls) before) calls client
+visit_in buses Law events calls [] client rest h = subst (λ (es : List Event). Law es calls client) (sym (append-nil events)) h.0
+visit_in buses Law events calls (other ∷ before) client rest h =
+    rw append_assoc at (visit_in buses Law (events ++ visit_events calls other) calls before client rest h.1)
+
+-- ---- turns without a change, in each of which the peer of an information session takes all, settle the session
+
+-- a visit that does not close its peer
+pub stays_exchange : (calls : List Call) (client : Client) → list_any is_close (visit calls client) ≡ false → visit_events calls client
+    ≡ exchange client.conn (visit calls client)
+stays_exchange calls client e = simp (e, append-nil)
+
+neither : (a b : ℕ) → a + b ≡ 0 → (a ≡ 0) × (b ≡ 0)
+neither a b e = (omega arith, omega arith)
+
+module _ (buses : List Bus) (layout : IsLayout buses) (slot : ℕ) (client : Client) where
+  -- after a turn it has its slot still, nothing of it is unsent, and these lines are left to it: none, or it was handed 300
+  pub record IsTurnedWhole (stand : Stand) (calls : List Call) (bytes : List ℕ) (nexts : List Next) : Type 0 where
+    pub lines : List Next
+    pub rest : List Next
+    pub whole : nexts ≡ lines ++ rest
+    pub panel : Panel buses client.conn (turned buses stand calls).events [] rest
+    pub ends : (rest ≡ []) ⊎ (length lines + one_unless_nil bytes ≡ 300)
+    pub stays : HasSlot slot client (turned buses stand calls).slots
+
+  turned_whole : (stand : Stand) (calls : List Call) (bytes : List ℕ) (nexts : List Next) → IsTurnOfPeers buses stand calls
+      → IsStill buses client stand calls → HasSlot slot client stand.slots → Panel buses client.conn stand.events bytes nexts
+      → IsTurnedWhole stand calls bytes nexts
+  turned_whole stand calls bytes nexts t still has p =
+      let n : ℕ = client.conn in
+      let now = begun buses stand calls in
+      let here = begun_stays buses slot client stand calls has in
+      let among = among_clients now.slots slot client here in
+      let apart = others_apart now.connected among.before client among.rest (rw among.are at t.known)
+      (rw among.are at t.apart) in
+      let first = opening_events calls in
+      let before = flat_map (visit_events calls) among.before in
+      let own = visit_events calls client in
+      let rest = flat_map (visit_events calls) among.rest in
+      let a = stand.events ++ first in
+      let b = a ++ before in
+      let c = b ++ own in
+      let all : turn_events buses stand calls ≡ first ++ (before ++ (own ++ rest)) =
+      cc (flat_map-append (visit_events calls) among.before (client ∷ among.rest)) in
+      let nothing : brought buses stand.events (first ++ (before ++ (own ++ rest))) ≡ 0 =
+      cc (turned_events buses stand calls) in
+      let x = neither (brought buses stand.events first) (brought buses a (before ++ (own ++ rest)))
+      (sym (brought_adds buses stand.events first (before ++ (own ++ rest))) ∙ nothing) in
+      let y = neither (brought buses a before) (brought buses b (own ++ rest)) (sym (brought_adds buses a before (own ++ rest)) ∙ x.1) in
+      let z = neither (brought buses b own) (brought buses c rest) (sym (brought_adds buses b own rest) ∙ y.1) in
+      let at_a = panel_others buses n stand.events bytes nexts p layout first (opening_others n calls) x.0 in
+      let at_b =
+      panel_others buses n a bytes nexts at_a layout before (visits_others n calls among.before apart.0) y.0 in
+      let asked_all = rw among.are at t.asked in
+      let asked =
+      rw (ap (λ (es : List Event). es ++ before) (begun_events buses stand calls)) at
+      (visit_in buses _ now.events calls among.before client among.rest asked_all) in
+      let v = visited_whole buses layout client b (visit calls client) bytes nexts at_b asked
+      (all_filter IsFair (is_about client.peer) calls t.fair) still.takes.keeps still.takes.whole in
+      let at_c =
+      subst (λ (es : List Event). Panel buses n (b ++ es) [] v.rest) (sym (stays_exchange calls client v.stays)) v.panel in
+      let at_end =
+      panel_others buses n c [] v.rest at_c layout rest (visits_others n calls among.rest apart.1) z.1 in
+      let end : c ++ rest ≡ (turned buses stand calls).events =
+      cc (
+        append_assoc b own rest,
+        append_assoc a before (own ++ rest),
+        append_assoc stand.events first (before ++ (own ++ rest)),
+        turned_events buses stand calls,
+      ) in
+      record {
+        lines = v.lines;
+        rest = v.rest;
+        whole = v.whole;
+        panel = rw end at at_end;
+        ends = v.ends;
+        stays = rw (slice_get-map, here, v.stays);
+      }
+
+  -- so often that nothing is left
+  pub turns_settle : (all : List (List Call)) (stand : Stand) (bytes : List ℕ) (nexts : List Next)
+      → OfEachTurn buses (IsTurnOfPeers buses) stand all → OfEachTurn buses (IsStill buses client) stand all
+      → HasSlot slot client stand.slots
+      → Panel buses client.conn stand.events bytes nexts → length nexts + one_unless_nil bytes ≤ 300 * length all
+      → Panel buses client.conn (fold (turned buses) stand all).events [] []
+  turns_settle [] stand bytes nexts t still has p few = nothing bytes nexts p few
+    where
+      nothing : (bytes : List ℕ) (nexts : List Next) → Panel buses client.conn stand.events bytes nexts
+          → length nexts + one_unless_nil bytes ≤ 300 * 0 → Panel buses client.conn stand.events [] []
+      nothing [] [] p few = p
+      nothing [] (what ∷ nexts) p few = absurd (omega (arith, few))
+      nothing (byte ∷ bytes) nexts p few = absurd (omega (arith, few))
+  turns_settle (calls ∷ all) stand bytes nexts t still has p few =
+      let h = turned_whole stand calls bytes nexts t.0 still.0 has p in
+      turns_settle all (turned buses stand calls) [] h.rest t.1 still.1 h.stays h.panel (fewer h.lines h.rest h.whole h.ends)
+    where
+      fewer : (lines rest : List Next) → nexts ≡ lines ++ rest → (rest ≡ []) ⊎ (length lines + one_unless_nil bytes ≡ 300)
+          → length rest + 0 ≤ 300 * length all
+      fewer lines rest whole (inl none) = let zero_long =
+          ap (λ (ns : List Next). length ns) none in omega (arith, zero_long)
+      fewer lines rest whole (inr many) =
+          let size : length nexts ≡ length lines + length rest = rw (whole, length-append lines rest) in
+          by (length nexts) (length lines) (length rest) (one_unless_nil bytes) (length all) size many few
+        where
+          by : (a b c d k : ℕ) → a ≡ b + c → b + d ≡ 300 → a + d ≤ 300 * (suc k) → c + 0 ≤ 300 * k
+          by a b c d k size many few = omega arith
+
+-- ---- the laws of panels that take what they are handed
 
 module _ (buses : List Bus) where
   -- the later turns
@@ -43,31 +288,30 @@ module _ (buses : List Bus) where
       → numbered n (course buses events).connections ≡ Some later
       → is_settled later (history buses (course buses events)) (rows buses (course buses events)) ≡ true
   settled_is events n later p there =
-      let w : World = course buses events in
-      let found : Some p.conn ≡ Some later = sym p.is.there ∙ there in
+      let w = course buses events in
+      let found = sym p.is.there ∙ there in
       let same : p.conn ≡ later = cc in
-      subst (λ (c : Connection). is_settled c (history buses w) (rows buses w) ≡ true) same
+      rw same at
       (ap (λ t. t && (p.conn.info && (is_nil (unsent p.conn) && is_nil (owed p.conn (history buses w) (rows buses w))))) p.is.open_now
-      ∙ ap (λ t. t && (is_nil (unsent p.conn) && is_nil (owed p.conn (history buses w) (rows buses w)))) p.is.info
+      ∙ ap (λ t. t && (is_nil (unsent p.conn) && is_nil (owed p.conn _ _))) p.is.info
       ∙ ap (λ l. is_nil l && is_nil (owed p.conn (history buses w) (rows buses w))) p.left
       ∙ ap is_nil p.owes)
 
   pub settles_soon : SettlesSoon buses
   settles_soon layout count trace served differ fair before after parts slot client has conn is still enough later there =
-      let now : Stand = fold (turned buses) empty_stand before in
-      let w : World = course buses now.events in
-      let due : List Next = owed conn (history buses w) (rows buses w) in
-      let runs = later_turns (IsTurnOfGuests buses) before after empty_stand
-      (subst (λ (all : List (List Call)). OfEachTurn buses (IsTurnOfGuests buses) empty_stand all) parts
-      (turns_of_guests buses count trace served differ fair)) in
+      let now = fold (turned buses) empty_stand before in
+      let w = course buses now.events in
+      let due = owed conn _ _ in
+      let runs = later_turns _ before after _
+      (rw parts at (turns_of_peers buses count trace served differ fair)) in
       let p : Panel buses client.conn now.events (unsent conn) due = record { conn = conn; is = is; left = refl; owes = refl } in
-      let end : (fold (turned buses) now after).events ≡ (fold (turned buses) empty_stand (turns trace)).events =
-      ap (λ (s : Stand). s.events) (sym (fold-append (turned buses) empty_stand before after)
+      let end =
+      ap (λ (s : Stand). s.events) (sym (fold-append _ _ before after)
       ∙ ap (fold (turned buses) empty_stand) (sym parts)) in
-      let done = turns_settle buses layout slot client after now (unsent conn) due runs still has p
-      (subst (λ k. length due + k ≤ 300 * length after) (sym (one_write (unsent conn))) enough) in
-      settled_is (fold (turned buses) empty_stand (turns trace)).events client.conn later
-      (subst (λ (es : List Event). Panel buses client.conn es [] []) end done) there
+      let done = turns_settle buses layout slot client after now _ due runs still has p
+      (rw one_write enough) in
+      settled_is _ _ later
+      (rw end at done) there
 
   -- ---- the changes that wait
 
@@ -75,48 +319,47 @@ module _ (buses : List Bus) where
   none_waits : (changes : List Change) (listed : List Shown) (lines rest : List Next) (more : List Change) (others : List Next)
       → map Told changes ++ map Listed listed ≡ lines ++ rest → length changes ≤ length lines → rest ≡ map Told more ++ others → more ≡ []
   none_waits changes listed lines rest [] others e h r = refl
-  none_waits (change ∷ changes) listed [] rest (m ∷ more) others e h r = absurd (omega (arith, h))
-  none_waits (change ∷ changes) listed (line ∷ lines) rest (m ∷ more) others e h r =
+  none_waits (change ∷ changes) listed [] rest _ others e h r = absurd (omega (arith, h))
+  none_waits (change ∷ changes) listed (line ∷ lines) rest _ others e h r =
       let tail : map Told changes ++ map Listed listed ≡ lines ++ rest = cc in
-      none_waits changes listed lines rest (m ∷ more) others tail (omega (arith, h)) r
+      none_waits changes listed lines rest _ others tail (omega (arith, h)) r
   none_waits [] (row ∷ listed) (line ∷ lines) rest (m ∷ more) others e h r =
       let tail : map Listed listed ≡ lines ++ rest = cc in
-      none_waits [] listed lines rest (m ∷ more) others tail (omega (arith, h)) r
+      none_waits [] listed lines rest _ others tail (omega (arith, h)) r
   none_waits [] [] (line ∷ lines) rest (m ∷ more) others e h r = cc
-  none_waits [] [] [] rest (m ∷ more) others e h r = let no : [] ≡ Told m ∷ (map Told more ++ others) = e ∙ r in cc
-  none_waits [] (row ∷ listed) [] rest (m ∷ more) others e h r = let no : Listed row ∷ map Listed listed
-      ≡ Told m ∷ (map Told more ++ others) = e ∙ r in cc
+  none_waits [] [] [] rest _ others e h r = let no = e ∙ r in cc
+  none_waits [] (row ∷ listed) [] rest _ others e h r = let no = e ∙ r in cc
 
   -- what an open information session is owed
   owed_is : (conn : Connection) (h : History) (shown : List Shown) → is_open conn ≡ true → conn.info ≡ true → owed conn h shown
       ≡ map Told (untold conn h) ++ map Listed (beyond (cursor_at conn (length h)) shown)
   owed_is conn h shown up info =
-      ap (λ t. if t && conn.info then map Told (untold conn h) ++ map Listed (beyond (cursor_at conn (length h)) shown) else []) up
-      ∙ ap (λ t. if t then map Told (untold conn h) ++ map Listed (beyond (cursor_at conn (length h)) shown) else []) info
+      cc
 
   takes_waits : (layout : IsLayout buses) (events : List Event) (calls : List Call) (client : Client) → map question (visit calls client)
       ≡ visit_asks buses events (visit calls client) client → AllByRecursion IsFair calls → TakesWaits buses events calls client
   takes_waits layout events calls client asked fair conn later is takes there =
-      let w : World = course buses events in
-      let h : History = history buses w in
-      let shown : List Shown = rows buses w in
-      let p : Panel buses client.conn events (unsent conn) (owed conn h shown) = record { conn = conn; is = is; left = refl; owes = refl } in
+      let w = course buses events in
+      let h = history buses w in
+      let shown = rows buses w in
+      let p : Panel buses client.conn events (unsent conn) (owed conn h shown) =
+      record { conn = conn; is = is; left = refl; owes = refl } in
       let v = visited_whole buses layout client events (visit calls client) (unsent conn) (owed conn h shown) p asked
-      (fair_visit client.peer calls fair) takes.keeps takes.whole in
+      (all_filter IsFair (is_about client.peer) calls fair) takes.keeps takes.whole in
       let q : Panel buses client.conn (events ++ visit_events calls client) [] v.rest =
-      subst (λ (es : List Event). Panel buses client.conn (events ++ es) [] v.rest) (sym (stays_exchange calls client v.stays)) v.panel in
-      let u : World = course buses (events ++ visit_events calls client) in
-      let past : History = history buses u in
-      let found : Some q.conn ≡ Some later = sym q.is.there ∙ there in
+      rw (stays_exchange calls client v.stays) v.panel in
+      let u = course buses (events ++ visit_events calls client) in
+      let past = history buses u in
+      let found = sym q.is.there ∙ there in
       let same : q.conn ≡ later = cc in
-      let few : length (untold conn h) ≤ 256 = ltb-false 256 (length (untold conn h)) is.fine in
-      let left : v.rest ≡ map Told (untold q.conn past) ++ map Listed (beyond (cursor_at q.conn (length past)) (rows buses u)) =
+      let few = ltb-false 256 (length (untold conn h)) is.fine in
+      let left =
       sym q.owes ∙ owed_is q.conn past (rows buses u) q.is.open_now q.is.info in
-      let none : untold q.conn past ≡ [] =
+      let none =
       gone (untold conn h) (beyond (cursor_at conn (length h)) shown) v.lines v.rest (untold q.conn past)
       (map Listed (beyond (cursor_at q.conn (length past)) (rows buses u))) (one_unless_nil (unsent conn))
       (sym (owed_is conn h shown is.open_now is.info) ∙ v.whole) few (at_most (unsent conn)) left v.ends in
-      subst (λ (c : Connection). waiting c past ≡ []) same (ap (λ t. if t then untold q.conn past else []) q.is.open_now ∙ none)
+      subst (λ (c : Connection). waiting c past ≡ []) same (cc)
     where
       at_most : (bytes : List ℕ) → one_unless_nil bytes ≤ 1
       at_most [] = omega arith
@@ -136,7 +379,7 @@ module _ (buses : List Bus) where
   visits_take layout events calls (client ∷ all) fair asked =
       (takes_waits layout events calls client asked.0 fair, visits_take layout (events ++ visit_events calls client) calls all fair asked.1)
 
-  turns_take : (layout : IsLayout buses) (all : List (List Call)) (stand : Stand) → OfEachTurn buses (IsTurnOfGuests buses) stand all
+  turns_take : (layout : IsLayout buses) (all : List (List Call)) (stand : Stand) → OfEachTurn buses (IsTurnOfPeers buses) stand all
       → OfEachTurn buses (λ stand calls. OfEachVisit buses (TakesWaits buses) (begun buses stand calls).events calls
       (clients (begun buses stand calls).slots)) stand all
   turns_take layout [] stand h = tt
@@ -147,4 +390,4 @@ module _ (buses : List Bus) where
 
   pub waits_are_gone : WaitsAreGoneAfterAVisit buses
   waits_are_gone layout count trace served differ fair =
-      turns_take layout (turns trace) empty_stand (turns_of_guests buses count trace served differ fair)
+      turns_take layout _ _ (turns_of_peers buses count trace served differ fair)

@@ -1,37 +1,174 @@
 -- An information session that goes on: what is unsent of it and what it is owed, and what each event makes of that.
-use Rattle.std.proofs.Common.{◌≡◌, ◌∙◌, ℕ, ◌+◌, ◌-◌, ◌≤◌, min, Bool, true, false, List, [], ◌∷◌, ◌++◌, length, if◌then◌else◌, Option, Some}
-use Rattle.std.proofs.Common.{None, option_map, refl, ap, sym, subst, arith, append-nil, length-append, length-drop}
-use Rattle.std.specs.Prelude.{fold, flat_map, ◌||◌, ◌==◌, is_none}
-use Rattle.std.proofs.Math.Nat.{le_refl}
-use Rattle.std.proofs.lemmas.List.{drop_all}
+use Rattle.std.proofs.Common.{◌≡◌, ◌∙◌, ◌+◌, List, [], ◌∷◌, ◌++◌, map, length, refl, ap, sym, append-nil, append_assoc, length-append, ℕ}
+use Rattle.std.proofs.Common.{true, false, if◌then◌else◌, None, arith, ◌-◌, ◌≤◌, min, Bool, Option, Some, length-drop}
+use Rattle.std.specs.Prelude.{flat_map, nat_le, nat_lt, filter, filter_map, fold, ◌||◌, ◌==◌}
+use Rattle.std.specs.List.{AllByRecursion, enumerate_from}
+use Rattle.std.proofs.lemmas.List.{drop_at, drop_all}
+use Rattle.std.proofs.lemmas.List.Concat.{flat_map-append}
 use Rattle.std.proofs.lemmas.List.Sums.{fold-append}
-use Rattle.srcp_feed.specs.declared.next.Next.{Next}
+use Rattle.srcp_info.specs.declared.change.Change.{Change}
 use Rattle.srcp_grammar.specs.declared.layout.Bus.{Bus}
+use Rattle.srcp_rules.specs.State.{State, opening, shown_rows}
+use Rattle.srcp_core.specs.Connection.{History, Connection, concerning, cursor_at, overran, owed, told_change, untold, available, fitting}
+use Rattle.srcp_core.specs.Connection.{given, given_room, line_of, took, unsent}
+use Rattle.srcp_core.specs.Course.{World, start, happens, course, state, history, history_from, state_after, stepped, updates_of, numbered}
+use Rattle.srcp_core.specs.Course.{open_connection, at_connection, counted, or_refused, fault, answered, answered_as, greeted, commanded}
+use Rattle.srcp_core.specs.Course.{order_of, new_lines, rows}
+use Rattle.srcp_core.specs.Under.{Event, Step, Bytes, Room, Piece, Heard, greets}
+use Rattle.srcp_core.specs.Waits.{brought, IsPanel}
+use Rattle.srcp_core.proofs.CourseLaws.EventsKeep.{IsKept, kept_all}
+use Rattle.srcp_core.proofs.CourseLaws.RoomGivesWhatIsOwed.{no_lists}
+use Rattle.srcp_core.proofs.CourseLaws.ShownRegistry.{length_history}
+use Rattle.srcp_info.specs.declared.change.Shown.{Shown}
+use Rattle.srcp_feed.specs.Cursor.{concerns}
+use Rattle.srcp_core.proofs.CourseLaws.Histories.{AreBy, IsDoneBy, cursor_later, enumerate_push}
+use Rattle.std.proofs.Math.Nat.{le_refl}
+use Rattle.srcp_feed.specs.declared.answers.Next.{Next}
 use Rattle.srcp_grammar.specs.Layout.{IsLayout}
-use Rattle.srcp_rules.specs.State.{opening, shown_rows}
-use Rattle.srcp_core.specs.Connection.{Connection, History, available, fitting, given, given_room, is_open, line_of, overran, owed, took}
-use Rattle.srcp_core.specs.Connection.{unsent}
-use Rattle.srcp_core.specs.Course.{World, start, numbered, if_open, open_connection, at_connection, counted, history_from, state}
-use Rattle.srcp_core.specs.Course.{state_after, or_refused, fault, answered, answered_as, greeted, commanded, order_of, new_lines, fed_to}
-use Rattle.srcp_core.specs.Course.{happens, course, history, rows}
-use Rattle.srcp_core.specs.Under.{Event, Bytes, Room, Piece, Heard, greets}
-use Rattle.srcp_core.specs.Waits.{IsPanel, brought}
 use Rattle.srcp_core.specs.declared.record.CoreFault.{CoreFault}
 use Rattle.srcp_core.proofs.Agreement.NumbersAndKeys.{numbered_with}
 use Rattle.srcp_core.proofs.CourseLaws.ClientHoldsPassedRows.{Fits}
 use Rattle.srcp_core.proofs.CourseLaws.LinesHaveBytes.{AreFull, owed_full}
-use Rattle.srcp_core.proofs.CourseLaws.RoomSettles.{OwesAfter, owes_after}
+use Rattle.srcp_core.proofs.CourseLaws.RoomSettles.{owes_after}
 use Rattle.srcp_core.proofs.CourseLaws.RoomAfterRoom.{left_after}
 use Rattle.srcp_core.proofs.CourseLaws.RoomsAddUp.{takes_within, took_overran}
 use Rattle.srcp_core.proofs.CourseLaws.SessionsOfACourse.{anything, fits_open, open_shut, stands}
 use Rattle.srcp_serve.specs.Serving.{lent}
-use Rattle.srcp_serve.proofs.LentAndTakenIsSent.{first_some, fits_left, given_more}
-use Rattle.srcp_serve.proofs.OnlyRoomSends.{steady_at}
-use Rattle.srcp_serve.proofs.RoomSendsWhatIsLent.{after_room, lent_is, steady_course, there_after}
-use Rattle.srcp_serve.proofs.Settling.OthersKeep.{AreOfOthers, stays_all}
-use Rattle.srcp_serve.proofs.Settling.OwedStays.{overran_same, owed_same}
-use Rattle.srcp_serve.proofs.Settling.StepsFollow.{AreNone, brought_is, changes_of, history_follows, none_each, same_state, state_follows}
-use Rattle.srcp_serve.proofs.Settling.StepsFollow.{steps_follow}
+use Rattle.srcp_serve.proofs.RoomSendsWhatIsLent.{first_some, fits_left, given_more, after_room, lent_is, steady_course, there_after}
+use Rattle.srcp_serve.proofs.OnlyRoomSends.{steady_at, AreOfOthers, stays_all}
+
+pub no_map : {A B : Type 0} (f : A → B) (xs : List A) → map f xs ≡ [] → xs ≡ []
+no_map f [] e = refl
+no_map f (x ∷ xs) e = cc
+
+-- all changes of a history
+abbrev pub changes_of : History → List Change
+changes_of history = flat_map (λ changes. changes) history
+
+-- no step has a change
+abbrev pub AreNone : History → Type 0
+AreNone history = AllByRecursion (λ changes. changes ≡ []) history
+
+pub none_each : (history : History) → changes_of history ≡ [] → AreNone history
+none_each [] e = tt
+none_each (changes ∷ history) e = let both = no_lists changes _ e in (both.0, none_each history both.1)
+
+pub history_append : (state : State) (xs ys : List Step) → history_from state (xs ++ ys)
+    ≡ history_from state xs ++ history_from (state_after state xs) ys
+history_append state [] ys = refl
+history_append state (step ∷ xs) ys =
+    ap (λ h. map (λ update. update.change) (updates_of state step) ∷ h) (history_append (stepped state step) xs ys)
+
+-- steps without a change leave the registry as it was
+pub same_state : (state : State) (steps : List Step) → changes_of (history_from state steps) ≡ [] → state_after state steps ≡ state
+same_state state [] e = refl
+same_state state (step ∷ steps) e =
+    let both = no_lists (map (λ update. update.change) (updates_of state step)) _ e in
+    let none = no_map (λ update. update.change) _ both.0 in
+    cc (same_state (stepped state step) steps both.1)
+
+module _ (buses : List Bus) where
+  -- the steps of the one world, and then more
+  abbrev Follows : List Step → World → Type 0
+  Follows first w = (more : List Step) × (w.steps ≡ first ++ more)
+
+  steps_kept : (first : List Step) → IsKept buses (Follows first)
+  steps_kept first = record {
+    lines = λ n. record {
+      step = λ step w a. (a.0 ++ step ∷ [], cc (append_assoc first a.0 (step ∷ [])));
+      numbers = λ id w a. a;
+      says = λ mode ends w a. a;
+      answers = λ reply w plain a. a;
+      enters = λ id reply w plain a. a;
+    };
+    other = λ w v a. a;
+    opens = λ w a. a;
+    feeds = λ n bytes w a. a;
+    shuts = λ n w up a. a;
+    room = λ n bytes w up a. a;
+  }
+
+  -- the steps of the later events
+  pub steps_follow : (events more : List Event) → (steps : List Step)
+      × ((course buses (events ++ more)).steps ≡ (course buses events).steps ++ steps)
+  steps_follow events more =
+      let first = (course buses events).steps in
+      rw fold-append (kept_all buses (Follows first) (steps_kept first) more (course buses events) ([], sym (append-nil first)))
+
+  module _ (events more : List Event) (steps : List Step)
+      (follow : (course buses (events ++ more)).steps ≡ (course buses events).steps ++ steps) where
+    abbrev since : History
+    since = history_from (state buses (course buses events)) steps
+
+    pub history_follows : history buses (course buses (events ++ more)) ≡ history buses (course buses events) ++ since
+    history_follows = cc (history_append (opening buses 0) (course buses events).steps steps)
+
+    pub state_follows : state buses (course buses (events ++ more)) ≡ state_after (state buses (course buses events)) steps
+    state_follows = cc (fold-append stepped (opening buses 0) (course buses events).steps steps)
+
+    pub brought_is : brought buses events more ≡ length (changes_of since)
+    brought_is =
+        let first = (course buses events).steps in
+        cc (history_follows, drop_at (history buses (course buses events)) since (length first) (length_history (opening buses 0) first))
+
+  -- what two parts bring
+  pub brought_adds : (events a b : List Event) → brought buses events (a ++ b) ≡ brought buses events a + brought buses (events ++ a) b
+  brought_adds events a b =
+      let x = steps_follow events a in
+      let y = steps_follow (events ++ a) b in
+      let first = state buses (course buses events) in
+      let whole : (course buses (events ++ (a ++ b))).steps ≡ (course buses events).steps ++ (x.0 ++ y.0) =
+      cc (append_assoc events a b, y.1, x.1, append_assoc (course buses events).steps x.0 y.0) in
+      cc (
+        brought_is events (a ++ b) (x.0 ++ y.0) whole,
+        history_append first x.0 y.0,
+        flat_map-append (λ changes. changes) (history_from first x.0) (history_from (state_after first x.0) y.0),
+        length-append (changes_of (history_from first x.0)) (changes_of (history_from (state_after first x.0) y.0)),
+        state_follows events a x.0 x.1,
+        brought_is events a x.0 x.1,
+        brought_is (events ++ a) b y.0 y.1,
+      )
+
+-- ---- while no step has a change, a connection stays owed the same, and does not overrun
+
+module _ (conn : Connection) where
+  abbrev part_of : ℕ × List Change → List Change
+  part_of step = if nat_le conn.go_step step.0 then filter (concerns (cursor_at conn step.0)) step.1 else []
+
+  part_none : (n : ℕ) → part_of (n, []) ≡ []
+  part_none n = elim (nat_le conn.go_step n) as
+      (λ t. (if t then filter (concerns (cursor_at conn n)) [] else []) ≡ []) [ true ↦ refl | false ↦ refl ]
+
+  concerning_same : (past more : History) → AreNone more → concerning conn (past ++ more) ≡ concerning conn past
+  concerning_same past [] none = ap (concerning conn) (append-nil past)
+  concerning_same past (changes ∷ more) none =
+      cc (
+        append_assoc past (changes ∷ []) more,
+        concerning_same (past ++ changes ∷ []) more none.1,
+        enumerate_push 0 past changes,
+        flat_map-append part_of (enumerate_from 0 past) ((0 + length past, changes) ∷ []),
+        part_none (0 + length past),
+        append-nil (concerning conn past),
+      )
+
+  module _ (shut : conn.shut ≡ None) where
+    untold_same : (past more : History) → AreNone more → untold conn (past ++ more) ≡ untold conn past
+    untold_same past more none =
+        let trace : ℕ = length (filter_map (λ item. told_change item.what) conn.items) in
+        cc (concerning_same past more none)
+
+    pub overran_same : (past more : History) → AreNone more → overran conn (past ++ more) ≡ overran conn past
+    overran_same past more none = ap (λ (cs : List Change). nat_lt 256 (length cs)) (untold_same past more none)
+
+    pub owed_same : (past more : History) (rows : List Shown) → AreBy (length past) conn.items → IsDoneBy (length past) conn.done
+        → AreNone more → owed conn (past ++ more) rows ≡ owed conn past rows
+    owed_same past more rows numbers finished none =
+        let longer = length-append past more in
+        let cursor =
+        cursor_later (length past) (length (past ++ more)) conn.done conn.items (omega arith) finished numbers in
+        cc (untold_same past more none)
+
+-- ---- an information session that goes on: what is unsent of it and what it is owed, and what each event makes of that
 
 -- ---- what is handed over first
 
@@ -55,13 +192,13 @@ owed_then [] [] = []
 
 first_lent : (bytes : List ℕ) (nexts : List Next) → bytes ++ flat_map line_of (fitting 0 bytes nexts) ≡ first_text bytes nexts
 first_lent (byte ∷ bytes) nexts = ap (λ ns. (byte ∷ bytes) ++ flat_map line_of ns) (fits_left 0 byte bytes nexts (omega arith))
-    ∙ append-nil (byte ∷ bytes)
+    ∙ append-nil _
 first_lent [] (what ∷ nexts) = append-nil (line_of what)
 first_lent [] [] = refl
 
 first_fits : (bytes : List ℕ) (nexts : List Next) → AreFull nexts → fitting (length (first_text bytes nexts)) bytes nexts
     ≡ first_given bytes nexts
-first_fits (byte ∷ bytes) nexts full = fits_left (length (byte ∷ bytes)) byte bytes nexts (le_refl (length (byte ∷ bytes)))
+first_fits (byte ∷ bytes) nexts full = fits_left _ byte bytes nexts (le_refl (length (byte ∷ bytes)))
 first_fits [] (what ∷ nexts) full = first_some (length (line_of what)) what nexts full.0 (le_refl (length (line_of what)))
 first_fits [] [] full = refl
 
@@ -97,10 +234,10 @@ module _ (buses : List Bus) (n : ℕ) where
     w = course buses events
 
     pub panel_shut : p.conn.shut ≡ None
-    panel_shut = open_shut p.conn.shut p.is.open_now
+    panel_shut = open_shut _ p.is.open_now
 
     pub panel_open : open_connection w n ≡ Some p.conn
-    panel_open = ap if_open p.is.there ∙ ap (λ s. if is_none s then Some p.conn else None) panel_shut
+    panel_open = cc
 
     -- no command of its own ends it
     pub panel_goes_on : p.conn.ended ≡ false
@@ -117,47 +254,46 @@ module _ (buses : List Bus) (n : ℕ) where
         (owed p.conn (history buses w) (rows buses w)) p.conn) p.is.fine
 
     pub panel_full : AreFull nexts
-    panel_full = subst AreFull p.owes (owed_full p.conn (history buses w) (rows buses w))
+    panel_full = rw p.owes at (owed_full p.conn (history buses w) (rows buses w))
 
     -- what it lends
     pub panel_lends : IsLayout buses → lent buses n events ≡ first_text bytes nexts
     panel_lends layout =
-        let past : History = history buses w in
-        let due : List Next = owed p.conn past (rows buses w) in
-        lent_is buses events n p.conn panel_open
-        ∙ ap (λ c. if overran c past then [] else unsent c) (room_is 0)
-        ∙ ap (λ t. if t then [] else unsent (took 0 (length past) due p.conn)) (took_overran past 0 due p.conn panel_shut p.is.fine)
-        ∙ left_after (length past) due p.conn (takes_within buses layout events n p.conn p.is.there)
-        ∙ ap (λ left. left ++ flat_map line_of (fitting 0 left due)) p.left
-        ∙ ap (λ ns. bytes ++ flat_map line_of (fitting 0 bytes ns)) p.owes
-        ∙ first_lent bytes nexts
+        let past = history buses w in
+        let due = owed p.conn past (rows buses w) in
+        cc (
+          lent_is buses events n p.conn panel_open,
+          room_is 0,
+          took_overran past 0 due p.conn panel_shut p.is.fine,
+          left_after (length past) due p.conn (takes_within buses layout events n p.conn p.is.there),
+          first_lent bytes nexts,
+        )
 
     -- room for all that it lends
     pub panel_room : IsLayout buses → Panel (events ++ Room n (length (first_text bytes nexts)) ∷ []) [] (owed_then bytes nexts)
     panel_room layout =
         let k : ℕ = length (first_text bytes nexts) in
-        let past : History = history buses w in
-        let due : List Next = owed p.conn past (rows buses w) in
-        let later : Connection = took k (length past) due p.conn in
-        let v : World = course buses (events ++ Room n k ∷ []) in
-        let next : v ≡ at_connection n (given_room k past (rows buses w)) (counted w) = after_room buses events n k p.conn panel_open in
-        let same : history buses v ≡ past = ap (history buses) next in
-        let shows : rows buses v ≡ rows buses w = ap (rows buses) next in
-        let fit : fitting k (unsent p.conn) due ≡ first_given bytes nexts = ap (λ left. fitting k left due) p.left
-        ∙ ap (fitting k bytes) p.owes ∙ first_fits bytes nexts panel_full in
-        let after : OwesAfter buses w k p.conn = owes_after buses layout w k p.conn panel_shut p.is.info (panel_fits layout) in
-        let rest : after.rest ≡ owed_then bytes nexts =
-        rest_is bytes nexts after.rest (sym p.owes ∙ after.whole ∙ ap (λ ns. ns ++ after.rest) fit) in
+        let past = history buses w in
+        let due = owed p.conn past (rows buses w) in
+        let later = took k (length past) due p.conn in
+        let v = course buses (events ++ Room n k ∷ []) in
+        let next = after_room buses events n k p.conn panel_open in
+        let same = ap (history buses) next in
+        let shows = ap (rows buses) next in
+        let fit : fitting k (unsent p.conn) due ≡ first_given bytes nexts = cc (first_fits bytes nexts panel_full) in
+        let after = owes_after buses layout w k p.conn panel_shut p.is.info (panel_fits layout) in
+        let rest =
+        rest_is bytes nexts after.rest (cc) in
         record {
           conn = later;
           is = record {
-            there = there_after buses events n k p.conn panel_open ∙ ap (λ c. Some c) (room_is k);
+            there = cc (there_after buses events n k p.conn panel_open, room_is k);
             info = p.is.info;
             open_now = p.is.open_now;
-            fine = ap (overran later) same ∙ took_overran past k due p.conn panel_shut p.is.fine;
+            fine = cc (took_overran past k due p.conn panel_shut p.is.fine);
           };
           left = nothing_left k due refl p.owes fit;
-          owes = ap (λ h. owed later h (rows buses v)) same ∙ ap (owed later past) shows ∙ after.owes ∙ rest;
+          owes = cc;
         }
       where
         most : (k u t g f b all : ℕ) → t ≤ g → u ≡ g - t → u ≡ b → k ≡ b + f → k ≤ all → g + f ≤ t + min k all
@@ -167,19 +303,15 @@ module _ (buses : List Bus) (n : ℕ) where
             ≡ first_given bytes nexts → unsent (took k (length (history buses w)) due p.conn) ≡ []
         nothing_left k due size same fit =
             let steps : ℕ = length (history buses w) in
-            let more : List ℕ = flat_map line_of (first_given bytes nexts) in
-            let whole : given (took k steps due p.conn) ≡ given p.conn ++ more = given_more p.conn steps k due
-            ∙ ap (λ ns. given p.conn ++ flat_map line_of ns) fit in
-            let long : length (given (took k steps due p.conn)) ≡ length (given p.conn) + length more = ap length whole
-            ∙ length-append (given p.conn) more in
-            let all : available (unsent p.conn) due ≡ available bytes nexts = ap (λ left. available left due) p.left
-            ∙ ap (available bytes) same in
+            let more = flat_map line_of (first_given bytes nexts) in
+            let whole : given (took k steps due p.conn) ≡ given p.conn ++ more = cc (given_more p.conn steps k due) in
+            let long : length (given (took k steps due p.conn)) ≡ length (given p.conn) + length more =
+            cc (length-append (given p.conn) more) in
+            let all : available (unsent p.conn) due ≡ available bytes nexts = cc in
             let there : k ≤ length (available (unsent p.conn) due) =
-            subst (λ (l : List ℕ). k ≤ length l) (sym all)
-            (subst (λ m. m ≤ length (available bytes nexts)) (sym size) (first_there bytes nexts)) in
+            rw all (rw size (first_there bytes nexts)) in
             drop_all (p.conn.taken + min k (length (available (unsent p.conn) due))) (given (took k steps due p.conn))
-            (subst (λ g. g ≤ p.conn.taken + min k (length (available (unsent p.conn) due))) (sym long)
-            (most k (length (unsent p.conn)) p.conn.taken (length (given p.conn)) (length more) (length bytes)
+            (rw long (most k (length (unsent p.conn)) p.conn.taken (length (given p.conn)) (length more) (length bytes)
             (length (available (unsent p.conn) due))
             (takes_within buses layout events n p.conn p.is.there) (length-drop p.conn.taken (given p.conn)) (ap length p.left)
             (size ∙ first_size bytes nexts) there))
@@ -193,23 +325,23 @@ module _ (buses : List Bus) (n : ℕ) where
         there = there;
         info = p.is.info;
         open_now = p.is.open_now;
-        fine = ap (λ s. overran p.conn (history_from (opening buses 0) s)) steps ∙ p.is.fine;
+        fine = rw (steps, p.is.fine);
       };
       left = p.left;
-      owes = ap (λ s. owed p.conn (history_from (opening buses 0) s) (shown_rows (state_after (opening buses 0) s))) steps ∙ p.owes;
+      owes = rw (steps, p.owes);
     }
 
     -- what comes of it changes nothing
     pub panel_bytes : (piece : Piece) → Panel (events ++ Bytes n piece ∷ []) bytes nexts
-    panel_bytes piece = by (fault buses (counted w) (Bytes n piece)) refl
+    panel_bytes piece = by _ refl
       where
         next : course buses (events ++ Bytes n piece ∷ []) ≡ happens buses w (Bytes n piece)
-        next = fold-append (happens buses) start events (Bytes n piece ∷ [])
+        next = fold-append _ start events _
 
         deaf : (lines : List Heard) (v : World) (c : Connection) → numbered n v.connections ≡ Some c → c.info ≡ true
             → fold (answered buses n) v lines ≡ v
         deaf [] v c e i = refl
-        deaf (line ∷ lines) v c e i = ap (λ (u : World). fold (answered buses n) u lines) one ∙ deaf lines v c e i
+        deaf (line ∷ lines) v c e i = rw (one, deaf lines v c e i)
           where
             by : (t : Bool) → answered_as buses n (if t then Some c else None) line v ≡ v
             by true = ap (λ b. if b || c.ended then v else
@@ -217,7 +349,7 @@ module _ (buses : List Bus) (n : ℕ) where
             by false = refl
 
             one : answered buses n v line ≡ v
-            one = ap (λ o. answered_as buses n (if_open o) line v) e ∙ by (is_open c)
+            one = rw (e, by)
 
         feed : Connection → Connection
         feed c = record c { fed = c.fed ++ piece.bytes }
@@ -225,46 +357,41 @@ module _ (buses : List Bus) (n : ℕ) where
         by : (o : Option CoreFault) → fault buses (counted w) (Bytes n piece) ≡ o → Panel (events ++ Bytes n piece ∷ []) bytes nexts
         by None e =
             let after : happens buses w (Bytes n piece) ≡ at_connection n feed (counted w) =
-            ap (λ o. or_refused buses o (Bytes n piece) (counted w)) e
-            ∙ ap (λ o. fed_to buses n piece o (counted w)) panel_open
-            ∙ deaf (new_lines buses p.conn.fed piece) (at_connection n feed (counted w)) (feed p.conn)
-            (numbered_with n feed w.connections ∙ ap (option_map feed) p.is.there) p.is.info in
+            cc (deaf (new_lines buses p.conn.fed piece) (at_connection n feed (counted w)) (feed p.conn)
+            (rw (numbered_with, p.is.there)) p.is.info) in
             panel_fed (Bytes n piece ∷ []) (p.conn.fed ++ piece.bytes)
-            (ap (λ (v : World). numbered n v.connections) (next ∙ after) ∙ numbered_with n feed w.connections
-            ∙ ap (option_map feed) p.is.there)
+            (cc (next, after, numbered_with n feed w.connections, p.is.there))
             (ap (λ (v : World). v.steps) (next ∙ after))
         by (Some cause) e =
-            let after : happens buses w (Bytes n piece) ≡ or_refused buses (Some cause) (Bytes n piece) (counted w) =
+            let after =
             ap (λ o. or_refused buses o (Bytes n piece) (counted w)) e in
-            panel_fed (Bytes n piece ∷ []) p.conn.fed (ap (λ (v : World). numbered n v.connections) (next ∙ after) ∙ p.is.there)
+            panel_fed (Bytes n piece ∷ []) p.conn.fed (cc (next, after, p.is.there))
             (ap (λ (v : World). v.steps) (next ∙ after))
 
     -- what others do changes nothing if no step has a change
     pub panel_others : IsLayout buses → (more : List Event) → AreOfOthers n more → brought buses events more ≡ 0
         → Panel (events ++ more) bytes nexts
     panel_others layout more others none =
-        let past : History = history buses w in
+        let past = history buses w in
         let f = steps_follow buses events more in
-        let v : World = course buses (events ++ more) in
-        let since : History = history_from (state buses w) f.0 in
-        let empty : changes_of since ≡ [] = no_length (changes_of since) (sym (brought_is buses events more f.0 f.1) ∙ none) in
-        let each : AreNone since = none_each since empty in
-        let grown : history buses v ≡ past ++ since = history_follows buses events more f.0 f.1 in
-        let shows : rows buses v ≡ rows buses w =
-        ap shown_rows (state_follows buses events more f.0 f.1 ∙ same_state (state buses w) f.0 empty) in
+        let v = course buses (events ++ more) in
+        let since = history_from (state buses w) f.0 in
+        let empty = no_length _ (sym (brought_is buses events more f.0 f.1) ∙ none) in
+        let each = none_each since empty in
+        let grown = history_follows buses events more f.0 f.1 in
+        let shows =
+        ap shown_rows (state_follows buses events more f.0 f.1 ∙ same_state _ f.0 empty) in
         let fits = panel_fits layout in
         record {
           conn = p.conn;
           is = record {
-            there = ap (λ (u : World). numbered n u.connections) (fold-append (happens buses) start events more)
-                ∙ stays_all buses n p.conn more w others p.is.there;
+            there = cc (fold-append (happens buses) start events more, stays_all buses n p.conn more w others p.is.there);
             info = p.is.info;
             open_now = p.is.open_now;
-            fine = ap (overran p.conn) grown ∙ overran_same p.conn panel_shut past since each ∙ p.is.fine;
+            fine = cc (overran_same p.conn panel_shut past since each);
           };
           left = p.left;
-          owes = ap (λ h. owed p.conn h (rows buses v)) grown ∙ ap (owed p.conn (past ++ since)) shows
-              ∙ owed_same p.conn panel_shut past since (rows buses w) fits.numbers fits.finished each ∙ p.owes;
+          owes = cc (owed_same p.conn panel_shut past since (rows buses w) fits.numbers fits.finished each);
         }
       where
         no_length : {X : Type 0} (xs : List X) → length xs ≡ 0 → xs ≡ []

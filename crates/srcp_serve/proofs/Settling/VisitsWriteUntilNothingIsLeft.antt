@@ -5,33 +5,30 @@ use Rattle.std.proofs.Common.{◌==◌}
 use Rattle.std.proofs.lemmas.List.Sums.{length-filter}
 use Rattle.std.specs.Prelude.{filter, filter_map, nat_lt, count_by, ◌&&◌, ◌||◌}
 use Rattle.std.specs.List.{list_any, AllByRecursion}
-use Rattle.std.specs.Option.{option_map_or}
 use Rattle.std.proofs.lemmas.Bool.{ltb-false, ltb-true}
 use Rattle.std.proofs.lemmas.Bool.Decides.{nat_tests}
 use Rattle.std.proofs.lemmas.List.{map-append}
 use Rattle.std.proofs.lemmas.List.Folds.{list_any-append}
-use Rattle.srcp_feed.specs.declared.next.Next.{Next}
+use Rattle.srcp_feed.specs.declared.answers.Next.{Next}
 use Rattle.srcp_grammar.specs.declared.layout.Bus.{Bus}
 use Rattle.srcp_grammar.specs.Layout.{IsLayout}
-use Rattle.srcp_core.specs.Connection.{finish, is_last, is_nil, overran, unsent, line_of}
-use Rattle.srcp_core.specs.Course.{World, course, history}
+use Rattle.srcp_core.specs.Connection.{line_of}
+use Rattle.srcp_core.specs.Course.{course}
 use Rattle.srcp_core.specs.Under.{Event, Bytes, Room, Piece}
-use Rattle.srcp_core.specs.declared.record.Finish.TheVariants.{Closing, Live, Overrun, Shut as ShutFinish}
 use Rattle.srcp_serve.specs.Given.{Call, ExpectCall, NowCall, AcceptCall, ReadCall, WriteCall, CloseCall}
-use Rattle.srcp_serve.specs.Serving.{Question, Expects, Moments, Newcomers, Reads, Writes, Closes, Client, IsFair, question, piece_of}
-use Rattle.srcp_serve.specs.Serving.{count_of, is_close, is_write, loses, loses_reading, loses_writing, falls_short, lent_none_last, rooms}
-use Rattle.srcp_serve.specs.Serving.{exchange, is_ready, is_closing, lent, handed, unless_nil, reads_of, writes_of, closes_of, visit_asks}
+use Rattle.srcp_serve.specs.Serving.{Question, Expects, Moments, Accepts, Reads, Writes, Closes, Client, IsFair, question, piece_of}
+use Rattle.srcp_serve.specs.Serving.{count_of, is_close, is_write, loses, loses_reading, falls_short, lent_none_last, exchange, is_closing}
+use Rattle.srcp_serve.specs.Serving.{lent, handed, closes_of, visit_asks, asks_close}
 use Rattle.srcp_serve.proofs.VisitsSendWhatIsTaken.{first_of_writes, has_writes, no_write}
 use Rattle.srcp_serve.proofs.Settling.PanelsTakeTheirLines.{Panel, first_text, owed_then, panel_bytes, panel_full, panel_goes_on}
-use Rattle.srcp_serve.proofs.Settling.PanelsTakeTheirLines.{panel_lends, panel_open}
-use Rattle.srcp_serve.proofs.Settling.PanelsTakeTheirLines.{panel_room}
+use Rattle.srcp_serve.proofs.Settling.PanelsTakeTheirLines.{panel_lends, panel_open, panel_room}
 
 -- the peer took all of it, if it is a write
 abbrev pub IsWhole : Call → Type 0
 IsWhole call = IsFair call × (loses call ≡ false) × (falls_short call ≡ false)
 
 whole_count : (peer count : ℕ) (bytes : List ℕ) → IsWhole (WriteCall peer bytes (Ok count)) → count ≡ length bytes
-whole_count peer count bytes h = let low = ltb-false count (length bytes) h.2 in let high = h.0 in omega (arith, low, high)
+whole_count peer count bytes h = let low = ltb-false count _ h.2 in let high = h.0 in omega (arith, low, high)
 
 -- one write more if something is unsent
 abbrev pub one_unless_nil : List ℕ → ℕ
@@ -62,30 +59,29 @@ module _ (buses : List Bus) (layout : IsLayout buses) (peer n : ℕ) where
       absurd (no_write peer (Expects due slack) (map question calls) _ refl e)
   first_write (NowCall answer) calls most events bytes nexts h e p = absurd (no_write peer Moments (map question calls) _ refl e)
   first_write (AcceptCall answer granted) calls most events bytes nexts h e p =
-      absurd (no_write peer Newcomers (map question calls) _ refl e)
+      absurd (no_write peer Accepts (map question calls) _ refl e)
   first_write (ReadCall who answer buffer grants) calls most events bytes nexts h e p =
       absurd (no_write peer (Reads who (length buffer)) (map question calls) _ refl e)
   first_write (CloseCall who answer) calls most events bytes nexts h e p = absurd (no_write peer (Closes who) (map question calls) _ refl e)
-  first_write (WriteCall who text (Err failed)) calls most events bytes nexts h e p = let no : true ≡ false = h.1 in cc
+  first_write (WriteCall who text (Err failed)) calls most events bytes nexts h e p = let no = h.1 in cc
   first_write (WriteCall who text (Ok count)) calls most events bytes nexts h e p =
-      let now : List ℕ = lent buses n events in
-      let counts : List ℕ = filter_map count_of calls in
+      let now = lent buses n events in
+      let counts = filter_map count_of calls in
       let rest : Bool → List (List ℕ) = λ b. if b then handed buses n (events ++ Room n count ∷ []) counts else [] in
       let f = first_of_writes peer who most text now (map question calls) (rest (count == length now)) e in
-      let lends : now ≡ first_text bytes nexts = panel_lends buses n events bytes nexts p layout in
-      let full : count ≡ length now = whole_count who count text h ∙ ap (λ (l : List ℕ). length l) f.bytes_are in
+      let lends = panel_lends buses n events bytes nexts p layout in
+      let full : count ≡ length now = cc (whole_count who count text h) in
       let yes : (count == length now) ≡ true = grind (arith, nat_tests) in
-      let size : length (first_text bytes nexts) ≡ count = sym (full ∙ ap (λ (l : List ℕ). length l) lends) in
+      let size : length (first_text bytes nexts) ≡ count = sym (cc) in
       record {
         count = count;
         more = counts;
         counts_are = refl;
-        some = subst (λ (l : List ℕ). 0 < length l) lends f.some;
+        some = rw lends at f.some;
         left = f.left;
         one_less = f.one_less;
-        panel = subst (λ (k : ℕ). Panel buses n (events ++ Room n k ∷ []) [] (owed_then bytes nexts)) size
-            (panel_room buses n events bytes nexts p layout);
-        others = f.others ∙ ap (λ b. map (Writes peer) (take f.left (rest b))) yes;
+        panel = rw size at (panel_room buses n events bytes nexts p layout);
+        others = cc;
         counted = refl;
       }
 
@@ -107,27 +103,25 @@ module _ (buses : List Bus) (layout : IsLayout buses) (peer n : ℕ) where
       by : (text : List ℕ) → first_text bytes nexts ≡ text → text ≡ []
       by [] t = refl
       by (byte ∷ text) t =
-          let lends : lent buses n events ≡ byte ∷ text = panel_lends buses n events bytes nexts p layout ∙ t in
-          let no : [] ≡ map (Writes peer) (take (suc most) ((byte ∷ text) ∷ [])) = e
-          ∙ ap (λ now. map (Writes peer) (take (suc most) (unless_nil now []))) lends in
+          let lends = panel_lends buses n events bytes nexts p layout ∙ t in
+          let no : [] ≡ map (Writes peer) (take (suc most) ((byte ∷ text) ∷ [])) = cc in
           cc
 
   -- the first write and then the others
-  then_others : (most first : ℕ) (events : List Event) (bytes : List ℕ) (nexts front : List Next) (calls : List Call) (counts : List ℕ)
-      (f : IsWritten most events bytes nexts calls counts) → nexts ≡ front ++ owed_then bytes nexts → length front + first ≡ 1
+  then_others : (most first : ℕ) (events : List Event) (bytes : List ℕ) (nexts prefix : List Next) (calls : List Call) (counts : List ℕ)
+      (f : IsWritten most events bytes nexts calls counts) → nexts ≡ prefix ++ owed_then bytes nexts → length prefix + first ≡ 1
       → IsHanded f.left 0 (owed_then bytes nexts) (events ++ Room n f.count ∷ []) (filter_map count_of calls)
       → IsHanded most first nexts events counts
-  then_others most first events bytes nexts front calls counts f split one r =
-      let are : counts ≡ f.count ∷ filter_map count_of calls = f.counts_are ∙ ap (λ cs. f.count ∷ cs) f.counted in
+  then_others most first events bytes nexts prefix calls counts f split one r =
+      let are : counts ≡ f.count ∷ filter_map count_of calls = cc in
       record {
-        lines = front ++ r.lines;
+        lines = prefix ++ r.lines;
         rest = r.rest;
-        whole = split ∙ ap (λ ns. front ++ ns) r.whole ∙ sym (append_assoc front r.lines r.rest);
-        panel = subst (λ (es : List Event). Panel buses n es [] r.rest)
-            (append_assoc events (Room n f.count ∷ []) (map (Room n) (filter_map count_of calls))
-            ∙ ap (λ cs. events ++ map (Room n) cs) (sym are)) r.panel;
-        many = longer (length front) (length r.lines) (length (front ++ r.lines)) (length (filter_map count_of calls)) (length counts) one
-            (length-append front r.lines) r.many (ap length are);
+        whole = cc (append_assoc prefix r.lines r.rest);
+        panel = rw (append_assoc events (Room n f.count ∷ []) (map (Room n) (filter_map count_of calls))
+            ∙ ap (λ cs. events ++ map (Room n) cs) (sym are)) at r.panel;
+        many = longer (length prefix) (length r.lines) (length (prefix ++ r.lines)) (length (filter_map count_of calls)) (length counts) one
+            (length-append prefix r.lines) r.many (ap length are);
         ends = by (length (filter_map count_of calls)) (length counts) r.ends (ap length are);
       }
     where
@@ -136,13 +130,12 @@ module _ (buses : List Bus) (layout : IsLayout buses) (peer n : ℕ) where
 
       by : (a b : ℕ) → (r.rest ≡ []) ⊎ (a ≡ f.left) → b ≡ suc a → (r.rest ≡ []) ⊎ (b ≡ most)
       by a b (inl none) size = inl none
-      by a b (inr same) size = inr (size ∙ ap (λ k. suc k) same ∙ sym f.one_less)
+      by a b (inr same) size = inr (cc)
 
   -- the others, asked for after the first
   asked_then : (most : ℕ) (events : List Event) (bytes : List ℕ) (nexts : List Next) (calls : List Call) (counts : List ℕ)
       (f : IsWritten most events bytes nexts calls counts) → Asked f.left (events ++ Room n f.count ∷ []) calls (map question calls)
-  asked_then most events bytes nexts calls counts f = f.others
-      ∙ ap (λ cs. map (Writes peer) (take f.left (handed buses n (events ++ Room n f.count ∷ []) cs))) f.counted
+  asked_then most events bytes nexts calls counts f = cc
 
   hands_lines : (calls : List Call) (most : ℕ) (events : List Event) (nexts : List Next) → AllByRecursion IsWhole calls
       → Asked most events calls (map question calls)
@@ -151,7 +144,7 @@ module _ (buses : List Bus) (layout : IsLayout buses) (peer n : ℕ) where
     lines = [];
     rest = nexts;
     whole = refl;
-    panel = subst (λ (es : List Event). Panel buses n es [] nexts) (sym (append-nil events)) p;
+    panel = rw append-nil p;
     many = refl;
     ends = by nexts (panel_full buses n events [] nexts p) (no_more most events [] nexts e p);
   }
@@ -190,7 +183,7 @@ module _ (buses : List Bus) (layout : IsLayout buses) (peer n : ℕ) where
 
 not_any : {X : Type 0} (p : X → Bool) (xs : List X) → list_any p xs ≡ false → AllByRecursion (λ x. p x ≡ false) xs
 not_any p [] e = tt
-not_any p (x ∷ xs) e = let b = neither (p x) (list_any p xs) e in (b.0, not_any p xs b.1)
+not_any p (x ∷ xs) e = let b = neither (p x) _ e in (b.0, not_any p xs b.1)
   where
     neither : (a b : Bool) → a || b ≡ false → (a ≡ false) × (b ≡ false)
     neither true b e = cc
@@ -198,7 +191,7 @@ not_any p (x ∷ xs) e = let b = neither (p x) (list_any p xs) e in (b.0, not_an
 
 any_not : {X : Type 0} (p : X → Bool) (xs : List X) → AllByRecursion (λ x. p x ≡ false) xs → list_any p xs ≡ false
 any_not p [] a = refl
-any_not p (x ∷ xs) a = ap (λ b. b || list_any p xs) a.0 ∙ any_not p xs a.1
+any_not p (x ∷ xs) a = cc (any_not p xs a.1)
 
 each_whole : (calls : List Call) → AllByRecursion IsFair calls → AllByRecursion (λ call. loses call ≡ false) calls
     → AllByRecursion (λ call. falls_short call ≡ false) calls → AllByRecursion IsWhole calls
@@ -208,7 +201,7 @@ each_whole (call ∷ calls) f l s = ((f.0, l.0, s.0), each_whole calls f.1 l.1 s
 each_read : (calls : List Call) → AllByRecursion (λ call. loses call ≡ false) calls
     → AllByRecursion (λ call. loses_reading call ≡ false) calls
 each_read [] l = tt
-each_read (call ∷ calls) l = (first (loses_reading call) (loses_writing call) l.0, each_read calls l.1)
+each_read (call ∷ calls) l = (first _ _ l.0, each_read calls l.1)
   where
     first : (a b : Bool) → a || b ≡ false → a ≡ false
     first true b e = cc
@@ -228,22 +221,9 @@ writes_counted (CloseCall who answer ∷ calls) = writes_counted calls
 counts_many : (calls : List Call) → count_by is_write calls ≡ length (filter_map count_of calls)
 counts_many calls = sym (length-filter is_write calls) ∙ writes_counted calls
 
-abbrev asks_close : Question → Bool
-asks_close (Expects due slack) = false
-asks_close Moments = false
-asks_close Newcomers = false
-asks_close (Reads peer most) = false
-asks_close (Writes peer bytes) = false
-asks_close (Closes peer) = true
-
 closes_asked : (calls : List Call) → list_any is_close calls ≡ list_any asks_close (map question calls)
 closes_asked [] = refl
-closes_asked (ExpectCall due slack ∷ calls) = closes_asked calls
-closes_asked (NowCall answer ∷ calls) = closes_asked calls
-closes_asked (AcceptCall answer granted ∷ calls) = closes_asked calls
-closes_asked (ReadCall who answer buffer grants ∷ calls) = closes_asked calls
-closes_asked (WriteCall who bytes answer ∷ calls) = closes_asked calls
-closes_asked (CloseCall who answer ∷ calls) = refl
+closes_asked (call ∷ calls) = ap (λ b. asks_close (question call) || b) (closes_asked calls)
 
 writes_close : (peer : ℕ) (texts : List (List ℕ)) → list_any asks_close (map (Writes peer) texts) ≡ false
 writes_close peer [] = refl
@@ -260,22 +240,19 @@ module _ (buses : List Bus) (layout : IsLayout buses) (client : Client) (events 
       → Panel buses client.conn (events ++ map (Bytes client.conn) pieces) bytes nexts
   after_pieces events [] q = subst (λ (es : List Event). Panel buses client.conn es bytes nexts) (sym (append-nil events)) q
   after_pieces events (piece ∷ pieces) q =
-      subst (λ (es : List Event). Panel buses client.conn es bytes nexts)
-      (append_assoc events (Bytes client.conn piece ∷ []) (map (Bytes client.conn) pieces))
+      rw append_assoc at
       (after_pieces (events ++ Bytes client.conn piece ∷ []) pieces (panel_bytes buses client.conn events bytes nexts q piece))
 
   -- the writes of the visit
   wrote : IsHanded buses layout client.peer client.conn 300 (one_unless_nil bytes) nexts read_events (filter_map count_of calls)
   wrote =
       let h = has_writes buses client events calls asked in
-      let losing : AllByRecursion (λ call. loses call ≡ false) calls = not_any loses calls keeps in
-      let whole : AllByRecursion IsWhole h.writes = h.each IsWhole (each_whole calls fair losing (not_any falls_short calls takes)) in
-      let reading : list_any loses_reading calls ≡ false = any_not loses_reading calls (each_read calls losing) in
+      let losing = not_any loses calls keeps in
+      let whole = h.each IsWhole (each_whole calls fair losing (not_any falls_short calls takes)) in
+      let reading = any_not loses_reading calls (each_read calls losing) in
       let texts : List ℕ → List Question = λ cs. map (Writes client.peer) (take 300 (handed buses client.conn read_events cs)) in
-      let asks : map question h.writes ≡ texts (filter_map count_of h.writes) = h.asked
-      ∙ ap (λ b. if b then [] else texts (filter_map count_of calls)) reading ∙ ap texts h.counts in
-      subst (λ (cs : List ℕ). IsHanded buses layout client.peer client.conn 300 (one_unless_nil bytes) nexts read_events cs) (sym h.counts)
-      (hands_all buses layout client.peer client.conn h.writes 300 read_events bytes nexts (omega arith) whole asks
+      let asks : map question h.writes ≡ texts (filter_map count_of h.writes) = cc in
+      rw h.counts (hands_all buses layout client.peer client.conn h.writes 300 read_events bytes nexts (omega arith) whole asks
       (after_pieces events (filter_map piece_of calls) p))
 
   -- after a visit nothing is unsent, and these lines are left to it: none, or it was handed 300
@@ -291,55 +268,38 @@ module _ (buses : List Bus) (layout : IsLayout buses) (client : Client) (events 
       → Panel buses client.conn (now ++ map (Room client.conn) (if b then 0 ∷ [] else [])) [] rest
   last_room now rest false none q = subst (λ (es : List Event). Panel buses client.conn es [] rest) (sym (append-nil now)) q
   last_room now rest true none q =
-      let empty : rest ≡ [] = none refl in
-      subst (λ (ns : List Next). Panel buses client.conn (now ++ Room client.conn 0 ∷ []) [] ns) (sym empty)
-      (panel_room buses client.conn now [] [] (subst (λ (ns : List Next). Panel buses client.conn now [] ns) empty q) layout)
+      let empty = none refl in
+      rw empty (panel_room buses _ now [] [] (rw empty at q) layout)
 
   -- of a session that goes on
   not_closing : (now : List Event) (left : List ℕ) (rest : List Next) → Panel buses client.conn now left rest
       → is_closing buses client.conn now ≡ false
   not_closing now left rest q =
-      let w : World = course buses now in
-      ap (λ o. option_map_or (λ conn. is_last (finish conn (history buses w))) o false) (panel_open buses client.conn now left rest q)
-      ∙ ap (λ t. is_last (if t then
-      (if overran q.conn (history buses w) then Overrun else
-      (if q.conn.ended && is_nil (unsent q.conn) then Closing else Live)) else ShutFinish)) q.is.open_now
-      ∙ ap (λ t. is_last (if t then Overrun else (if q.conn.ended && is_nil (unsent q.conn) then Closing else Live))) q.is.fine
-      ∙ ap (λ t. is_last (if t && is_nil (unsent q.conn) then Closing else Live)) (panel_goes_on buses client.conn now left rest q)
+      let w = course buses now in
+      cc (panel_open buses client.conn now left rest q, panel_goes_on buses client.conn now left rest q)
 
   pub visited_whole : IsVisitedWhole
   visited_whole =
       let r = wrote in
       let n : ℕ = client.conn in
-      let counts : List ℕ = filter_map count_of calls in
-      let asks_last : Bool = lent_none_last calls in
+      let counts = filter_map count_of calls in
+      let asks_last = lent_none_last calls in
       let none_then : asks_last ≡ true → r.rest ≡ [] = λ e. nothing r.rest r.ends (few e) in
       let last = last_room (read_events ++ map (Room n) counts) r.rest asks_last none_then r.panel in
       let whole : (read_events ++ map (Room n) counts) ++ map (Room n) (if asks_last then 0 ∷ [] else []) ≡ events ++ exchange n calls =
-      append_assoc read_events (map (Room n) counts) (map (Room n) (if asks_last then 0 ∷ [] else []))
-      ∙ ap (λ es. read_events ++ es) (sym (map-append (Room n) counts (if asks_last then 0 ∷ [] else [])))
-      ∙ append_assoc events (map (Bytes n) (filter_map piece_of calls)) (map (Room n) (rooms calls)) in
-      let panel : Panel buses n (events ++ exchange n calls) [] r.rest =
-      subst (λ (es : List Event). Panel buses n es [] r.rest) whole last in
+      simp (append_assoc, map-append) in
+      let panel =
+      rw whole at last in
       let open_still = not_closing (events ++ exchange n calls) [] r.rest panel in
       let none_closed : closes_of buses events calls client ≡ [] =
-      ap (λ b. if b || is_closing buses n (events ++ exchange n calls) then Closes client.peer ∷ [] else []) keeps
-      ∙ ap (λ b. if b then Closes client.peer ∷ [] else []) open_still in
+      cc in
       record {
         lines = r.lines;
         rest = r.rest;
         whole = r.whole;
         panel = panel;
         ends = by r.rest r.ends r.many;
-        stays = closes_asked calls
-            ∙ ap (list_any asks_close) asked
-            ∙ list_any-append asks_close (reads_of buses events client ++ writes_of buses events calls client)
-            (closes_of buses events calls client)
-            ∙ ap (λ qs. list_any asks_close
-            (reads_of buses events client ++ writes_of buses events calls client) || list_any asks_close qs) none_closed
-            ∙ ap (λ b. b || false) (list_any-append asks_close (reads_of buses events client) (writes_of buses events calls client))
-            ∙ ap (λ b. (b || list_any asks_close (writes_of buses events calls client)) || false) (reads (is_ready buses client.conn events))
-            ∙ ap (λ b. b || false) (writes (list_any loses_reading calls));
+        stays = rw (closes_asked, asked, list_any-append, none_closed, list_any-append, reads, writes);
       }
     where
       few : lent_none_last calls ≡ true → length (filter_map count_of calls) < 300
@@ -349,7 +309,7 @@ module _ (buses : List Bus) (layout : IsLayout buses) (client : Client) (events 
               → length (filter_map count_of calls) < 300
           fewer true b k same e = cc
           fewer false true k same e = cc
-          fewer false false k same e = let less : k < 300 = ltb-true k 300 e in omega (arith, less, same)
+          fewer false false k same e = let less = ltb-true k 300 e in omega (arith, less, same)
 
       nothing : (rest : List Next) → (rest ≡ []) ⊎ (length (filter_map count_of calls) ≡ 300) → length (filter_map count_of calls) < 300
           → rest ≡ []

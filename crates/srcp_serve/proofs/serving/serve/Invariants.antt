@@ -1,7 +1,7 @@
 use Rattle.std.specs.Prelude.{◌≡◌, ◌≤◌}
 use Rattle.srcp_serve.specs.Tally.{CountsFaults}
-use Rattle.srcp_serve.specs.Slots.{ServesSoFar}
 use Rattle.srcp_serve.specs.Turns.{AsksTurns}
+use Rattle.srcp_serve.proofs.ServingFollows.{ServesSoFar}
 use Rattle.srcp_serve.proofs.serving.serve.Given as goal
 
 abbrev pub invariant-loop : goal.invariant-loop

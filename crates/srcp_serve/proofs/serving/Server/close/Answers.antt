@@ -1,8 +1,7 @@
 use Rattle.std.proofs.Common.{ap, refl}
 use Rattle.srcp_serve.specs.declared.tally.Tally.{Tally}
 use Rattle.srcp_serve.proofs.CallsAreAdded.{closes_by}
-use Rattle.srcp_serve.proofs.DoorIsCalled.{calls_one}
-use Rattle.srcp_serve.proofs.FaultsAreCounted.{none_failed, one_failed}
+use Rattle.srcp_serve.proofs.DoorIsCalled.{calls_one, none_failed, one_failed}
 use Rattle.srcp_serve.proofs.serving.Server.close.Goals as goal
 
 pub returns-in-Ok-clause-calls : goal.returns-in-Ok-clause-calls

@@ -1,14 +1,10 @@
-use Rattle.std.proofs.Common.{◌≡◌, Ok, Err, ap, subst, arith, length, refl, []}
+use Rattle.std.proofs.Common.{◌≡◌, Ok, Err, ap, arith, length, refl, []}
 use Rattle.srcp_serve.specs.declared.tally.Tally.{Tally}
-use Rattle.srcp_serve.specs.Calls.{Tells}
-use Rattle.srcp_serve.specs.Calls as door
 use Rattle.srcp_serve.specs.Given.{ReadCall}
 use Rattle.srcp_serve.specs.Serving.{loses_reading, piece_of}
 use Rattle.srcp_serve.specs.declared.door.Got.{Got}
-use Rattle.srcp_serve.proofs.AnswersAreFair.{fair_read}
-use Rattle.srcp_serve.proofs.OneReadFollows.{read_not, read_other, read_bytes}
-use Rattle.srcp_serve.proofs.FaultsAreCounted.{none_failed, one_failed}
-use Rattle.srcp_serve.proofs.DoorIsCalled.{calls_none, calls_one}
+use Rattle.srcp_serve.proofs.DoorIsCalled.{fair_read, none_failed, one_failed, calls_none, calls_one}
+use Rattle.srcp_serve.proofs.OneCallFollows.{read_not, read_other, read_bytes}
 use Rattle.srcp_serve.proofs.serving.Server.read_in.Goals as goal
 
 pub returns-then-not-ready-clause-course : goal.returns-then-not-ready-clause-course
@@ -18,11 +14,7 @@ pub returns-in-Ok-Bytes-clause-course : goal.returns-in-Ok-Bytes-clause-course
 returns-in-Ok-Bytes-clause-course g c =
     let full : length c.read.new.buf ≡ 256 = omega (arith, c.read.auto.buf) in
     read_bytes _ _ _ _ _ c.ready.ensures c.in-Ok-Bytes.count c.read.new.buf _ _ _ _ c.if-not-ready.false full
-    (subst
-    (λ (x : Got).
-    Tells (g.D.Door.trace c.args.self.now.door.now) (door.ReadCall c.args.client.peer (Ok x) c.read.new.buf)
-    (g.D.Door.trace c.read.new.self))
-    c.in-Ok-Bytes.field-0-is c.in-Ok-Bytes.ensures.trace) c.receive.ensures.fault c.receive.ensures.received c.is_ok.ensures.value
+    (rw c.in-Ok-Bytes.field-0-is at c.in-Ok-Bytes.ensures.trace) c.receive.ensures.fault c.receive.ensures.received c.is_ok.ensures.value
 
 pub returns-in-Ok-Nothing-clause-course : goal.returns-in-Ok-Nothing-clause-course
 returns-in-Ok-Nothing-clause-course g c =
@@ -42,10 +34,11 @@ returns-in-Ok-Ended-clause-course g c =
 pub returns-in-Err-clause-course : goal.returns-in-Err-clause-course
 returns-in-Err-clause-course g c =
     let full : length c.read.new.buf ≡ 256 = omega (arith, c.read.auto.buf) in
-    read_other _ _ _ _ _ c.ready.ensures (Err c.in-Err.field-0) c.read.new.buf _ c.if-not-ready.false full c.in-Err.ensures.trace _ refl refl
+    read_other _ _ _ _ _ c.ready.ensures
+    (Err c.in-Err.field-0) c.read.new.buf _ c.if-not-ready.false full c.in-Err.ensures.trace _ refl refl
 
 pub returns-then-not-ready-clause-calls : goal.returns-then-not-ready-clause-calls
-returns-then-not-ready-clause-calls g c = calls_none _ _ c.args.self.now c.requires
+returns-then-not-ready-clause-calls g c = calls_none _ _ _ c.requires
 
 pub returns-in-Ok-Bytes-clause-calls : goal.returns-in-Ok-Bytes-clause-calls
 returns-in-Ok-Bytes-clause-calls g c =

@@ -1,7 +1,5 @@
-use Rattle.std.proofs.Common.{◌≡◌, ◌∙◌, ℕ, arith, subst, sym}
-use Rattle.srcp_serve.specs.Slots.{AreFreeFrom}
-use Rattle.srcp_serve.proofs.SlotsBehindStayFree.{length_kept, slots_rest, still_free}
-use Rattle.srcp_serve.proofs.SlotsFollow.{slots_first, slots_on}
+use Rattle.std.proofs.Common.{◌≡◌, ◌∙◌, arith}
+use Rattle.srcp_serve.proofs.SlotsFollow.{length_kept, slots_rest, still_free, slots_first, slots_on}
 use Rattle.srcp_serve.proofs.DoorIsCalled.{calls_none, calls_on}
 use Rattle.srcp_serve.proofs.serving.Server.visit_slots.Goals as goal
 
@@ -10,8 +8,8 @@ loop-slot-init g c = record {
   long = c.end-end.ensures.all;
   free = c.end-end.ensures.free;
   most = c.end-end.ensures.most;
-  calls = calls_none _ _ c.args.self.now c.requires;
-  course = slots_first c.args.core.now (g.D.Door.trace c.args.self.now.door.now) c.args.self.now.slots;
+  calls = calls_none _ _ _ c.requires;
+  course = slots_first _ _ _;
 }
 
 pub loop-slot-preserved : goal.loop-slot-preserved
@@ -43,4 +41,4 @@ returns-clause-course g c =
     slots_rest c.args.core.now c.loop-slot.core (g.D.Door.trace c.args.self.now.door.now)
     (g.D.Door.trace c.loop-slot.self.door.now) c.args.self.now.slots
     c.loop-slot.self.slots i.long c.loop-slot.slot (omega (arith, last, i.most))
-    (subst (λ (n : ℕ). AreFreeFrom n c.loop-slot.self.slots) (sym last) i.free) i.course
+    (rw last i.free) i.course

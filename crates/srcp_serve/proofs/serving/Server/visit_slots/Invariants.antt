@@ -1,7 +1,8 @@
 use Rattle.std.specs.Prelude.{◌≡◌, ◌≤◌, length}
-use Rattle.srcp_serve.specs.Slots.{AreFreeFrom, VisitsSoFar}
+use Rattle.srcp_serve.specs.Slots.{AreFreeFrom}
 use Rattle.srcp_serve.specs.Tally.{CallsDoor}
 use Rattle.srcp_serve.specs.Turns.{AsksPeers}
+use Rattle.srcp_serve.proofs.SlotsFollow.{VisitsSoFar}
 use Rattle.srcp_serve.proofs.serving.Server.visit_slots.Given as goal
 
 abbrev pub invariant-loop-slot : goal.invariant-loop-slot

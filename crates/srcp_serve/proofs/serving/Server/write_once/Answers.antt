@@ -1,16 +1,14 @@
 use Rattle.std.proofs.Common.{ap, refl, sym, ◌∙◌, arith, ◌≡◌, length}
 use Rattle.srcp_serve.specs.declared.tally.Tally.{Tally}
 use Rattle.srcp_serve.specs.declared.serving.visit.Wrote.TheVariants.{Less}
-use Rattle.srcp_serve.proofs.AnswersAreFair.{fair_write}
-use Rattle.srcp_serve.proofs.FaultsAreCounted.{none_failed, one_failed}
-use Rattle.srcp_serve.proofs.OneWriteFollows.{sends, wrote_absent, wrote_none, wrote_less, wrote_all, wrote_failed}
-use Rattle.srcp_serve.proofs.DoorIsCalled.{calls_none, calls_one}
+use Rattle.srcp_serve.proofs.DoorIsCalled.{fair_write, none_failed, one_failed, calls_none, calls_one}
+use Rattle.srcp_serve.proofs.OneCallFollows.{sends, wrote_absent, wrote_none, wrote_less, wrote_all, wrote_failed}
 use Rattle.srcp_serve.proofs.serving.Server.write_once.Goals as goal
 
 pub returns-in_default-clause-course : goal.returns-in_default-clause-course
 returns-in_default-clause-course g c =
-    wrote_absent c.args.client.peer c.args.client.key c.args.core.now (g.D.Door.trace c.args.self.now.door.now) c.outgoing.follows.lender-at-none
-    (g.D.Door.trace c.args.self.now.door.now) Less c.in_default.ensures.absent.1
+    wrote_absent _ _ _ _ _
+    _ Less c.in_default.ensures.absent.1
 
 pub returns-then-is_empty-clause-course : goal.returns-then-is_empty-clause-course
 returns-then-is_empty-clause-course g c =
@@ -27,7 +25,7 @@ returns-then-count-handed-clause-course g c =
 pub returns-else-count-handed-clause-course : goal.returns-else-count-handed-clause-course
 returns-else-count-handed-clause-course g c =
     let full : c.in-Ok-write.count ≡ length c.in-Ok.lent.now = omega (arith, c.in-Ok-write.ensures.count, c.if-count-handed.false) in
-    wrote_all _ _ _ _ c.in-Ok.lent.now _ _ _ c.in-Ok.ensures.bytes
+    wrote_all _ _ _ _ _ _ _ _ c.in-Ok.ensures.bytes
     (sends c.args.client.key c.in-Ok-write.count c.args.core.now c.outgoing.follows.lender-at-none c.sent.new.self
     c.outgoing.follows.holds-at-none c.sent.ensures c.in-Ok.lent.now c.in-Ok.ensures.bytes
     c.in-Ok-write.ensures.count) c.in-Ok-write.ensures.trace full
@@ -39,10 +37,10 @@ returns-in_default-write-clause-course g c =
     (sym c.is_empty.ensures ∙ c.if-is_empty.false)
 
 pub returns-in_default-clause-calls : goal.returns-in_default-clause-calls
-returns-in_default-clause-calls g c = calls_none _ _ c.args.self.now c.requires
+returns-in_default-clause-calls g c = calls_none _ _ _ c.requires
 
 pub returns-then-is_empty-clause-calls : goal.returns-then-is_empty-clause-calls
-returns-then-is_empty-clause-calls g c = calls_none _ _ c.args.self.now c.requires
+returns-then-is_empty-clause-calls g c = calls_none _ _ _ c.requires
 
 pub returns-then-count-handed-clause-calls : goal.returns-then-count-handed-clause-calls
 returns-then-count-handed-clause-calls g c =

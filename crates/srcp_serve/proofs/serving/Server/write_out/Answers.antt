@@ -6,9 +6,9 @@ use Rattle.srcp_serve.proofs.serving.Server.write_out.Goals as goal
 pub loop-init : goal.loop-init
 loop-init g c = record {
   slots = refl;
-  calls = calls_none _ _ c.args.self.now c.requires;
+  calls = calls_none _ _ _ c.requires;
   denied = refl;
-  course = takes_first c.args.client.peer c.args.client.key c.args.core.now (g.D.Door.trace c.args.self.now.door.now);
+  course = takes_first _ _ _ _;
 }
 
 pub loop-preserved : goal.loop-preserved
@@ -17,7 +17,8 @@ loop-preserved g c = record {
   calls = calls_on _ _ _ _ _ c.loop.invariant.calls c.write_once.ensures.calls;
   denied = c.write_once.ensures.denied ∙ c.loop.invariant.denied;
   course =
-      takes_on c.args.client.peer c.args.client.key c.args.core.now c.loop.core c.write_once.new.core (g.D.Door.trace c.args.self.now.door.now)
+      takes_on c.args.client.peer c.args.client.key c.args.core.now c.loop.core c.write_once.new.core
+      (g.D.Door.trace c.args.self.now.door.now)
       (g.D.Door.trace c.loop.self.door.now)
       (g.D.Door.trace c.write_once.new.self.door.now) c.loop.counter c.loop.invariant.course
       c.write_once.ensures.calls.asks c.in-All.ensures.course;
@@ -28,10 +29,9 @@ returns-in-Less-clause-calls g c = calls_on _ _ _ _ _ c.loop.invariant.calls c.w
 
 pub returns-in-Less-clause-course : goal.returns-in-Less-clause-course
 returns-in-Less-clause-course g c =
-    ends_less c.args.client.peer c.args.client.key c.args.core.now c.loop.core c.write_once.new.core (g.D.Door.trace c.args.self.now.door.now)
+    ends_less _ _ _ c.loop.core _ _
     (g.D.Door.trace c.loop.self.door.now)
-    (g.D.Door.trace
-    c.write_once.new.self.door.now) c.loop.counter c.loop.invariant.course
+    _ c.loop.counter c.loop.invariant.course
     c.write_once.ensures.calls.asks c.loop-test.true c.in-Less.ensures.course
 
 pub returns-in-Failed-clause-calls : goal.returns-in-Failed-clause-calls
@@ -39,10 +39,9 @@ returns-in-Failed-clause-calls g c = calls_on _ _ _ _ _ c.loop.invariant.calls c
 
 pub returns-in-Failed-clause-course : goal.returns-in-Failed-clause-course
 returns-in-Failed-clause-course g c =
-    ends_failed c.args.client.peer c.args.client.key c.args.core.now c.loop.core c.write_once.new.core (g.D.Door.trace c.args.self.now.door.now)
+    ends_failed _ _ _ c.loop.core _ _
     (g.D.Door.trace c.loop.self.door.now)
-    (g.D.Door.trace
-    c.write_once.new.self.door.now) c.loop.counter c.loop.invariant.course
+    _ c.loop.counter c.loop.invariant.course
     c.write_once.ensures.calls.asks c.loop-test.true c.in-Failed.ensures.course
 
 pub returns-clause-calls : goal.returns-clause-calls
@@ -51,8 +50,8 @@ returns-clause-calls g c = c.loop.invariant.calls
 pub returns-clause-course : goal.returns-clause-course
 returns-clause-course g c =
     let most : c.loop.counter ≡ 300 = omega (arith, c.loop-test.false, c.loop.auto.counter-end) in
-    ends_full c.args.client.peer c.args.client.key c.args.core.now c.loop.core (g.D.Door.trace c.args.self.now.door.now)
-    (g.D.Door.trace c.loop.self.door.now) c.loop.counter most c.loop.invariant.course
+    ends_full _ _ _ _ _
+    _ _ most c.loop.invariant.course
 
 pub returns-in-Less-clause-slots : goal.returns-in-Less-clause-slots
 returns-in-Less-clause-slots g c = c.write_once.ensures.slots ∙ c.loop.invariant.slots

@@ -9,5 +9,6 @@ invariant-loop g l = record {
   slots : l.self.slots ≡ l.fn.self.slots;
   calls : CallsDoor g.D.Door.faults g.D.Door.trace AsksPeers l.fn.self l.self;
   denied : l.core.denied ≡ l.fn.core.denied;
-  course : TakesSoFar l.client.peer l.client.key l.fn.core (g.D.Door.trace l.fn.self.door.now) l.core (g.D.Door.trace l.self.door.now) l.counter;
+  course : TakesSoFar l.client.peer l.client.key l.fn.core (g.D.Door.trace l.fn.self.door.now) l.core
+      (g.D.Door.trace l.self.door.now) l.counter;
 }

@@ -1,0 +1,167 @@
+-- A peer that is accepted gets a connection and the first free slot, or is closed.
+use Rattle.std.proofs.Common.{◌≡◌, ◌∙◌, ℕ, suc, ◌+◌, ◌<◌, Bool, true, false, List, [], ◌∷◌, ◌++◌, length, if◌then◌else◌, Some, None, Result}
+use Rattle.std.proofs.Common.{refl, ap, sym, arith, length-append}
+use Rattle.std.specs.List.{filter, slice_set, AllByRecursion}
+use Rattle.std.specs.Prelude.{is_none, not, position, nat_lt}
+use Rattle.std.proofs.lemmas.List.Sums.{fold-append}
+use Rattle.srcp_grammar.specs.declared.layout.Bus.{Bus}
+use Rattle.srcp_core.specs.Connection.{is_open}
+use Rattle.srcp_core.specs.Course.{World, counted, course, denied_in, fault}
+use Rattle.srcp_core.specs.Held.{Held, open_count}
+use Rattle.srcp_core.specs.Machine.{IsAdmitted, IsNotAdmitted}
+use Rattle.srcp_core.specs.Recording.{key_of}
+use Rattle.srcp_core.specs.Under.{Event, Open, denied_by}
+use Rattle.srcp_core.specs.Stands.{StandsFor}
+use Rattle.srcp_core.specs.declared.record.CoreFault.{CoreFault}
+use Rattle.srcp_core.specs.declared.record.CoreFault.TheVariants.{Full, Memory as MemoryFault}
+use Rattle.srcp_core.proofs.Agreement.CallLaws.{calls_agree, calls_lead}
+use Rattle.srcp_core.proofs.Agreement.NumbersAndKeys.{key_push_last}
+use Rattle.srcp_serve.specs.Calls.{Trace}
+use Rattle.srcp_serve.specs.Given.{Accepted, CloseCall}
+use Rattle.srcp_serve.specs.Serving.{Client, Stand, Closes as ClosesQuestion, with_connection, with_accept, Slots}
+use Rattle.srcp_serve.specs.Slots.{IsNotOf, IsLeftOut, HasConnected, Connects, Owns}
+use Rattle.srcp_serve.specs.Visits.{Closes}
+use Rattle.srcp_serve.specs.declared.door.DoorFault.{DoorFault}
+use Rattle.srcp_serve.specs.declared.serving.visit.Client.{Client as Own}
+use Rattle.srcp_serve.proofs.SlotsAreTakenAndFreed.{count_append, count_cons, count_connected, differ_connected, in_state_on, free_is}
+use Rattle.srcp_serve.proofs.SlotsAreTakenAndFreed.{new_apart, none_free, owns_pushed, owns_connected}
+use Rattle.srcp_serve.proofs.CallsAreAdded.{adds_none, asked_one}
+
+pub none_left_out : (slots : Slots) → AllByRecursion (IsLeftOut []) slots
+none_left_out [] = tt
+none_left_out (None ∷ slots) = (tt, none_left_out slots)
+none_left_out (Some client ∷ slots) = (tt, none_left_out slots)
+
+closed_left_out : (peer : ℕ) (answer : Result Unit DoorFault) (slots : Slots) → AllByRecursion (IsNotOf peer) slots
+    → AllByRecursion (IsLeftOut (CloseCall peer answer ∷ [])) slots
+closed_left_out peer answer [] h = tt
+closed_left_out peer answer (None ∷ slots) h = (tt, closed_left_out peer answer slots h.1)
+closed_left_out peer answer (Some client ∷ slots) h = ((h.0, tt), closed_left_out peer answer slots h.1)
+
+module _ (buses : List Bus) where
+  -- a connection that is refused since there are too many is refused whatever memory answers
+  full_open : (w : World) → fault buses w (Open false) ≡ Some Full → fault buses w (Open true) ≡ Some Full
+  full_open w e = by (nat_lt (length (filter is_open w.connections)) 64) e
+    where
+      by : (b : Bool) → (if b then Some MemoryFault else Some Full) ≡ Some Full → (if b then None else Some Full) ≡ Some Full
+      by true e = cc
+      by false e = refl
+
+  -- if memory is what is refused, there are not too many
+  few_open : (w : World) → fault buses w (Open false) ≡ Some MemoryFault → not (nat_lt (length (filter is_open w.connections)) 64) ≡ false
+  few_open w e = by _ e
+    where
+      by : (b : Bool) → (if b then Some MemoryFault else Some Full) ≡ Some MemoryFault → not b ≡ false
+      by true e = refl
+      by false e = cc
+
+  full_course : (events : List Event) → fault buses (course buses events) (Open false) ≡ Some Full
+      → course buses (events ++ Open false ∷ []) ≡ course buses (events ++ Open true ∷ [])
+  full_course events e =
+      let w = course buses events in
+      simp (fold-append, e, full_open)
+
+pub connects_refused : (peer : ℕ) (old mid : Held) (cause : CoreFault) (trace_old trace_new : Trace) (owns : Owns)
+    → Closes peer trace_old trace_new
+    → IsNotAdmitted cause old mid → Connects peer old trace_old owns mid trace_new owns false
+connects_refused peer old mid cause trace_old trace_new owns closes not_admitted buses stand keys trace in_state is new =
+    by cause not_admitted (calls_agree.refuses cause old mid not_admitted buses stand.events keys in_state.layout in_state.stands)
+  where
+    no_more : (n : ℕ) → n ≡ n + 0
+    no_more n = omega arith
+
+    stands : StandsFor buses keys mid (course buses (stand.events ++ Open false ∷ []))
+    stands = calls_lead.not_opened cause old mid not_admitted buses stand.events keys in_state.layout in_state.stands
+
+    refused : (cause : CoreFault) (granted : Bool) → fault buses (course buses stand.events) (Open granted) ≡ Some cause
+        → StandsFor buses keys mid (course buses (stand.events ++ Open granted ∷ [])) → mid.denied ≡ denied_by old.denied (granted ∷ [])
+        → mid.denied ≡ denied_in buses old.denied (counted (course buses stand.events)) (Open granted)
+        → HasConnected buses stand trace_old trace mid owns old peer false
+    refused cause granted denies after_open counts asks =
+        let accept : Accepted = record { peer = peer; granted = granted } in
+        let shut = ap is_none denies in
+        let after : Stand = record { events = stand.events ++ Open granted ∷ []; connected = stand.connected; slots = stand.slots } in
+        let w = ap (λ b. if b then with_connection buses stand accept else after) shut in
+        let c = closes trace is in
+        record {
+          granted = granted;
+          early = CloseCall peer c.answer ∷ [];
+          adds = c.adds;
+          settled = record {
+            keys = keys;
+            counted = counts;
+            asked_for = rw w (asked_one buses stand.events (Open granted) old mid asks);
+            asked = sym (ap (λ b. (if b then [] else ClosesQuestion peer ∷ []) ++ []) shut);
+            others =
+                rw w (closed_left_out peer c.answer stand.slots new);
+            in_state = rw w (in_state_on buses stand (stand.events ++ Open granted ∷ []) keys old mid owns in_state after_open);
+            opened = ap (λ (s : Stand). length s.connected) w ∙ no_more (length stand.connected);
+          };
+        }
+
+    by : (cause : CoreFault) → IsNotAdmitted cause old mid → fault buses (course buses stand.events) (Open false) ≡ Some cause
+        → HasConnected buses stand trace_old trace mid owns old peer false
+    by Full a out =
+        refused Full true (full_open buses (course buses stand.events) out)
+        (rw full_course at stands) (ap (λ (h : Held). h.denied) a.1)
+        (ap (λ (h : Held). h.denied) a.1)
+    by MemoryFault a out =
+        let e = ap (λ (h : Held). h.denied) a.1 in
+        refused MemoryFault false out stands e
+        (simp (e, few_open))
+    by other a out = absurd a
+
+pub connects_done : (peer key free : ℕ) (old mid : Held) (trace_old : Trace) (owns : Owns) → IsAdmitted key old mid
+    → position is_none owns ≡ Some free
+    → Connects peer old trace_old owns mid trace_old (slice_set owns free (Some (record { peer = peer; key = key }))) true
+connects_done peer key free old mid trace_old owns admitted slot buses stand keys trace in_state is new =
+    let own : Own = record { peer = peer; key = key } in
+    let accept : Accepted = record { peer = peer; granted = true } in
+    let client : Client = record { peer = peer; conn = length stand.connected + 1 } in
+    let pushed = keys ++ Some key ∷ [] in
+    let connects_is =
+    ap is_none (calls_agree.accepts key old mid admitted buses stand.events keys in_state.layout in_state.stands) in
+    let after : Stand = record { events = stand.events ++ Open true ∷ []; connected = stand.connected; slots = stand.slots } in
+    let w = ap (λ b. if b then with_connection buses stand accept else after) connects_is in
+    let conn = ap (λ n. n + 1) (sym in_state.long) in
+    let number : client.conn ≡ suc (length keys) = omega (arith, conn) in
+    let named : key_of client.conn pushed ≡ Some key = cc (key_push_last keys (Some key)) in
+    let sitting =
+    owns_connected pushed own client owns stand.slots (refl, named) (owns_pushed keys key owns stand.slots in_state.owns_are) in
+    let c = count_append keys (Some key ∷ []) in
+    let none = [] in
+    let one = count_cons (Some key) none in
+    let more = count_connected client stand.slots in
+    let before = in_state.few in
+    record {
+      granted = true;
+      early = [];
+      adds = adds_none is;
+      settled = record {
+        keys = pushed;
+        counted = ap (λ (h : Held). h.denied) admitted.rest;
+        asked_for = rw w (asked_one buses stand.events (Open true) old mid (ap (λ (h : Held). h.denied) admitted.rest));
+        asked = sym (ap (λ b. (if b then [] else ClosesQuestion peer ∷ []) ++ []) connects_is);
+        others = none_left_out (with_accept buses stand accept).slots;
+        in_state = rw w (record {
+          layout = in_state.layout;
+          owns_are =
+              rw (free_is owns free slot) sitting;
+          few = omega (arith, c, one, more, before);
+          differ = differ_connected client stand.slots (new_apart keys client owns stand.slots in_state.owns_are conn new) in_state.differ;
+          long = cc (length-append keys (Some key ∷ []), length-append stand.connected (peer ∷ []));
+          stands = calls_lead.opened key old mid admitted buses stand.events keys in_state.layout in_state.stands;
+        });
+        opened = simp (w, length-append);
+      };
+    }
+
+-- a slot is free if the core has room for a connection
+pub connects_without_slot : (peer : ℕ) (opens : Bool) (old new : Held) (trace_old trace_new : Trace) (owns : Owns)
+    → open_count old < 64 → length owns ≡ 64
+    → position is_none owns ≡ None → Connects peer old trace_old owns new trace_new owns opens
+connects_without_slot peer opens old new trace_old trace_new owns below long none buses stand keys trace in_state is fresh =
+    let taken = none_free keys owns stand.slots in_state.owns_are none in
+    let few = in_state.few in
+    let opened = calls_agree.counted old buses stand.events keys in_state.stands in
+    absurd (omega (arith, taken, few, opened, below, long))

@@ -1,0 +1,239 @@
+-- One call of the door follows the course: the time, the read of a visit, and one write.
+use Rattle.std.proofs.Common.{◌≡◌, ◌∙◌, ℕ, List, [], ◌∷◌, map, Option, Some, Ok, Err, Result, ap, ◌≤◌, Bool, true, false, not, take, length}
+use Rattle.std.proofs.Common.{None, refl, sym, arith, append-nil, length-take, suc, ◌<◌, ◌==◌, IsSome, inl, inr}
+use Rattle.srcp_grammar.specs.declared.layout.Bus.{Bus}
+use Rattle.srcp_core.specs.Course.{course, fault}
+use Rattle.srcp_core.specs.Held.{Held, Place, at}
+use Rattle.srcp_core.specs.Machine.{advanced, slack_at, IsReceived, bytes_fault, let_out, unsent_at, changed_at, without_sent}
+use Rattle.srcp_core.specs.Waits.{least}
+use Rattle.srcp_index.specs.Earliest.{IsEarliestDue}
+use Rattle.srcp_grammar.specs.Layout.{IsLayout}
+use Rattle.srcp_core.specs.Under.{Event, Bytes, giving, Room}
+use Rattle.srcp_core.specs.Stands.{StandsFor}
+use Rattle.srcp_core.proofs.Agreement.CallLaws.{calls_agree, calls_lead}
+use Rattle.srcp_serve.specs.Calls.{Call as DoorCall, Tells, Adds, Trace, WriteCall}
+use Rattle.srcp_serve.specs.Serving.{Expects, expects, Reads, is_ready, question, piece_of, loses_reading, lent}
+use Rattle.srcp_serve.specs.Slots.{TakesMoment}
+use Rattle.srcp_serve.specs.declared.door.DoorFault.{DoorFault}
+use Rattle.srcp_serve.proofs.CallsAreAdded.{adds_one, adds_then, asked_none, asked_one, makes_none, adds_none}
+use Rattle.srcp_serve.specs.Visits.{Keys, ReadsIn, WritesOnce}
+use Rattle.std.specs.Prelude.{is_none, if◌then◌else◌, ◌||◌, MatchResult, OnOk}
+use Rattle.std.specs.Result.{is_ok}
+use Rattle.srcp_core.specs.Agrees.{OfConnection}
+use Rattle.srcp_core.specs.Run.{LeadsAt}
+use Rattle.srcp_core.specs.declared.record.CoreFault.{CoreFault}
+use Rattle.srcp_serve.specs.Given.{ReadCall}
+use Rattle.srcp_serve.specs.declared.door.Got.{Got}
+use Rattle.std.proofs.lemmas.Bool.Decides.{nat_tests}
+use Rattle.srcp_serve.specs.declared.serving.visit.Wrote.{Wrote}
+use Rattle.srcp_serve.specs.declared.serving.visit.Wrote.TheVariants.{All, Less, Failed}
+use Rattle.srcp_serve.specs.Calls as door
+use Rattle.srcp_serve.specs.declared.door.Got.TheVariants as got
+
+-- what the door is told of a core is what the course says
+expected : (due slack : Option ℕ) (old : Held) → IsEarliestDue due old.rows → slack ≡ least (map slack_at old.places)
+    → (buses : List Bus) (events : List Event) (keys : Keys) → IsLayout buses
+    → StandsFor buses keys old (course buses events) → Expects due slack ≡ expects buses events
+expected due slack old first is buses events keys layout stands =
+    cc (calls_agree.due due old first buses events keys layout stands, calls_agree.slack old buses events keys layout stands)
+
+module _ (due slack : Option ℕ) (old : Held) (first : IsEarliestDue due old.rows) (least_is : slack ≡ least (map slack_at old.places))
+    (trace_old trace_mid trace_new : Trace) (expects_it : Tells trace_old (door.ExpectCall due slack) trace_mid) where
+  adds_both : (answer : Result ℕ DoorFault) (trace : List DoorCall) → Tells trace_mid (door.NowCall answer) trace_new
+      → trace_new ≡ Some trace
+      → Adds trace_old trace (door.ExpectCall due slack ∷ door.NowCall answer ∷ [])
+  adds_both answer trace h is =
+      let y = adds_one (door.NowCall answer) trace_mid trace_new trace h is in
+      adds_then y.was
+      (adds_one (door.ExpectCall due slack) trace_old trace_mid y.before expects_it y.was) y
+
+  pub takes_moment : (moment : ℕ) (new : Held) → Tells trace_mid (door.NowCall (Ok moment)) trace_new → new ≡ advanced moment old
+      → TakesMoment old trace_old new trace_new
+  takes_moment moment new h is_advanced owns buses stand keys trace in_state is = record {
+    due = due;
+    slack = slack;
+    answer = Ok moment;
+    adds = adds_both (Ok moment) trace h is;
+    asked = expected due slack old first least_is buses stand.events keys in_state.layout in_state.stands;
+    stands = calls_lead.moment moment old new is_advanced buses stand.events keys in_state.layout in_state.stands;
+  }
+
+  pub keeps_moment : (failed : DoorFault) → Tells trace_mid (door.NowCall (Err failed)) trace_new → TakesMoment old trace_old old trace_new
+  keeps_moment failed h owns buses stand keys trace in_state is = record {
+    due = due;
+    slack = slack;
+    answer = Err failed;
+    adds = adds_both (Err failed) trace h is;
+    asked = expected due slack old first least_is buses stand.events keys in_state.layout in_state.stands;
+    stands = in_state.stands;
+  }
+
+-- ---- the read of a visit
+
+module _ (peer key : ℕ) (old : Held) (trace_old : Trace) (ready : Bool)
+    (ready_is : ready ≡ is_none (bytes_fault key [] old)) where
+  course_says : OfConnection key old (λ buses events n. ready ≡ is_none (fault buses (course buses events) (Bytes n (giving []))))
+  course_says buses events keys n layout named s =
+      cc (calls_agree.bytes key (giving []) old buses events keys n layout named s)
+
+  pub read_not : ready ≡ false → ReadsIn peer key old trace_old old trace_old true
+  read_not e buses events keys n trace s is =
+      let none = sym (course_says buses events keys n s.layout s.named s.stands) ∙ e in
+      record {
+        calls = [];
+        made = makes_none buses events trace_old trace old is;
+        asked = ap (λ t. if t then Reads peer 256 ∷ [] else []) (sym none);
+        stays_is = refl;
+        stands = rw append-nil s.stands;
+      }
+
+  module _ (answer : Result Got DoorFault) (buffer : List ℕ) (trace_new : Trace) (e : ready ≡ true)
+      (full : length buffer ≡ 256) (tells : Tells trace_old (door.ReadCall peer answer buffer) trace_new) where
+    asks : (buses : List Bus) (events : List Event) (n : ℕ) (grants : List Bool)
+        → ready ≡ is_none (fault buses (course buses events) (Bytes n (giving [])))
+        → question (ReadCall peer answer buffer grants) ∷ [] ≡ (if is_ready buses n events then Reads peer 256 ∷ [] else [])
+    asks buses events n grants says = cc
+
+    pub read_other : (stays : Bool) → piece_of (ReadCall peer answer buffer []) ≡ None
+        → loses_reading (ReadCall peer answer buffer []) ≡ not stays → ReadsIn peer key old trace_old old trace_new stays
+    read_other stays none loses buses events keys n trace s is =
+        record {
+          calls = ReadCall peer answer buffer [] ∷ [];
+          made = record {
+            adds = adds_one (door.ReadCall peer answer buffer) trace_old trace_new trace tells is;
+            counted = refl;
+            asked_for = rw none (asked_none buses events old);
+          };
+          asked = asks buses events n [] (course_says buses events keys n s.layout s.named s.stands);
+          stays_is = cc (or_no stays);
+          stands = rw none (rw append-nil s.stands);
+        }
+      where
+        or_no : (b : Bool) → not b || false ≡ not b
+        or_no true = refl
+        or_no false = refl
+
+  pub read_bytes : (count : ℕ) (buffer : List ℕ) (trace_new : Trace) (new : Held) (result : Result Unit CoreFault)
+      (stays : Bool)
+      → ready ≡ true → length buffer ≡ 256 → Tells trace_old (door.ReadCall peer (Ok (got.Bytes count)) buffer) trace_new
+      → MatchResult result (λ _. bytes_fault key (take count buffer) old ≡ None)
+      (λ cause. bytes_fault key (take count buffer) old ≡ Some cause)
+      → OnOk result (IsReceived key (take count buffer) old new) → stays ≡ is_ok result → ReadsIn peer key old trace_old new trace_new stays
+  read_bytes count buffer trace_new new result stays e full tells says received stays_ok buses events keys n trace s named =
+      let piece = take count buffer in
+      let few : length piece ≤ 256 = omega (arith, length-take count buffer, full) in
+      let free =
+      calls_agree.bytes key (giving piece) old buses events keys n s.layout s.named s.stands
+      ∙ calls_agree.takes key old (sym ready_is ∙ e) buses events keys n s.layout s.named s.stands (giving piece) few in
+      let fine = taken result says received free in
+      let leads = calls_lead.accepted key piece old new free fine.1 in
+      record {
+        calls = ReadCall peer (Ok (got.Bytes count)) buffer leads.grants ∷ [];
+        made = record {
+          adds = adds_one (door.ReadCall peer (Ok (got.Bytes count)) buffer) trace_old trace_new trace tells named;
+          counted = cc (append-nil leads.grants);
+          asked_for = asked_one buses events (Bytes n (record { bytes = piece; grants = leads.grants })) old new
+              (leads.asked buses events keys n s.layout s.named s.stands);
+        };
+        asked =
+            asks (Ok (got.Bytes count)) buffer trace_new e full tells buses events n leads.grants
+            (course_says buses events keys n s.layout s.named s.stands);
+        stays_is = ap not (sym (stays_ok ∙ fine.0));
+        stands = leads.leads buses events keys n s.layout s.named s.stands;
+      }
+    where
+      taken : (r : Result Unit CoreFault)
+          → MatchResult r (λ _. bytes_fault key (take count buffer) old ≡ None)
+          (λ cause. bytes_fault key (take count buffer) old ≡ Some cause)
+          → OnOk r (IsReceived key (take count buffer) old new) → bytes_fault key (take count buffer) old ≡ None
+          → (is_ok r ≡ true) × IsReceived key (take count buffer) old new
+      taken (Ok u) h received none = (refl, received)
+      taken (Err cause) h received none = let bad = sym h ∙ none in cc
+
+-- ---- one write of a visit: what is lent, and what is taken of it
+
+nil_of : (xs : List ℕ) → (length xs == 0) ≡ true → xs ≡ []
+nil_of [] e = refl
+nil_of (x ∷ xs) e = absurd (by _ e)
+  where
+    by : (k : ℕ) → (suc k == 0) ≡ true → ⊥
+    by k e = grind (arith, nat_tests)
+
+some_of : (xs : List ℕ) → (length xs == 0) ≡ false → 0 < length xs
+some_of [] e = absurd (let bad = e in cc)
+some_of (x ∷ xs) e = omega arith
+
+-- this many bytes of what was lent are sent
+module _ (key count : ℕ) (old mid new : Held) (out : mid ≡ let_out key old) (sent : new ≡ changed_at key (without_sent count) mid) where
+  pub sends : (bytes : List ℕ) → bytes ≡ unsent_at key (let_out key old) → count ≤ length bytes → LeadsAt key (λ n. Room n count) old new
+  sends bytes lends few =
+      let few_left = rw (lends ∙ ap (unsent_at key) (sym out)) at few in
+      calls_lead.lent_and_sent key count mid new old few_left sent out
+
+module _ (peer key : ℕ) (old : Held) (trace_old : Trace) where
+  -- these bytes are lent
+  abbrev Lends : List ℕ → Type 0
+  Lends bytes = bytes ≡ unsent_at key (let_out key old)
+
+  lent_is : (bytes : List ℕ) → Lends bytes → OfConnection key old (λ buses events n. bytes ≡ lent buses n events)
+  lent_is bytes lends buses events keys n layout named s = lends ∙ calls_agree.lends key old buses events keys n layout named s
+
+  -- there is no connection at the key
+  pub wrote_absent : (new : Held) (trace_new : Trace) (wrote : Wrote) → at old key ≡ None
+      → WritesOnce peer key old trace_old new trace_new wrote
+  wrote_absent new _ wrote gone buses events keys n trace s is =
+      absurd (none_there
+      (rw gone at (calls_agree.there key old buses events keys n s.layout s.named s.stands)))
+    where
+      none_there : IsSome {T = Place} None → ⊥
+      none_there e = cc
+
+  module _ (mid : Held) (out : mid ≡ let_out key old) where
+    asked : LeadsAt key (λ n. Room n 0) old mid
+    asked = rw out (calls_lead.lent key old)
+
+    pub wrote_none : (bytes : List ℕ) → Lends bytes → (length bytes == 0) ≡ true → WritesOnce peer key old trace_old mid trace_old Less
+    wrote_none bytes lends none buses events keys n trace s is =
+        inl (record {
+          none = sym (lent_is bytes lends buses events keys n s.layout s.named s.stands) ∙ nil_of bytes none;
+          adds = adds_none is;
+          stands = asked buses events keys n s.layout s.named s.stands;
+        })
+
+    pub wrote_failed : (bytes : List ℕ) (fault : DoorFault) (trace_new : Trace) → Lends bytes
+        → Tells trace_old (WriteCall peer bytes (Err fault)) trace_new → (length bytes == 0) ≡ false
+        → WritesOnce peer key old trace_old mid trace_new Failed
+    wrote_failed bytes fault trace_new lends tells some buses events keys n trace s named =
+        let lent_bytes = lent_is bytes lends buses events keys n s.layout s.named s.stands in
+        record {
+          fault = fault;
+          adds =
+              rw lent_bytes at (adds_one (WriteCall peer bytes (Err fault)) trace_old trace_new trace tells named);
+          some = rw lent_bytes at (some_of bytes some);
+          stands = asked buses events keys n s.layout s.named s.stands;
+        }
+
+  module _ (bytes : List ℕ) (count : ℕ) (new : Held) (trace_new : Trace) (lends : Lends bytes)
+      (sends : LeadsAt key (λ n. Room n count) old new) (tells : Tells trace_old (WriteCall peer bytes (Ok count)) trace_new) where
+    pub wrote_less : count < length bytes → WritesOnce peer key old trace_old new trace_new Less
+    wrote_less few buses events keys n trace s named =
+        let lent_bytes = lent_is bytes lends buses events keys n s.layout s.named s.stands in
+        inr (record {
+          count = count;
+          adds =
+              rw lent_bytes at (adds_one (WriteCall peer bytes (Ok count)) trace_old trace_new trace tells named);
+          short = rw lent_bytes at few;
+          stands = sends buses events keys n s.layout s.named s.stands;
+        })
+
+    pub wrote_all : count ≡ length bytes → (length bytes == 0) ≡ false → WritesOnce peer key old trace_old new trace_new All
+    wrote_all full some buses events keys n trace s named =
+        let lent_bytes = lent_is bytes lends buses events keys n s.layout s.named s.stands in
+        record {
+          count = count;
+          adds =
+              rw lent_bytes at (adds_one (WriteCall peer bytes (Ok count)) trace_old trace_new trace tells named);
+          all = rw lent_bytes at full;
+          some = rw full (some_of bytes some);
+          stands = sends buses events keys n s.layout s.named s.stands;
+        }
