@@ -50,11 +50,11 @@ follows count opens last old trace_old new trace_new serves sound named buses lo
       trace = given.calls;
       are = given.are;
       served = given.course;
-      sockets = λ k conn guest within.
-          let peer = slice_index_or (stand_after buses given.calls).guests k guest in
+      sockets = λ k conn other within.
+          let peer = slice_index_or (stand_after buses given.calls).connected k other in
           let here : sent (slice_index_or (course buses (events_of buses given.calls)).connections k conn) ≡ given_taken peer given.calls =
           at_index sent (λ p. given_taken p given.calls) (course buses (events_of buses given.calls)).connections
-          (stand_after buses given.calls).guests given.course.taken k conn guest within in
+          (stand_after buses given.calls).connected given.course.taken k conn other within in
           let all : sent (slice_index_or (course buses (events_of buses given.calls)).connections k conn) ≡ taken peer log =
           here ∙ taken_trace peer given.calls ∙ ap (flat_map (taken_in peer)) given.are in
           subst (λ (xs : List ℕ). StartsWith xs (took peer log)) (taken_is peer log ∙ sym all)

@@ -18,9 +18,9 @@ pub record IsFollowed (buses : List Bus) (count opens : ℕ) (log : List Step) (
   pub trace : List Call
   pub are : map door_call trace ≡ calls log
   pub served : IsOfCourse buses count opens trace new
-  pub sockets : (k : ℕ) (conn : Connection) (guest : ℕ) → k < length (course buses (events_of buses trace)).connections
+  pub sockets : (k : ℕ) (conn : Connection) (peer : ℕ) → k < length (course buses (events_of buses trace)).connections
       → StartsWith (sent (slice_index_or (course buses (events_of buses trace)).connections k conn))
-      (took (slice_index_or (stand_after buses trace).guests k guest) log)
+      (took (slice_index_or (stand_after buses trace).connected k peer) log)
 
 -- so it is for a core that stands for no events, over a system with an empty trace
 abbrev pub Follows : (count opens : ℕ) (old : Held) (trace_old : Option (List Step)) (new : Held)

@@ -2,7 +2,7 @@
 
 use crate::network::{Happens, Network, at};
 use crate::record::{closed_at, shuts, took_of};
-use crate::scene::{AMPLE, all_served, serve_events, told};
+use crate::scene::{AMPLE, all_served, serve_events, took_lines};
 use std::test::Fail;
 use std::vec::Vec;
 
@@ -83,7 +83,10 @@ fn gives_up_nobody_who_is_owed_for_one_who_is_not(rt: HostRuntime) -> Result<(),
     let (served, door) = serve_events(rt.alloc(), Network::new(rt.alloc(), &events, false))?;
     assert_eq!(rt; served, all_served(65));
     let lines = "srcp_server 1.0; SRCP 0.8.4; SRCPOTHER 0.8.3\n200 OK GO 1\n200 OK\n";
-    assert_eq!(rt; told(rt.alloc(), &door, 1)?.as_slice(), lines.as_bytes());
+    assert_eq!(rt;
+        took_lines(rt.alloc(), &door, 1)?.as_slice(),
+        lines.as_bytes()
+    );
     // The first peer that was turned away was dropped for one that came later.
     let first = closed_at(door.system().entries()?, 66).unwrap_or(u64::MAX);
     assert!(rt; first < 1_000, "it was closed at {first} ms");

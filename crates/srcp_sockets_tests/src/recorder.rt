@@ -15,7 +15,7 @@ use std::vec::Vec;
 pub(crate) struct Recorder<'a> {
     alloc: Global,
     network: Network<'a>,
-    told: Option<Vec<Entry>>,
+    trace: Option<Vec<Entry>>,
 }
 
 /// Opens a door to a network, whose clocks show 0.
@@ -28,12 +28,12 @@ pub(crate) fn open<'a>(
 
 impl<'a> Recorder<'a> {
     fn new(alloc: Global, network: Network<'a>) -> Recorder<'a>
-        ensures { IfSome result.told (λ told. told.items ≡ []) }
+        ensures { IfSome result.trace (λ trace. trace.items ≡ []) }
     {
         Recorder {
             alloc,
             network,
-            told: Some(Vec::new(alloc)),
+            trace: Some(Vec::new(alloc)),
         }
     }
 
@@ -42,20 +42,20 @@ impl<'a> Recorder<'a> {
     /// # Errors
     /// Fails if memory was refused for one of them.
     pub(crate) fn entries(&self) -> Result<&[Entry], AllocError> {
-        match &self.told {
+        match &self.trace {
             Some(entries) => Ok(entries.as_slice()),
             None => Err(AllocError),
         }
     }
 
-    fn tell(&mut self, entry: Entry)
-        ensures { MatchOption self.old.told (self.new.told ≡ None) (λ old.
-            IfSome self.new.told (λ new. new.items ≡ old.items ++ entry ∷ [])) }
+    fn note(&mut self, entry: Entry)
+        ensures { MatchOption self.old.trace (self.new.trace ≡ None) (λ old.
+            IfSome self.new.trace (λ new. new.items ≡ old.items ++ entry ∷ [])) }
     {
-        if let Some(mut told) = self.told.take()
-            && told.push(entry).is_ok()
+        if let Some(mut trace) = self.trace.take()
+            && trace.push(entry).is_ok()
         {
-            self.told = Some(told);
+            self.trace = Some(trace);
         }
     }
 }
@@ -63,10 +63,10 @@ impl<'a> Recorder<'a> {
 impl System for Recorder<'_> {
     ghost use Rattle.std.specs.Prelude.{map, option_map};
     ghost use Rattle.srcp_serve.specs.Calls.{ExpectCall, NowCall, AcceptCall, ReadCall, WriteCall, CloseCall};
-    ghost use Rattle.srcp_peers.specs.Steps.{Step, Accepts, Clocks, Closes, Reads, Shuts, Writes, Waits, Told};
+    ghost use Rattle.srcp_peers.specs.Steps.{Step, Accepts, Clocks, Closes, Reads, Shuts, Writes, Waits, Answers};
     ghost use Rattle.srcp_sockets_tests.specs.declared.record.Entry.TheVariants as entry;
 
-    ghost told = { λ r. option_map (λ entries. map (λ e. elim e as (λ _. Step) [
+    ghost trace = { λ r. option_map (λ entries. map (λ e. elim e as (λ _. Step) [
       | entry.Accepts number answer ↦ Accepts number answer
       | entry.Reads socket buffer answer ↦ Reads socket buffer.items answer
       | entry.Writes socket bytes answer ↦ Writes socket bytes.items answer
@@ -74,29 +74,29 @@ impl System for Recorder<'_> {
       | entry.Closes socket ↦ Closes socket
       | entry.Waits most count ready ↦ Waits most count ready.items
       | entry.Clocks answer ↦ Clocks answer
-      | entry.Expect due slack ↦ Told (ExpectCall due slack)
-      | entry.Now answer ↦ Told (NowCall answer)
-      | entry.Accept answer ↦ Told (AcceptCall answer)
-      | entry.Read peer answer buffer ↦ Told (ReadCall peer answer buffer.items)
-      | entry.Write peer bytes answer ↦ Told (WriteCall peer bytes.items answer)
-      | entry.Close peer answer ↦ Told (CloseCall peer answer)
-    ]) entries.items) r.told };
+      | entry.Expect due slack ↦ Answers (ExpectCall due slack)
+      | entry.Now answer ↦ Answers (NowCall answer)
+      | entry.Accept answer ↦ Answers (AcceptCall answer)
+      | entry.Read peer answer buffer ↦ Answers (ReadCall peer answer buffer.items)
+      | entry.Write peer bytes answer ↦ Answers (WriteCall peer bytes.items answer)
+      | entry.Close peer answer ↦ Answers (CloseCall peer answer)
+    ]) entries.items) r.trace };
 
     fn accept(&mut self, number: u32) -> Result<(), ErrorKind> {
         let answer = self.network.accept();
-        self.tell(Entry::Accepts { number, answer });
+        self.note(Entry::Accepts { number, answer });
         answer
     }
 
     fn read(&mut self, socket: u32, buffer: &mut [u8]) -> Result<usize, ErrorKind> {
         let answer = self.network.read(socket, buffer);
         match Vec::from_slice(self.alloc, buffer) {
-            Ok(buffer) => self.tell(Entry::Reads {
+            Ok(buffer) => self.note(Entry::Reads {
                 socket,
                 buffer,
                 answer,
             }),
-            Err(_) => self.told = None,
+            Err(_) => self.trace = None,
         }
         answer
     }
@@ -104,76 +104,76 @@ impl System for Recorder<'_> {
     fn write(&mut self, socket: u32, bytes: &[u8]) -> Result<usize, ErrorKind> {
         let answer = self.network.write(socket, bytes);
         match Vec::from_slice(self.alloc, bytes) {
-            Ok(bytes) => self.tell(Entry::Writes {
+            Ok(bytes) => self.note(Entry::Writes {
                 socket,
                 bytes,
                 answer,
             }),
-            Err(_) => self.told = None,
+            Err(_) => self.trace = None,
         }
         answer
     }
 
     fn shutdown(&mut self, socket: u32) {
         self.network.shutdown(socket);
-        self.tell(Entry::Shuts { socket });
+        self.note(Entry::Shuts { socket });
     }
 
     fn close(&mut self, socket: u32) {
         self.network.close(socket);
-        self.tell(Entry::Closes { socket });
+        self.note(Entry::Closes { socket });
     }
 
     fn wait(&mut self, most: Option<u64>, ready: &mut [Ready]) -> usize {
         let count = self.network.wait(most, ready);
         match Vec::from_slice(self.alloc, ready) {
-            Ok(ready) => self.tell(Entry::Waits { most, count, ready }),
-            Err(_) => self.told = None,
+            Ok(ready) => self.note(Entry::Waits { most, count, ready }),
+            Err(_) => self.trace = None,
         }
         count
     }
 
     fn clock(&mut self) -> Option<u64> {
         let answer = Some(self.network.clock());
-        self.tell(Entry::Clocks(answer));
+        self.note(Entry::Clocks(answer));
         answer
     }
 
-    fn told_expect(&mut self, due: Option<u64>, slack: Option<usize>) {
-        self.tell(Entry::Expect { due, slack });
+    fn note_expect(&mut self, due: Option<u64>, slack: Option<usize>) {
+        self.note(Entry::Expect { due, slack });
     }
 
-    fn told_now(&mut self, answer: Result<u64, DoorFault>) {
-        self.tell(Entry::Now(answer));
+    fn note_now(&mut self, answer: Result<u64, DoorFault>) {
+        self.note(Entry::Now(answer));
     }
 
-    fn told_accept(&mut self, answer: Result<Option<u32>, DoorFault>) {
-        self.tell(Entry::Accept(answer));
+    fn note_accept(&mut self, answer: Result<Option<u32>, DoorFault>) {
+        self.note(Entry::Accept(answer));
     }
 
-    fn told_read(&mut self, peer: u32, answer: Result<Got, DoorFault>, buffer: &[u8]) {
+    fn note_read(&mut self, peer: u32, answer: Result<Got, DoorFault>, buffer: &[u8]) {
         match Vec::from_slice(self.alloc, buffer) {
-            Ok(buffer) => self.tell(Entry::Read {
+            Ok(buffer) => self.note(Entry::Read {
                 peer,
                 answer,
                 buffer,
             }),
-            Err(_) => self.told = None,
+            Err(_) => self.trace = None,
         }
     }
 
-    fn told_write(&mut self, peer: u32, bytes: &[u8], answer: Result<usize, DoorFault>) {
+    fn note_write(&mut self, peer: u32, bytes: &[u8], answer: Result<usize, DoorFault>) {
         match Vec::from_slice(self.alloc, bytes) {
-            Ok(bytes) => self.tell(Entry::Write {
+            Ok(bytes) => self.note(Entry::Write {
                 peer,
                 bytes,
                 answer,
             }),
-            Err(_) => self.told = None,
+            Err(_) => self.trace = None,
         }
     }
 
-    fn told_close(&mut self, peer: u32, answer: Result<(), DoorFault>) {
-        self.tell(Entry::Close { peer, answer });
+    fn note_close(&mut self, peer: u32, answer: Result<(), DoorFault>) {
+        self.note(Entry::Close { peer, answer });
     }
 }

@@ -61,7 +61,7 @@ fn without_stamps(alloc: Global, lines: &[u8]) -> Result<Vec<u8>, AllocError> {
 }
 
 /// Returns what the socket of a client took, without stamps.
-pub(crate) fn told(
+pub(crate) fn took_lines(
     alloc: Global,
     door: &SocketDoor<Recorder<'_>>,
     number: u32,

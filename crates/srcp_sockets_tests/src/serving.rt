@@ -2,7 +2,7 @@
 
 use crate::network::{Happens, Network, at};
 use crate::record::{lines_in, most_lines, sleeps, time_of, took_of};
-use crate::scene::{AMPLE, all_served, serve_events, told};
+use crate::scene::{AMPLE, all_served, serve_events, took_lines};
 use std::test::Fail;
 use std::vec::Vec;
 
@@ -33,7 +33,7 @@ fn serves_all_who_come(rt: HostRuntime) -> Result<(), Fail> {
         ),
     ] {
         assert_eq!(rt;
-            told(rt.alloc(), &door, client)?.as_slice(),
+            took_lines(rt.alloc(), &door, client)?.as_slice(),
             lines.as_bytes(),
             "to client {client}"
         );
@@ -75,7 +75,10 @@ fn makes_interrupted_calls_again(rt: HostRuntime) -> Result<(), Fail> {
     let (served, door) = serve_events(rt.alloc(), Network::new(rt.alloc(), &events, true))?;
     assert_eq!(rt; served, all_served(1));
     let lines = "srcp_server 1.0; SRCP 0.8.4; SRCPOTHER 0.8.3\n200 OK GO 1\n100 INFO 1 POWER OFF\n";
-    assert_eq!(rt; told(rt.alloc(), &door, 1)?.as_slice(), lines.as_bytes());
+    assert_eq!(rt;
+        took_lines(rt.alloc(), &door, 1)?.as_slice(),
+        lines.as_bytes()
+    );
     Ok(())
 }
 
@@ -90,7 +93,10 @@ fn reads_what_stands_behind_urgent_data(rt: HostRuntime) -> Result<(), Fail> {
     let (_, door) = serve_events(rt.alloc(), Network::new(rt.alloc(), &events, false))?;
     let lines =
         "srcp_server 1.0; SRCP 0.8.4; SRCPOTHER 0.8.3\n200 OK GO 1\n100 INFO 1 POWER OFF\n100 INFO 1 POWER OFF\n";
-    assert_eq!(rt; told(rt.alloc(), &door, 1)?.as_slice(), lines.as_bytes());
+    assert_eq!(rt;
+        took_lines(rt.alloc(), &door, 1)?.as_slice(),
+        lines.as_bytes()
+    );
     Ok(())
 }
 
@@ -121,7 +127,7 @@ fn hands_out_no_input_while_it_makes_up_a_stall(rt: HostRuntime) -> Result<(), F
 }
 
 #[test]
-fn turns_away_who_finds_no_place(rt: HostRuntime) -> Result<(), Fail> {
+fn turns_away_who_finds_no_slot(rt: HostRuntime) -> Result<(), Fail> {
     let mut events = Vec::new(rt.alloc());
     for number in 1..71 {
         events.push(at(0, number, Happens::Connects))?;
