@@ -1,7 +1,7 @@
 -- The names that the proofs of this crate use.
 pub use Rattle.slab.specs.Slab.{Slab, entries_from}
 pub use Rattle.srcp_core.specs.Agrees.{OfConnection, OfCourse, lent}
-pub use Rattle.srcp_core.specs.Connection.{Connection, History, available, cursor_at, exhausts, finish, fitting, front, given, given_room}
+pub use Rattle.srcp_core.specs.Connection.{Connection, History, available, cursor_at, exhausts, finish, fitting, prefix, given, given_room}
 pub use Rattle.srcp_core.specs.Connection.{heard, is_done_by, is_nil, is_open, is_settled, items_of, line_of, overran, owed, sent, tells}
 pub use Rattle.srcp_core.specs.Connection.{text, told_change, took, unsent, untold, waiting}
 pub use Rattle.srcp_core.specs.Course.{World, absent_fault, accepted, answered, answered_as, at_connection, command_of, commanded, counted}

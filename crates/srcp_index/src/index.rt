@@ -42,7 +42,7 @@ fn is_before(since: u64, a: &Pair, b: &Pair) -> bool
 fn count_before(pairs: &VecDeque<Pair>, since: u64, pair: &Pair) -> usize
     requires { IsInOrder (before since) pairs.now.items }
     ensures bound { result ≤ length pairs.now.items }
-    ensures front { AllByRecursion (λ x. before since x pair.now ≡ true) (take result pairs.now.items) }
+    ensures prefix { AllByRecursion (λ x. before since x pair.now ≡ true) (take result pairs.now.items) }
     ensures back { AllByRecursion (λ x. before since x pair.now ≡ false) (drop result pairs.now.items) }
 {
     pairs.partition_point(|x| is_before(since, x, pair))

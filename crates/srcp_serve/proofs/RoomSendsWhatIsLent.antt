@@ -9,7 +9,7 @@ use Rattle.std.proofs.lemmas.List.{take-append-le, drop_at}
 use Rattle.std.proofs.lemmas.Grind.{flat_map-append}
 use Rattle.srcp_info.specs.declared.change.Shown.{Shown}
 use Rattle.srcp_feed.specs.declared.answers.Next.{Next}
-use Rattle.srcp_core.specs.Connection.{Connection, History, line_of, text, given, sent, unsent, front, fitting, available, items_of, owed}
+use Rattle.srcp_core.specs.Connection.{Connection, History, line_of, text, given, sent, unsent, prefix, fitting, available, items_of, owed}
 use Rattle.srcp_core.specs.Connection.{overran, took, given_room, is_open}
 use Rattle.std.proofs.Math.Seq.{take-nil}
 use Rattle.std.proofs.lemmas.List.Sums.{fold-append}
@@ -55,7 +55,7 @@ first_line bytes what nexts h =
     let positive : (suc bytes == 0) ≡ false = grind (arith, nat_tests) in
     let whole : suc bytes - 0 ≡ suc bytes = omega arith in
     let none : suc bytes - length (line_of what) ≡ 0 = omega arith in
-    rw (positive, whole) (ap (λ n. what ∷ front n nexts) none)
+    rw (positive, whole) (ap (λ n. what ∷ prefix n nexts) none)
 
 pub first_some : (bytes : ℕ) (what : Next) (nexts : List Next) → 0 < bytes → bytes ≤ length (line_of what)
     → fitting bytes [] (what ∷ nexts) ≡ what ∷ []

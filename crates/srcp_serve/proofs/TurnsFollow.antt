@@ -12,7 +12,7 @@ use Rattle.srcp_core.specs.Course.{course}
 use Rattle.srcp_core.specs.Held.{Held}
 use Rattle.srcp_core.specs.Stands.{StandsFor}
 use Rattle.srcp_core.specs.Under.{Open}
-use Rattle.srcp_core.proofs.CourseLaws.SentLinesAreOneList.{all_front}
+use Rattle.srcp_core.proofs.CourseLaws.SentLinesAreOneList.{all_prefix}
 use Rattle.srcp_serve.specs.Calls.{Call as DoorCall, Tells, PeersDiffer, peer_of, Trace}
 use Rattle.srcp_serve.specs.Given.{Accepted, Call, ExpectCall, NowCall, AcceptCall, ReadCall, WriteCall, CloseCall, door_call}
 use Rattle.srcp_serve.specs.Serving.{Stand, Expects, Moments, expects, Accepts, IsFair, question, moment_of, accept_of, clients, visits_ask}
@@ -55,7 +55,7 @@ fair_given (call ∷ calls) h = (h.0, fair_given calls h.1)
 differ_prefix : (xs ys : List ℕ) → IsDistinct (λ a b. a == b) (xs ++ ys) → IsDistinct (λ a b. a == b) xs
 unfolding IsDistinct
 differ_prefix [] ys h = tt
-differ_prefix (x ∷ xs) ys h = (all_front (λ y. (x == y) ≡ false) xs ys h.0, differ_prefix xs ys h.1)
+differ_prefix (x ∷ xs) ys h = (all_prefix (λ y. (x == y) ≡ false) xs ys h.0, differ_prefix xs ys h.1)
 
 differ_last : (xs : List ℕ) (y : ℕ) (ys : List ℕ) → IsDistinct (λ a b. a == b) (xs ++ y ∷ ys) → AllByRecursion (λ x. (x == y) ≡ false) xs
 unfolding IsDistinct

@@ -33,11 +33,11 @@ told_with (suc zero) f g (x ∷ xs) conn e h =
     let same : conn ≡ x = cc in
     ap (λ t. t ∷ map record_of xs) (rw (← same) h)
 told_with (suc (suc n)) f g (x ∷ xs) conn e h =
-    cc (told_with (suc n) f g xs conn e h, front _)
+    cc (told_with (suc n) f g xs conn e h, prefix _)
   where
-    front : (o : Option ConnRecord) → record_of x ∷ changed_in n g (map record_of xs) o ≡ changed_in (suc n) g (map record_of (x ∷ xs)) o
-    front None = refl
-    front (Some told) = refl
+    prefix : (o : Option ConnRecord) → record_of x ∷ changed_in n g (map record_of xs) o ≡ changed_in (suc n) g (map record_of (x ∷ xs)) o
+    prefix None = refl
+    prefix (Some told) = refl
 
 pub told_same : (n : ℕ) (f : Connection → Connection) (xs : List Connection)
     → ((conn : Connection) → numbered n xs ≡ Some conn → record_of (f conn) ≡ record_of conn)

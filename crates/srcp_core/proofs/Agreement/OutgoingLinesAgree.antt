@@ -4,7 +4,7 @@ use Rattle.srcp_core.proofs.Names.{ap, sym, ◌∙◌, subst, arith, append-nil,
 use Rattle.srcp_core.proofs.Names.{take-append-le, and-false, le_refl, flat_map, option_or, Option, Some, None, ◌&&◌, ◌||◌, nat_lt, IfSome}
 use Rattle.srcp_core.proofs.Names.{if◌then◌else◌, Change, Cursor, Done, Shown, Mode, Reading, beyond, moved, Feed, next_of, Next, Told}
 use Rattle.srcp_core.proofs.Names.{Listed, Settled, key_at, IsRisingBy, Connection, History, cursor_at, untold, unsent, sent, given}
-use Rattle.srcp_core.proofs.Names.{line_of, is_nil, owed, front, fitting, available, exhausts, items_of, took, given_room, overran, Place}
+use Rattle.srcp_core.proofs.Names.{line_of, is_nil, owed, prefix, fitting, available, exhausts, items_of, took, given_room, overran, Place}
 use Rattle.srcp_core.proofs.Names.{filled, item_from, feed_in, Listening, Overran, record_of, placed, place_of, ConnRecord, Item}
 use Rattle.srcp_feed.specs.Feed.{first_of}
 use Rattle.srcp_core.specs.Recording.{with_item}
@@ -61,7 +61,7 @@ took_still n nexts conn byte bytes e =
     (ap (λ left. if conn.info && exhausts 0 left nexts then option_or conn.done (Some n) else conn.done) e
     ∙ ap (λ t. if conn.info && t then option_or conn.done (Some n) else conn.done) not_yet ∙ never _)
   where
-    none : (k : ℕ) → k ≡ 0 - length (byte ∷ bytes) → conn.items ++ items_of n (front (0 - length (byte ∷ bytes)) nexts) ≡ conn.items
+    none : (k : ℕ) → k ≡ 0 - length (byte ∷ bytes) → conn.items ++ items_of n (prefix (0 - length (byte ∷ bytes)) nexts) ≡ conn.items
     none k e =
         let z : 0 - length (byte ∷ bytes) ≡ 0 = omega arith in cc (append-nil _)
 

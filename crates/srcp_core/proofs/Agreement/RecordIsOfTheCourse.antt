@@ -46,15 +46,15 @@ finish_step_some held zero key (Some other ∷ keys) (told ∷ tolds) e =
     let same : other ≡ key = cc in cc
 finish_step_some held (suc i) key (other ∷ keys) [] e = refl
 finish_step_some held (suc i) key (other ∷ keys) (told ∷ tolds) e =
-    cc (finish_step_some held i key keys tolds e, front _)
+    cc (finish_step_some held i key keys tolds e, prefix _)
   where
-    front : (o : Option ConnRecord)
+    prefix : (o : Option ConnRecord)
         → finished_by held other told
         ∷ changed_in i (λ told. record told { finish = finish_at key held }) (finished held (take i keys) tolds) o
         ≡ changed_in (suc i) (λ told. record told { finish = finish_at key held })
         (finished_by held other told ∷ finished held (take i keys) tolds) o
-    front None = refl
-    front (Some x) = refl
+    prefix None = refl
+    prefix (Some x) = refl
 
 pub finish_none : (held : Held) (i : ℕ) (keys : List (Option ℕ)) (tolds now : List ConnRecord) → slice_get keys i ≡ Some None
     → now ≡ finished held (take i keys) tolds → now ≡ finished held (take (i + 1) keys) tolds

@@ -3,7 +3,7 @@ use Rattle.srcp_core.proofs.Names.{cond_both, ◌≡◌, ℕ, zero, suc, min, �
 use Rattle.srcp_core.proofs.Names.{drop, length, length-append, refl, ap, sym, ◌∙◌, subst, arith, append-nil, le-ltb, drop-drop, length-map}
 use Rattle.srcp_core.proofs.Names.{flat_map, option_map, option_or, Option, Some, None, ◌&&◌, ◌||◌, ◌==◌, nat_lt, if◌then◌else◌, Shown}
 use Rattle.srcp_core.proofs.Names.{Reading, Bus, IsLayout, opening, shown_rows, Next, Told, Listed, Settled, key_at, IsRisingBy, Connection}
-use Rattle.srcp_core.proofs.Names.{History, unsent, sent, given, line_of, is_nil, is_open, owed, front, available, items_of, given_room}
+use Rattle.srcp_core.proofs.Names.{History, unsent, sent, given, line_of, is_nil, is_open, owed, prefix, available, items_of, given_room}
 use Rattle.srcp_core.proofs.Names.{overran, World, numbered, at_connection, history, rows, Place, Held, AddsUp, item_from, item_of, item_at}
 use Rattle.srcp_core.proofs.Names.{let_out, without_sent, changed_at, changed_in, unsent_at, feed_in, Recording, key_of, record_of, gave}
 use Rattle.srcp_core.proofs.Names.{StandsFor, place_of, Item}
@@ -62,9 +62,9 @@ room_unsent count history rows conn still some few =
     (ap (λ t. conn.items
     ++ items_of (length history)
     (if t && is_nil (unsent conn) then take 1 (owed conn history rows)
-    else front (count - length (unsent conn)) (owed conn history rows)))
+    else prefix (count - length (unsent conn)) (owed conn history rows)))
     (pos-eqb count some)
-    ∙ ap (λ m. conn.items ++ items_of (length history) (front m (owed conn history rows))) none_left ∙ append-nil _)
+    ∙ ap (λ m. conn.items ++ items_of (length history) (prefix m (owed conn history rows))) none_left ∙ append-nil _)
     ∙ ap (λ taken. record conn { taken = taken; done = (took_room count (length history) (owed conn history rows) conn).done }) all_taken
     ∙ ap (λ end. record conn { taken = conn.taken + count; done = end })
     (ap (λ t. if conn.info && (t || ((count == 0) && (is_nil (unsent conn) && is_nil (owed conn history rows))))

@@ -234,7 +234,7 @@ pub record Law (start : List Shown) (P : History → ℕ → List Item → Optio
       → untold_by go items None history ≡ [] → beyond (cursor_by None items (length history)) (rows_after start history) ≡ []
       → P history go items (Some (length history))
 
--- ---- the front of what is owed
+-- ---- the prefix of what is owed
 
 module _ (start : List Shown) (P : History → ℕ → List Item → Option ℕ → Type 0) (law : Law start P) where
   -- after lines are given, what is owed is the rest

@@ -10,7 +10,7 @@ use Rattle.srcp_core.proofs.CourseLaws.ListedExactlyOnce.{lists_each_once, lists
 use Rattle.srcp_core.proofs.CourseLaws.OverrunAt256.{meets_overruns}
 use Rattle.srcp_core.proofs.CourseLaws.SessionsOfACourse.{holds_passed}
 use Rattle.srcp_core.proofs.CourseLaws.RoomSettles.{sends_replies, settles_after_owed}
-use Rattle.srcp_core.proofs.CourseLaws.SentLinesAreOneList.{all_front, always_sends_lines, holds_registry}
+use Rattle.srcp_core.proofs.CourseLaws.SentLinesAreOneList.{all_prefix, always_sends_lines, holds_registry}
 use Rattle.srcp_core.proofs.CourseLaws.RegistryStaysWhole.{keeps_whole, keeps_keys}
 
 held_rightly : (buses : List Bus) → IsLayout buses → (events : List Event) (number : ℕ) (conn : Connection)
@@ -21,7 +21,7 @@ held_rightly buses layout events number conn session moments = record {
   once = λ first more early whole begins settled device there key own has.
       lists_each_once buses layout first more number early conn begins
       (rw (← whole) session)
-      (all_front _ first more (subst AllMoments whole moments)) settled device there key own has;
+      (all_prefix _ first more (subst AllMoments whole moments)) settled device there key own has;
 }
 
 pub told_rightly : (buses : List Bus) → ToldRightly buses

@@ -2,7 +2,7 @@
 use Rattle.srcp_core.proofs.Names.{◌≡◌, ℕ, zero, suc, ◌+◌, ◌-◌, ◌<◌, ◌≤◌, Bool, true, false, List, [], ◌∷◌, ◌++◌, map, take, length, refl}
 use Rattle.srcp_core.proofs.Names.{ap, arith, append-nil, length-append, and_parts, eqb-true, AllByRecursion, flat_map, ◌==◌, ◌&&◌}
 use Rattle.srcp_core.proofs.Names.{if◌then◌else◌, codes, line, Change, Put, Shown, beyond, Connection, History, available, cursor_at}
-use Rattle.srcp_core.proofs.Names.{fitting, front, is_nil, is_open, line_of, owed, untold}
+use Rattle.srcp_core.proofs.Names.{fitting, prefix, is_nil, is_open, line_of, owed, untold}
 use Rattle.std.specs.List.{join_with_byte}
 use Rattle.srcp_info.specs.Line.{change_words}
 use Rattle.srcp_feed.specs.declared.Next.{Next}
@@ -45,17 +45,17 @@ first_empty (what ∷ nexts) a e =
     absurd (omega arith)
 
 -- room for as many bytes as there are
-front_full : (bytes : ℕ) (nexts : List Next) → AreFull nexts → length (flat_map line_of nexts) ≤ bytes → front bytes nexts ≡ nexts
-front_full zero [] full h = refl
-front_full zero (what ∷ nexts) full h =
+prefix_full : (bytes : ℕ) (nexts : List Next) → AreFull nexts → length (flat_map line_of nexts) ≤ bytes → prefix bytes nexts ≡ nexts
+prefix_full zero [] full h = refl
+prefix_full zero (what ∷ nexts) full h =
     let some = full.0 in
     let e = length-append (line_of what) (flat_map line_of nexts) in
     absurd (omega arith)
-front_full (suc bytes) [] full h = refl
-front_full (suc bytes) (what ∷ nexts) full h =
+prefix_full (suc bytes) [] full h = refl
+prefix_full (suc bytes) (what ∷ nexts) full h =
     let e = length-append (line_of what) (flat_map line_of nexts) in
     let k : length (flat_map line_of nexts) ≤ suc bytes - length (line_of what) = omega arith in
-    cc (front_full (suc bytes - length (line_of what)) nexts full.1 k)
+    cc (prefix_full (suc bytes - length (line_of what)) nexts full.1 k)
 
 first_full : (nexts : List Next) → AreFull nexts → length (flat_map line_of nexts) ≤ 0 → take 1 nexts ≡ nexts
 first_full [] full h = refl
@@ -71,13 +71,13 @@ fitting_full bytes left nexts full h = by _ refl
     size : length (available left nexts) ≡ length left + length (flat_map line_of nexts)
     size = length-append left _
 
-    by : (t : Bool) → (bytes == 0) && is_nil left ≡ t → (if t then take 1 nexts else front (bytes - length left) nexts) ≡ nexts
+    by : (t : Bool) → (bytes == 0) && is_nil left ≡ t → (if t then take 1 nexts else prefix (bytes - length left) nexts) ≡ nexts
     by true t =
         let none : bytes ≡ 0 = eqb-true bytes 0 (and_parts _ _ t).0 in
         first_full nexts full (omega (arith, size, none, h))
-    by false t = front_full _ nexts full (omega (arith, size, h))
+    by false t = prefix_full _ nexts full (omega (arith, size, h))
 
--- where the front is all, nothing is left
+-- where the prefix is all, nothing is left
 pub none_after : (all nexts rest : List Next) → all ≡ nexts ++ rest → nexts ≡ all → rest ≡ []
 none_after all nexts [] whole same = refl
 none_after all nexts (what ∷ rest) whole same =

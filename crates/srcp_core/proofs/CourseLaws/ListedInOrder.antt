@@ -159,9 +159,10 @@ rows_of_course buses w k =
     cc (history_take k _ w.steps, shown_after (opening buses 0) (take k w.steps))
 
 -- what was heard until the end begins as all that happened
-heard_front : (shut : Option ℕ) (history : History) (k : ℕ) → k ≤ length (heard shut history) → take k (heard shut history) ≡ take k history
-heard_front None history k h = refl
-heard_front (Some n) history k h =
+heard_prefix : (shut : Option ℕ) (history : History) (k : ℕ) → k ≤ length (heard shut history)
+    → take k (heard shut history) ≡ take k history
+heard_prefix None history k h = refl
+heard_prefix (Some n) history k h =
     let l = length-take n history in
     let low : k ≤ n = omega arith in
     take-take k n history low
@@ -178,7 +179,7 @@ lists_held buses layout events number conn s =
         → IsHeld buses (course buses events) item what
     at (Told change) item n k = tt
     at (Listed row) item n k =
-        cc (rows_of_course buses (course buses events) item.steps, heard_front _ _ _ n)
+        cc (rows_of_course buses (course buses events) item.steps, heard_prefix _ _ _ n)
     at Settled item n k = tt
 
 -- ---- a registry that stands still
@@ -288,7 +289,7 @@ still_same : (buses : List Bus) (w : World) (conn : Connection)
 still_same buses w conn s still =
     quiet_since (shown_rows (opening buses 0)) conn.go_step (heard conn.shut (history buses w))
     (quiet_heard conn.go_step conn.shut (history buses w) still)
-    ∙ ap (rows_after (shown_rows (opening buses 0))) (heard_front conn.shut (history buses w) conn.go_step s.fits.0.began)
+    ∙ ap (rows_after (shown_rows (opening buses 0))) (heard_prefix conn.shut (history buses w) conn.go_step s.fits.0.began)
     ∙ rows_of_course buses w conn.go_step
 
 still_facts : (buses : List Bus) (layout : IsLayout buses) (w : World) (conn : Connection)
@@ -306,9 +307,9 @@ still_facts buses layout w conn s still =
           reached_split _ _ order;
     }
 
-still_front : (conn : Connection) (heard_now : History) (held : List Shown) → StillFacts conn heard_now held
+still_prefix : (conn : Connection) (heard_now : History) (held : List Shown) → StillFacts conn heard_now held
     → IsPrefixOf (sent conn) (conn.out ++ listing held)
-still_front conn heard_now held facts = (
+still_prefix conn heard_now held facts = (
   unsent conn ++ listing (beyond (cursor_by conn.done conn.items (length heard_now)) held),
   sym (append_assoc (sent conn) (unsent conn) (listing (beyond (cursor_by conn.done conn.items (length heard_now)) held)))
       ∙ ap (λ bytes. bytes ++ listing (beyond (cursor_by conn.done conn.items (length heard_now)) held))
@@ -333,7 +334,7 @@ lists_still buses layout events number conn s still =
     let law = stands buses layout (Still (shown_rows (opening buses 0))) (still_law (shown_rows (opening buses 0))) events number conn s in
     let facts = still_facts buses layout w conn law still in
     record {
-      front = still_front conn (heard conn.shut (history buses w)) (rows_at buses w conn.go_step) facts;
+      prefix = still_prefix conn (heard conn.shut (history buses w)) (rows_at buses w conn.go_step) facts;
       whole = λ settled.
           let now = settled_facts conn (history buses w) (rows buses w) settled in
           let both = settled_both buses layout w conn s.info settled in

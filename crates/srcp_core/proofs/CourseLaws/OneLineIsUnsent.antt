@@ -2,13 +2,13 @@
 use Rattle.srcp_core.proofs.Names.{cond_both, ◌≡◌, ◌⊎◌, inl, inr, ⊎_elim, ℕ, zero, suc, ◌+◌, ◌-◌, ◌<◌, ◌≤◌, Bool, true, false, List, []}
 use Rattle.srcp_core.proofs.Names.{◌∷◌, ◌++◌, length, take, drop, refl, ap, sym, ◌∙◌, arith, append-nil, append_assoc, length-append}
 use Rattle.srcp_core.proofs.Names.{length-drop, and_parts, ltb-false, ltb-true, take-append-drop, flat_map-append, flat_map, nat_lt, ◌==◌}
-use Rattle.srcp_core.proofs.Names.{◌&&◌, Some, if◌then◌else◌, Bus, Next, Connection, available, fitting, front, given, given_room, is_nil}
+use Rattle.srcp_core.proofs.Names.{◌&&◌, Some, if◌then◌else◌, Bus, Next, Connection, available, fitting, prefix, given, given_room, is_nil}
 use Rattle.srcp_core.proofs.Names.{items_of, line_of, owed, text, took, unsent, World, at_connection, course, entered, fresh, history}
 use Rattle.srcp_core.proofs.Names.{numbered, rows, start, last_line, Event, Item}
 use Rattle.std.proofs.Math.Seq.{drop-append-add}
 use Rattle.srcp_core.specs.Laws.{IsSuffixOf}
 use Rattle.srcp_core.proofs.CourseLaws.EventsKeep.{IsKept, IsPlain, kept_all, numbered_after, numbered_more}
-use Rattle.srcp_core.proofs.CourseLaws.RoomGivesWhatIsOwed.{fitting_front, fitting_none, text_items}
+use Rattle.srcp_core.proofs.CourseLaws.RoomGivesWhatIsOwed.{fitting_prefix, fitting_none, text_items}
 use Rattle.srcp_core.proofs.CourseLaws.SessionsOfACourse.{nil_is}
 
 -- ---- the last line
@@ -34,16 +34,17 @@ last_items n [] what (next ∷ nexts) = last_items n [] next nexts
 last_items n (item ∷ []) what nexts = last_items n [] what nexts
 last_items n (item ∷ next ∷ items) what nexts = last_items n (next ∷ items) what nexts
 
--- of a front the last line alone goes beyond the bytes that were asked for
-front_near : (bytes : ℕ) (nexts : List Next) → length (flat_map line_of (front bytes nexts)) ≤ bytes + length (last_of (front bytes nexts))
-front_near zero nexts = omega arith
-front_near (suc bytes) [] = omega arith
-front_near (suc bytes) (what ∷ nexts) = by _ refl (front_near left nexts)
+-- of a prefix the last line alone goes beyond the bytes that were asked for
+prefix_near : (bytes : ℕ) (nexts : List Next)
+    → length (flat_map line_of (prefix bytes nexts)) ≤ bytes + length (last_of (prefix bytes nexts))
+prefix_near zero nexts = omega arith
+prefix_near (suc bytes) [] = omega arith
+prefix_near (suc bytes) (what ∷ nexts) = by _ refl (prefix_near left nexts)
   where
     left : ℕ
     left = suc bytes - length (line_of what)
 
-    by : (inner : List Next) → front left nexts ≡ inner → length (flat_map line_of inner) ≤ left + length (last_of inner)
+    by : (inner : List Next) → prefix left nexts ≡ inner → length (flat_map line_of inner) ≤ left + length (last_of inner)
         → length (flat_map line_of (what ∷ inner)) ≤ suc bytes + length (last_of (what ∷ inner))
     by [] e ih = let size = length-append (line_of what) [] in omega arith
     by (next ∷ more) e ih = short _ refl
@@ -57,7 +58,7 @@ front_near (suc bytes) (what ∷ nexts) = by _ refl (front_near left nexts)
         short true t =
             let high = ltb-true _ _ t in
             let none : left ≡ 0 = omega arith in
-            let bad : front 0 nexts ≡ next ∷ more = cc in
+            let bad : prefix 0 nexts ≡ next ∷ more = cc in
             cc
 
 -- ---- one connection
@@ -96,7 +97,7 @@ module _ (n bytes : ℕ) (nexts : List Next) (conn : Connection) where
       room : ℕ
       room = bytes - length (unsent conn)
 
-      is : (t : Bool) → ((bytes == 0) && is_nil (unsent conn)) ≡ t → fits ≡ (if t then take 1 nexts else front room nexts)
+      is : (t : Bool) → ((bytes == 0) && is_nil (unsent conn)) ≡ t → fits ≡ (if t then take 1 nexts else prefix room nexts)
       is t e = cc
 
       last : length (last_line later.items) ≡ length (last_of fits)
@@ -104,7 +105,7 @@ module _ (n bytes : ℕ) (nexts : List Next) (conn : Connection) where
 
       all : length (flat_map line_of fits) ≤ length (flat_map line_of nexts)
       all =
-          let f = fitting_front bytes (unsent conn) nexts in
+          let f = fitting_prefix bytes (unsent conn) nexts in
           let whole = ap (λ (ns : List Next). length (flat_map line_of ns)) f.whole ∙ ap length (flat_map-append line_of fits f.rest)
           ∙ length-append (flat_map line_of fits) (flat_map line_of f.rest) in
           omega arith
@@ -127,7 +128,7 @@ module _ (n bytes : ℕ) (nexts : List Next) (conn : Connection) where
           omega arith
       by false t =
           let near : length (flat_map line_of fits) ≤ room + length (last_of fits) =
-          rw (is false t) (front_near room nexts) in
+          rw (is false t) (prefix_near room nexts) in
           let some : 0 < room = asked room (sym (is false t) ∙ e) in
           let a = size in
           let b = left in
@@ -136,7 +137,7 @@ module _ (n bytes : ℕ) (nexts : List Next) (conn : Connection) where
           let f = sum in
           omega arith
         where
-          asked : (k : ℕ) → front k nexts ≡ what ∷ more → 0 < k
+          asked : (k : ℕ) → prefix k nexts ≡ what ∷ more → 0 < k
           asked zero e = cc
           asked (suc k) e = omega arith
 

@@ -22,7 +22,7 @@ use Rattle.srcp_core.specs.Under.{effect}
 use Rattle.srcp_core.specs.Course.{stepped}
 use Rattle.srcp_core.specs.Laws.{IsLive, KeepsWhole, AlwaysKeepsKeys}
 use Rattle.srcp_core.proofs.Agreement.MemoryAnswers.{effect_law, ordered_law}
-use Rattle.srcp_core.proofs.CourseLaws.StepsKeepWhole.{IsStepOf, AreSteps, are_steps_push, steps_whole, front_whole, history_told}
+use Rattle.srcp_core.proofs.CourseLaws.StepsKeepWhole.{IsStepOf, AreSteps, are_steps_push, steps_whole, prefix_whole, history_told}
 use Rattle.srcp_core.proofs.CourseLaws.StepsKeepWhole.{keys_kept, whole_opening}
 use Rattle.srcp_core.proofs.Agreement.NumbersAndKeys.{numbered_with, opened, no_connection, look_with, look_push}
 
@@ -430,7 +430,7 @@ keeps_whole buses layout events moments =
     let k = kept_course buses layout events moments in
     let first = whole_opening buses layout in
     record {
-      states = λ n. front_whole buses n (opening buses 0) (course buses events).steps first k.steps_fit;
+      states = λ n. prefix_whole buses n (opening buses 0) (course buses events).steps first k.steps_fit;
       changes = history_told buses (opening buses 0) (course buses events).steps first k.steps_fit;
       moment = k.now;
       last_id = k.few;

@@ -1,12 +1,12 @@
 -- A room for no bytes, or for any, and then one for some bytes is one room.
 use Rattle.srcp_core.proofs.Names.{◌≡◌, ℕ, zero, suc, ◌+◌, ◌-◌, ◌<◌, ◌≤◌, min, true, List, [], ◌∷◌, ◌++◌, length, refl, ap, sym, ◌∙◌, arith}
 use Rattle.srcp_core.proofs.Names.{append-nil, append_assoc, map-append, drop-append-le, flat_map-append, false≢true, le-ltb, lt-ltb}
-use Rattle.srcp_core.proofs.Names.{flat_map, nat_lt, ◌||◌, Option, ◌&&◌, Next, Connection, line_of, front, fitting, is_nil, items_of}
+use Rattle.srcp_core.proofs.Names.{flat_map, nat_lt, ◌||◌, Option, ◌&&◌, Next, Connection, line_of, prefix, fitting, is_nil, items_of}
 use Rattle.srcp_core.proofs.Names.{available, exhausts, given, unsent, took}
 use Rattle.srcp_core.proofs.CourseLaws.RoomInTwoParts.{took_adds, done_rule, no_bytes}
 use Rattle.srcp_core.proofs.CourseLaws.RoomGivesWhatIsOwed.{text_items, pos-eqb}
 
-fitting_some : (a : ℕ) (left : List ℕ) (nexts : List Next) → 0 < a → fitting a left nexts ≡ front (a - length left) nexts
+fitting_some : (a : ℕ) (left : List ℕ) (nexts : List Next) → 0 < a → fitting a left nexts ≡ prefix (a - length left) nexts
 fitting_some a left nexts h = let z = pos-eqb a h in rw z refl
 
 -- the line that is put in where nothing waits is the first that any room gives
@@ -16,16 +16,16 @@ fitting_first a [] [] rest h e = cc
 fitting_first a [] (what ∷ nexts) rest h e =
     let tail : nexts ≡ rest = cc in
     fitting_some a [] (what ∷ nexts) h
-    ∙ ap (λ k. front k (what ∷ nexts)) (nothing a)
+    ∙ ap (λ k. prefix k (what ∷ nexts)) (nothing a)
     ∙ first a h
-    ∙ ap (λ ns. what ∷ front (a - length (line_of what)) ns) tail
-    ∙ ap (λ l. what ∷ front (a - length l) rest) (sym (append-nil (line_of what)))
+    ∙ ap (λ ns. what ∷ prefix (a - length (line_of what)) ns) tail
+    ∙ ap (λ l. what ∷ prefix (a - length l) rest) (sym (append-nil (line_of what)))
     ∙ ap (λ ns. what ∷ ns) (sym (fitting_some a (line_of what ++ []) rest h))
   where
     nothing : (k : ℕ) → k - 0 ≡ k
     nothing k = omega arith
 
-    first : (k : ℕ) → 0 < k → front k (what ∷ nexts) ≡ what ∷ front (k - length (line_of what)) nexts
+    first : (k : ℕ) → 0 < k → prefix k (what ∷ nexts) ≡ what ∷ prefix (k - length (line_of what)) nexts
     first zero h = absurd (omega arith)
     first (suc k) h = refl
 fitting_first a (x ∷ left) nexts rest h e =

@@ -1,58 +1,58 @@
--- Room for bytes: a front of what is owed is given, and the listing is done where there was no more.
+-- Room for bytes: a prefix of what is owed is given, and the listing is done where there was no more.
 use Rattle.srcp_core.proofs.Names.{cond_both, ◌≡◌, ℕ, zero, suc, inl, inr, ◌⊎◌, ⊎_elim, min, append_assoc, length-drop, ◌+◌, ◌-◌, ◌<◌, ◌≤◌}
 use Rattle.srcp_core.proofs.Names.{Bool, true, false, List, [], ◌∷◌, ◌++◌, map, take, length, refl, ap, sym, ◌∙◌, arith, length-append}
 use Rattle.srcp_core.proofs.Names.{flat_map-append, lt-leb, leb-false, leb-true, ltb-true, ne_eqb, and_parts, flat_map, option_or, nat_le}
 use Rattle.srcp_core.proofs.Names.{nat_lt, ◌==◌, ◌&&◌, Option, Some, None, IfSome, Shown, passed, beyond, changed_all, Next, Told, Listed}
 use Rattle.srcp_core.proofs.Names.{key_at, IsRisingBy, passed_all, passed_done, beyond_done, Connection, History, heard, is_nil, line_of}
-use Rattle.srcp_core.proofs.Names.{front, fitting, available, exhausts, tells, text, given, unsent, took, items_of, Item}
+use Rattle.srcp_core.proofs.Names.{prefix, fitting, available, exhausts, tells, text, given, unsent, took, items_of, Item}
 use Rattle.std.proofs.Math.Nat.{ne_of_gt}
 use Rattle.srcp_core.proofs.CourseLaws.Histories.{rows_after, concerning_by, concerning_same, cursor_by, cursor_done}
 use Rattle.srcp_core.proofs.CourseLaws.ClientHoldsPassedRows.{Fits, Law, Gives, owed_by, untold_by}
 
--- ---- fronts
+-- ---- prefixes
 
 -- a room for some bytes is not one for none
 pub pos-eqb : (n : ℕ) → 0 < n → (n == 0) ≡ false
 pos-eqb n h = ne_eqb n 0 (ne_of_gt h)
 
-pub record IsFront (nexts all : List Next) : Type 0 where
+pub record IsPrefix (nexts all : List Next) : Type 0 where
   pub rest : List Next
   pub whole : all ≡ nexts ++ rest
 
-pub is_front : (bytes : ℕ) (nexts : List Next) → IsFront (front bytes nexts) nexts
-is_front zero nexts = record { rest = nexts; whole = refl }
-is_front (suc bytes) [] = record { rest = []; whole = refl }
-is_front (suc bytes) (what ∷ nexts) =
-    let ih = is_front (suc bytes - length (line_of what)) nexts in
+pub is_prefix : (bytes : ℕ) (nexts : List Next) → IsPrefix (prefix bytes nexts) nexts
+is_prefix zero nexts = record { rest = nexts; whole = refl }
+is_prefix (suc bytes) [] = record { rest = []; whole = refl }
+is_prefix (suc bytes) (what ∷ nexts) =
+    let ih = is_prefix (suc bytes - length (line_of what)) nexts in
     record { rest = ih.rest; whole = ap (λ ns. what ∷ ns) ih.whole }
 
-front_first : (nexts : List Next) → IsFront (take 1 nexts) nexts
-front_first [] = record { rest = []; whole = refl }
-front_first (what ∷ nexts) = record { rest = nexts; whole = refl }
+prefix_first : (nexts : List Next) → IsPrefix (take 1 nexts) nexts
+prefix_first [] = record { rest = []; whole = refl }
+prefix_first (what ∷ nexts) = record { rest = nexts; whole = refl }
 
-pub fitting_front : (bytes : ℕ) (left : List ℕ) (nexts : List Next) → IsFront (fitting bytes left nexts) nexts
-fitting_front bytes left nexts =
-    cond_both _ _ _ (λ it. IsFront it nexts)
-    (λ _. front_first nexts)
-    (λ _. is_front (bytes - length left) nexts)
+pub fitting_prefix : (bytes : ℕ) (left : List ℕ) (nexts : List Next) → IsPrefix (fitting bytes left nexts) nexts
+fitting_prefix bytes left nexts =
+    cond_both _ _ _ (λ it. IsPrefix it nexts)
+    (λ _. prefix_first nexts)
+    (λ _. is_prefix (bytes - length left) nexts)
 
-pub front_none : (bytes : ℕ) → front bytes [] ≡ []
-front_none zero = refl
-front_none (suc bytes) = refl
+pub prefix_none : (bytes : ℕ) → prefix bytes [] ≡ []
+prefix_none zero = refl
+prefix_none (suc bytes) = refl
 
 pub fitting_none : (bytes : ℕ) (left : List ℕ) → fitting bytes left [] ≡ []
 fitting_none bytes left = cond_both _ _ _ (λ it. it ≡ [])
     (λ _. refl)
-    (λ _. front_none (bytes - length left))
+    (λ _. prefix_none (bytes - length left))
 
--- where there are fewer bytes than that, the front is all
-pub front_all : (bytes : ℕ) (nexts : List Next) → length (flat_map line_of nexts) < bytes → front bytes nexts ≡ nexts
-front_all zero nexts h = absurd (omega arith)
-front_all (suc bytes) [] h = refl
-front_all (suc bytes) (what ∷ nexts) h =
+-- where there are fewer bytes than that, the prefix is all
+pub prefix_all : (bytes : ℕ) (nexts : List Next) → length (flat_map line_of nexts) < bytes → prefix bytes nexts ≡ nexts
+prefix_all zero nexts h = absurd (omega arith)
+prefix_all (suc bytes) [] h = refl
+prefix_all (suc bytes) (what ∷ nexts) h =
     let e = length-append (line_of what) (flat_map line_of nexts) in
     let k : length (flat_map line_of nexts) < suc bytes - length (line_of what) = omega arith in
-    cc (front_all (suc bytes - length (line_of what)) nexts k)
+    cc (prefix_all (suc bytes - length (line_of what)) nexts k)
 
 -- ---- the end of a listing
 
@@ -150,7 +150,7 @@ exhausted bytes left nexts e = by _ refl
         let zero : (bytes == 0) ≡ false = pos-eqb bytes (omega arith) in
         let s = sizes in
         let room : length (flat_map line_of nexts) < bytes - length left = omega arith in
-        rw zero (front_all (bytes - length left) nexts room)
+        rw zero (prefix_all (bytes - length left) nexts room)
     by false t =
         let rest : (bytes == 0) && (is_nil left && is_nil nexts) ≡ true = rw t at e in
         let parts = and_parts (bytes == 0) (is_nil left && is_nil nexts) rest in
@@ -167,14 +167,15 @@ text_items n items nexts =
     same [] = refl
     same (what ∷ nexts) = cc (same nexts)
 
--- a front that has fewer bytes than were asked for is all
-pub front_short : (bytes : ℕ) (nexts : List Next) → length (flat_map line_of (front bytes nexts)) < bytes → front bytes nexts ≡ nexts
-front_short zero nexts h = absurd (omega arith)
-front_short (suc bytes) [] h = refl
-front_short (suc bytes) (what ∷ nexts) h =
-    let e = length-append (line_of what) (flat_map line_of (front (suc bytes - length (line_of what)) nexts)) in
-    let k : length (flat_map line_of (front (suc bytes - length (line_of what)) nexts)) < suc bytes - length (line_of what) = omega arith in
-    cc (front_short (suc bytes - length (line_of what)) nexts k)
+-- a prefix that has fewer bytes than were asked for is all
+pub prefix_short : (bytes : ℕ) (nexts : List Next) → length (flat_map line_of (prefix bytes nexts)) < bytes → prefix bytes nexts ≡ nexts
+prefix_short zero nexts h = absurd (omega arith)
+prefix_short (suc bytes) [] h = refl
+prefix_short (suc bytes) (what ∷ nexts) h =
+    let e = length-append (line_of what) (flat_map line_of (prefix (suc bytes - length (line_of what)) nexts)) in
+    let left = suc bytes - length (line_of what) in
+    let k : length (flat_map line_of (prefix left nexts)) < left = omega arith in
+    cc (prefix_short left nexts k)
 
 -- room gives at least so many bytes, or all
 pub fitting_enough : (bytes : ℕ) (left : List ℕ) (nexts : List Next)
@@ -182,16 +183,16 @@ pub fitting_enough : (bytes : ℕ) (left : List ℕ) (nexts : List Next)
 fitting_enough zero left nexts = inl (omega arith)
 fitting_enough (suc n) left nexts =
     let z : (suc n == 0) ≡ false = pos-eqb (suc n) (omega arith) in
-    rw z (by (nat_le (suc n) (length left + length (flat_map line_of (front (suc n - length left) nexts)))) refl)
+    rw z (by (nat_le (suc n) (length left + length (flat_map line_of (prefix (suc n - length left) nexts)))) refl)
   where
-    by : (t : Bool) → nat_le (suc n) (length left + length (flat_map line_of (front (suc n - length left) nexts))) ≡ t
-        → (suc n ≤ length left + length (flat_map line_of (front (suc n - length left) nexts)))
-        ⊎ (front (suc n - length left) nexts ≡ nexts)
-    by true t = inl (leb-true (suc n) (length left + length (flat_map line_of (front (suc n - length left) nexts))) t)
+    by : (t : Bool) → nat_le (suc n) (length left + length (flat_map line_of (prefix (suc n - length left) nexts))) ≡ t
+        → (suc n ≤ length left + length (flat_map line_of (prefix (suc n - length left) nexts)))
+        ⊎ (prefix (suc n - length left) nexts ≡ nexts)
+    by true t = inl (leb-true (suc n) (length left + length (flat_map line_of (prefix (suc n - length left) nexts))) t)
     by false t =
         let l = leb-false (suc n) _ t in
-        let short : length (flat_map line_of (front (suc n - length left) nexts)) < suc n - length left = omega arith in
-        inr (front_short (suc n - length left) nexts short)
+        let short : length (flat_map line_of (prefix (suc n - length left) nexts)) < suc n - length left = omega arith in
+        inr (prefix_short (suc n - length left) nexts short)
 
 -- no more is taken than was given
 pub took_within : (bytes n : ℕ) (nexts : List Next) (conn : Connection) → conn.taken ≤ length (given conn)

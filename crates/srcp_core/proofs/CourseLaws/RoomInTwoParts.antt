@@ -3,41 +3,41 @@ use Rattle.srcp_core.proofs.Names.{◌≡◌, ℕ, zero, suc, inl, inr, ◌⊎�
 use Rattle.srcp_core.proofs.Names.{◌++◌, length, drop, refl, ap, sym, ◌∙◌, arith, append_assoc, length-append, length-drop, leb-false}
 use Rattle.srcp_core.proofs.Names.{leb-true, lt-ltb, ltb-true, ltb-false, map-append, drop-append-le, drop-drop, drop_all, flat_map-append}
 use Rattle.srcp_core.proofs.Names.{flat_map, option_or, nat_le, nat_lt, ◌||◌, Option, Some, None, ◌==◌, ◌&&◌, if◌then◌else◌, Next}
-use Rattle.srcp_core.proofs.Names.{Connection, line_of, front, fitting, items_of, available, exhausts, given, unsent, text, took}
+use Rattle.srcp_core.proofs.Names.{Connection, line_of, prefix, fitting, items_of, available, exhausts, given, unsent, text, took}
 use Rattle.std.proofs.Math.Bool.{or-false}
-use Rattle.srcp_core.proofs.CourseLaws.RoomGivesWhatIsOwed.{text_items, front_short, front_none, pos-eqb}
+use Rattle.srcp_core.proofs.CourseLaws.RoomGivesWhatIsOwed.{text_items, prefix_short, prefix_none, pos-eqb}
 
--- the bytes that a front has beyond those asked for
+-- the bytes that a prefix has beyond those asked for
 abbrev pub over : ℕ → List Next → ℕ
-over bytes nexts = length (flat_map line_of (front bytes nexts)) - bytes
+over bytes nexts = length (flat_map line_of (prefix bytes nexts)) - bytes
 
--- a front, and a front of the rest for what is still asked for
-pub front_adds : (a b : ℕ) (nexts rest : List Next) → nexts ≡ front a nexts ++ rest
-    → front (a + b) nexts ≡ front a nexts ++ front (b - over a nexts) rest
-front_adds zero b nexts rest e =
+-- a prefix, and a prefix of the rest for what is still asked for
+pub prefix_adds : (a b : ℕ) (nexts rest : List Next) → nexts ≡ prefix a nexts ++ rest
+    → prefix (a + b) nexts ≡ prefix a nexts ++ prefix (b - over a nexts) rest
+prefix_adds zero b nexts rest e =
     let n : 0 + b ≡ b - 0 = omega arith in
     cc
-front_adds (suc a) b [] rest e =
+prefix_adds (suc a) b [] rest e =
     let none : rest ≡ [] = sym e in
-    cc (front_none _)
-front_adds (suc a) b (what ∷ nexts) rest e =
-    let tail : nexts ≡ front (suc a - length (line_of what)) nexts ++ rest = cc in
-    let ih = front_adds (suc a - length (line_of what)) b nexts rest tail in
-    ap (λ n. front n (what ∷ nexts)) suc_plus
+    cc (prefix_none _)
+prefix_adds (suc a) b (what ∷ nexts) rest e =
+    let tail : nexts ≡ prefix (suc a - length (line_of what)) nexts ++ rest = cc in
+    let ih = prefix_adds (suc a - length (line_of what)) b nexts rest tail in
+    ap (λ n. prefix n (what ∷ nexts)) suc_plus
     ∙ ap (λ ns. what ∷ ns) (by _ refl tail ih)
   where
     suc_plus : suc a + b ≡ suc (a + b)
     suc_plus = omega arith
 
-    sizes : length (line_of what ++ flat_map line_of (front (suc a - length (line_of what)) nexts))
-        ≡ length (line_of what) + length (flat_map line_of (front (suc a - length (line_of what)) nexts))
+    sizes : length (line_of what ++ flat_map line_of (prefix (suc a - length (line_of what)) nexts))
+        ≡ length (line_of what) + length (flat_map line_of (prefix (suc a - length (line_of what)) nexts))
     sizes = length-append _ _
 
-    by : (t : Bool) → nat_le (length (line_of what)) (suc a) ≡ t → nexts ≡ front (suc a - length (line_of what)) nexts ++ rest
-        → front (suc a - length (line_of what) + b) nexts
-        ≡ front (suc a - length (line_of what)) nexts ++ front (b - over (suc a - length (line_of what)) nexts) rest
-        → front (suc (a + b) - length (line_of what)) nexts
-        ≡ front (suc a - length (line_of what)) nexts ++ front (b - over (suc a) (what ∷ nexts)) rest
+    by : (t : Bool) → nat_le (length (line_of what)) (suc a) ≡ t → nexts ≡ prefix (suc a - length (line_of what)) nexts ++ rest
+        → prefix (suc a - length (line_of what) + b) nexts
+        ≡ prefix (suc a - length (line_of what)) nexts ++ prefix (b - over (suc a - length (line_of what)) nexts) rest
+        → prefix (suc (a + b) - length (line_of what)) nexts
+        ≡ prefix (suc a - length (line_of what)) nexts ++ prefix (b - over (suc a) (what ∷ nexts)) rest
     by true t tail ih =
         let l = leb-true _ (suc a) t in
         let z = sizes in
@@ -48,8 +48,8 @@ front_adds (suc a) b (what ∷ nexts) rest e =
         let l = leb-false _ (suc a) t in
         let z = sizes in
         let none : suc a - length (line_of what) ≡ 0 = omega arith in
-        let first : front (suc a - length (line_of what)) nexts ≡ [] = cc in
-        let nothing : length (flat_map line_of (front (suc a - length (line_of what)) nexts)) ≡ 0 =
+        let first : prefix (suc a - length (line_of what)) nexts ≡ [] = cc in
+        let nothing : length (flat_map line_of (prefix (suc a - length (line_of what)) nexts)) ≡ 0 =
         cc in
         let all : nexts ≡ rest = cc in
         let x : suc (a + b) - length (line_of what) ≡ b - over (suc a) (what ∷ nexts) = omega arith in
@@ -62,33 +62,33 @@ fitting_adds a b left nexts rest pa pb e =
     let za : (a == 0) ≡ false = pos-eqb a pa in
     let zb : (b == 0) ≡ false = pos-eqb b pb in
     let zab : (a + b == 0) ≡ false = pos-eqb (a + b) (omega arith) in
-    let e' : nexts ≡ front (a - length left) nexts ++ rest = rw za at e in
+    let e' : nexts ≡ prefix (a - length left) nexts ++ rest = rw za at e in
     rw (za, zb, zab) (by (nat_le a (length left)) refl e')
   where
-    size : length (drop a (left ++ flat_map line_of (front (a - length left) nexts)))
-        ≡ length left + length (flat_map line_of (front (a - length left) nexts)) - a
+    size : length (drop a (left ++ flat_map line_of (prefix (a - length left) nexts)))
+        ≡ length left + length (flat_map line_of (prefix (a - length left) nexts)) - a
     size =
         cc (length-drop a _, length-append left _)
 
-    by : (t : Bool) → nat_le a (length left) ≡ t → nexts ≡ front (a - length left) nexts ++ rest
-        → front (a + b - length left) nexts
-        ≡ front (a - length left) nexts ++ front (b - length (drop a (left ++ flat_map line_of (front (a - length left) nexts)))) rest
+    by : (t : Bool) → nat_le a (length left) ≡ t → nexts ≡ prefix (a - length left) nexts ++ rest
+        → prefix (a + b - length left) nexts
+        ≡ prefix (a - length left) nexts ++ prefix (b - length (drop a (left ++ flat_map line_of (prefix (a - length left) nexts)))) rest
     by true t e =
         let l = leb-true a _ t in
         let z = size in
         let none : a - length left ≡ 0 = omega arith in
-        let first : front (a - length left) nexts ≡ [] = cc in
-        let nothing : length (flat_map line_of (front (a - length left) nexts)) ≡ 0 = cc in
+        let first : prefix (a - length left) nexts ≡ [] = cc in
+        let nothing : length (flat_map line_of (prefix (a - length left) nexts)) ≡ 0 = cc in
         let all : nexts ≡ rest = cc in
-        let x : a + b - length left ≡ b - length (drop a (left ++ flat_map line_of (front (a - length left) nexts))) = omega arith in
+        let x : a + b - length left ≡ b - length (drop a (left ++ flat_map line_of (prefix (a - length left) nexts))) = omega arith in
         cc
     by false t e =
         let l = leb-false a _ t in
         let z = size in
         let x : a + b - length left ≡ a - length left + b = omega arith in
-        let y : b - over (a - length left) nexts ≡ b - length (drop a (left ++ flat_map line_of (front (a - length left) nexts))) =
+        let y : b - over (a - length left) nexts ≡ b - length (drop a (left ++ flat_map line_of (prefix (a - length left) nexts))) =
         omega arith in
-        cc (front_adds _ b nexts rest e)
+        cc (prefix_adds _ b nexts rest e)
 
 pub no_bytes : (other : Bool) (n bytes : ℕ) → 0 < bytes → (nat_lt n bytes || ((bytes == 0) && other)) ≡ nat_lt n bytes
 no_bytes other n bytes h = let z = pos-eqb bytes h in rw z (or-false (nat_lt n bytes))
@@ -101,8 +101,8 @@ enough : (a : ℕ) (left : List ℕ) (nexts rest : List Next) → 0 < a → next
     → (a ≤ length left + length (flat_map line_of (fitting a left nexts))) ⊎ (length (flat_map line_of rest) ≡ 0)
 enough a left nexts rest pa e = by _ refl
   where
-    is_front : fitting a left nexts ≡ front (a - length left) nexts
-    is_front = let z = pos-eqb a pa in rw z refl
+    is_prefix : fitting a left nexts ≡ prefix (a - length left) nexts
+    is_prefix = let z = pos-eqb a pa in rw z refl
 
     nothing : (rest : List Next) → length rest ≡ 0 → length (flat_map line_of rest) ≡ 0
     nothing [] h = refl
@@ -112,12 +112,12 @@ enough a left nexts rest pa e = by _ refl
         → (a ≤ length left + length (flat_map line_of (fitting a left nexts))) ⊎ (length (flat_map line_of rest) ≡ 0)
     by true t = inl (leb-true a (length left + length (flat_map line_of (fitting a left nexts))) t)
     by false t =
-        let f = is_front in
-        let sizes : length (flat_map line_of (fitting a left nexts)) ≡ length (flat_map line_of (front (a - length left) nexts)) =
+        let f = is_prefix in
+        let sizes : length (flat_map line_of (fitting a left nexts)) ≡ length (flat_map line_of (prefix (a - length left) nexts)) =
         cc in
         let l = leb-false a _ t in
-        let short : length (flat_map line_of (front (a - length left) nexts)) < a - length left = omega arith in
-        let all : fitting a left nexts ≡ nexts = f ∙ front_short _ nexts short in
+        let short : length (flat_map line_of (prefix (a - length left) nexts)) < a - length left = omega arith in
+        let all : fitting a left nexts ≡ nexts = f ∙ prefix_short _ nexts short in
         inr (nothing rest (no_more nexts rest (cc)))
 
 same_lt : (x y b c : ℕ) → (x < b → y < c) → (y < c → x < b) → nat_lt x b ≡ nat_lt y c

@@ -1,4 +1,4 @@
--- Room gives the front of what is owed, and settles a session that is given enough.
+-- Room gives the prefix of what is owed, and settles a session that is given enough.
 use Rattle.srcp_core.proofs.Names.{◌≡◌, ℕ, ◌+◌, ◌-◌, ◌≤◌, min, Bool, true, false, List, [], ◌∷◌, ◌++◌, map, length, drop, refl, ap, sym}
 use Rattle.srcp_core.proofs.Names.{◌∙◌, subst, arith, append-nil, append_assoc, length-append, length-drop, take-append-drop, drop_all}
 use Rattle.srcp_core.proofs.Names.{length-map, fold-append, flat_map, option_or, ◌&&◌, Option, Some, None, if◌then◌else◌, Change, Shown}
@@ -11,7 +11,7 @@ use Rattle.srcp_core.specs.Laws.{IsSentReplies, GivesOwed}
 use Rattle.srcp_core.proofs.CourseLaws.LinesHaveBytes.{fitting_full, none_after, owed_full}
 use Rattle.srcp_core.proofs.CourseLaws.Histories.{rows_after}
 use Rattle.srcp_core.proofs.CourseLaws.ShownRegistry.{shown_after, length_history}
-use Rattle.srcp_core.proofs.CourseLaws.RoomGivesWhatIsOwed.{text_items, fitting_front, exhausted, done_owes}
+use Rattle.srcp_core.proofs.CourseLaws.RoomGivesWhatIsOwed.{text_items, fitting_prefix, exhausted, done_owes}
 use Rattle.srcp_core.proofs.CourseLaws.SessionsOfACourse.{stands, at_number, anything, opening_in_order, open_shut, fits_open, untold_open}
 use Rattle.srcp_core.proofs.CourseLaws.ClientHoldsPassedRows.{Fits, gives, owed_by}
 use Rattle.srcp_core.proofs.Agreement.NumbersAndKeys.{numbered_with}
@@ -27,7 +27,7 @@ sends_replies buses layout events number conn e plain =
     let p = s.plain plain in
     record {
       no_items = p.0;
-      front = (unsent conn, cc (take-append-drop _ _, p.0, append-nil conn.out));
+      prefix = (unsent conn, cc (take-append-drop _ _, p.0, append-nil conn.out));
     }
 
 -- what is owed after room
@@ -59,11 +59,11 @@ owes_rest first history go items done bytes left nexts order f e = by _ refl
           fully = λ _. refl;
         }
     by false t =
-        let front = fitting_front bytes left nexts in
-        let g = gives first _ (anything first) history go items done (fitting bytes left nexts) front.rest order f tt (e ∙ front.whole) in
+        let prefix = fitting_prefix bytes left nexts in
+        let g = gives first _ (anything first) history go items done (fitting bytes left nexts) prefix.rest order f tt (e ∙ prefix.whole) in
         record {
-          rest = front.rest;
-          whole = front.whole;
+          rest = prefix.rest;
+          whole = prefix.whole;
           owes =
               cc g.owes;
           fully = λ no_more. let bad : true ≡ false = cc in cc;

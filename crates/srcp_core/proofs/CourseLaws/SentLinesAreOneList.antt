@@ -24,9 +24,9 @@ use Rattle.srcp_core.proofs.CourseLaws.StepsKeepWhole.{whole_opening}
 
 -- ---- parts of lists
 
-pub all_front : {X : Type 0} (P : X → Type 0) (xs ys : List X) → AllByRecursion P (xs ++ ys) → AllByRecursion P xs
-all_front P [] ys a = tt
-all_front P (x ∷ xs) ys a = (a.0, all_front P xs ys a.1)
+pub all_prefix : {X : Type 0} (P : X → Type 0) (xs ys : List X) → AllByRecursion P (xs ++ ys) → AllByRecursion P xs
+all_prefix P [] ys a = tt
+all_prefix P (x ∷ xs) ys a = (a.0, all_prefix P xs ys a.1)
 
 all_drop : {X : Type 0} (P : X → Type 0) (n : ℕ) (xs : List X) → AllByRecursion P xs → AllByRecursion P (drop n xs)
 all_drop P zero xs a = a
@@ -66,7 +66,7 @@ GivenTold history go items finished = AllByRecursion (AllByRecursion IsWellForme
 told_law : (start : List Shown) → AllByRecursion IsWellFormedShown start → Law start GivenTold
 told_law start first = record {
   fresh = λ history go h a. tt;
-  push = λ history changes go items done order f p a. p (all_front (AllByRecursion IsWellFormed) history (changes ∷ []) a);
+  push = λ history changes go items done order f p a. p (all_prefix (AllByRecursion IsWellFormed) history (changes ∷ []) a);
   tell = λ history go items done change changes order f p e a.
       let waits : AllByRecursion IsWellFormed (change ∷ changes) =
       subst (AllByRecursion IsWellFormed) e
@@ -121,13 +121,13 @@ holds_registry buses layout events number conn s moments settled =
 
 -- ---- at any time
 
--- a front of the lines of these changes
-record LinesFront (n : ℕ) (changes : List Change) : Type 0 where
-  front : List Change
+-- a prefix of the lines of these changes
+record LinesPrefix (n : ℕ) (changes : List Change) : Type 0 where
+  prefix : List Change
   later : List Change
   begun : List ℕ
-  whole : changes ≡ front ++ later
-  holds : HoldsLines (take n (flat_map line changes)) front begun
+  whole : changes ≡ prefix ++ later
+  holds : HoldsLines (take n (flat_map line changes)) prefix begun
 
 free_take : (n : ℕ) (xs : List ℕ) → list_any is_lf xs ≡ false → list_any is_lf (take n xs) ≡ false
 free_take zero xs e = refl
@@ -139,20 +139,20 @@ free_take (suc n) (x ∷ xs) e = by _ e (λ h. free_take n xs h)
     by true e ih = e
     by false e ih = ih e
 
-lines_front : (n : ℕ) (changes : List Change) → AllByRecursion IsWellFormed changes → LinesFront n changes
-lines_front n [] a = record {
-  front = [];
+lines_prefix : (n : ℕ) (changes : List Change) → AllByRecursion IsWellFormed changes → LinesPrefix n changes
+lines_prefix n [] a = record {
+  prefix = [];
   later = [];
   begun = [];
   whole = refl;
   holds = record { each = tt; whole = take-nil n; no_more = refl };
 }
-lines_front n (change ∷ changes) a = by _ refl (λ m. lines_front m changes a.1)
+lines_prefix n (change ∷ changes) a = by _ refl (λ m. lines_prefix m changes a.1)
   where
     size : length (line change) ≡ length (text_of change) + 1
     size = length-append _ _
 
-    by : (t : Bool) → nat_lt n (length (line change)) ≡ t → ((m : ℕ) → LinesFront m changes) → LinesFront n (change ∷ changes)
+    by : (t : Bool) → nat_lt n (length (line change)) ≡ t → ((m : ℕ) → LinesPrefix m changes) → LinesPrefix n (change ∷ changes)
     by true t ih =
         let h = ltb-true n _ t in
         let z = size in
@@ -161,7 +161,7 @@ lines_front n (change ∷ changes) a = by _ refl (λ m. lines_front m changes a.
         let cut : take n (line change ++ flat_map line changes) ≡ take n (text_of change) =
         take-append-le n _ _ low ∙ take-append-le n _ _ short in
         record {
-          front = [];
+          prefix = [];
           later = change ∷ changes;
           begun = take n _;
           whole = refl;
@@ -174,7 +174,7 @@ lines_front n (change ∷ changes) a = by _ refl (λ m. lines_front m changes a.
         let cut : take n (line change ++ flat_map line changes) ≡ line change ++ take (n - length (line change)) (flat_map line changes) =
         cc (take-append-add _ _ _) in
         record {
-          front = change ∷ r.front;
+          prefix = change ∷ r.prefix;
           later = r.later;
           begun = r.begun;
           whole = ap (λ cs. change ∷ cs) r.whole;
@@ -216,13 +216,13 @@ given_told buses layout events number conn s moments =
 pub always_sends_lines : (buses : List Bus) → IsLayout buses → (events : List Event) (number : ℕ) (conn : Connection)
     → IsSession buses events number conn → AllMoments events → SendsLines buses conn
 always_sends_lines buses layout events number conn s moments =
-    let f = lines_front _ _ (given_told buses layout events number conn s moments) in
+    let f = lines_prefix _ _ (given_told buses layout events number conn s moments) in
     let bytes : told_bytes conn ≡ take (conn.taken - length conn.out) (flat_map line (tells conn.items)) =
     drop_taken conn.taken conn.out (text conn.items) ∙ ap (take (conn.taken - length conn.out)) (text_tells conn.items) in
     record {
-      front = f.front;
+      prefix = f.prefix;
       later = f.later;
       begun = f.begun;
       whole = f.whole;
-      holds = subst (λ b. HoldsLines b f.front f.begun) (sym bytes) f.holds;
+      holds = subst (λ b. HoldsLines b f.prefix f.begun) (sym bytes) f.holds;
     }

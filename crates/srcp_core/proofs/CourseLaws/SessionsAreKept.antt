@@ -10,7 +10,7 @@ use Rattle.srcp_core.proofs.Names.{with_numbered, at_connection, did, replied, i
 use Rattle.srcp_info.proofs.ClientLaws.{rising_fold}
 use Rattle.srcp_core.proofs.CourseLaws.Histories.{rows_after, part, concerning_by, cursor_by}
 use Rattle.srcp_core.proofs.CourseLaws.ShownRegistry.{shown_after, history_push, length_history}
-use Rattle.srcp_core.proofs.CourseLaws.RoomGivesWhatIsOwed.{Stands, fitting_front, exhausted, also_done, took_within, fitting_none}
+use Rattle.srcp_core.proofs.CourseLaws.RoomGivesWhatIsOwed.{Stands, fitting_prefix, exhausted, also_done, took_within, fitting_none}
 use Rattle.srcp_core.proofs.CourseLaws.EventsKeep.{IsKept, kept_all, kept_answered}
 use Rattle.srcp_core.proofs.CourseLaws.ClientHoldsPassedRows.{Fits, Law, gives, owed_by, fits_push}
 
@@ -158,8 +158,8 @@ module _ (first : List Shown) (ordered : IsRisingBy key_at first) (P : History �
           rw all
           (also_done first P law history go _ done order g)
       by false t =
-          let front = fitting_front bytes left nexts in
-          let g = gives first P law history go items done _ _ order f.0 f.1 (e ∙ front.whole) in
+          let prefix = fitting_prefix bytes left nexts in
+          let g = gives first P law history go items done _ _ order f.0 f.1 (e ∙ prefix.whole) in
           (g.fits, g.also)
 
   stands_took_by : (history : History) (bytes taken : ℕ) (left : List ℕ) (conn : Connection) (info : Bool) (nexts : List Next)

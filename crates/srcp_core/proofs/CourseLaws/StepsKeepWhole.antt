@@ -58,11 +58,11 @@ module _ (buses : List Bus) where
   steps_whole state (step ∷ steps) whole a = steps_whole (stepped state step) steps (step_whole state step whole a.0) a.1
 
   -- and so is each state on the way
-  pub front_whole : (k : ℕ) (state : State) (steps : List Step) → IsWhole buses state → AreSteps buses state steps
+  pub prefix_whole : (k : ℕ) (state : State) (steps : List Step) → IsWhole buses state → AreSteps buses state steps
       → IsWhole buses (state_after state (take k steps))
-  front_whole zero state steps whole a = whole
-  front_whole (suc k) state [] whole a = whole
-  front_whole (suc k) state (step ∷ steps) whole a = front_whole k _ steps (step_whole state step whole a.0) a.1
+  prefix_whole zero state steps whole a = whole
+  prefix_whole (suc k) state [] whole a = whole
+  prefix_whole (suc k) state (step ∷ steps) whole a = prefix_whole k _ steps (step_whole state step whole a.0) a.1
 
   -- ---- what is told
 

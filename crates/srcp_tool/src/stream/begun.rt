@@ -25,7 +25,7 @@ impl BegunLine {
 
     /// Appends more bytes of the line.
     pub(super) fn add(&mut self, text: &[u8])
-        ensures { (front : List ℕ) → IsBegun self.old front → IsBegun self.new (front ++ text.now) }
+        ensures { (before : List ℕ) → IsBegun self.old before → IsBegun self.new (before ++ text.now) }
     {
         if self.bytes.try_extend_from_slice(text).is_err() {
             self.too_long = true;

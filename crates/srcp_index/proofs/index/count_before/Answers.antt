@@ -6,8 +6,8 @@ use Rattle.srcp_grammar.proofs.PlaceLaws.{front_each, back_each}
 use Rattle.srcp_index.proofs.Splits.{partitioned}
 use Rattle.srcp_index.proofs.index.count_before.Goals as goal
 
-pub returns-clause-front : goal.returns-clause-front
-returns-clause-front c =
+pub returns-clause-prefix : goal.returns-clause-prefix
+returns-clause-prefix c =
     let lt = before c.args.since in
     let pair = c.args.pair.now in
     let pairs = c.args.pairs.now.items in

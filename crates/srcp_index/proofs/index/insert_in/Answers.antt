@@ -11,5 +11,5 @@ returns-clause-pairs c =
     put_ok c.insert.result _ _ c.insert.ensures.items c.insert.ensures.full (λ full. let room = c.requires.room in omega
     (arith, full, room))
     ∙ insert-insert_by lt c.args.pair items index
-    c.count_before-index.ensures.front
+    c.count_before-index.ensures.prefix
     c.count_before-index.ensures.back

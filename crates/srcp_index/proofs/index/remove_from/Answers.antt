@@ -12,7 +12,7 @@ returns-then-not-is_before-clause-pairs c =
     let pair = c.args.pair in
     let lt = before c.args.since in
     taken_some c.remove.result _ c.remove.ensures.items (search rules) ∙ remove-remove_by lt pair items index c.index.result.now
-    c.count_before-index.ensures.front
+    c.count_before-index.ensures.prefix
     c.count_before-index.ensures.back
     (omega (arith, c.if-index-len.true, c.len.ensures))
     (ap (lt pair) (sym c.index.ensures) ∙ sym c.is_before.ensures ∙ c.if-not-is_before.true)
@@ -23,7 +23,7 @@ returns-else-index-len-clause-pairs c =
     let index = c.count_before-index.result in
     let pair = c.args.pair in
     let lt = before c.args.since in
-    let front = c.count_before-index.ensures.front in
+    let front = c.count_before-index.ensures.prefix in
     let back = c.count_before-index.ensures.back in
     elim c.else-index-len.branch [
       | else-index-len-via-then-index-len+else-not-is_before w ↦ not_taken lt pair items index w.index.result.now front back
