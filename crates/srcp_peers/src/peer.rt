@@ -27,8 +27,8 @@ use srcp_door::{Line, Share};
 use srcp_info::LONGEST_LINE;
 use srcp_serve::{DoorFault, Got, MOST_WRITES};
 
-/// Above so many queued bytes a peer is flushed before the clock goes on. The queue then has space for all that a visit
-/// writes.
+/// A peer with more queued bytes than this is flushed before the clock goes on. The queue then has space for all that a
+/// visit writes.
 const FLUSH_THRESHOLD: usize = MOST_OUTGOING - MOST_WRITES as usize * LONGEST_LINE;
 
 /// What is to be reported of a peer of which nothing is held.
