@@ -200,17 +200,17 @@ def accept_that_is_refused(program):
         throttle = Client(port, "COMMAND")
         limits = resource.prlimit(server.pid, resource.RLIMIT_NOFILE)
         resource.prlimit(server.pid, resource.RLIMIT_NOFILE, (0, limits[1]))
-        with socket.create_connection(("127.0.0.1", port), timeout=SECONDS) as newcomer:
+        with socket.create_connection(("127.0.0.1", port), timeout=SECONDS) as peer:
             busy = work_without_rest(server, 1)
             reply = throttle.asks("GET 1 POWER")
-            newcomer.settimeout(0.1)
+            peer.settimeout(0.1)
             try:
-                return f"without a descriptor it was told {newcomer.recv(100)!r}"
+                return f"without a descriptor it was told {peer.recv(100)!r}"
             except TimeoutError:
                 pass
             resource.prlimit(server.pid, resource.RLIMIT_NOFILE, limits)
-            newcomer.settimeout(SECONDS)
-            told = newcomer.recv(100)
+            peer.settimeout(SECONDS)
+            told = peer.recv(100)
     if busy or reply != "100 INFO 1 POWER OFF":
         return f"{busy}; a command is answered {reply}"
     return None if told == WELCOME else f"with a descriptor it was told {told!r}"

@@ -37,6 +37,15 @@ class Keep(Case):
     def kept(self, wanted):
         until(lambda: self.text() == wanted, "FILE")
 
+    def stays_kept(self, wanted):
+        """FILE comes to hold these commands, and holds them for as long as three writings take."""
+        def holds():
+            end = time.monotonic() + 0.3
+            while self.text() == wanted and time.monotonic() < end:
+                time.sleep(0.02)
+            return time.monotonic() >= end
+        until(holds, "FILE stays")
+
     def test_written_and_made_again(self):
         self.start_with_all()
         self.has("100 INFO 1 GA 5 0 0")
@@ -45,8 +54,7 @@ class Keep(Case):
             self.restart()
             until(lambda: self.devices() == before, "all are there again, and the locomotive stands")
             self.has("100 INFO 1 POWER OFF")
-        time.sleep(0.3)
-        self.assertEqual(self.text(), KEPT)
+        self.stays_kept(KEPT)
 
     def test_a_restart_within_the_wait_to_write(self):
         self.start_with_all()

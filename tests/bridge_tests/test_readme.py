@@ -19,20 +19,28 @@ PORTS = ("8303", "8304", "12090", "1883")
 BROKER = "## Many displays"
 
 
-def at_the_page(port):
-    """What the page has its reader do in a browser: in Chromium, or, if there is none, as its script does."""
+def at_the_page(port, station):
+    """What the page has its reader do in a browser: in Chromium, or, if there is none, as its script does. Like a
+    reader, it looks at the station before it goes on: of changes that come together the urgent are sent first."""
+    def printed(count):
+        until(lambda: station.lines.qsize() >= count, f"{count} lines of the station")
+
     address = f"http://127.0.0.1:{port}/"
     if not (browser := started()):
         page = Events(port)
-        page.order("INIT 1 GL 3 N 1 126 9", "SET 1 POWER ON", "SET 1 GL 3 1 60 126")
+        for count, line in enumerate(("INIT 1 GL 3 N 1 126 9", "SET 1 POWER ON", "SET 1 GL 3 1 60 126"), 1):
+            page.order(line)
+            printed(count)
         return lambda: page.post("", "/stop")
     browser.opens(address)
     card = "document.querySelector('li.card[data-key=\"1 GL 3\"] input')"
     until(lambda: browser.run("document.querySelectorAll('#POWER button').length") == 2, "power of two buses")
     browser.run("Object.assign(document.querySelector('#addGL [name=address]'), { value: 3 }).form.requestSubmit()")
     until(lambda: browser.run(f"!!{card}"), "a throttle")
+    printed(1)
     browser.run("document.querySelector('#POWER button').click()")
     until(lambda: "on" in browser.run("document.querySelector('#POWER button').textContent.split(' ')"), "power")
+    printed(2)
     browser.run(f"(s => {{ s.value = 60; s.oninput(); }})({card})")
 
     def stops():
@@ -72,7 +80,7 @@ class Readme(unittest.TestCase):
         self.assertIsNone(reader.follows(block))
 
     def test_quarter_of_an_hour(self):
-        acts = [lambda: at_the_page(reader.ports["8303"])]
+        acts = [lambda: at_the_page(reader.ports["8303"], reader.programs[-1])]
         with self.reader() as reader:
             for block in self.blocks()[0]:
                 is_running = not block[0].startswith("$ ")
