@@ -11,9 +11,9 @@ pub use Rattle.srcp_core.specs.Course.{obeyed, open_connection, or_refused, orde
 pub use Rattle.srcp_core.specs.Course.{state_after, updates_of, wants_as, with_numbered}
 pub use Rattle.srcp_core.specs.Handshake.{Chooses, Goes, Greeting, Refuses, Speaks}
 pub use Rattle.srcp_core.specs.Held.{AreSessions, Held, IsLive, IsSessionAt, IsSound, Place, at, open_count, place_at}
-pub use Rattle.srcp_core.specs.Laws.{AddsUp, AllMoments, HasMoment, IsRecordOf, IsSession, OfSessions, has_key, is_info_session, last_line}
+pub use Rattle.srcp_core.specs.Laws.{AddsUp, AllMoments, HasMoment, IsRecordOf, IsSession, has_key, last_line}
 pub use Rattle.srcp_core.specs.Laws.{listed, listed_row, rows_at}
-pub use Rattle.srcp_core.specs.Machine.{CountsEach, HasRoom, IsAdmitted, IsNotAdmitted, IsTellable, advanced, asked_of, bytes_fault}
+pub use Rattle.srcp_core.specs.Machine.{CountsEach, HasRoom, IsAdmitted, IsNotAdmitted, advanced, asked_of, bytes_fault}
 pub use Rattle.srcp_core.specs.Machine.{bytes_fault_from, carried, changed_at, changed_in, changed_places, denied_line, entered_place}
 pub use Rattle.srcp_core.specs.Machine.{feed_in, filled, finish_at, freed_of, freed_place, has_overrun, heard_at, heard_from, hung_up}
 pub use Rattle.srcp_core.specs.Machine.{hung_up_from, is_panel, item_at, item_from, item_of, let_out, line_answered, lines_answered}
@@ -23,9 +23,9 @@ pub use Rattle.srcp_core.specs.Machine.{told_feed, told_place, unsent_at, unsent
 pub use Rattle.srcp_core.specs.Promised.{IsPromised}
 pub use Rattle.srcp_core.specs.Recording.{Keeps, Recording, changed_record, finished, finished_by, gave, kept, key_of, noted}
 pub use Rattle.srcp_core.specs.Recording.{nothing_recorded, record_of, shut, stepped, without_key}
-pub use Rattle.srcp_core.specs.Run.{CountsAsked, Happened, HappensAs, HasPlainMoment, PlainMoments, Runs, RunsUnder, Tells, count_at}
+pub use Rattle.srcp_core.specs.Run.{Happened, HasPlainMoment, PlainMoments, Runs, Tells, count_at}
 pub use Rattle.srcp_core.specs.Run.{taken_at, taking}
-pub use Rattle.srcp_core.specs.Stands.{IsAt, IsOwned, StandsBy, StandsFor, panel_at, place_of, placed}
+pub use Rattle.srcp_core.specs.Stands.{IsAt, IsOwned, StandsBy, StandsFor, panel_at, place_of}
 pub use Rattle.srcp_core.specs.Under.{At, Began, Bytes, Ended, Event, Heard, Moment, Obeyed, Open, Order, Piece, Room, Shut, Step}
 pub use Rattle.srcp_core.specs.Under.{all_under, denied_by, giving, greeting_under, greets, lines_under, recorded_step, under, wants_memory}
 pub use Rattle.srcp_core.specs.Waits.{IsOverrun, brought, least, lesser, option_or_256, room, slack_of}
@@ -43,8 +43,8 @@ pub use Rattle.srcp_core.specs.declared.record.Refusal.{Refusal}
 pub use Rattle.srcp_feed.proofs.Steps.{beyond_done, lists_one, passed_all, passed_done, passed_start}
 pub use Rattle.srcp_feed.specs.Cursor.{beyond, changed_all, concerns, moved, passed, said}
 pub use Rattle.srcp_feed.specs.Feed.{Feed, is_full, next_of, told}
-pub use Rattle.srcp_feed.specs.declared.answers.Next.{Next}
-pub use Rattle.srcp_feed.specs.declared.answers.Next.TheVariants.{Listed, Settled, Told}
+pub use Rattle.srcp_feed.specs.declared.feed.Next.{Next}
+pub use Rattle.srcp_feed.specs.declared.feed.Next.TheVariants.{Listed, Settled, Told}
 pub use Rattle.srcp_grammar.proofs.FindLaws.{each_filtered}
 pub use Rattle.srcp_grammar.proofs.GrammarLaws.{reads_fits}
 pub use Rattle.srcp_grammar.specs.Command.{IsCommandOf}

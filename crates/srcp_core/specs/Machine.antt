@@ -2,11 +2,9 @@
 use Rattle.std.specs.Prelude.{⊤, ◌≡◌, ◌≢◌, ℕ, suc, ◌+◌, ◌-◌, ◌*◌, ◌<◌, ◌≤◌, min, max, Bool, true, false, not}
 use Rattle.std.specs.Prelude.{◌&&◌, ◌||◌, ◌==◌, if◌then◌else◌, List, [], ◌∷◌, ◌++◌, map, drop, length, fold, nat_lt}
 use Rattle.std.specs.Prelude.{slice_set, Option, Some, None, Result, Ok, Err}
-use Rattle.std.specs.Option.{option_map, option_to_list}
+use Rattle.std.specs.Option.{option_map, option_map_or, option_to_list}
 use Rattle.srcp_info.specs.Line.{reply_line}
-use Rattle.srcp_info.specs.WellFormed.{IsWellFormed}
 use Rattle.srcp_info.specs.declared.change.Change.{Change}
-use Rattle.srcp_info.specs.declared.change.Change.TheVariants.{Put}
 use Rattle.srcp_info.specs.declared.change.Code.{Code}
 use Rattle.srcp_info.specs.declared.change.Code.TheVariants.{C500}
 use Rattle.srcp_info.specs.declared.change.Reply.{Reply}
@@ -26,8 +24,7 @@ use Rattle.srcp_text.specs.declared.reader.Fed.{Fed}
 use Rattle.srcp_text.specs.declared.reader.Fed.TheVariants.{Line as FoundLine, TooLong as FoundTooLong, More}
 use Rattle.srcp_feed.specs.Cursor.{concerns}
 use Rattle.srcp_feed.specs.Feed.{Feed, beginning, is_full, told, next_of, after_next}
-use Rattle.srcp_feed.specs.declared.answers.Next.{Next}
-use Rattle.srcp_feed.specs.declared.answers.Next.TheVariants.{Told, Listed, Settled}
+use Rattle.srcp_feed.specs.declared.feed.Next.{Next}
 use Rattle.srcp_core.specs.Connection.{is_nil, line_of}
 use Rattle.srcp_core.specs.Course.{welcome, command_of}
 use Rattle.srcp_core.specs.Handshake.{Greeting, Speaks, Chooses, Goes, Refuses, greets}
@@ -75,24 +72,19 @@ panel_for Info = Listening beginning
 -- it is an information session
 abbrev pub is_panel : Panel → Bool
 is_panel Absent = false
-is_panel (Listening feed) = true
-is_panel Overran = true
-
--- the connection of a slot has an information session
-abbrev pub has_panel : Option Place → Bool
-has_panel None = false
-has_panel (Some p) = is_panel p.panel
+is_panel _ = true
 
 -- the keys of the connections that have an information session
 abbrev pub panel_keys : List (Option Place) → List ℕ
 panel_keys [] = []
-panel_keys (place ∷ places) = if has_panel place then 0 ∷ map suc (panel_keys places) else map suc (panel_keys places)
+panel_keys (place ∷ places) =
+    let later = map suc (panel_keys places) in
+    if option_map_or (λ p. is_panel p.panel) place false then 0 ∷ later else later
 
 -- its change queue overflowed
 abbrev pub has_overrun : Panel → Bool
-has_overrun Absent = false
-has_overrun (Listening feed) = false
 has_overrun Overran = true
+has_overrun _ = false
 
 -- how many more changes it can queue; 256 if it overran, since none wait then
 abbrev pub slack_in : Panel → Option ℕ
@@ -107,9 +99,8 @@ slack_at (Some p) = slack_in p.panel
 
 -- the feed that gives to it
 abbrev pub feed_in : Panel → Option Feed
-feed_in Absent = None
 feed_in (Listening feed) = Some feed
-feed_in Overran = None
+feed_in _ = None
 
 -- the session begins under the id
 abbrev pub entered_place : ℕ → Panel → Place → Place
@@ -117,7 +108,7 @@ entered_place id panel p = record p { session = id; panel = panel }
 
 -- a change is told: if the queue is full, what waits, the listing and the unsent bytes are dropped
 abbrev pub told_feed : Change → Place → Option Feed → Place
-told_feed change p None = p
+told_feed _ p None = p
 told_feed change p (Some feed) =
     if concerns feed.cursor change && is_full feed then record p { unsent = []; panel = Overran } else record p {
       panel = Listening (told change feed);
@@ -129,12 +120,11 @@ told_place change p = told_feed change p (feed_in p.panel)
 
 -- the next line is appended, if nothing is unsent
 abbrev pub filled_from : List Shown → Place → List ℕ → Option Feed → Place
-filled_from rows p (byte ∷ bytes) feed = p
-filled_from rows p [] None = p
 filled_from rows p [] (Some feed) = record p {
   unsent = line_of (next_of rows feed);
   panel = Listening (after_next rows feed);
 }
+filled_from _ p _ _ = p
 
 -- and by the unsent bytes and the feed that the connection has
 abbrev pub filled : List Shown → Place → Place
@@ -142,21 +132,13 @@ filled rows p = filled_from rows p p.unsent (feed_in p.panel)
 
 -- what was put in, if anything was asked for
 abbrev pub item_from : List Shown → List ℕ → Option Feed → Option Next
-item_from rows (byte ∷ bytes) feed = None
-item_from rows [] None = None
 item_from rows [] (Some feed) = Some (next_of rows feed)
+item_from _ _ _ = None
 
 -- the changes that wait
 abbrev pub queue_of : Panel → List Change
-queue_of Absent = []
 queue_of (Listening feed) = feed.queue
-queue_of Overran = []
-
--- what is given can be told
-abbrev pub IsTellable : Next → Type 0
-IsTellable (Told change) = IsWellFormed change
-IsTellable (Listed row) = IsWellFormed (Put row)
-IsTellable Settled = ⊤
+queue_of _ = []
 
 -- ---- lines
 
@@ -168,7 +150,7 @@ asked_of buses p mark =
 
 -- what the reader found: the offset after the line and what it asks for, or nothing
 abbrev pub heard_from : List Bus → Place → Fed × Reading → Option (ℕ × Asked) × Place
-heard_from buses p (More, reading) = (None, record p { reader = reading })
+heard_from _ p (More, reading) = (None, record p { reader = reading })
 heard_from buses p (FoundLine stop, reading) =
     (Some (stop, asked_of buses p (Line reading.line)), record p { reader = reading })
 heard_from buses p (FoundTooLong stop, reading) = (Some (stop, asked_of buses p TooLong), record p { reader = reading })
@@ -177,20 +159,15 @@ heard_from buses p (FoundTooLong stop, reading) = (Some (stop, asked_of buses p 
 abbrev pub heard : List Bus → List ℕ → ℕ → Place → Option (ℕ × Asked) × Place
 heard buses piece start p = heard_from buses p (feed_of p.reader piece start)
 
--- what is known of the line that has begun
-abbrev pub line_begun_of : Option Place → Option (List ℕ)
-line_begun_of None = Some []
-line_begun_of (Some p) = p.reader.begun
-
 -- what is known of the line that has begun on the connection of that key
 abbrev pub line_begun_at : ℕ → Held → Option (List ℕ)
-line_begun_at key held = line_begun_of (at held key)
+line_begun_at key held = option_map_or (λ p. p.reader.begun) (at held key) (Some [])
 
 -- ---- all slots
 
 -- the connection of that key is changed, if there is one
 abbrev pub changed_in : ℕ → (Place → Place) → List (Option Place) → Option Place → List (Option Place)
-changed_in key change places None = places
+changed_in _ _ places None = places
 changed_in key change places (Some p) = slice_set places key (Some (change p))
 
 -- the same, by the connection that is there
@@ -255,11 +232,11 @@ goes granted key mode held =
 
 -- a line before the session, by whether memory was given to it
 abbrev pub greeted : Bool → ℕ → Mode → Greeting → Held → Held
-greeted granted key mode Speaks held = replied key Protocol held
-greeted granted key mode (Chooses chosen) held =
+greeted _ key _ Speaks held = replied key Protocol held
+greeted _ key mode (Chooses chosen) held =
     replied key ModeReply (changed_at key (λ p. record p { mode = chosen }) held)
 greeted granted key mode Goes held = goes granted key mode held
-greeted granted key mode (Refuses code) held = replied key (Refused code) held
+greeted _ key _ (Refuses code) held = replied key (Refused code) held
 
 -- the session ends: its locks are taken out, and then its own row
 abbrev pub freed_of : ℕ → Held → Held
@@ -281,14 +258,14 @@ is_obeyed granted session command held = granted || not (wants_memory held.rows 
 
 -- a command, by whether memory was given to it
 abbrev pub commanded : Bool → ℕ → ℕ → Result Command Code → Held → Held
-commanded granted key session (Err code) held = replied key (Refused code) held
+commanded _ key _ (Err code) held = replied key (Refused code) held
 commanded granted key session (Ok command) held =
     if is_obeyed granted session command held
     then obeyed key session (effect held.rows session held.moment command) held else denied_line key held
 
 -- a line is answered, by whether memory was given to it
 abbrev pub answered : Bool → ℕ → Asked → Held → Held
-answered granted key Dropped held = held
+answered _ _ Dropped held = held
 answered granted key (Greets mode greeting) held = greeted granted key mode greeting held
 answered granted key (Commands session command) held = commanded granted key session command held
 
@@ -305,14 +282,12 @@ steps_gone granted mode held =
 
 -- the steps of a line before the session
 abbrev pub steps_greeted : Bool → Mode → Greeting → Held → List Step
-steps_greeted granted mode Speaks held = []
-steps_greeted granted mode (Chooses chosen) held = []
 steps_greeted granted mode Goes held = steps_gone granted mode held
-steps_greeted granted mode (Refuses code) held = []
+steps_greeted _ _ _ _ = []
 
 -- a command that reads is a step whatever comes of it
 abbrev pub steps_commanded : Bool → ℕ → Result Command Code → Held → List Step
-steps_commanded granted session (Err code) held = []
+steps_commanded _ _ (Err _) _ = []
 steps_commanded granted session (Ok command) held =
     Obeyed session held.moment command
     ∷ (if is_obeyed granted session command held && (effect held.rows session held.moment command).ends
@@ -320,19 +295,19 @@ steps_commanded granted session (Ok command) held =
 
 -- the steps of a line
 abbrev pub steps_answered : Bool → Asked → Held → List Step
-steps_answered granted Dropped held = []
+steps_answered _ Dropped _ = []
 steps_answered granted (Greets mode greeting) held = steps_greeted granted mode greeting held
 steps_answered granted (Commands session command) held = steps_commanded granted session command held
 
 -- how many bytes a reply has at most
 abbrev pub longest : Reply → ℕ
-longest (Shows shown) = 126
-longest other = 64
+longest (Shows _) = 126
+longest _ = 64
 
 -- how many bytes the answer to a line has at most
 abbrev pub longest_answer : Asked → ℕ
-longest_answer (Commands session (Ok command)) = 126
-longest_answer other = 64
+longest_answer (Commands _ (Ok _)) = 126
+longest_answer _ = 64
 
 -- ---- calls
 
@@ -354,11 +329,11 @@ pub record IsAdmitted (key : ℕ) (old new : Held) : Type 0 where
 abbrev pub IsNotAdmitted : CoreFault → Held → Held → Type 0
 IsNotAdmitted Full old new = (open_count old ≡ 64) × (new ≡ old)
 IsNotAdmitted MemoryFault old new = (open_count old < 64) × (new ≡ one_denied old)
-IsNotAdmitted other old new = ⊥
+IsNotAdmitted _ _ _ = ⊥
 
 -- why bytes are refused, the first cause
 abbrev pub bytes_fault_from : List ℕ → Option Place → Option CoreFault
-bytes_fault_from piece None = Some NoSuch
+bytes_fault_from _ None = Some NoSuch
 bytes_fault_from piece (Some p) =
     if p.ended || has_overrun p.panel then Some Closing
     else (if not (is_nil p.unsent) then Some Busy
@@ -375,29 +350,27 @@ pub record IsAsked (key : ℕ) (asked : Asked) (held : Held) : Type 0 where
   pub here : at held key ≡ Some place
   pub is : asked ≡ asked_of held.buses place mark
 
--- a piece is read on from that offset: the offset after the next line with what that
+-- a piece is read on from that offset by the connection of that key: the offset after the next line with what that
 -- asks for, or none if no line ends
-abbrev pub heard_in : ℕ → List ℕ → ℕ → Held → Option Place → Option (ℕ × Asked) × Held
-heard_in key piece start held None = (None, held)
-heard_in key piece start held (Some p) = (
-  (heard held.buses piece start p).0,
-  record held { places = slice_set held.places key (Some (heard held.buses piece start p).1) },
-)
-
--- the same, by the connection that is there
 abbrev pub heard_at : ℕ → List ℕ → ℕ → Held → Option (ℕ × Asked) × Held
-heard_at key piece start held = heard_in key piece start held (at held key)
+heard_at key piece start held =
+    option_map_or
+    (λ p. (
+      (heard held.buses piece start p).0,
+      record held { places = slice_set held.places key (Some (heard held.buses piece start p).1) },
+    ))
+    (at held key) (None, held)
 
 -- the next line is answered, by whether memory was given to it, and the next one begins
 -- at the offset after it; none if no line ends
 abbrev pub line_answered : ℕ → Bool → ℕ × Held → Option (ℕ × Asked) × Held → ℕ × Held
-line_answered key granted before (None, held) = before
-line_answered key granted before (Some (stop, asked), held) = (stop, answered granted key asked held)
+line_answered _ _ before (None, _) = before
+line_answered key granted _ (Some (stop, asked), held) = (stop, answered granted key asked held)
 
 -- the steps that the answer is
 abbrev pub steps_of_line : Bool → Option (ℕ × Asked) × Held → List Step
-steps_of_line granted (None, held) = []
-steps_of_line granted (Some (stop, asked), held) = steps_answered granted asked held
+steps_of_line _ (None, _) = []
+steps_of_line granted (Some (_, asked), held) = steps_answered granted asked held
 
 -- lines of the piece are answered in turn, each by whether memory was given to it
 abbrev pub lines_answered : ℕ → List ℕ → List Bool → Held → ℕ × Held
@@ -422,11 +395,10 @@ pub record IsLineAnswered (key : ℕ) (piece : List ℕ) (start stop : ℕ) (did
 
 -- each answer to the lines that follow is counted if it refuses
 abbrev pub CountsEach : ℕ → List ℕ → ℕ × Held → List Bool → Type 0
-CountsEach key piece before [] = ⊤
+CountsEach _ _ _ [] = ⊤
 CountsEach key piece before (granted ∷ grants) =
-    ((line_answered key granted before (heard_at key piece before.0 before.1)).1.denied
-    ≡ denied_by before.1.denied (granted ∷ []))
-    × CountsEach key piece (line_answered key granted before (heard_at key piece before.0 before.1)) grants
+    let after = line_answered key granted before (heard_at key piece before.0 before.1) in
+    (after.1.denied ≡ denied_by before.1.denied (granted ∷ [])) × CountsEach key piece after grants
 
 -- each line that ends in the piece is answered in turn, by whether memory was given
 -- to it, and then the beginning of a line is left
@@ -445,14 +417,12 @@ live_session_of (Some p) = if (p.session == 0) || p.ended then None else Some p.
 abbrev pub live_session : ℕ → Held → Option ℕ
 live_session key held = live_session_of (at held key)
 
--- how it stands
-abbrev pub finish_from : Option Place → Finish
-finish_from None = Shut
-finish_from (Some p) = if has_overrun p.panel then Overrun else (if p.ended && is_nil p.unsent then Finishes else Live)
-
--- the same of the connection of that key
+-- how the connection of that key stands
 abbrev pub finish_at : ℕ → Held → Finish
-finish_at key held = finish_from (at held key)
+finish_at key held =
+    option_map_or
+    (λ p. if has_overrun p.panel then Overrun else (if p.ended && is_nil p.unsent then Finishes else Live))
+    (at held key) Shut
 
 -- the next line is put in for the connection of that key
 abbrev pub let_out : ℕ → Held → Held
@@ -460,7 +430,7 @@ let_out key held = changed_at key (filled (shown_rows held.rows)) held
 
 -- what is put in then, by the connection that is there
 abbrev pub item_of : List Shown → Option Place → Option Next
-item_of rows None = None
+item_of _ None = None
 item_of rows (Some p) = item_from rows p.unsent (feed_in p.panel)
 
 -- what is put in then for the connection of that key
@@ -473,7 +443,7 @@ freed_place key held = record held { places = slice_set held.places key None }
 
 -- a connection is hung up, by what is there
 abbrev pub hung_up_from : ℕ → Held → Option Place → Held
-hung_up_from key held None = held
+hung_up_from _ held None = held
 hung_up_from key held (Some p) =
     if (p.session == 0) || p.ended then freed_place key held else freed_of p.session (freed_place key held)
 

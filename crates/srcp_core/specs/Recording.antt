@@ -1,10 +1,11 @@
 -- The model of the code: what a run has recorded so far.
 use Rattle.std.specs.Prelude.{◌≡◌, ℕ, zero, suc, Bool, true, false, if◌then◌else◌, List, [], ◌∷◌, ◌++◌, map, length}
 use Rattle.std.specs.Prelude.{Option, Some, None, fold}
+use Rattle.std.specs.Option.{option_map_or}
 use Rattle.std.specs.Prelude.{slice_get, slice_set, slice_index_or}
-use Rattle.srcp_feed.specs.declared.answers.Next.{Next}
-use Rattle.srcp_feed.specs.declared.answers.Next.TheVariants.{Told, Listed, Settled}
-use Rattle.srcp_core.specs.Connection.{Connection, is_open, sent}
+use Rattle.srcp_feed.specs.declared.feed.Next.{Next}
+use Rattle.srcp_feed.specs.declared.feed.Next.TheVariants.{Settled}
+use Rattle.srcp_core.specs.Connection.{Connection, is_open, recorded}
 use Rattle.srcp_core.specs.Course.{is_info}
 use Rattle.srcp_core.specs.Held.{Held}
 use Rattle.srcp_core.specs.Machine.{finish_at}
@@ -14,7 +15,7 @@ use Rattle.srcp_core.specs.declared.record.CoreFault.{CoreFault}
 use Rattle.srcp_core.specs.declared.record.Finish.TheVariants.{Live, Shut}
 use Rattle.srcp_core.specs.declared.record.Refusal.{Refusal}
 use Rattle.srcp_core.specs.declared.record.Step.{Step}
-use Rattle.srcp_core.specs.declared.record.Step.TheVariants.{Obeyed, Began, Moment, Ended}
+use Rattle.srcp_core.specs.declared.record.Step.TheVariants.{Began}
 
 -- what was recorded so far
 pub record Recording : Type 0 where
@@ -25,7 +26,7 @@ pub record Recording : Type 0 where
 
 -- the key of the connection of that number, the first being 1
 abbrev pub key_of : ℕ → List (Option ℕ) → Option ℕ
-key_of zero keys = None
+key_of zero _ = None
 key_of (suc conn) keys = slice_index_or keys conn None
 
 -- the keys without that of a number
@@ -35,24 +36,13 @@ without_key (suc n) keys = slice_set keys n None
 
 -- what is recorded of a connection before the end
 abbrev pub record_of : Connection → ConnRecord
-record_of conn = record {
-  session = conn.session;
-  info = conn.info;
-  go_step = conn.go_step;
-  sent = sent conn;
-  items = conn.items;
-  finish = if is_open conn then Live else Shut;
-}
+record_of conn = record (recorded [] conn) { finish = if is_open conn then Live else Shut }
 
 -- the record of the connection of that number is changed, if there is one
-abbrev pub changed_in : ℕ → (ConnRecord → ConnRecord) → List ConnRecord → Option ConnRecord → List ConnRecord
-changed_in index change records None = records
-changed_in index change records (Some one) = slice_set records index (change one)
-
--- the same, by the number alone
 abbrev pub changed_record : ℕ → (ConnRecord → ConnRecord) → List ConnRecord → List ConnRecord
-changed_record zero change records = records
-changed_record (suc index) change records = changed_in index change records (slice_get records index)
+changed_record zero _ records = records
+changed_record (suc index) change records =
+    option_map_or (λ one. slice_set records index (change one)) (slice_get records index) records
 
 -- the same of the whole recording
 abbrev pub changed : ℕ → (ConnRecord → ConnRecord) → Recording → Recording
@@ -80,11 +70,9 @@ stepped steps r = record r { steps = r.steps ++ steps }
 
 -- a session began, if the step says so
 abbrev pub began : ℕ → Step → Recording → Recording
-began n (Obeyed session moment command) r = r
-began n (Began session moment mode) r =
+began n (Began session _ mode) r =
     changed n (λ one. record one { session = session; info = is_info mode; go_step = length r.steps }) r
-began n (Moment moment) r = r
-began n (Ended session moment) r = r
+began _ _ r = r
 
 -- a line was answered by these steps
 abbrev pub noted : ℕ → List Step → Recording → Recording
@@ -96,10 +84,9 @@ with_item steps what one = record one { items = one.items ++ record { steps = st
 
 -- an information session was given this, if anything; if nothing is left there is no line
 abbrev pub gave : ℕ → Option Next → Recording → Recording
-gave n None r = r
-gave n (Some (Told change)) r = changed n (with_item (length r.steps) (Told change)) r
-gave n (Some (Listed row)) r = changed n (with_item (length r.steps) (Listed row)) r
-gave n (Some Settled) r = r
+gave _ None r = r
+gave _ (Some Settled) r = r
+gave n (Some what) r = changed n (with_item (length r.steps) what) r
 
 -- these bytes were taken
 abbrev pub took : ℕ → List ℕ → Recording → Recording
@@ -107,13 +94,13 @@ took n bytes r = changed n (λ one. record one { sent = one.sent ++ bytes }) r
 
 -- how each open connection stands in the end
 abbrev pub finished_by : Held → Option ℕ → ConnRecord → ConnRecord
-finished_by held None one = one
+finished_by _ None one = one
 finished_by held (Some key) one = record one { finish = finish_at key held }
 
 -- how all of them stand in the end
 abbrev pub finished : Held → List (Option ℕ) → List ConnRecord → List ConnRecord
-finished held [] records = records
-finished held (key ∷ keys) [] = []
+finished _ [] records = records
+finished _ (_ ∷ _) [] = []
 finished held (key ∷ keys) (one ∷ records) = finished_by held key one ∷ finished held keys records
 
 -- the event of that number was refused
@@ -124,12 +111,7 @@ with_refusal event cause r = record r { refused = r.refused ++ record { event = 
 
 -- the outline of a recording
 abbrev pub recording_outline : Recording → Recording
-recording_outline r = record {
-  keys = r.keys;
-  steps = [];
-  connections = map connection_outline r.connections;
-  refused = r.refused;
-}
+recording_outline r = record r { steps = []; connections = map connection_outline r.connections }
 
 -- the recording in full, or its outline
 abbrev pub kept : (in_full : Bool) → Recording → Recording

@@ -1,18 +1,19 @@
 -- The model of the code: what a run keeps beside the course of its events, and what comes of one more event.
-use Rattle.std.specs.Prelude.{◌≡◌, ◌+◌, ◌++◌, ◌∷◌, [], ℕ, Bool, true, false, IsTrue, List, map, take, fold, length, min}
+use Rattle.std.specs.Prelude.{◌≡◌, ◌+◌, ◌++◌, ◌∷◌, [], ℕ, Bool, true, false, List, map, take, length, min}
 use Rattle.std.specs.Prelude.{Option, Some, None}
 use Rattle.std.specs.List.{AllByRecursion}
 use Rattle.srcp_grammar.specs.declared.layout.Bus.{Bus}
 use Rattle.srcp_grammar.specs.Layout.{IsLayout}
-use Rattle.srcp_core.specs.Course.{World, start, counted, fault, accepted, course, denied_in, denied_over}
+use Rattle.srcp_core.specs.Course.{World, counted, fault, accepted, course, denied_in}
 use Rattle.srcp_core.specs.Held.{Held}
 use Rattle.srcp_core.specs.Machine.{let_out, item_at, unsent_at, changed_at, without_sent}
-use Rattle.srcp_core.specs.Promised.{outline}
-use Rattle.srcp_core.specs.Recording.{Recording, key_of, without_key, record_of, gave, took, Keeps}
-use Rattle.srcp_core.specs.Laws.{HasMoment, IsRecordOf}
+use Rattle.srcp_core.specs.Agrees.{OfCourse, AtKey}
+use Rattle.srcp_core.specs.Promised.{RunsRecord, outline}
+use Rattle.srcp_core.specs.Recording.{Recording, record_of, gave, took, Keeps}
+use Rattle.srcp_core.specs.Laws.{HasMoment}
 use Rattle.srcp_core.specs.Stands.{StandsFor}
 use Rattle.srcp_core.specs.declared.record.Record.{Record}
-use Rattle.srcp_core.specs.Under.{Event, Shut, Open, Bytes, recorded_step, under, all_under, denied_by}
+use Rattle.srcp_core.specs.Under.{Event, Bytes, recorded_step, under, denied_by}
 use Rattle.srcp_core.specs.declared.event.Event.{Event as PlainEvent}
 use Rattle.srcp_core.specs.declared.record.CoreFault.{CoreFault}
 
@@ -46,99 +47,46 @@ module _ (buses : List Bus) where
   Happened event None r held w = (fault buses w event ≡ None) × Runs r held (accepted buses event w)
   Happened event (Some cause) r held w = (fault buses w event ≡ Some cause) × Runs r held w
 
--- whatever the events were before, what was refused in the event is what was asked for in their course
-abbrev pub CountsAsked : Recording → Held → Held → Event → Type 0
-CountsAsked r held later event =
-    (buses : List Bus) (events : List Event) → IsLayout buses → Runs buses r held (course buses events)
-    → later.denied ≡ denied_in buses held.denied (counted (course buses events)) event
-
--- what memory answered, with which, whatever the events were before, the event is
--- carried out or refused as it is in their course
-pub record HappensAs (event : PlainEvent) (refusal : Option CoreFault) (r : Recording) (held : Held)
-    (later_r : Recording) (later : Held) : Type 0 where
+-- what memory answered in the event, with which, whatever the events were before, this is so of the event; what was
+-- refused in it is what was asked for in their course
+pub record Answers (event : PlainEvent) (r : Recording) (held later : Held)
+    (Leads : List Bus → List Event → Event → Type 0) : Type 0 where
   pub grants : List Bool
-  pub happens : (buses : List Bus) (events : List Event) → IsLayout buses → Runs buses r held (course buses events)
-      → Happened buses (under grants event) refusal later_r later (counted (course buses events))
+  pub each : (buses : List Bus) (events : List Event) → IsLayout buses → Runs buses r held (course buses events)
+      → (later.denied ≡ denied_in buses held.denied (counted (course buses events)) (under grants event))
+      × Leads buses events (under grants event)
   pub counted : later.denied ≡ denied_by held.denied grants
-  pub asked : CountsAsked r held later (under grants event)
 
--- and so with the number of the event, which is recorded if it is refused
-pub record FollowsAs (number : ℕ) (event : PlainEvent) (r : Recording) (held : Held) (later_r : Recording)
-    (later : Held) : Type 0 where
-  pub grants : List Bool
-  pub follows : (buses : List Bus) (events : List Event) → IsLayout buses → number ≡ length events + 1
-      → Runs buses r held (course buses events)
-      → Runs buses later_r later (course buses (events ++ under grants event ∷ []))
-  pub counted : later.denied ≡ denied_by held.denied grants
-  pub asked : CountsAsked r held later (under grants event)
-
--- the same of what a recorder keeps, of whichever recording that is
+-- of whichever recording a recorder keeps, the event is carried out or refused as it is in the course
 abbrev pub Happens : (in_full : Bool) → PlainEvent → Option CoreFault → Recording → Held → Recording → Held → Type 0
 Happens in_full event refusal old held new later =
-    Keeps in_full (λ r later_r. HappensAs event refusal r held later_r later) old new
+    Keeps in_full (λ r later_r. Answers event r held later (λ buses events under_grants.
+    Happened buses under_grants refusal later_r later (counted (course buses events)))) old new
 
+-- and so with the number of the event, which is recorded if it is refused
 abbrev pub Follows : (in_full : Bool) → ℕ → PlainEvent → Recording → Held → Recording → Held → Type 0
 Follows in_full number event old held new later =
-    Keeps in_full (λ r later_r. FollowsAs number event r held later_r later) old new
+    Keeps in_full (λ r later_r. Answers event r held later (λ buses events under_grants.
+    number ≡ length events + 1 → Runs buses later_r later (course buses (events ++ under_grants ∷ [])))) old new
 
 -- a call leads from the course of any events to that with its event
 abbrev pub LeadsTo : Event → Held → Held → Type 0
 LeadsTo event old new =
-    (buses : List Bus) (events : List Event) (keys : List (Option ℕ)) → IsLayout buses
-    → StandsFor buses keys old (course buses events) → StandsFor buses keys new (course buses (events ++ event ∷ []))
+    OfCourse old (λ buses events keys. StandsFor buses keys new (course buses (events ++ event ∷ [])))
 
 -- the same of a call for the connection of a key, which may leave that free
 abbrev pub LeadsAt : ℕ → (ℕ → Event) → Held → Held → Type 0
 LeadsAt key event old new =
-    (buses : List Bus) (events : List Event) (keys : List (Option ℕ)) (n : ℕ) → IsLayout buses
-    → key_of n keys ≡ Some key → StandsFor buses keys old (course buses events)
-    → StandsFor buses keys new (course buses (events ++ event n ∷ []))
+    AtKey key old (λ buses events keys n. StandsFor buses keys new (course buses (events ++ event n ∷ [])))
 
--- what such a call counted as refused is what was asked for in the course
-abbrev pub CountsAt : ℕ → (ℕ → Event) → Held → Held → Type 0
-CountsAt key event old new =
-    (buses : List Bus) (events : List Event) (keys : List (Option ℕ)) (n : ℕ) → IsLayout buses
-    → key_of n keys ≡ Some key → StandsFor buses keys old (course buses events)
-    → new.denied ≡ denied_in buses old.denied (counted (course buses events)) (event n)
-
--- the same of a piece, with what memory answered to its lines: if it refused nothing by then, each answer gave; what it
--- refused is what was asked for in the course
+-- the same of a piece, with what memory answered to its lines; what it refused is what was asked for in the course
 pub record LeadsOn (key : ℕ) (piece : List ℕ) (old new : Held) : Type 0 where
   pub grants : List Bool
+  pub asked : AtKey key old (λ buses events _ n.
+      new.denied ≡ denied_in buses old.denied (counted (course buses events))
+      (Bytes n (record { bytes = piece; grants = grants })))
   pub counted : new.denied ≡ denied_by old.denied grants
-  pub given : new.denied ≡ 0 → AllByRecursion IsTrue grants
-  pub asked : CountsAt key (λ n. Bytes n (record { bytes = piece; grants = grants })) old new
   pub leads : LeadsAt key (λ n. Bytes n (record { bytes = piece; grants = grants })) old new
-
--- the same of a hang-up, which leaves the key free
-abbrev pub LeadsToFree : ℕ → Held → Held → Type 0
-LeadsToFree key old new =
-    (buses : List Bus) (events : List Event) (keys : List (Option ℕ)) (n : ℕ) → IsLayout buses
-    → key_of n keys ≡ Some key → StandsFor buses keys old (course buses events)
-    → StandsFor buses (without_key n keys) new (course buses (events ++ Shut n ∷ []))
-
--- and of one that opens a connection under a key
-abbrev pub LeadsToOpen : ℕ → Held → Held → Type 0
-LeadsToOpen key old new =
-    (buses : List Bus) (events : List Event) (keys : List (Option ℕ)) → IsLayout buses
-    → StandsFor buses keys old (course buses events)
-    → StandsFor buses (keys ++ Some key ∷ []) new (course buses (events ++ Open true ∷ []))
-
--- what memory answered in each event of a run, if the core stands for the course of the events under these answers
-pub record RunsUnder (buses : List Bus) (events : List PlainEvent) (r : Recording) (held : Held) : Type 0 where
-  pub grants : List (List Bool)
-  pub count : length grants ≡ length events
-  pub counted : held.denied ≡ fold denied_by 0 grants
-  pub asked : held.denied ≡ denied_over buses 0 start (all_under grants events)
-  pub runs : Runs buses r held (course buses (all_under grants events))
-
--- what memory answered in each event of a run, if its record is that of the course of the events under these answers
-pub record RunsRecord (buses : List Bus) (events : List PlainEvent) (run : Record) : Type 0 where
-  pub grants : List (List Bool)
-  pub count : length grants ≡ length events
-  pub counted : run.denied ≡ fold denied_by 0 grants
-  pub asked : run.denied ≡ denied_over buses 0 start (all_under grants events)
-  pub is : IsRecordOf buses (all_under grants events) run
 
 -- a record in full, or its outline
 abbrev pub recorded_in : (in_full : Bool) → Record → Record

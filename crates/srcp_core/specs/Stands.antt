@@ -3,7 +3,6 @@ use Rattle.std.specs.Prelude.{◌≡◌, ℕ, Bool, true, false, ◌&&◌, if◌
 use Rattle.std.specs.Prelude.{Some, None}
 use Rattle.srcp_info.specs.declared.change.Change.{Change}
 use Rattle.srcp_info.specs.declared.change.Cursor.{Cursor}
-use Rattle.srcp_info.specs.declared.value.Mode.{Mode}
 use Rattle.srcp_grammar.specs.declared.layout.Bus.{Bus}
 use Rattle.srcp_text.specs.Reading.{Reading, StandsAt}
 use Rattle.srcp_core.specs.Connection.{Connection, History, cursor_at, untold, unsent, is_open}
@@ -16,27 +15,23 @@ use Rattle.srcp_core.specs.declared.connection.Panel.TheVariants.{Absent, Listen
 -- what an information session is told of changes, by the cursor and the queue of its
 -- feed: none if more wait than may
 abbrev pub panel_at : (info : Bool) → Cursor → List Change → Panel
-panel_at false cursor queue = Absent
+panel_at false _ _ = Absent
 panel_at true cursor queue =
     if nat_lt 256 (length queue) then Overran else Listening (record { cursor = cursor; queue = queue })
 
--- what is held of a connection; if more changes wait than may, the unsent bytes are dropped
-abbrev pub placed : Reading → Mode → ℕ → Bool → Bool → List ℕ → Cursor → List Change → Place
-placed reader mode session info ended bytes cursor queue =
-    record {
-      reader = reader;
-      mode = mode;
-      session = session;
-      ended = ended;
-      unsent = if info && nat_lt 256 (length queue) then [] else bytes;
-      panel = panel_at info cursor queue;
-    }
-
--- what is held of a connection of a course with that history
+-- what is held of a connection of a course with that history; if more changes wait than may, the unsent bytes are
+-- dropped
 abbrev pub place_of : Reading → History → Connection → Place
 place_of reader history conn =
-    placed reader conn.mode conn.session conn.info conn.ended (unsent conn) (cursor_at conn (length history))
-    (untold conn history)
+    let queue = untold conn history in
+    record {
+      reader = reader;
+      mode = conn.mode;
+      session = conn.session;
+      ended = conn.ended;
+      unsent = if conn.info && nat_lt 256 (length queue) then [] else unsent conn;
+      panel = panel_at conn.info (cursor_at conn (length history)) queue;
+    }
 
 -- the connection of that number has a slot, and its reader has read these bytes
 pub record IsAt (keys : List (Option ℕ)) (places : List (Option Place)) (history : History) (n : ℕ) (conn : Connection)

@@ -1,6 +1,6 @@
 -- To be believed: what memory answers in each event, and what of that the course of the events takes in.
 use Rattle.std.specs.Prelude.{ℕ, ◌+◌, min, fold, Bool, true, false, not, ◌&&◌, ◌||◌, if◌then◌else◌, List, [], ◌∷◌}
-use Rattle.std.specs.Prelude.{nat_lt, Result, Ok, Err}
+use Rattle.std.specs.Prelude.{drop, nat_lt, Result, Ok, Err}
 use Rattle.srcp_info.specs.declared.change.Code.{Code}
 use Rattle.srcp_info.specs.declared.change.Code.TheVariants.{C500}
 use Rattle.srcp_info.specs.declared.change.Reply.{Reply}
@@ -39,7 +39,7 @@ giving bytes = record { bytes = bytes; grants = [] }
 -- the first answer, and that it gives if there is none
 abbrev pub first_of : List Bool → Bool
 first_of [] = true
-first_of (granted ∷ grants) = granted
+first_of (granted ∷ _) = granted
 
 -- how many allocations were refused, after these answers too; the count stops at the greatest u64
 abbrev pub denied_by : ℕ → List Bool → ℕ
@@ -50,13 +50,13 @@ denied_by denied grants =
 abbrev pub under : List Bool → PlainEvent → Event
 under grants plain.Open = Open (first_of grants)
 under grants (plain.Bytes conn piece) = Bytes conn (record { bytes = piece; grants = grants })
-under grants (plain.Room conn bytes) = Room conn bytes
-under grants (plain.At moment) = At moment
-under grants (plain.Shut conn) = Shut conn
+under _ (plain.Room conn bytes) = Room conn bytes
+under _ (plain.At moment) = At moment
+under _ (plain.Shut conn) = Shut conn
 
 -- the events, with the answers in each in turn; beyond them it gives all
 abbrev pub all_under : List (List Bool) → List PlainEvent → List Event
-all_under grants [] = []
+all_under _ [] = []
 all_under [] (event ∷ events) = under [] event ∷ all_under [] events
 all_under (granted ∷ grants) (event ∷ events) = under granted event ∷ all_under grants events
 
@@ -69,14 +69,14 @@ pub record Heard : Type 0 where
 
 -- each line with its answer
 abbrev pub lines_under : List Bool → List Mark → List Heard
-lines_under grants [] = []
-lines_under [] (mark ∷ marks) = record { mark = mark; granted = true } ∷ lines_under [] marks
-lines_under (granted ∷ grants) (mark ∷ marks) = record { mark = mark; granted = granted } ∷ lines_under grants marks
+lines_under _ [] = []
+lines_under grants (mark ∷ marks) =
+    record { mark = mark; granted = first_of grants } ∷ lines_under (drop 1 grants) marks
 
 -- GO is refused if memory is refused to it
 abbrev pub greeting_under : Bool → Greeting → Greeting
 greeting_under false Goes = Refuses C500
-greeting_under granted greeting = greeting
+greeting_under _ greeting = greeting
 
 -- what a line before the session is
 abbrev pub greets : Heard → Greeting
@@ -102,11 +102,11 @@ wants_memory state session moment command =
 -- a line before the session wants memory: it is GO, and an id is left
 abbrev pub greeting_wants : (last_id : ℕ) → Greeting → Bool
 greeting_wants last_id Goes = nat_lt last_id 4294967295
-greeting_wants last_id _ = false
+greeting_wants _ _ = false
 
 -- a line of a session wants memory: it reads as a command that does
 abbrev pub reading_wants : State → (session moment : ℕ) → Result Command Code → Bool
-reading_wants state session moment (Err code) = false
+reading_wants _ _ _ (Err _) = false
 reading_wants state session moment (Ok command) = wants_memory state session moment command
 
 -- what the command does: nothing if it wants memory, which is refused to it

@@ -3,7 +3,6 @@ use Rattle.std.specs.Prelude.{◌≡◌, ℕ, ◌+◌, ◌-◌, ◌≤◌, min, 
 use Rattle.std.specs.Prelude.{drop, length, flat_map, Option, Some, None}
 use Rattle.std.specs.List.{sum_by}
 use Rattle.std.specs.Option.{option_map_or}
-use Rattle.srcp_rules.specs.Due.{due, freed}
 use Rattle.srcp_grammar.specs.Layout.{IsLayout}
 use Rattle.srcp_rules.specs.State.{State}
 use Rattle.srcp_rules.specs.Weight.{weight}
@@ -11,8 +10,8 @@ use Rattle.srcp_grammar.specs.declared.layout.Bus.{Bus}
 use Rattle.srcp_text.specs.Marks.{Mark, Line, TooLong}
 use Rattle.srcp_core.specs.Connection.{Connection, History, waiting, is_open, overran}
 use Rattle.srcp_core.specs.Course.{World, course, happens, history, new_marks, numbered, open_connection, state}
-use Rattle.srcp_core.specs.Course.{stepped}
-use Rattle.srcp_core.specs.Under.{Event, Bytes, Step, Obeyed, Began, Moment, Ended}
+use Rattle.srcp_core.specs.Course.{stepped, updates_of}
+use Rattle.srcp_core.specs.Under.{Event, Bytes, Step, Obeyed, Began}
 
 -- the lesser number, or the only one
 abbrev pub lesser : Option ℕ → Option ℕ → Option ℕ
@@ -44,14 +43,13 @@ weight_of_mark (Line text) = weight text
 
 -- how many changes the step brings if it is a moment or the end of a session
 abbrev pub due_or_freed : State → Step → ℕ
-due_or_freed state (Obeyed session moment order) = 0
-due_or_freed state (Began session moment mode) = 0
-due_or_freed state (Moment moment) = length (due state moment)
-due_or_freed state (Ended session moment) = length (freed state session moment)
+due_or_freed _ (Obeyed _ _ _) = 0
+due_or_freed _ (Began _ _ _) = 0
+due_or_freed state step = length (updates_of state step)
 
 -- and how many those of these steps bring, from a registry on
 abbrev pub due_and_freed : State → List Step → ℕ
-due_and_freed state [] = 0
+due_and_freed _ [] = 0
 due_and_freed state (step ∷ steps) = due_or_freed state step + due_and_freed (stepped state step) steps
 
 module _ (buses : List Bus) where
@@ -113,11 +111,11 @@ module _ (buses : List Bus) where
   -- the lines that the event completes on its connection
   abbrev pub completed : World → Event → List Mark
   completed w (Bytes n piece) = option_map_or (λ conn. new_marks buses conn.fed piece.bytes) (open_connection w n) []
-  completed w other = []
+  completed _ _ = []
 
   -- how much the lines weigh that the events complete in turn
   abbrev pub weighs : World → List Event → ℕ
-  weighs w [] = 0
+  weighs _ [] = 0
   weighs w (event ∷ events) = sum_by weight_of_mark (completed w event) + weighs (happens buses w event) events
 
   -- how many changes moments and ends brought between the worlds

@@ -33,12 +33,12 @@ impl From<Memory> for RunFault {
 ///
 /// `promised` says that memory answered each event in some way (`grants`), and of the events under these answers:
 /// - The record is that of their course (`is`).
-/// - Each information session is told rightly, however its writes are cut (`sessions`). On a registry that stays the
-///   same, its listing is sent, and each device that is there all the time is listed exactly once. A client that
-///   applies all lines holds the registry once the session is settled.
 /// - Each connection is served rightly (`connections`). One that is no information session is sent its replies alone,
 ///   rooms add up, and nothing is sent after an overrun.
-/// - The registry stays whole (`registry`).
+/// - Each information session is told rightly (`connections`), however its writes are cut. On a registry that stays the
+///   same, its listing is sent, and each device that is there all the time is listed exactly once. A client that
+///   applies all lines holds the registry once the session is settled.
+/// - The registry is whole after each step (`world`).
 /// - The record counts exactly the answers that refused (`counted`), each of which was asked for (`asked`). If it
 ///   counts none, memory gave in each event (`given`), and the course is the one with ample memory
 ///   (`laws::ample_memory`).

@@ -1,27 +1,35 @@
 //! The core: the registry, and the connections with their sessions.
-ghost use Rattle.std.specs.Prelude.{◌≡◌, ◌≤◌, IfOk, IfErr, IsSome, MatchResult, None, is_none, []};
+
+ghost use Rattle.std.specs.Prelude.{◌≡◌, ◌≤◌, IfOk, IfErr, IsSome, MatchResult, None, is_none, [], map};
 ghost use Rattle.srcp_core.specs.Connection.{is_last};
 ghost use Rattle.srcp_core.specs.Held.{at};
 ghost use Rattle.srcp_core.specs.Machine.{opening_held, IsAdmitted, IsNotAdmitted, finish_at, hung_up, bytes_fault};
+ghost use Rattle.srcp_core.specs.Machine.{advanced, live_session, slack_at};
+ghost use Rattle.srcp_index.specs.Earliest.{IsEarliestDue};
+ghost use Rattle.std.specs.List.{AllByRecursion};
+ghost use Rattle.srcp_info.specs.WellFormed.{IsWellFormedShown};
+ghost use Rattle.srcp_grammar.specs.Layout.{IsLayout};
+ghost use Rattle.srcp_rules.specs.State.{IsRising};
+ghost use Rattle.srcp_core.specs.Waits.{least};
 
 mod answer;
-mod moments;
 mod outgoing;
 mod receive;
 mod stamp;
-mod status;
 mod walk;
 
 use crate::accepted::Accepted;
 use crate::connection::Connection;
+use crate::entries::Entries;
 use crate::limits::MOST_CONNECTIONS;
-use crate::record::{CoreFault, Finish};
+use crate::record::{CoreFault, Finish, RowList};
 use slab::Slab;
 use srcp_index::Indexed;
+use srcp_info::Cursor;
 use srcp_rules::{Layout, Memory, Obeyed, Rows};
 use std::alloc::Global;
 use std::marker::Model;
-use walk::{PanelKeys, free_all, panel_keys};
+use walk::{PanelKeys, carry_out_due, free_all, least_slack, panel_keys};
 
 /// Holds the registry of a layout, and the connections to it with their sessions.
 ///
@@ -126,6 +134,30 @@ impl<'a, R: Rows> Core<'a, R> {
         })
     }
 
+    /// Advances to the moment, in milliseconds, and carries out every row that is due then, in key order. Accessories
+    /// fall back and locks end, as SRCP 0.8 has it. A moment that is earlier than the last counts as the last. Its law
+    /// is `moment` of `laws::calls_follow`.
+    pub fn advance(&mut self, moment: u64)
+        ensures { self.new ≡ advanced moment self.old }
+    {
+        self.moment = self.moment.max(moment);
+        carry_out_due(
+            &mut self.rows,
+            &mut self.connections,
+            self.panels.as_slice(),
+            self.moment,
+        );
+    }
+
+    /// Returns the moment at which the first of the rows falls due, in milliseconds, or `None` if no row has a due
+    /// moment. Until then `advance` changes no row, if nothing else is called meanwhile. Its law is `due` of
+    /// `laws::calls_follow`.
+    pub fn earliest_due(&self) -> Option<u64>
+        ensures { IsEarliestDue result self.now.rows }
+    {
+        self.rows.earliest_due()
+    }
+
     /// Opens a connection, and returns its key. Its reply buffer is allocated whole before anything changes, and holds
     /// the welcome line of SRCP 0.8. Its laws are `opened`, `not_opened`, `accepts`, `refuses`, `named` and `counted`
     /// of `laws::calls_follow`.
@@ -195,4 +227,72 @@ impl<'a, R: Rows> Core<'a, R> {
     {
         matches!(self.finish(conn), Finish::Overrun | Finish::Closing)
     }
+
+    /// Returns how many allocations were refused since `new`. The count stops at the greatest u64.
+    pub fn denied(&self) -> u64
+        ensures count { result ≡ self.now.denied }
+        ensures laid_out { IsLayout self.now.buses }
+    {
+        self.denied
+    }
+
+    /// Returns how many more changes each information session can queue: 256 less the most that wait for one. Returns
+    /// `None` if there is no such session. No change waits for a session that overran, so it counts as 256 until it is
+    /// hung up. Its law is `slack` of `laws::calls_follow`.
+    pub fn slack(&self) -> Option<usize>
+        ensures { result ≡ least (map slack_at self.now.places) }
+    {
+        if self.panels.is_empty() {
+            return None;
+        }
+        Some(least_slack(&self.connections))
+    }
+
+    /// Returns the last moment, in milliseconds.
+    pub(crate) fn moment(&self) -> u64
+        ensures { result ≡ self.now.moment }
+    {
+        self.moment
+    }
+
+    /// Returns the session of a connection, if it has one that did not end.
+    pub(crate) fn live_session(&self, conn: usize) -> Option<u32>
+        ensures { result ≡ live_session conn self.now }
+    {
+        self.connections.get(conn)?.live_session()
+    }
+
+    /// Returns the state of a connection, which is `Shut` if none has that key.
+    pub(crate) fn finish(&self, conn: usize) -> Finish
+        ensures { result ≡ finish_at conn self.now }
+    {
+        match self.connections.get(conn) {
+            None => Finish::Shut,
+            Some(connection) if connection.overran() => Finish::Overrun,
+            Some(connection) if connection.is_done() => Finish::Closing,
+            Some(_) => Finish::Live,
+        }
+    }
+
+    /// Returns all rows, in key order.
+    pub(crate) fn rows(&self, alloc: Global) -> Result<RowList, Memory>
+        ensures rows { IfOk result (λ rows. rows ≡ self.now.rows) }
+        ensures well_formed { IfOk result (AllByRecursion (λ row. IsWellFormedShown row.shown)) }
+    {
+        all_rows(alloc, &self.rows)
+    }
+}
+
+/// Returns all rows of a keeper, in key order.
+fn all_rows<R: Rows>(alloc: Global, rows: &R) -> Result<RowList, Memory>
+    requires { IsRising (R.state rows.now) }
+    ensures { IfOk result (λ list. list ≡ R.state rows.now) }
+{
+    let mut list = Entries::new(alloc);
+    let mut at = Cursor::Start;
+    while let Some(row) = rows.row_after(at) {
+        at = Cursor::After(row.shown.key);
+        list.extend(&[*row])?;
+    }
+    Ok(list)
 }

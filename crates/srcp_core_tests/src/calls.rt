@@ -1,8 +1,8 @@
 //! Calls of a core, one by one.
 
 use crate::fixture::{
-    assert_all, assert_answer, assert_refused, assert_state, one_bus, open, open_command, take_all,
-    take_lent,
+    assert_all, assert_answer, assert_refused, assert_state, open, open_command, over_core,
+    take_all, take_lent,
 };
 use srcp_core::{Core, CoreFault};
 use srcp_rules::Flat;
@@ -44,9 +44,7 @@ fn welcome(rt: &impl Abort, alloc: Global, core: &mut Core<'_, Flat>) -> Result<
 
 #[test]
 fn ready_once_the_welcome_line_is_taken(rt: HostRuntime) -> Result<(), Fail> {
-    let layout = one_bus(rt.alloc())?;
-    let mut core = Core::<Flat>::new(rt.alloc(), &layout, 0, 0)?;
-    welcome(&rt, rt.alloc(), &mut core)
+    over_core(rt.alloc(), |core| welcome(&rt, rt.alloc(), core))
 }
 
 /// Pieces of a session, each with the replies to it.
@@ -89,9 +87,7 @@ fn hold_session(rt: &impl Abort, alloc: Global, core: &mut Core<'_, Flat>) -> Re
 
 #[test]
 fn ready_once_the_replies_are_taken(rt: HostRuntime) -> Result<(), Fail> {
-    let layout = one_bus(rt.alloc())?;
-    let mut core = Core::<Flat>::new(rt.alloc(), &layout, 0, 0)?;
-    hold_session(&rt, rt.alloc(), &mut core)
+    over_core(rt.alloc(), |core| hold_session(&rt, rt.alloc(), core))
 }
 
 /// Asserts that the connection is to be closed: it accepts no piece, and nothing of it is sent.
@@ -120,9 +116,7 @@ fn end_session(rt: &impl Abort, alloc: Global, core: &mut Core<'_, Flat>) -> Res
 
 #[test]
 fn closing_once_the_last_reply_is_taken(rt: HostRuntime) -> Result<(), Fail> {
-    let layout = one_bus(rt.alloc())?;
-    let mut core = Core::<Flat>::new(rt.alloc(), &layout, 0, 0)?;
-    end_session(&rt, rt.alloc(), &mut core)
+    over_core(rt.alloc(), |core| end_session(&rt, rt.alloc(), core))
 }
 
 /// Asserts that nothing is found under the key.
@@ -145,9 +139,7 @@ fn hang_up(rt: &impl Abort, alloc: Global, core: &mut Core<'_, Flat>) -> Result<
 
 #[test]
 fn no_call_finds_a_connection_after_its_hang_up(rt: HostRuntime) -> Result<(), Fail> {
-    let layout = one_bus(rt.alloc())?;
-    let mut core = Core::<Flat>::new(rt.alloc(), &layout, 0, 0)?;
-    hang_up(&rt, rt.alloc(), &mut core)
+    over_core(rt.alloc(), |core| hang_up(&rt, rt.alloc(), core))
 }
 
 /// Asserts that the connection refuses a piece of 257 bytes, and accepts any number of 256 each.
@@ -173,7 +165,5 @@ fn send_long_line(rt: &impl Abort, alloc: Global, core: &mut Core<'_, Flat>) -> 
 
 #[test]
 fn a_piece_has_at_most_256_bytes(rt: HostRuntime) -> Result<(), Fail> {
-    let layout = one_bus(rt.alloc())?;
-    let mut core = Core::<Flat>::new(rt.alloc(), &layout, 0, 0)?;
-    send_long_line(&rt, rt.alloc(), &mut core)
+    over_core(rt.alloc(), |core| send_long_line(&rt, rt.alloc(), core))
 }

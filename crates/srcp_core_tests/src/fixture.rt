@@ -1,6 +1,5 @@
-//! Layouts, connections and sessions that the tests begin with, and what several of them assert. A test holds the
-//! layout and the core, and leaves the rest to functions that borrow them. So each function is proved in a few
-//! seconds.
+//! Layouts, connections and sessions that the tests begin with, and what several of them assert. A test leaves
+//! all but the layout and the core to functions that borrow them. So each function is proved in a few seconds.
 use srcp_core::{Core, CoreFault};
 use srcp_info::Mirror;
 use srcp_rules::{Bus, Flat, Layout};
@@ -24,6 +23,18 @@ pub(crate) fn one_bus(alloc: Global) -> Result<Layout, Fail> {
         fb_ports: 2,
     })?;
     Ok(layout)
+}
+
+/// Runs a test over a new core of one bus.
+pub(crate) fn over_core<F: FnOnce(&mut Core<'_, Flat>) -> Result<(), Fail>>(
+    alloc: Global,
+    test: F,
+) -> Result<(), Fail>
+    requires { F.IsAlwaysCallable test }
+{
+    let layout = one_bus(alloc)?;
+    let mut core = Core::<Flat>::new(alloc, &layout, 0, 0)?;
+    test(&mut core)
 }
 
 /// Sends at most `most` of the bytes that are lent. Returns how many these are.

@@ -1,6 +1,6 @@
 //! Memory that is given to all.
 
-use crate::fixture::{assert_answer, mirror_of, one_bus, open_command, open_panel, take_all};
+use crate::fixture::{assert_answer, mirror_of, open_command, open_panel, over_core, take_all};
 use srcp_core::Core;
 use srcp_rules::Flat;
 use std::alloc::Global;
@@ -50,7 +50,5 @@ fn assert_granted(rt: &impl Abort, alloc: Global, core: &mut Core<'_, Flat>) -> 
 
 #[test]
 fn nothing_is_refused_if_there_is_memory(rt: HostRuntime) -> Result<(), Fail> {
-    let layout = one_bus(rt.alloc())?;
-    let mut core = Core::<Flat>::new(rt.alloc(), &layout, 0, 0)?;
-    assert_granted(&rt, rt.alloc(), &mut core)
+    over_core(rt.alloc(), |core| assert_granted(&rt, rt.alloc(), core))
 }

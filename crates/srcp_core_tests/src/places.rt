@@ -1,6 +1,6 @@
 //! The limit of 64 connections.
 
-use crate::fixture::one_bus;
+use crate::fixture::over_core;
 use srcp_core::{Core, CoreFault};
 use srcp_rules::Flat;
 use std::alloc::Global;
@@ -42,7 +42,5 @@ fn assert_limit(rt: &impl Abort, alloc: Global, core: &mut Core<'_, Flat>) -> Re
 
 #[test]
 fn sixty_four_connections_may_be_open(rt: HostRuntime) -> Result<(), Fail> {
-    let layout = one_bus(rt.alloc())?;
-    let mut core = Core::<Flat>::new(rt.alloc(), &layout, 0, 0)?;
-    assert_limit(&rt, rt.alloc(), &mut core)
+    over_core(rt.alloc(), |core| assert_limit(&rt, rt.alloc(), core))
 }

@@ -54,8 +54,8 @@ impl Timekeeper {
     }
 
     /// Returns the next moment, if the monotonic clock shows `elapsed`.
-    pub fn tell(&mut self, elapsed: u64) -> u64
-        ensures told { result ≡ next_moment 10 ten_minutes self.old.last (target self.old elapsed) }
+    pub fn report(&mut self, elapsed: u64) -> u64
+        ensures reported { result ≡ next_moment 10 ten_minutes self.old.last (target self.old elapsed) }
         ensures new { self.new ≡ record { wall = self.old.wall; start = self.old.start; last = result } }
         ensures forward { self.old.last ≤ result }
         ensures within { result ≤ max self.old.last (target self.old elapsed) }

@@ -12,10 +12,10 @@ use Rattle.srcp_info.specs.declared.change.Shown.{Shown}
 use Rattle.srcp_rules.specs.State.{State, shown_rows, row_after}
 use Rattle.srcp_feed.specs.Cursor.{concerns, passed, beyond, moved, said}
 use Rattle.srcp_feed.specs.Feed.{Feed, is_full, told, told_answer, first_of, next_of, after_next, HoldsPassed}
-use Rattle.srcp_feed.specs.declared.answers.Next.{Next}
-use Rattle.srcp_feed.specs.declared.answers.Next.TheVariants as next
-use Rattle.srcp_feed.specs.declared.answers.Told.{Told}
-use Rattle.srcp_feed.specs.declared.answers.Told.TheVariants.{Overrun}
+use Rattle.srcp_feed.specs.declared.feed.Next.{Next}
+use Rattle.srcp_feed.specs.declared.feed.Next.TheVariants as next
+use Rattle.srcp_feed.specs.declared.feed.Told.{Told}
+use Rattle.srcp_feed.specs.declared.feed.Told.TheVariants.{Overrun}
 use Rattle.srcp_info.proofs.ClientLaws.{client-push, reached_changed, reached_skipped}
 use Rattle.srcp_feed.proofs.Nexts.{IsNext, row_after_next}
 use Rattle.srcp_feed.proofs.Steps.{lists_one, passed_all, passed_done}

@@ -9,10 +9,10 @@ use Rattle.srcp_info.specs.declared.change.Cursor.{Cursor}
 use Rattle.srcp_info.specs.declared.change.Cursor.TheVariants.{Start}
 use Rattle.srcp_info.specs.declared.change.Shown.{Shown}
 use Rattle.srcp_feed.specs.Cursor.{concerns, passed, beyond, moved}
-use Rattle.srcp_feed.specs.declared.answers.Next.{Next}
-use Rattle.srcp_feed.specs.declared.answers.Next.TheVariants as next
-use Rattle.srcp_feed.specs.declared.answers.Told.{Told}
-use Rattle.srcp_feed.specs.declared.answers.Told.TheVariants.{Skipped, Queued, Overrun}
+use Rattle.srcp_feed.specs.declared.feed.Next.{Next}
+use Rattle.srcp_feed.specs.declared.feed.Next.TheVariants as next
+use Rattle.srcp_feed.specs.declared.feed.Told.{Told}
+use Rattle.srcp_feed.specs.declared.feed.Told.TheVariants.{Skipped, Queued, Overrun}
 
 -- how far the listing has come, and the changes that wait
 pub record Feed : Type 0 where

@@ -1,12 +1,104 @@
-//! A change with its line.
+//! A change with its line, and a line that was written.
 
-ghost use Rattle.std.specs.Prelude.{◌≡◌};
+ghost use Rattle.std.specs.Prelude.{◌≡◌, ◌≤◌, ◌==◌, [], length};
 ghost use Rattle.srcp_info.specs.WellFormed.{IsWellFormed};
 ghost use Rattle.srcp_feed.specs.Feed.{IsLineOrNone};
 
-use crate::WrittenLine;
-use srcp_info::{Change, InfoLine, write_change};
+use srcp_info::{Change, InfoLine, LONGEST_LINE, write_change};
 use std::marker::Model;
+
+/// The bytes of a line in memory: a multiple of 16, so that a copy of them needs no call.
+const ROOM: usize = 128;
+
+/// Holds a written line: at most `LONGEST_LINE` bytes, which stand in the value itself. A copy costs the same whatever
+/// its length, and a clear writes none of its bytes. Contracts see the list of its bytes.
+#[derive(Drop)]
+pub struct WrittenLine {
+    // The first `len` bytes are the line.
+    bytes: [u8; ROOM],
+    len: u8,
+}
+
+impl Model for WrittenLine {
+    ghost use Rattle.std.specs.Prelude.{◌≤◌, ℕ, List, take};
+    ghost use Rattle.srcp_info.specs.declared.limits.TheConstants.{LONGEST_LINE};
+
+    ghost Value = { List ℕ };
+
+    ghost view = { λ l. take l.len l.bytes };
+
+    ghost invariant = { λ l. l.len ≤ LONGEST_LINE };
+}
+
+impl WrittenLine {
+    /// Makes the line of no bytes.
+    pub fn new() -> WrittenLine
+        ensures { result ≡ [] }
+    {
+        WrittenLine {
+            bytes: [0; ROOM],
+            len: 0,
+        }
+    }
+
+    /// Becomes a line of the same bytes.
+    pub(crate) fn put(&mut self, line: &InfoLine)
+        ensures { self.new ≡ line.now.items }
+    {
+        let len = line.len();
+        self.bytes[..len].copy_from_slice(line.as_slice());
+        self.len = len as u8;
+    }
+
+    /// Returns a copy.
+    pub fn copied(&self) -> WrittenLine
+        ensures { result ≡ self.now }
+    {
+        WrittenLine {
+            bytes: self.bytes,
+            len: self.len,
+        }
+    }
+
+    /// Becomes a copy of another line.
+    pub fn copy_from(&mut self, line: &WrittenLine)
+        ensures value { self.new ≡ line.now }
+        ensures most { length self.new ≤ LONGEST_LINE }
+    {
+        self.bytes = line.bytes;
+        self.len = line.len;
+    }
+
+    /// Drops its bytes.
+    pub fn clear(&mut self)
+        ensures { self.new ≡ [] }
+    {
+        self.len = 0;
+    }
+
+    /// Returns how many bytes it has.
+    pub fn len(&self) -> usize
+        ensures value { result ≡ length self.now }
+        ensures most { result ≤ LONGEST_LINE }
+    {
+        usize::from(self.len)
+    }
+
+    /// Returns whether it has no bytes.
+    pub fn is_empty(&self) -> bool
+        ensures { result ≡ (length self.now == 0) }
+    {
+        self.len == 0
+    }
+
+    /// Returns its bytes.
+    pub fn as_slice(&self) -> &[u8]
+        ensures value { result.now ≡ self.now }
+        ensures most { length result.now ≤ LONGEST_LINE }
+    {
+        &self.bytes[..self.len()]
+    }
+}
 
 /// Lends a change, and holds its line if that was written, so that one line serves all panels. Contracts see the change
 /// alone.

@@ -9,12 +9,34 @@ ghost use Rattle.srcp_rules.specs.State.{row_after, shown_rows};
 ghost use Rattle.srcp_feed.specs.Cursor.{concerns, said};
 ghost use Rattle.srcp_feed.specs.Feed.{beginning, told, told_answer, next_of, after_next, HoldsPassed};
 
-use crate::queue::{MOST_WAITING, Queue};
-use crate::{ChangeLine, Next, Told, Waiting};
-use srcp_info::{Change, Cursor, Row};
+use crate::ChangeLine;
+use crate::queue::{MOST_WAITING, Queue, Waiting};
+use srcp_info::{Change, Cursor, Row, Shown};
 use srcp_rules::{Memory, Rows};
 use std::alloc::Global;
 use std::marker::Model;
+
+/// Says what a feed did with a change.
+#[derive(Clone, Copy, Debug, PartialEq, Eq)]
+pub enum Told {
+    /// The listing has not come to its row, and will meet it.
+    Skipped,
+    /// It is queued.
+    Queued,
+    /// The queue is full.
+    Overrun,
+}
+
+/// Says what an information session is given next.
+#[derive(Clone, Copy, Debug, PartialEq, Eq)]
+pub enum Next {
+    /// A change that waited.
+    Told(Change),
+    /// The next row of the listing.
+    Listed(Shown),
+    /// Nothing is left to give.
+    Settled,
+}
 
 /// Gives one information session its changes and rows: the changes that wait, then the next rows of its listing. It
 /// holds the listing's cursor and the changes that wait, and no row.

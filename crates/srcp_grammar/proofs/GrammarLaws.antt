@@ -2,7 +2,7 @@
 use Rattle.std.proofs.Common.{rules}
 use Rattle.std.specs.Prelude.{◌≡◌, ℕ, ◌+◌, ◌-◌, ◌<◌, ◌≤◌, Bool, true, false, cond, ◌&&◌, ◌||◌, ◌==◌, nat_le, nat_lt, length}
 use Rattle.std.specs.Prelude.{List, [], ◌∷◌, Option, Some, None, Result, Ok, Err, IfOk, IfSome, IsTrue}
-use Rattle.std.proofs.Common.{refl, sym, ap, subst, ◌∙◌, arith, eqb-true}
+use Rattle.std.proofs.Common.{refl, ap, ◌∙◌, arith, eqb-true}
 use Rattle.std.specs.List.{AllByRecursion}
 use Rattle.std.specs.Option.{ok_or, option_and_then}
 use Rattle.std.proofs.lemmas.Bool.{ltb-false}
@@ -10,7 +10,7 @@ use Rattle.srcp_info.specs.declared.key.Group.{Group}
 use Rattle.srcp_info.specs.declared.key.Group.TheVariants as group
 use Rattle.srcp_info.specs.declared.value.Letter.{Letter}
 use Rattle.srcp_info.specs.declared.change.Code.{Code}
-use Rattle.srcp_info.specs.declared.change.Code.TheVariants.{C412, C418, C421, C422}
+use Rattle.srcp_info.specs.declared.change.Code.TheVariants.{C412, C418}
 use Rattle.srcp_info.specs.WellFormed.{is_text, IsSpeed}
 use Rattle.srcp_text.specs.Words.{number_of, is_numeral, words_of}
 use Rattle.std.specs.Str.Parse.{digits_value}
@@ -25,15 +25,15 @@ use Rattle.srcp_grammar.specs.declared.command.Target.{Target}
 use Rattle.srcp_grammar.specs.declared.command.NewGl.{NewGl}
 use Rattle.srcp_grammar.specs.declared.command.Drive.{Drive}
 use Rattle.srcp_grammar.specs.declared.command.Command.{Command}
-use Rattle.srcp_grammar.specs.declared.command.Command.TheVariants.{GetPower, SetPower, CheckPower, GetGl, SetGl}
+use Rattle.srcp_grammar.specs.declared.command.Command.TheVariants.{GetSession, GetPower, SetPower, CheckPower, GetGl, SetGl}
 use Rattle.srcp_grammar.specs.declared.command.Command.TheVariants.{CheckGl, InitGl, TermGl, SetGa, CheckGa, InitGa, TermGa, GetFb}
 use Rattle.srcp_grammar.specs.declared.command.Command.TheVariants.{SetFb, CheckFb, GetLock, SetLock, CheckLock, TermLock}
 use Rattle.srcp_grammar.specs.Layout.{IsBus, IsLayout, IsKeyOf, bus_at, has_group, address_max, is_within, rows_if, rows_on}
 use Rattle.srcp_grammar.specs.Layout.{row_count}
 use Rattle.srcp_grammar.specs.Devices.{key_at, device_in, lock_on}
-use Rattle.srcp_grammar.specs.Command.{IsCommandOf, IsDrive, IsLock, IsNewGa, IsNewGl, IsPowerSwitch, IsSensor, IsSwitch, IsTimedLock}
-use Rattle.srcp_grammar.specs.Grammar.{◌>>=◌, number_in, bits_of, text_of, time_of, groups}
-use Rattle.srcp_grammar.specs.Grammar.{named_in, alone, addressed, get_session, term_session, powered, driven, init_gl}
+use Rattle.srcp_grammar.specs.Command.{IsCommandOf, IsDrive, IsLock, IsPowerSwitch, IsSensor, IsSwitch, IsTimedLock}
+use Rattle.srcp_grammar.specs.Grammar.{◌>>=◌, number_in, bits_of, text_of, time_of}
+use Rattle.srcp_grammar.specs.Grammar.{alone, one_number, term_session, powered, driven, init_gl}
 use Rattle.srcp_grammar.specs.Grammar.{get_ga, switched, init_ga, sensed, named_lock, timed_lock, asked, directed, parsed, reads}
 use Rattle.srcp_grammar.proofs.FindLaws.{found_holds}
 use Rattle.srcp_info.proofs.ListingLaws.{find_passes}
@@ -130,12 +130,9 @@ module _ (buses : List Bus) (layout : IsLayout buses) (bus : Bus) (found : bus_a
   alone_fits command [] h = h
   alone_fits command (w ∷ ws) h = tt
 
-  addressed_fits : (most : ℕ) (make : ℕ → Command) (words : List (List ℕ)) → ((a : ℕ) → 1 ≤ a → a ≤ most → IsCommandOf buses (make a))
-      → Fits (addressed most make words)
-  addressed_fits most make words h = grind arith
-
-  get_session_fits : (words : List (List ℕ)) → Fits (get_session words)
-  get_session_fits words = grind arith
+  one_number_fits : (least most : ℕ) (make : ℕ → Command) (words : List (List ℕ))
+      → ((n : ℕ) → least ≤ n → n ≤ most → IsCommandOf buses (make n)) → Fits (one_number least most make words)
+  one_number_fits least most make words h = grind arith
 
   term_session_fits : (words : List (List ℕ)) → Fits (term_session words)
   term_session_fits words = grind arith
@@ -148,55 +145,50 @@ module _ (buses : List Bus) (layout : IsLayout buses) (bus : Bus) (found : bus_a
       → IsSpeed mode (cond b 0 v) vmax
   kept_within mode v vmax m x y e b t = grind arith
 
+  abbrev drive : (address mode v vmax : ℕ) (functions : List Bool) → Drive
+  drive address mode v vmax functions =
+      record { bus = bus.number; address = address; mode = mode; v = v; vmax = vmax; functions = functions }
+
+  abbrev with_top : List (List ℕ) → (address mode v vmax : ℕ) → Result Drive Code
+  with_top fs address mode v vmax =
+      cond (nat_le v vmax || vmax == 0) (bits_of fs >>= (λ functions. Ok (drive address mode v vmax functions))) (Err C412)
+
+  drive_fits : (fs : List (List ℕ)) → nat_lt 29 (length fs) ≡ false → (address : ℕ) → 1 ≤ address → address ≤ bus.gl_max
+      → (mode : ℕ) → mode ≤ 2 → (v : ℕ) → v ≤ 65535 → (vmax : ℕ) → vmax ≤ 65535 → IfOk (with_top fs address mode v vmax) (IsDrive buses)
+  drive_fits fs few address low high mode m v s vmax x =
+      let short = ltb-false 29 (length fs) few in
+      let two = gl_rows address low high in
+      then_ok (IsDrive buses) (nat_le v vmax || vmax == 0) C412
+      (bits_of fs >>= (λ functions. Ok (drive address mode v vmax functions))) (λ e.
+      read (IsDrive buses) (λ bits. length bits ≡ length fs) (bits_of fs) (λ functions. Ok (drive address mode v vmax functions))
+      (bits_length fs) (λ functions n.
+      (omega (arith, two), (refl, refl, kept_within mode v vmax m s x e (mode == 2) refl, omega (arith, n, short)))))
+
+  number_read : (least most : ℕ) (word : List ℕ) (f : ℕ → Result Drive Code)
+      → ((n : ℕ) → least ≤ n → n ≤ most → IfOk (f n) (IsDrive buses)) → IfOk (number_in least most word >>= f) (IsDrive buses)
+  number_read least most word f h =
+      read (IsDrive buses) (λ n. (least ≤ n) × (n ≤ most)) (number_in least most word) f (number_in_range least most word)
+      (λ n r. h n r.0 r.1)
+
   driven_fits : (words : List (List ℕ)) → IfOk (driven bus words) (IsDrive buses)
   driven_fits [] = tt
   driven_fits (a ∷ []) = tt
   driven_fits (a ∷ m ∷ []) = tt
   driven_fits (a ∷ m ∷ v ∷ []) = tt
   driven_fits (a ∷ m ∷ v ∷ x ∷ fs) =
-      if_ok (IsDrive buses) (nat_lt 29 (length fs)) C418
-      (number_in 1 bus.gl_max a >>= (λ address. number_in 0 2 m >>= (λ mode. with_mode address mode))) (λ few.
-      read (IsDrive buses) (λ n. (1 ≤ n) × (n ≤ bus.gl_max)) (number_in 1 bus.gl_max a)
-      (λ address. number_in 0 2 m >>= (λ mode. with_mode address mode)) (number_in_range 1 bus.gl_max a) (λ address r.
-      read (IsDrive buses) (λ n. (0 ≤ n) × (n ≤ 2)) (number_in 0 2 m) (λ mode. with_mode address mode) (number_in_range 0 2 m)
-      (λ mode r2.
-      read (IsDrive buses) (λ n. (0 ≤ n) × (n ≤ 65535)) (number_in 0 65535 v) (λ speed. with_speed address mode speed)
-      (number_in_range 0 65535 v) (λ speed r3.
-      read (IsDrive buses) (λ n. (0 ≤ n) × (n ≤ 65535)) (number_in 0 65535 x) (λ top. with_top address mode speed top)
-      (number_in_range 0 65535 x) (λ top r4.
-      read (IsDrive buses) (λ n. (n ≡ top) × ((nat_le speed top || top == 0) ≡ true))
-      (cond (nat_le speed top || top == 0) (Ok top) (Err C412))
-      (λ fitting. bits_of fs >>= (λ functions. Ok (drive address mode speed fitting functions)))
-      (then_ok (λ n. (n ≡ top) × ((nat_le speed top || top == 0) ≡ true)) (nat_le speed top || top == 0) C412 (Ok top) (λ e. (refl, e)))
-      (λ fitting r5.
-      read (IsDrive buses) (λ bits. length bits ≡ length fs) (bits_of fs) (λ functions. Ok (drive address mode speed fitting functions))
-      (bits_length fs) (λ functions n.
-      let short : length fs ≤ 29 = ltb-false 29 (length fs) few in
-      let speed_fits = kept_within mode speed top r2.1 r3.1 r4.1 r5.1 (mode == 2) refl in
-      let two = gl_rows address r.0 r.1 in
-      subst (λ k. IsDrive buses (drive address mode speed k functions)) (sym r5.0)
-      (omega (arith, two), (refl, refl, speed_fits, omega (arith, n, short))))))))))
-    where
-      drive : (address mode v vmax : ℕ) (functions : List Bool) → Drive
-      drive address mode v vmax functions =
-          record { bus = bus.number; address = address; mode = mode; v = v; vmax = vmax; functions = functions }
-
-      with_top : (address mode speed top : ℕ) → Result Drive Code
-      with_top address mode speed top =
-          cond (nat_le speed top || top == 0) (Ok top) (Err C412)
-          >>= (λ fitting. bits_of fs >>= (λ functions. Ok (drive address mode speed fitting functions)))
-
-      with_speed : (address mode speed : ℕ) → Result Drive Code
-      with_speed address mode speed = number_in 0 65535 x >>= (λ top. with_top address mode speed top)
-
-      with_mode : (address mode : ℕ) → Result Drive Code
-      with_mode address mode = number_in 0 65535 v >>= (λ speed. with_speed address mode speed)
+      let from_v : ℕ → ℕ → Result Drive Code =
+      λ address mode. number_in 0 65535 v >>= (λ speed. number_in 0 65535 x >>= with_top fs address mode speed) in
+      if_ok (IsDrive buses) (nat_lt 29 (length fs)) C418 (number_in 1 bus.gl_max a >>= (λ address. number_in 0 2 m >>= from_v address))
+      (λ few. number_read 1 bus.gl_max a (λ address. number_in 0 2 m >>= from_v address) (λ address low high.
+      number_read 0 2 m (from_v address) (λ mode l2 h2.
+      number_read 0 65535 v (λ speed. number_in 0 65535 x >>= with_top fs address mode speed) (λ speed l3 h3.
+      number_read 0 65535 x (with_top fs address mode speed) (λ top l4 h4. drive_fits fs few address low high mode h2 speed h3 top h4)))))
 
   abbrev new_gl : (address : ℕ) → Letter → (version steps functions : ℕ) → NewGl
   new_gl address letter version steps functions =
       record { bus = bus.number; address = address; letter = letter; version = version; steps = steps; functions = functions }
 
-  init_gl_fits : (words : List (List ℕ)) → IfOk (init_gl bus words) (IsNewGl buses)
+  init_gl_fits : (words : List (List ℕ)) → IfOk (init_gl bus words) (λ gl. IsCommandOf buses (InitGl gl))
   init_gl_fits words = search (rules, then_ok, read, number_in_range, gl_rows, read_any)
 
   -- a port that the bus has, of an address that it has
@@ -210,7 +202,7 @@ module _ (buses : List Bus) (layout : IsLayout buses) (bus : Bus) (found : bus_a
   switched_fits : (words : List (List ℕ)) → IfOk (switched bus words) (IsSwitch buses)
   switched_fits words = search (rules, read, number_in_range, read_any, time_range, port_place)
 
-  init_ga_fits : (words : List (List ℕ)) → IfOk (init_ga bus words) (IsNewGa buses)
+  init_ga_fits : (words : List (List ℕ)) → IfOk (init_ga bus words) (λ ga. IsCommandOf buses (InitGa ga))
   init_ga_fits words = search (rules, read, number_in_range, read_any, ga_rows, ports)
 
   sensed_fits : (words : List (List ℕ)) → IfOk (sensed bus words) (IsSensor buses)
@@ -227,58 +219,41 @@ module _ (buses : List Bus) (layout : IsLayout buses) (bus : Bus) (found : bus_a
 
   -- ---- the pairs
 
+  -- a command is made of what was read
+  made : {A : Type 0} (make : A → Command) (r : Result A Code) → IfOk r (λ x. IsCommandOf buses (make x)) → Fits (r >>= (λ x. Ok (make x)))
+  made make (Ok x) h = h
+  made make (Err code) h = tt
+
   asked_fits : (operation : Operation) (g : CommandGroup) (words : List (List ℕ)) → has_group bus g ≡ true
-      → Fits (asked operation g bus words)
-  asked_fits Get Session words on = get_session_fits words
+      → Fits (asked bus operation g words)
+  asked_fits Get Session words on = one_number_fits 0 4294967295 GetSession words (λ n low high. omega arith)
   asked_fits Term Session words on = term_session_fits words
   asked_fits Get Power words on = alone_fits (GetPower bus.number) words (let one = power_rows on in omega (arith, one))
-  asked_fits Set Power words on =
-      read (IsCommandOf buses) (IsPowerSwitch buses) (powered bus words) (λ power. Ok (SetPower power)) (powered_fits words on)
-      (λ power fits. fits)
-  asked_fits Check Power words on =
-      read (IsCommandOf buses) (IsPowerSwitch buses) (powered bus words) (λ power. Ok (CheckPower power)) (powered_fits words on)
-      (λ power fits. fits)
+  asked_fits Set Power words on = made SetPower (powered bus words) (powered_fits words on)
+  asked_fits Check Power words on = made CheckPower (powered bus words) (powered_fits words on)
   asked_fits Init Power words on = let one = power_rows on in omega (arith, one)
   asked_fits Get Gl words on =
-      addressed_fits bus.gl_max (GetGl bus.number) words (λ a low high. let two = gl_rows a low high in omega (arith, two))
-  asked_fits Set Gl words on =
-      read (IsCommandOf buses) (IsDrive buses) (driven bus words) (λ drive. Ok (SetGl drive)) (driven_fits words) (λ drive fits. fits)
-  asked_fits Check Gl words on =
-      read (IsCommandOf buses) (IsDrive buses) (driven bus words) (λ drive. Ok (CheckGl drive)) (driven_fits words) (λ drive fits. fits)
-  asked_fits Init Gl words on =
-      read (IsCommandOf buses) (IsNewGl buses) (init_gl bus words) (λ gl. Ok (InitGl gl)) (init_gl_fits words) (λ gl fits. fits)
+      one_number_fits 1 bus.gl_max (GetGl bus.number) words (λ a low high. let two = gl_rows a low high in omega (arith, two))
+  asked_fits Set Gl words on = made SetGl (driven bus words) (driven_fits words)
+  asked_fits Check Gl words on = made CheckGl (driven bus words) (driven_fits words)
+  asked_fits Init Gl words on = made InitGl (init_gl bus words) (init_gl_fits words)
   asked_fits Term Gl words on =
-      addressed_fits bus.gl_max (TermGl bus.number) words (λ a low high. let two = gl_rows a low high in omega (arith, two))
+      one_number_fits 1 bus.gl_max (TermGl bus.number) words (λ a low high. let two = gl_rows a low high in omega (arith, two))
   asked_fits Get Ga words on = get_ga_fits words
-  asked_fits Set Ga words on =
-      read (IsCommandOf buses) (IsSwitch buses) (switched bus words) (λ switch. Ok (SetGa switch)) (switched_fits words)
-      (λ switch fits. fits)
-  asked_fits Check Ga words on =
-      read (IsCommandOf buses) (IsSwitch buses) (switched bus words) (λ switch. Ok (CheckGa switch)) (switched_fits words)
-      (λ switch fits. fits)
-  asked_fits Init Ga words on =
-      read (IsCommandOf buses) (IsNewGa buses) (init_ga bus words) (λ ga. Ok (InitGa ga)) (init_ga_fits words) (λ ga fits. fits)
+  asked_fits Set Ga words on = made SetGa (switched bus words) (switched_fits words)
+  asked_fits Check Ga words on = made CheckGa (switched bus words) (switched_fits words)
+  asked_fits Init Ga words on = made InitGa (init_ga bus words) (init_ga_fits words)
   asked_fits Term Ga words on =
-      addressed_fits bus.ga_max (TermGa bus.number) words (λ a low high. let rows = ga_rows a low high in omega (arith, rows))
+      one_number_fits 1 bus.ga_max (TermGa bus.number) words (λ a low high. let rows = ga_rows a low high in omega (arith, rows))
   asked_fits Get Fb words on =
-      addressed_fits bus.fb_ports (GetFb bus.number) words (λ p low high. let one = fb_rows p low high in omega (arith, one))
-  asked_fits Set Fb words on =
-      read (IsCommandOf buses) (IsSensor buses) (sensed bus words) (λ sensor. Ok (SetFb sensor)) (sensed_fits words) (λ sensor fits. fits)
-  asked_fits Check Fb words on =
-      read (IsCommandOf buses) (IsSensor buses) (sensed bus words) (λ sensor. Ok (CheckFb sensor)) (sensed_fits words) (λ sensor fits. fits)
+      one_number_fits 1 bus.fb_ports (GetFb bus.number) words (λ p low high. let one = fb_rows p low high in omega (arith, one))
+  asked_fits Set Fb words on = made SetFb (sensed bus words) (sensed_fits words)
+  asked_fits Check Fb words on = made CheckFb (sensed bus words) (sensed_fits words)
   asked_fits Init Fb words on = tt
-  asked_fits Get Lock words on =
-      read (IsCommandOf buses) (IsLock buses) (named_lock bus words) (λ place. Ok (GetLock place)) (named_lock_fits words)
-      (λ place fits. fits)
-  asked_fits Set Lock words on =
-      read (IsCommandOf buses) (IsTimedLock buses) (timed_lock bus words) (λ lock. Ok (SetLock lock)) (timed_lock_fits words)
-      (λ lock fits. fits)
-  asked_fits Check Lock words on =
-      read (IsCommandOf buses) (IsTimedLock buses) (timed_lock bus words) (λ lock. Ok (CheckLock lock)) (timed_lock_fits words)
-      (λ lock fits. fits)
-  asked_fits Term Lock words on =
-      read (IsCommandOf buses) (IsLock buses) (named_lock bus words) (λ place. Ok (TermLock place)) (named_lock_fits words)
-      (λ place fits. fits)
+  asked_fits Get Lock words on = made GetLock (named_lock bus words) (named_lock_fits words)
+  asked_fits Set Lock words on = made SetLock (timed_lock bus words) (timed_lock_fits words)
+  asked_fits Check Lock words on = made CheckLock (timed_lock bus words) (timed_lock_fits words)
+  asked_fits Term Lock words on = made TermLock (named_lock bus words) (named_lock_fits words)
   asked_fits operation g words on = tt
 
 -- ---- the whole line
@@ -294,14 +269,7 @@ module _ (buses : List Bus) (layout : IsLayout buses) where
   directed_fits : (operation : Operation) (words : List (List ℕ)) → IfOk (directed buses operation words) (IsCommandOf buses)
   directed_fits operation [] = tt
   directed_fits operation (n ∷ []) = tt
-  directed_fits operation (n ∷ w ∷ ws) =
-      read (IsCommandOf buses) (λ bus. bus_at buses bus.number ≡ Some bus) (ok_or (option_and_then (bus_at buses) (number_of 250 n)) C412)
-      (λ bus. ok_or (named_in groups w) C421 >>= (λ g. cond (has_group bus g) (asked operation g bus ws) (Err C422)))
-      (bus_found (number_of 250 n)) (λ bus found.
-      read_any (IsCommandOf buses) (ok_or (named_in groups w) C421) (λ g. cond (has_group bus g) (asked operation g bus ws) (Err C422))
-      (λ g.
-      then_ok (IsCommandOf buses) (has_group bus g) C422 (asked operation g bus ws)
-      (λ on. asked_fits buses layout bus found operation g ws on)))
+  directed_fits operation (n ∷ w ∷ ws) = search (read, read_any, then_ok, bus_found (number_of 250 n), asked_fits)
 
   parsed_fits : (words : List (List ℕ)) → IfOk (parsed buses words) (IsCommandOf buses)
   parsed_fits words = grind (arith, read_any, directed_fits)

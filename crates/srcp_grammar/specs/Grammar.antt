@@ -39,6 +39,15 @@ abbrev pub ◌>>=◌ : {A B : Type 0} → Result A Code → (A → Result B Code
 (Ok x) >>= f = f x
 (Err code) >>= f = Err code
 
+-- what the function makes of what is read
+infixl 10 ◌<$>◌
+abbrev pub ◌<$>◌ : {W A B : Type 0} → (A → B) → (W → Result A Code) → W → Result B Code
+(make <$> read) w = read w >>= (λ x. Ok (make x))
+
+-- how words are read, or refused
+abbrev pub Parser : Type 0 → Type 0
+Parser A = List (List ℕ) → Result A Code
+
 -- ---- keywords
 
 -- what the table has for the word, in any case of its letters
@@ -80,12 +89,10 @@ number_in least most word = do
 
 -- 0 or 1
 abbrev pub bit_of : List ℕ → Result Bool Code
-bit_of word = do
-  number ← number_in 0 1 word
-  Ok (number == 1)
+bit_of = (λ number. number == 1) <$> number_in 0 1
 
 -- each of them 0 or 1
-abbrev pub bits_of : List (List ℕ) → Result (List Bool) Code
+abbrev pub bits_of : Parser (List Bool)
 bits_of [] = Ok []
 bits_of (word ∷ words) = do
   first ← bit_of word
@@ -96,206 +103,188 @@ bits_of (word ∷ words) = do
 abbrev pub letter_of : List ℕ → Result Letter Code
 letter_of word = ok_or (named_in letters word) C420
 
--- ON or OFF
-abbrev pub switch_of : List ℕ → Result Bool Code
-switch_of word = ok_or (named_in switches word) C412
-
 -- the words joined by one space, if that can be a text
-abbrev pub text_of : List (List ℕ) → Result (List ℕ) Code
+abbrev pub text_of : Parser (List ℕ)
 text_of words = if is_text (join_with_byte 32 words) then Ok (join_with_byte 32 words) else Err C412
 
 -- milliseconds up to 60000, or none if the word is -1
 abbrev pub time_of : List ℕ → Result (Option ℕ) Code
 time_of word =
-    if bytes_eq word (codes "-1") then Ok None else do
-      milliseconds ← number_in 0 60000 word
-      Ok (Some milliseconds)
-
--- the group of a LOCK command, which has to be on the bus
-abbrev pub device_group_on : Bus → List ℕ → Result DeviceGroup Code
-device_group_on bus word = do
-  group ← ok_or (named_in device_groups word) C412
-  if nat_lt 0 (address_max bus group) then Ok group else Err C412
+    if bytes_eq word (codes "-1") then Ok None else (Some <$> number_in 0 60000) word
 
 -- ---- the words after the group word
 
 -- too few, or else too many
-abbrev pub miscounted : {A : Type 0} → (wanted : ℕ) → List (List ℕ) → Result A Code
+abbrev pub miscounted : {A : Type 0} → (wanted : ℕ) → Parser A
 miscounted wanted words = Err (if nat_lt (length words) wanted then C419 else C418)
 
 -- no word
-abbrev pub alone : Command → List (List ℕ) → Result Command Code
+abbrev pub alone : Command → Parser Command
 alone command [] = Ok command
 alone command words = Err C418
 
--- an address and nothing else
-abbrev pub addressed : (most : ℕ) → (ℕ → Command) → List (List ℕ) → Result Command Code
-addressed most make (a ∷ []) = do
-  address ← number_in 1 most a
-  Ok (make address)
-addressed most make words = miscounted 1 words
+-- a number from least to most, and nothing else
+abbrev pub one_number : (least most : ℕ) → (ℕ → Command) → Parser Command
+one_number least most make (n ∷ []) = (make <$> number_in least most) n
+one_number least most make words = miscounted 1 words
 
--- the id of a session
-abbrev pub get_session : List (List ℕ) → Result Command Code
-get_session (s ∷ []) = do
-  session ← number_in 0 4294967295 s
-  Ok (GetSession session)
-get_session words = miscounted 1 words
-
--- none, or an id
-abbrev pub term_session : List (List ℕ) → Result Command Code
+-- none, or the id of a session
+abbrev pub term_session : Parser Command
 term_session [] = Ok (TermSession None)
-term_session (s ∷ []) = do
-  session ← number_in 0 4294967295 s
-  Ok (TermSession (Some session))
-term_session words = Err C418
+term_session words = one_number 0 4294967295 (λ id. TermSession (Some id)) words
 
--- ON or OFF, then the words of the text
-abbrev pub powered : Bus → List (List ℕ) → Result PowerSwitch Code
-powered bus [] = Err C419
-powered bus (w ∷ ws) = do
-  on ← switch_of w
-  shown ← text_of ws
-  Ok (record { bus = bus.number; on = on; text = shown })
+module _ (bus : Bus) where
+  -- the group of a LOCK command, which has to be on the bus
+  abbrev pub device_group_on : List ℕ → Result DeviceGroup Code
+  device_group_on word = do
+    group ← ok_or (named_in device_groups word) C412
+    if nat_lt 0 (address_max bus group) then Ok group else Err C412
 
--- address, mode, V, Vmax, and at most 29 functions
-abbrev pub driven : Bus → List (List ℕ) → Result Drive Code
-driven bus (a ∷ m ∷ v ∷ x ∷ fs) =
-    if nat_lt 29 (length fs) then Err C418 else do
-      address ← number_in 1 bus.gl_max a
-      mode ← number_in 0 2 m
-      speed ← number_in 0 65535 v
-      top ← number_in 0 65535 x
-      fitting ← if nat_le speed top || top == 0 then Ok top else Err C412
-      functions ← bits_of fs
-      Ok (record {
-        bus = bus.number;
-        address = address;
-        mode = mode;
-        v = speed;
-        vmax = fitting;
-        functions = functions;
-      })
-driven bus words = Err C419
+  -- ON or OFF, then the words of the text
+  abbrev pub powered : Parser PowerSwitch
+  powered [] = Err C419
+  powered (w ∷ ws) = do
+    on ← ok_or (named_in switches w) C412
+    shown ← text_of ws
+    Ok (record { bus = bus.number; on = on; text = shown })
 
--- address, letter, version, steps and number of functions, of which P alone stands for P 1 28 5
-abbrev pub init_gl : Bus → List (List ℕ) → Result NewGl Code
-init_gl bus (a ∷ l ∷ []) =
-    if is_keyword (codes "P") l then (do
-      address ← number_in 1 bus.gl_max a
-      Ok (record { bus = bus.number; address = address; letter = P; version = 1; steps = 28; functions = 5 }))
-    else Err C419
-init_gl bus (a ∷ l ∷ v ∷ s ∷ f ∷ []) = do
-  address ← number_in 1 bus.gl_max a
-  protocol ← letter_of l
-  version ← number_in 0 255 v
-  steps ← number_in 1 1000 s
-  functions ← number_in 0 29 f
-  Ok (record {
-    bus = bus.number;
-    address = address;
-    letter = protocol;
-    version = version;
-    steps = steps;
-    functions = functions;
-  })
-init_gl bus words = miscounted 5 words
+  -- address, mode, V, Vmax, and at most 29 functions
+  abbrev pub driven : Parser Drive
+  driven (a ∷ m ∷ v ∷ x ∷ fs) =
+      if nat_lt 29 (length fs) then Err C418 else do
+        address ← number_in 1 bus.gl_max a
+        mode ← number_in 0 2 m
+        speed ← number_in 0 65535 v
+        top ← number_in 0 65535 x
+        if nat_le speed top || top == 0 then (do
+          functions ← bits_of fs
+          Ok (record {
+            bus = bus.number;
+            address = address;
+            mode = mode;
+            v = speed;
+            vmax = top;
+            functions = functions;
+          })) else Err C412
+  driven words = Err C419
 
--- an accessory's port, from 0 on
-abbrev pub ga_port : Bus → List ℕ → Result ℕ Code
-ga_port bus word = number_in 0 (bus.ga_ports - 1) word
+  -- address, letter, version, steps and number of functions, of which P alone stands for P 1 28 5
+  abbrev pub init_gl : Parser NewGl
+  init_gl (a ∷ l ∷ []) =
+      if is_keyword (codes "P") l then (do
+        address ← number_in 1 bus.gl_max a
+        Ok (record { bus = bus.number; address = address; letter = P; version = 1; steps = 28; functions = 5 }))
+      else Err C419
+  init_gl (a ∷ l ∷ v ∷ s ∷ f ∷ []) = do
+    address ← number_in 1 bus.gl_max a
+    protocol ← letter_of l
+    version ← number_in 0 255 v
+    steps ← number_in 1 1000 s
+    functions ← number_in 0 29 f
+    Ok (record {
+      bus = bus.number;
+      address = address;
+      letter = protocol;
+      version = version;
+      steps = steps;
+      functions = functions;
+    })
+  init_gl words = miscounted 5 words
 
--- address and port
-abbrev pub get_ga : Bus → List (List ℕ) → Result Command Code
-get_ga bus (a ∷ p ∷ []) = do
-  address ← number_in 1 bus.ga_max a
-  port ← ga_port bus p
-  Ok (GetGa bus.number address port)
-get_ga bus words = miscounted 2 words
+  -- an accessory's port, from 0 on
+  abbrev pub ga_port : List ℕ → Result ℕ Code
+  ga_port word = number_in 0 (bus.ga_ports - 1) word
 
--- address, port, value and time
-abbrev pub switched : Bus → List (List ℕ) → Result Switch Code
-switched bus (a ∷ p ∷ v ∷ t ∷ []) = do
-  address ← number_in 1 bus.ga_max a
-  port ← ga_port bus p
-  on ← bit_of v
-  milliseconds ← time_of t
-  Ok (record { bus = bus.number; address = address; port = port; on = on; time = milliseconds })
-switched bus words = miscounted 4 words
+  -- address and port
+  abbrev pub get_ga : Parser Command
+  get_ga (a ∷ p ∷ []) = do
+    address ← number_in 1 bus.ga_max a
+    port ← ga_port p
+    Ok (GetGa bus.number address port)
+  get_ga words = miscounted 2 words
 
--- address and letter, then any words
-abbrev pub init_ga : Bus → List (List ℕ) → Result NewGa Code
-init_ga bus (a ∷ l ∷ ws) = do
-  address ← number_in 1 bus.ga_max a
-  protocol ← letter_of l
-  Ok (record { bus = bus.number; address = address; letter = protocol; ports = bus.ga_ports })
-init_ga bus words = Err C419
+  -- address, port, value and time
+  abbrev pub switched : Parser Switch
+  switched (a ∷ p ∷ v ∷ t ∷ []) = do
+    address ← number_in 1 bus.ga_max a
+    port ← ga_port p
+    on ← bit_of v
+    milliseconds ← time_of t
+    Ok (record { bus = bus.number; address = address; port = port; on = on; time = milliseconds })
+  switched words = miscounted 4 words
 
--- port and value
-abbrev pub sensed : Bus → List (List ℕ) → Result Sensor Code
-sensed bus (p ∷ v ∷ []) = do
-  port ← number_in 1 bus.fb_ports p
-  on ← bit_of v
-  Ok (record { bus = bus.number; port = port; on = on })
-sensed bus words = miscounted 2 words
+  -- address and letter, then any words
+  abbrev pub init_ga : Parser NewGa
+  init_ga (a ∷ l ∷ ws) = do
+    address ← number_in 1 bus.ga_max a
+    protocol ← letter_of l
+    Ok (record { bus = bus.number; address = address; letter = protocol; ports = bus.ga_ports })
+  init_ga words = Err C419
 
--- group and address
-abbrev pub named_lock : Bus → List (List ℕ) → Result Target Code
-named_lock bus (g ∷ a ∷ []) = do
-  group ← device_group_on bus g
-  address ← number_in 1 (address_max bus group) a
-  Ok (record { bus = bus.number; group = group; address = address })
-named_lock bus words = miscounted 2 words
+  -- port and value
+  abbrev pub sensed : Parser Sensor
+  sensed (p ∷ v ∷ []) = do
+    port ← number_in 1 bus.fb_ports p
+    on ← bit_of v
+    Ok (record { bus = bus.number; port = port; on = on })
+  sensed words = miscounted 2 words
 
--- group, address and seconds
-abbrev pub timed_lock : Bus → List (List ℕ) → Result TimedLock Code
-timed_lock bus (g ∷ a ∷ s ∷ []) = do
-  group ← device_group_on bus g
-  address ← number_in 1 (address_max bus group) a
-  seconds ← number_in 0 86400 s
-  Ok (record { target = record { bus = bus.number; group = group; address = address }; seconds = seconds })
-timed_lock bus words = miscounted 3 words
+  -- group and address
+  abbrev pub named_lock : Parser Target
+  named_lock (g ∷ a ∷ []) = do
+    group ← device_group_on g
+    address ← number_in 1 (address_max bus group) a
+    Ok (record { bus = bus.number; group = group; address = address })
+  named_lock words = miscounted 2 words
+
+  -- group, address and seconds
+  abbrev pub timed_lock : Parser TimedLock
+  timed_lock (g ∷ a ∷ s ∷ []) = do
+    target ← named_lock (g ∷ a ∷ [])
+    seconds ← number_in 0 86400 s
+    Ok (record { target = target; seconds = seconds })
+  timed_lock words = miscounted 3 words
+
+  -- the operations of each group, with their words; any other pair is refused
+  abbrev pub asked : Operation → CommandGroup → Parser Command
+  asked Get Session = one_number 0 4294967295 GetSession
+  asked Term Session = term_session
+  asked Get Power = alone (GetPower bus.number)
+  asked Set Power = SetPower <$> powered
+  asked Check Power = CheckPower <$> powered
+  asked Init Power = λ words. Ok (InitPower bus.number)
+  asked Get Gl = one_number 1 bus.gl_max (GetGl bus.number)
+  asked Set Gl = SetGl <$> driven
+  asked Check Gl = CheckGl <$> driven
+  asked Init Gl = InitGl <$> init_gl
+  asked Term Gl = one_number 1 bus.gl_max (TermGl bus.number)
+  asked Get Ga = get_ga
+  asked Set Ga = SetGa <$> switched
+  asked Check Ga = CheckGa <$> switched
+  asked Init Ga = InitGa <$> init_ga
+  asked Term Ga = one_number 1 bus.ga_max (TermGa bus.number)
+  asked Get Fb = one_number 1 bus.fb_ports (GetFb bus.number)
+  asked Set Fb = SetFb <$> sensed
+  asked Check Fb = CheckFb <$> sensed
+  asked Init Fb = λ words. Ok (InitFb bus.number)
+  asked Get Lock = GetLock <$> named_lock
+  asked Set Lock = SetLock <$> timed_lock
+  asked Check Lock = CheckLock <$> timed_lock
+  asked Term Lock = TermLock <$> named_lock
+  asked operation group = λ words. Err C423
 
 -- ---- the whole line
 
--- the operations of each group, with their words; any other pair is refused
-abbrev pub asked : Operation → CommandGroup → Bus → List (List ℕ) → Result Command Code
-asked Get Session bus words = get_session words
-asked Term Session bus words = term_session words
-asked Get Power bus words = alone (GetPower bus.number) words
-asked Set Power bus words = powered bus words >>= (λ power. Ok (SetPower power))
-asked Check Power bus words = powered bus words >>= (λ power. Ok (CheckPower power))
-asked Init Power bus words = Ok (InitPower bus.number)
-asked Get Gl bus words = addressed bus.gl_max (GetGl bus.number) words
-asked Set Gl bus words = driven bus words >>= (λ drive. Ok (SetGl drive))
-asked Check Gl bus words = driven bus words >>= (λ drive. Ok (CheckGl drive))
-asked Init Gl bus words = init_gl bus words >>= (λ gl. Ok (InitGl gl))
-asked Term Gl bus words = addressed bus.gl_max (TermGl bus.number) words
-asked Get Ga bus words = get_ga bus words
-asked Set Ga bus words = switched bus words >>= (λ switch. Ok (SetGa switch))
-asked Check Ga bus words = switched bus words >>= (λ switch. Ok (CheckGa switch))
-asked Init Ga bus words = init_ga bus words >>= (λ ga. Ok (InitGa ga))
-asked Term Ga bus words = addressed bus.ga_max (TermGa bus.number) words
-asked Get Fb bus words = addressed bus.fb_ports (GetFb bus.number) words
-asked Set Fb bus words = sensed bus words >>= (λ sensor. Ok (SetFb sensor))
-asked Check Fb bus words = sensed bus words >>= (λ sensor. Ok (CheckFb sensor))
-asked Init Fb bus words = Ok (InitFb bus.number)
-asked Get Lock bus words = named_lock bus words >>= (λ target. Ok (GetLock target))
-asked Set Lock bus words = timed_lock bus words >>= (λ lock. Ok (SetLock lock))
-asked Check Lock bus words = timed_lock bus words >>= (λ lock. Ok (CheckLock lock))
-asked Term Lock bus words = named_lock bus words >>= (λ target. Ok (TermLock target))
-asked operation group bus words = Err C423
-
 -- the bus, then the group, which has to be on it
-abbrev pub directed : List Bus → Operation → List (List ℕ) → Result Command Code
+abbrev pub directed : List Bus → Operation → Parser Command
 directed buses operation (number ∷ word ∷ words) = do
   bus ← ok_or (option_and_then (bus_at buses) (number_of 250 number)) C412
   group ← ok_or (named_in groups word) C421
-  if has_group bus group then asked operation group bus words else Err C422
+  if has_group bus group then asked bus operation group words else Err C422
 directed buses operation words = Err C419
 
 -- the operation, then what it is directed at
-abbrev pub parsed : List Bus → List (List ℕ) → Result Command Code
+abbrev pub parsed : List Bus → Parser Command
 parsed buses [] = Err C410
 parsed buses (word ∷ words) = do
   operation ← ok_or (named_in operations word) C410

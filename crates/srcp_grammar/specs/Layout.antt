@@ -30,13 +30,14 @@ pub record IsLayout (buses : List Bus) : Type 0 where
   pub each : AllByRecursion IsBus buses
   pub rising : IsStrictlyIncreasing (map (λ bus. bus.number) buses)
 
--- the bus of this number among these
-abbrev pub bus_numbered : List Bus → (number : ℕ) → Option Bus
-bus_numbered buses number = find (λ bus. bus.number == number) buses
+module _ (buses : List Bus) where
+  -- the bus of this number among these
+  abbrev pub bus_numbered : (number : ℕ) → Option Bus
+  bus_numbered number = find (λ bus. bus.number == number) buses
 
--- a bus of this number is there
-abbrev pub has_number : List Bus → (number : ℕ) → Bool
-has_number buses number = is_some (bus_numbered buses number)
+  -- a bus of this number is there
+  abbrev pub has_number : (number : ℕ) → Bool
+  has_number number = is_some (bus_numbered number)
 
 -- the buses with one more, by rising number
 abbrev pub with_bus : Bus → List Bus → List Bus
@@ -58,20 +59,6 @@ server = record { number = 0; power = false; gl_max = 0; ga_max = 0; ga_ports = 
 abbrev pub bus_at : List Bus → ℕ → Option Bus
 bus_at buses number = bus_numbered (server ∷ buses) number
 
--- the group that the third word of a command names is on the bus
-abbrev pub has_group : Bus → CommandGroup → Bool
-has_group bus named.Session = bus.number == 0
-has_group bus named.Power = bus.power
-has_group bus named.Gl = nat_lt 0 bus.gl_max
-has_group bus named.Ga = nat_lt 0 bus.ga_max
-has_group bus named.Fb = nat_lt 0 bus.fb_ports
-has_group bus named.Lock = nat_lt 0 bus.gl_max || nat_lt 0 bus.ga_max
-
--- the greatest address of the bus's locomotives or accessories, 0 if it has none
-abbrev pub address_max : Bus → DeviceGroup → ℕ
-address_max bus devices.Gl = bus.gl_max
-address_max bus devices.Ga = bus.ga_max
-
 -- the number is from least to most
 abbrev pub is_within : (least most : ℕ) → ℕ → Bool
 is_within least most number = nat_le least number && nat_le number most
@@ -80,15 +67,30 @@ is_within least most number = nat_le least number && nat_le number most
 abbrev pub rows_if : Bool → ℕ → ℕ
 rows_if test n = if test then n else 0
 
--- how many rows a device of this group and address has on the bus, 0 if there is no such device
-abbrev pub rows_on : Bus → Group → (address : ℕ) → ℕ
-rows_on bus Session address = rows_if (bus.number == 0 && is_within 1 4294967295 address) 1
-rows_on bus Power address = rows_if (bus.power && address == 0) 1
-rows_on bus Gl address = rows_if (is_within 1 bus.gl_max address) 2
-rows_on bus Ga address = rows_if (is_within 1 bus.ga_max address) (1 + bus.ga_ports)
-rows_on bus Fb address = rows_if (is_within 1 bus.fb_ports address) 1
-rows_on bus LockGl address = rows_if (is_within 1 bus.gl_max address) 1
-rows_on bus LockGa address = rows_if (is_within 1 bus.ga_max address) 1
+module _ (bus : Bus) where
+  -- the group that the third word of a command names is on the bus
+  abbrev pub has_group : CommandGroup → Bool
+  has_group named.Session = bus.number == 0
+  has_group named.Power = bus.power
+  has_group named.Gl = nat_lt 0 bus.gl_max
+  has_group named.Ga = nat_lt 0 bus.ga_max
+  has_group named.Fb = nat_lt 0 bus.fb_ports
+  has_group named.Lock = nat_lt 0 bus.gl_max || nat_lt 0 bus.ga_max
+
+  -- the greatest address of the bus's locomotives or accessories, 0 if it has none
+  abbrev pub address_max : DeviceGroup → ℕ
+  address_max devices.Gl = bus.gl_max
+  address_max devices.Ga = bus.ga_max
+
+  -- how many rows a device of this group and address has on the bus, 0 if there is no such device
+  abbrev pub rows_on : Group → (address : ℕ) → ℕ
+  rows_on Session address = rows_if (bus.number == 0 && is_within 1 4294967295 address) 1
+  rows_on Power address = rows_if (bus.power && address == 0) 1
+  rows_on Gl address = rows_if (is_within 1 bus.gl_max address) 2
+  rows_on Ga address = rows_if (is_within 1 bus.ga_max address) (1 + bus.ga_ports)
+  rows_on Fb address = rows_if (is_within 1 bus.fb_ports address) 1
+  rows_on LockGl address = rows_if (is_within 1 bus.gl_max address) 1
+  rows_on LockGa address = rows_if (is_within 1 bus.ga_max address) 1
 
 -- how many rows the device has if it is there: its ports are below this number
 abbrev pub row_count : List Bus → Device → ℕ

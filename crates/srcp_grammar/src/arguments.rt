@@ -1,23 +1,26 @@
 //! The words behind the group, by what each command asks for.
 
-ghost use Rattle.std.specs.Prelude.{◌≡◌, ℕ, Ok, Err, MatchResult};
+ghost use Rattle.std.specs.Prelude.{◌≡◌, ℕ, Ok, Err, MatchResult, ◌<◌, ◌+◌, List, [], ◌∷◌, MatchOption, length, nat_lt};
+ghost use Rattle.std.specs.Prelude.{if◌then◌else◌};
 ghost use Rattle.srcp_grammar.specs.declared.command.Command.{Command};
+ghost use Rattle.srcp_grammar.specs.declared.command.Command.TheVariants.{GetSession};
 ghost use Rattle.srcp_grammar.specs.Layout.{address_max};
-ghost use Rattle.srcp_grammar.specs.Grammar.{addressed, driven, ga_port, get_ga, get_session, init_ga, init_gl};
-ghost use Rattle.srcp_grammar.specs.Grammar.{named_lock, powered, sensed, switched, term_session, timed_lock};
+ghost use Rattle.srcp_grammar.specs.Grammar.{driven, ga_port, get_ga, init_ga, init_gl, one_number};
+ghost use Rattle.srcp_grammar.specs.Grammar.{named_lock, powered, sensed, switched, term_session, timed_lock, bit_of};
+ghost use Rattle.srcp_grammar.specs.Grammar.{bits_of};
+ghost use Rattle.srcp_info.specs.declared.change.Code.TheVariants.{C418 as TooLong};
 
 use crate::command::{
     Command, DeviceGroup, Drive, NewGa, NewGl, PowerSwitch, Sensor, Switch, Target, TimedLock,
 };
-use crate::functions::parse_functions;
 use crate::layout::Bus;
 use crate::power_text::parse_text;
 use crate::single_words::{
-    parse_bit, parse_device_group, parse_letter, parse_number, parse_on_off, parse_time,
+    next_word, no_more, parse_bit, parse_device_group, parse_letter, parse_number, parse_on_off,
+    parse_time,
 };
-use crate::word_count::{next_word, no_more};
 use srcp_info::{
-    Code, DriveMode, GREATEST_SPEED, GREATEST_VERSION, Letter, MOST_FUNCTIONS, MOST_SECONDS,
+    Bits, Code, DriveMode, GREATEST_SPEED, GREATEST_VERSION, Letter, MOST_FUNCTIONS, MOST_SECONDS,
     MOST_STEPS,
 };
 use srcp_text::{Words, is_keyword};
@@ -25,8 +28,8 @@ use srcp_text::{Words, is_keyword};
 /// Reads an address and nothing else.
 pub(crate) fn parse_address(most: u32, mut words: Words<'_>) -> Result<u32, Code>
     ensures { (make : ℕ → Command)
-        → MatchResult result (λ address. addressed most make words.entry ≡ Ok (make address))
-        (λ code. addressed most make words.entry ≡ Err code) }
+        → MatchResult result (λ address. one_number 1 most make words.entry ≡ Ok (make address))
+        (λ code. one_number 1 most make words.entry ≡ Err code) }
 {
     let word = next_word(&mut words)?;
     no_more(words)?;
@@ -34,7 +37,7 @@ pub(crate) fn parse_address(most: u32, mut words: Words<'_>) -> Result<u32, Code
 }
 
 pub(crate) fn parse_get_session(mut words: Words<'_>) -> Result<Command, Code>
-    ensures { result ≡ get_session words.entry }
+    ensures { result ≡ one_number 0 4294967295 GetSession words.entry }
 {
     let word = next_word(&mut words)?;
     no_more(words)?;
@@ -238,4 +241,45 @@ pub(crate) fn parse_drive(bus: &Bus, mut words: Words<'_>) -> Result<Drive, Code
         vmax,
         functions: functions?,
     })
+}
+
+/// Reads the functions, each 0 or 1. More than a locomotive can have are 418, whatever they are. If one is neither, the
+/// inner result is 412.
+fn parse_functions(mut words: Words<'_>) -> Result<Result<Bits, Code>, Code>
+    ensures { result ≡ (if nat_lt MOST_FUNCTIONS (length words.entry) then Err TooLong else Ok (bits_of words.entry)) }
+{
+    let mut functions = Bits::new();
+    while functions.len() < Bits::CAPACITY
+        && let Some(bit) = words.next_bit()
+    {
+        functions.push(bit);
+    }
+    while let Some(word) = words.next() {
+        if functions.len() == Bits::CAPACITY {
+            return Err(Code::TOO_LONG);
+        }
+        match parse_bit(word) {
+            Ok(bit) => functions.push(bit),
+            Err(code) => return refused(functions.len(), words, code),
+        }
+    }
+    Ok(Ok(functions))
+}
+
+/// Refuses a function that is neither 0 nor 1 behind `before` others. With those that follow they may be too many,
+/// which is 418.
+#[cold]
+fn refused(before: usize, mut words: Words<'_>, code: Code) -> Result<Result<Bits, Code>, Code>
+    requires { before < MOST_FUNCTIONS }
+    ensures { result
+        ≡ (if nat_lt MOST_FUNCTIONS (before + 1 + length words.entry) then Err TooLong else Ok (Err code)) }
+{
+    let mut count = before + 1;
+    while let Some(_) = words.next() {
+        if count == Bits::CAPACITY {
+            return Err(Code::TOO_LONG);
+        }
+        count += 1;
+    }
+    Ok(Err(code))
 }

@@ -10,13 +10,10 @@ ghost use Rattle.srcp_grammar.specs.Grammar.{reads};
 mod arguments;
 mod buses;
 mod command;
-mod functions;
 mod layout;
-mod operations;
 mod parse;
 mod power_text;
 mod single_words;
-mod word_count;
 
 pub use buses::SERVER;
 pub use command::{

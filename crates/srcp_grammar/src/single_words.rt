@@ -1,16 +1,39 @@
 //! Single words of a command.
 
-ghost use Rattle.std.specs.Prelude.{◌≡◌};
+ghost use Rattle.std.specs.Prelude.{◌≡◌, ℕ, List, [], ◌∷◌, MatchResult};
 ghost use Rattle.std.specs.Option.{ok_or};
 ghost use Rattle.srcp_info.specs.declared.change.Code.TheVariants.{C410 as UnknownCommand, C421 as UnsupportedDevice};
+ghost use Rattle.srcp_info.specs.declared.change.Code.TheVariants.{C412 as WrongValue};
+ghost use Rattle.srcp_info.specs.declared.change.Code.TheVariants.{C418 as TooLong, C419 as TooShort};
 ghost use Rattle.srcp_grammar.specs.Grammar.{bit_of, device_group_on, groups, letter_of, named_in, number_in};
-ghost use Rattle.srcp_grammar.specs.Grammar.{operations};
-ghost use Rattle.srcp_grammar.specs.Grammar.{switch_of, time_of};
+ghost use Rattle.srcp_grammar.specs.Grammar.{operations, switches, time_of};
 
 use crate::command::{CommandGroup, DeviceGroup, Operation};
 use crate::layout::Bus;
 use srcp_info::{Code, Letter, MOST_MILLISECONDS};
-use srcp_text::{is_keyword, read_number};
+use srcp_text::{Words, is_keyword, read_number};
+
+/// Returns the next word. If there is none the command is too short: 419.
+pub(crate) fn next_word<'a>(words: &mut Words<'a>) -> Result<&'a [u8], Code>
+    ensures { MatchResult result (λ word. words.old ≡ word.now ∷ words.new)
+        (λ code. (words.old ≡ []) × (code ≡ TooShort)) }
+{
+    match words.next() {
+        Some(word) => Ok(word),
+        None => Err(Code::TOO_SHORT),
+    }
+}
+
+/// Checks that no word is left. If one is, the command is too long: 418.
+pub(crate) fn no_more(mut words: Words<'_>) -> Result<(), Code>
+    ensures { MatchResult result (λ _. words.entry ≡ [])
+        (λ code. ((word : List ℕ) × (others : List (List ℕ)) × (words.entry ≡ word ∷ others)) × (code ≡ TooLong)) }
+{
+    match words.next() {
+        Some(_) => Err(Code::TOO_LONG),
+        None => Ok(()),
+    }
+}
 
 /// Reads a number from `least` to `most`. Any other word is 412.
 #[inline(always)]
@@ -55,7 +78,7 @@ pub(crate) fn parse_letter(word: &[u8]) -> Result<Letter, Code>
 
 /// Reads ON or OFF. Any other word is 412.
 pub(crate) fn parse_on_off(word: &[u8]) -> Result<bool, Code>
-    ensures { result ≡ switch_of word.now }
+    ensures { result ≡ ok_or (named_in switches word.now) WrongValue }
 {
     if is_keyword(b"ON", word) {
         return Ok(true);

@@ -8,8 +8,9 @@ use Rattle.srcp_rules.proofs.StateLaws.{row_key, row_at-put_other}
 use Rattle.srcp_rules.proofs.NewDeviceLaws.{ports_from, ports_rise}
 use Rattle.srcp_index.specs.declared.indexes.Indexes.{Indexes}
 use Rattle.srcp_index.specs.Pairs.{IndexModel}
-use Rattle.srcp_index.specs.Indexed.{IsIndexed, HasPairs, IsRankedRow, due_of, removable_count, removable_rows, with_row, with_rows}
-use Rattle.srcp_index.proofs.RowSums.{but_at, sum-put_row}
+use Rattle.srcp_index.specs.Indexed.{IsIndexed, HasPairs, IsRankedRow, due_of, removable_rows, row_edited, with_rows}
+use Rattle.srcp_index.specs.Ordered.{insert_by}
+use Rattle.srcp_index.proofs.RowSums.{but_at, removable_count, sum-put_row}
 use Rattle.srcp_index.proofs.RankLaws.{with_pairs, ranked_row}
 
 -- ---- rows that are added
@@ -51,7 +52,7 @@ with_more rank state index count more room h = record { pairs = h.pairs; room = 
 module _ (buses : List Bus) where
   one_added : (row : Row) (state : State) (both : Indexes) (count : ℕ) → IsFresh state row → IsRowOf buses row
       → count + removable_count row ≤ both.moments.room → count + removable_count row ≤ both.sessions.room → IsIndexed state both count
-      → IsIndexed (put_row row state) (with_row row both) (count + removable_count row)
+      → IsIndexed (put_row row state) (row_edited insert_by row both) (count + removable_count row)
   one_added row state both count fresh of due_room held_room h =
       let more = count + removable_count row in
       let same = sym (but_at_none row.shown.key state fresh) in
@@ -78,10 +79,10 @@ module _ (buses : List Bus) where
   all_added (row ∷ rows) state both count rising fresh of due_room held_room h =
       let sum = sum_by-cons removable_count row rows in
       let here = one_added row state both count fresh.0 of.0 (omega (arith, sum, due_room)) (omega (arith, sum, held_room)) h in
-      let all = all_added rows (put_row row state) (with_row row both) (count + removable_count row) rising.1
+      let all = all_added rows (put_row row state) (row_edited insert_by row both) (count + removable_count row) rising.1
       (still_fresh row state rows rising.0 fresh.1) of.1 (omega (arith, sum, due_room)) (omega (arith, sum, held_room)) here in
       let same : count + removable_count row + removable_rows rows ≡ count + removable_rows (row ∷ rows) = omega (arith, sum) in
-      subst (λ n. IsIndexed (put_rows rows (put_row row state)) (with_rows rows (with_row row both)) n) same all
+      subst (λ n. IsIndexed (put_rows rows (put_row row state)) (with_rows rows (row_edited insert_by row both)) n) same all
 
   pub added_indexed : (state : State) (device : Device) (rows : List Row) → AreNewRowsOf buses state device rows
       → (both : Indexes) (count : ℕ) → count + removable_rows rows ≤ both.moments.room → count + removable_rows rows ≤ both.sessions.room

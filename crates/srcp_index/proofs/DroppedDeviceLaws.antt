@@ -9,8 +9,9 @@ use Rattle.std.proofs.lemmas.Bool.{lt-ltb}
 use Rattle.srcp_rules.proofs.KeyLaws.{same_key, same_key-itself, same_key-true}
 use Rattle.srcp_rules.proofs.StateLaws.{at-filter, row_key, row_at_key}
 use Rattle.srcp_index.specs.declared.indexes.Indexes.{Indexes}
-use Rattle.srcp_index.specs.Indexed.{IsIndexed, IsRankedRow, due_of, removable_count, is_removable, without_row}
-use Rattle.srcp_index.proofs.RowSums.{but_at, sum-there}
+use Rattle.srcp_index.specs.Indexed.{IsIndexed, IsRankedRow, due_of, is_removable, row_edited}
+use Rattle.srcp_index.specs.Ordered.{remove_by}
+use Rattle.srcp_index.proofs.RowSums.{but_at, removable_count, sum-there}
 use Rattle.srcp_index.proofs.RankLaws.{without_pairs, fewer, counted_one}
 use Rattle.srcp_index.proofs.AddedRowsLaws.{but_at_none}
 
@@ -126,7 +127,7 @@ module _ (state : State) (both : Indexes) (count : ℕ) (h : IsIndexed state bot
       let c = h.counted in
       omega arith
 
-  pub dropped_one : is_removable row ≡ true → IsIndexed (but_at row.shown.key state) (without_row row both) (count - 1)
+  pub dropped_one : is_removable row ≡ true → IsIndexed (but_at row.shown.key state) (row_edited remove_by row both) (count - 1)
   dropped_one goes =
       let a = sum-there removable_count row state h.rising there in
       let b = counted_one (is_removable row) goes in
@@ -172,9 +173,9 @@ module _ (device : Device) (port : ℕ) (state : State) where
       pub next_goes : 1 ≤ count
       next_goes = one_goes (but_below device port state) both count h row left_there row_goes
 
-      pub dropped_next : IsIndexed (but_below device (port + 1) state) (without_row row both) (count - 1)
+      pub dropped_next : IsIndexed (but_below device (port + 1) state) (row_edited remove_by row both) (count - 1)
       dropped_next =
-          subst (λ rows. IsIndexed rows (without_row row both) (count - 1))
+          subst (λ rows. IsIndexed rows (row_edited remove_by row both) (count - 1))
           (ap (λ k. but_at k (but_below device port state)) same_key_there ∙ sym (but_below-next device port state))
           (dropped_one (but_below device port state) both count h row left_there row_goes)
 

@@ -10,7 +10,8 @@ use Rattle.srcp_rules.proofs.OpeningLaws.{opening_whole}
 use Rattle.srcp_index.specs.declared.indexes.Indexes.{Indexes}
 use Rattle.srcp_index.specs.Pairs.{IndexModel, before}
 use Rattle.srcp_index.specs.Ordered.{order_by}
-use Rattle.srcp_index.specs.Indexed.{IsIndexed, due_of, removable_count, removable_rows, is_removable, pairs_of}
+use Rattle.srcp_index.proofs.RowSums.{removable_count}
+use Rattle.srcp_index.specs.Indexed.{IsIndexed, due_of, removable_rows, is_removable, pairs_of}
 use Rattle.srcp_index.proofs.Pairs.{before_weak, before_tie}
 use Rattle.srcp_index.proofs.Ordered.{order_by-order_by}
 use Rattle.srcp_index.proofs.RankLaws.{ranked_row, due_all, held_all, counted_none, few}

@@ -3,19 +3,23 @@ use Rattle.srcp_rules.proofs.Names
 use Names.{◌≡◌, ℕ, ◌+◌, ◌≤◌, Bool, true, false, not, ◌&&◌, cond, nat_le, ◌==◌, IsTrue, IsSome, List, [], ◌∷◌, ◌++◌, length, find, Option}
 use Names.{Some, None, option_map, AllByRecursion, sum_by, option_map_or, Less, Greater, ordering_reverse, refl, sym, ap, subst, ◌∙◌, arith}
 use Names.{true≢false, leb-true, eqb-true, false_from_ne_true, sum_by-cons, sum_by-append, Cursor, Key, Row, key_cmp, has_reached}
-use Names.{key_cmp_total, State, IsRising, row_at, put_row, holder_of, is_due, is_held_by, first_due, first_held}
+use Names.{key_cmp_total, State, IsRising, row_at, put_row, holder_of, is_due, is_held_by, first_beyond}
 use Rattle.std.specs.Prelude.{option_and_then}
 use Rattle.std.proofs.lemmas.Bool.{and_parts}
 use Rattle.srcp_rules.proofs.StateLaws.{row_at-first, row_at-later}
 use Rattle.srcp_index.specs.declared.index.Pair.{Pair}
 use Rattle.srcp_index.specs.Pairs.{IndexModel, before, is_due_beyond}
 use Rattle.srcp_index.specs.Ordered.{insert_by, remove_by, order_by}
-use Rattle.srcp_index.specs.Indexed.{at_rank, due_of, pair_of, pairs_of, insert_ranked, remove_ranked, is_removable, removable_count}
+use Rattle.srcp_index.specs.Indexed.{Edit, at_rank, due_of, pair_of, pairs_of, is_removable}
 use Rattle.srcp_index.specs.Indexed.{removable_rows}
 use Rattle.srcp_index.proofs.Pairs.{before_weak, before_tie, alike_after}
-use Rattle.srcp_index.proofs.Ordered.{Keeps, find-order_by, remove_by-insert_by, length-order_by}
+use Rattle.srcp_index.proofs.Ordered.{Keeps, find-order_by, remove_by-insert_by}
 use Rattle.srcp_index.proofs.Ordered as law
-use Rattle.srcp_index.proofs.RowSums.{but_at, put_there, sum-put_row}
+use Rattle.srcp_index.proofs.RowSums.{but_at, removable_count, put_there, sum-put_row}
+
+-- the pairs so edited
+abbrev pub edited : Edit → (since : ℕ) → (rank : Option ℕ) → Key → List Pair → List Pair
+edited edit since rank k pairs = option_map_or (λ r. edit (before since) (record { rank = r; key = k }) pairs) rank pairs
 
 -- lists with the same sums have the same order
 same_pairs : (since : ℕ) (ps qs : List Pair) → ((f : Pair → ℕ) → sum_by f ps ≡ sum_by f qs) → order_by (before since) ps
@@ -56,7 +60,7 @@ module _ (rank : Row → Option ℕ) where
 
     -- with the pair of a row the pairs of the others are those of the rows with it
     pub inserted-pairs : (row : Row) (state : State)
-        → insert_ranked since (rank row) row.shown.key (order_by (before since) (pairs_of rank (but_at row.shown.key state)))
+        → edited insert_by since (rank row) row.shown.key (order_by (before since) (pairs_of rank (but_at row.shown.key state)))
         ≡ order_by (before since) (pairs_of rank (put_row row state))
     inserted-pairs row state =
         let others = but_at row.shown.key state in
@@ -70,12 +74,12 @@ module _ (rank : Row → Option ℕ) where
 
     -- and without it they are those of the others
     pub removed-pairs : (row : Row) (state : State) → IsRising state → row_at row.shown.key state ≡ Some row
-        → remove_ranked since (rank row) row.shown.key (order_by (before since) (pairs_of rank state)) ≡ order_by (before since)
+        → edited remove_by since (rank row) row.shown.key (order_by (before since) (pairs_of rank state)) ≡ order_by (before since)
         (pairs_of rank (but_at row.shown.key state))
     removed-pairs row state rising there =
-        ap (λ rows. remove_ranked since (rank row) row.shown.key (order_by (before since) (pairs_of rank rows)))
+        ap (λ rows. edited remove_by since (rank row) row.shown.key (order_by (before since) (pairs_of rank rows)))
         (sym (put_there row state rising there))
-        ∙ ap (remove_ranked since (rank row) row.shown.key) (sym (inserted-pairs row state))
+        ∙ ap (edited remove_by since (rank row) row.shown.key) (sym (inserted-pairs row state))
         ∙ removed-inserted (rank row) row (order_by (before since) (pairs_of rank (but_at row.shown.key state)))
 
   -- ---- how many they are
@@ -233,14 +237,14 @@ module _ (session : ℕ) where
 
 pub due_row : (state : State) (index : IndexModel) (cursor : Cursor) (o : Option Pair) → IsRising state → index.pairs
     ≡ order_by (before index.since) (pairs_of due_of state) → o ≡ find (is_due_beyond index.since cursor) index.pairs
-    → option_and_then (λ (pair : Pair). row_at pair.key state) o ≡ first_due index.since cursor state
+    → option_and_then (λ (pair : Pair). row_at pair.key state) o ≡ first_beyond cursor (is_due index.since) state
 due_row state index cursor o rising pairs found =
     ap (option_and_then (λ (pair : Pair). row_at pair.key state)) (found ∙ ap (find (is_due_beyond index.since cursor)) pairs)
     ∙ found_due index.since cursor state rising
 
 pub held_row : (state : State) (index : IndexModel) (session : ℕ) (o : Option Pair) → IsRising state → index.since ≡ 0 → index.pairs
     ≡ order_by (before index.since) (pairs_of holder_of state) → o ≡ find (λ pair. pair.rank == session) index.pairs
-    → option_and_then (λ (pair : Pair). row_at pair.key state) o ≡ first_held session state
+    → option_and_then (λ (pair : Pair). row_at pair.key state) o ≡ find (is_held_by session) state
 held_row state index session o rising since pairs found =
     ap (option_and_then (λ (pair : Pair). row_at pair.key state)) (found ∙ ap (find (λ pair. pair.rank == session))
     (pairs ∙ ap (λ m. order_by (before m) (pairs_of holder_of state)) since)) ∙ found_held session state rising

@@ -6,29 +6,30 @@ use Names.{MayFall, row_at, put_row, holder_of, holder_in, most_rows, weaken}
 use Names.group
 use Names.value
 use Rattle.srcp_index.specs.Pairs.{IndexModel, before}
-use Rattle.srcp_index.specs.Indexed.{HasPairs, IsRankedRow, due_of, removable_rows, is_removable, may_rank, pairs_of, insert_ranked}
-use Rattle.srcp_index.specs.Indexed.{remove_ranked, with_pair, without_pair}
+use Rattle.srcp_index.specs.Indexed.{HasPairs, IsRankedRow, due_of, removable_rows, is_removable, may_rank, pairs_of}
+use Rattle.srcp_index.specs.Indexed.{pair_edited}
+use Rattle.srcp_index.specs.Ordered.{insert_by, remove_by}
 use Rattle.srcp_index.proofs.Ordered.{length-insert_by, length-order_by}
 use Rattle.srcp_index.proofs.RowSums.{but_at}
-use Rattle.srcp_index.proofs.PairsOfRows.{inserted-pairs, removed-pairs, fewer_pairs}
+use Rattle.srcp_index.proofs.PairsOfRows.{edited, inserted-pairs, removed-pairs, fewer_pairs}
 
 -- ---- one index
 
 module _ (rank : Row → Option ℕ) where
   pub with_pairs : (row : Row) (state : State) (index : IndexModel) (count : ℕ) → HasPairs rank (but_at row.shown.key state) index count
-      → HasPairs rank (put_row row state) (with_pair (rank row) row.shown.key index) count
+      → HasPairs rank (put_row row state) (pair_edited insert_by (rank row) row.shown.key index) count
   with_pairs row state index count h = record {
-    pairs = ap (insert_ranked index.since (rank row) row.shown.key) h.pairs
+    pairs = ap (edited insert_by index.since (rank row) row.shown.key) h.pairs
         ∙ inserted-pairs rank index.since row state;
     room = h.room;
   }
 
   pub without_pairs : (row : Row) (state : State) (index : IndexModel) (count : ℕ) → IsRising state → row_at row.shown.key state ≡ Some row
       → HasPairs rank state index count
-      → HasPairs rank (but_at row.shown.key state) (without_pair (rank row) row.shown.key index) count
+      → HasPairs rank (but_at row.shown.key state) (pair_edited remove_by (rank row) row.shown.key index) count
   without_pairs row state index count rising there h =
       record {
-        pairs = ap (remove_ranked index.since (rank row) row.shown.key) h.pairs ∙ removed-pairs rank index.since row state rising
+        pairs = ap (edited remove_by index.since (rank row) row.shown.key) h.pairs ∙ removed-pairs rank index.since row state rising
             there;
         room = h.room;
       }
@@ -46,7 +47,7 @@ module _ (rank : Row → Option ℕ) where
   fewer m n state index le h = record { pairs = h.pairs; room = let r = h.room in omega (arith, le) }
 
 -- one pair more at most
-pub longer : (rank : Option ℕ) (k : Key) (index : IndexModel) → length (with_pair rank k index).pairs ≤ 1 + length index.pairs
+pub longer : (rank : Option ℕ) (k : Key) (index : IndexModel) → length (pair_edited insert_by rank k index).pairs ≤ 1 + length index.pairs
 longer None k index = omega arith
 longer (Some r) k index = let e = length-insert_by (before index.since) (record { rank = r; key = k }) index.pairs in omega arith
 

@@ -3,9 +3,14 @@ use Rattle.srcp_rules.proofs.Names
 use Names.{◌≡◌, ℕ, ◌+◌, Bool, true, false, not, cond, [], ◌∷◌, filter, Some, sum_by, is_gt, is_eq, ordering_reverse, Ordering, Less, Equal}
 use Names.{Greater, refl, sym, ap, ◌∙◌, arith, sum_by-cons, sum_by-append, Key, Row, key_cmp, is_after, key_cmp_total, rising_put, State}
 use Names.{IsRising, row_at, put_row}
+use Rattle.srcp_index.specs.Indexed.{is_removable}
 use Rattle.srcp_rules.proofs.KeyLaws.{same_key, same_key-true}
 use Rattle.srcp_rules.proofs.StateLaws.{row_key, row_at-put_row}
 use Rattle.srcp_rules.proofs.PutRowsLaws.{same_rows}
+
+-- 1 for a row of a device that comes and goes
+abbrev pub removable_count : Row → ℕ
+removable_count row = cond (is_removable row) 1 0
 
 -- the rows but that at the key
 abbrev pub but_at : Key → State → State

@@ -5,9 +5,10 @@ use Names.{true≢false, Row, can_go, all_filter, all_put, rising_put, Bus, Stat
 use Rattle.srcp_rules.proofs.KeyLaws.{same_key}
 use Rattle.srcp_rules.proofs.StateLaws.{row_key, row_at_key}
 use Rattle.srcp_index.specs.declared.indexes.Indexes.{Indexes}
-use Rattle.srcp_index.specs.Indexed.{IsIndexed, HasPairs, HasRoom, IsRankedRow, due_of, may_rank, removable_count, removable_rows}
-use Rattle.srcp_index.specs.Indexed.{is_removable, with_pair, without_pair, with_row, without_row}
-use Rattle.srcp_index.proofs.RowSums.{but_at, sum-put_row, sum-there}
+use Rattle.srcp_index.specs.Indexed.{IsIndexed, HasPairs, HasRoom, IsRankedRow, due_of, may_rank, removable_rows}
+use Rattle.srcp_index.specs.Indexed.{is_removable, pair_edited, row_edited}
+use Rattle.srcp_index.specs.Ordered.{insert_by, remove_by}
+use Rattle.srcp_index.proofs.RowSums.{but_at, removable_count, sum-put_row, sum-there}
 use Rattle.srcp_index.proofs.RankLaws.{with_pairs, without_pairs, few, ranked_goes, ranked_row, due_all, held_all, counted_one}
 
 -- ---- a row that is set
@@ -23,12 +24,13 @@ module _ (buses : List Bus) (state : State) (both : Indexes) (count : ℕ) (h : 
   abbrev left : State
   left = but_at row.shown.key state
 
-  due_left : HasPairs due_of left (without_pair (due_of old) old.shown.key both.moments) count
-  due_left = subst (λ k. HasPairs due_of (but_at k state) (without_pair (due_of old) old.shown.key both.moments) count) same
+  due_left : HasPairs due_of left (pair_edited remove_by (due_of old) old.shown.key both.moments) count
+  due_left = subst (λ k. HasPairs due_of (but_at k state) (pair_edited remove_by (due_of old) old.shown.key both.moments) count) same
       (without_pairs due_of old state both.moments count h.rising old_there h.due)
 
-  held_left : HasPairs holder_of left (without_pair (holder_of old) old.shown.key both.sessions) count
-  held_left = subst (λ k. HasPairs holder_of (but_at k state) (without_pair (holder_of old) old.shown.key both.sessions) count) same
+  held_left : HasPairs holder_of left (pair_edited remove_by (holder_of old) old.shown.key both.sessions) count
+  held_left =
+      subst (λ k. HasPairs holder_of (but_at k state) (pair_edited remove_by (holder_of old) old.shown.key both.sessions) count) same
       (without_pairs holder_of old state both.sessions count h.rising old_there h.held)
 
   rows_left : AllByRecursion IsRankedRow left
@@ -38,9 +40,9 @@ module _ (buses : List Bus) (state : State) (both : Indexes) (count : ℕ) (h : 
   counts = sum-there removable_count old state h.rising old_there
       ∙ (λ i. cond {A = ℕ} (can_go (same i).group) 1 0 + removable_rows (but_at (same i) state))
 
-  pub room_for_due : IsSome (due_of row) → HasRoom (without_pair (due_of old) old.shown.key both.moments)
+  pub room_for_due : IsSome (due_of row) → HasRoom (pair_edited remove_by (due_of old) old.shown.key both.moments)
   room_for_due s =
-      let a = few due_of left (without_pair (due_of old) old.shown.key both.moments) count (due_all left rows_left) due_left in
+      let a = few due_of left (pair_edited remove_by (due_of old) old.shown.key both.moments) count (due_all left rows_left) due_left in
       let b : removable_count row ≡ 1 =
       counted_one (is_removable row) (ranked_goes row.shown.key.group ((ranked_row buses row of).due s)) in
       let c = h.counted in
@@ -48,9 +50,10 @@ module _ (buses : List Bus) (state : State) (both : Indexes) (count : ℕ) (h : 
       let e = counts in
       omega arith
 
-  pub room_for_held : IsSome (holder_of row) → HasRoom (without_pair (holder_of old) old.shown.key both.sessions)
+  pub room_for_held : IsSome (holder_of row) → HasRoom (pair_edited remove_by (holder_of old) old.shown.key both.sessions)
   room_for_held s =
-      let a = few holder_of left (without_pair (holder_of old) old.shown.key both.sessions) count (held_all left rows_left) held_left in
+      let a =
+      few holder_of left (pair_edited remove_by (holder_of old) old.shown.key both.sessions) count (held_all left rows_left) held_left in
       let b : removable_count row ≡ 1 =
       counted_one (is_removable row) (ranked_goes row.shown.key.group ((ranked_row buses row of).held s)) in
       let c = h.counted in
@@ -58,11 +61,11 @@ module _ (buses : List Bus) (state : State) (both : Indexes) (count : ℕ) (h : 
       let e = counts in
       omega arith
 
-  pub set_indexed : IsIndexed (put_row row state) (with_row row (without_row old both)) count
+  pub set_indexed : IsIndexed (put_row row state) (row_edited insert_by row (row_edited remove_by old both)) count
   set_indexed = record {
     rising = rising_put row_key row state h.rising;
-    due = with_pairs due_of row state (without_pair (due_of old) old.shown.key both.moments) count due_left;
-    held = with_pairs holder_of row state (without_pair (holder_of old) old.shown.key both.sessions) count held_left;
+    due = with_pairs due_of row state (pair_edited remove_by (due_of old) old.shown.key both.moments) count due_left;
+    held = with_pairs holder_of row state (pair_edited remove_by (holder_of old) old.shown.key both.sessions) count held_left;
     since = h.since;
     counted = (let a = sum-put_row removable_count row state in let b = counts in let c = h.counted in omega arith);
     rows = all_put row_key IsRankedRow row state (ranked_row buses row of) h.rows;
@@ -71,14 +74,14 @@ module _ (buses : List Bus) (state : State) (both : Indexes) (count : ℕ) (h : 
   -- both indexes with a pair of the row's key, and without one of the old row's
   abbrev inserted : (due held : Option ℕ) → Indexes → Indexes
   inserted due held all = record {
-    moments = with_pair due row.shown.key all.moments;
-    sessions = with_pair held row.shown.key all.sessions;
+    moments = pair_edited insert_by due row.shown.key all.moments;
+    sessions = pair_edited insert_by held row.shown.key all.sessions;
   }
 
   abbrev removed : (due held : Option ℕ) → Indexes
   removed due held = record {
-    moments = without_pair due old.shown.key both.moments;
-    sessions = without_pair held old.shown.key both.sessions;
+    moments = pair_edited remove_by due old.shown.key both.moments;
+    sessions = pair_edited remove_by held old.shown.key both.sessions;
   }
 
   -- a row that may not be ranked leaves the indexes as they are
@@ -96,8 +99,8 @@ module _ (buses : List Bus) (state : State) (both : Indexes) (count : ℕ) (h : 
       let d = no_rank (holder_of old) (λ s. sym before ∙ was.held s) never in
       subst (λ (o : Option ℕ). IsIndexed (put_row row state) (inserted o None both) count) a
       (subst (λ (o : Option ℕ). IsIndexed (put_row row state) (inserted (due_of row) o both) count) b
-      (subst (λ (o : Option ℕ). IsIndexed (put_row row state) (with_row row (removed o None)) count) c
-      (subst (λ (o : Option ℕ). IsIndexed (put_row row state) (with_row row (removed (due_of old) o)) count) d
+      (subst (λ (o : Option ℕ). IsIndexed (put_row row state) (row_edited insert_by row (removed o None)) count) c
+      (subst (λ (o : Option ℕ). IsIndexed (put_row row state) (row_edited insert_by row (removed (due_of old) o)) count) d
       set_indexed)))
 
 pub passed_by : (buses : List Bus) (state : State) (both : Indexes) (count : ℕ) → IsIndexed state both count → (row : Row)

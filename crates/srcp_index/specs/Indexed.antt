@@ -1,10 +1,10 @@
 -- How indexes keep a pair of each row that has a rank: its due moment, or the session that holds it.
 use Rattle.std.specs.Prelude.{◌≡◌, ℕ, ◌<◌, ◌≤◌, Bool, true, false, IsTrue, IsSome, List, [], ◌∷◌, fold, flat_map}
 use Rattle.std.specs.Prelude.{length, Option, if◌then◌else◌}
-use Rattle.std.specs.List.{AllByRecursion, sum_by}
+use Rattle.std.specs.List.{AllByRecursion, count_by}
 use Rattle.std.specs.Option.{option_map_or}
 use Rattle.srcp_info.specs.declared.key.Group.{Group}
-use Rattle.srcp_info.specs.declared.key.Group.TheVariants as group
+use Rattle.srcp_info.specs.declared.key.Group.TheVariants.{Ga, LockGl, LockGa}
 use Rattle.srcp_info.specs.declared.key.Key.{Key}
 use Rattle.srcp_info.specs.declared.change.Row.{Row}
 use Rattle.srcp_info.specs.WellFormed.{can_go}
@@ -13,7 +13,7 @@ use Rattle.srcp_rules.specs.Rows.{most_rows}
 use Rattle.srcp_index.specs.declared.index.Pair.{Pair}
 use Rattle.srcp_index.specs.declared.indexes.Indexes.{Indexes}
 use Rattle.srcp_index.specs.Pairs.{IndexModel, before}
-use Rattle.srcp_index.specs.Ordered.{insert_by, remove_by, order_by}
+use Rattle.srcp_index.specs.Ordered.{insert_by, order_by}
 
 -- the pair of a row of this rank
 abbrev pub at_rank : Row → (rank : ℕ) → Pair
@@ -27,55 +27,31 @@ pair_of rank row = option_map_or (λ r. at_rank row r ∷ []) (rank row) []
 abbrev pub pairs_of : (rank : Row → Option ℕ) → State → List Pair
 pairs_of rank state = flat_map (pair_of rank) state
 
--- the pairs with that of the key, if it has a rank
-abbrev pub insert_ranked : (since : ℕ) → (rank : Option ℕ) → Key → List Pair → List Pair
-insert_ranked since rank k pairs =
-    option_map_or (λ r. insert_by (before since) (record { rank = r; key = k }) pairs) rank pairs
+-- how a list in an order is edited at the place of a pair: by insert_by or by remove_by
+abbrev pub Edit : Type 0
+Edit = (Pair → Pair → Bool) → Pair → List Pair → List Pair
 
--- the pairs without it
-abbrev pub remove_ranked : (since : ℕ) → (rank : Option ℕ) → Key → List Pair → List Pair
-remove_ranked since rank k pairs =
-    option_map_or (λ r. remove_by (before since) (record { rank = r; key = k }) pairs) rank pairs
-
--- the index with the pair of the key, if it has a rank
-abbrev pub with_pair : (rank : Option ℕ) → Key → IndexModel → IndexModel
-with_pair rank k index = record {
-  since = index.since;
-  pairs = insert_ranked index.since rank k index.pairs;
-  room = index.room;
-}
-
--- the index without it
-abbrev pub without_pair : (rank : Option ℕ) → Key → IndexModel → IndexModel
-without_pair rank k index = record {
-  since = index.since;
-  pairs = remove_ranked index.since rank k index.pairs;
-  room = index.room;
+-- the index edited at the pair of the key, if it has a rank
+abbrev pub pair_edited : Edit → (rank : Option ℕ) → Key → IndexModel → IndexModel
+pair_edited edit rank k index = record index {
+  pairs =
+      option_map_or (λ r. edit (before index.since) (record { rank = r; key = k }) index.pairs) rank index.pairs;
 }
 
 -- the moment at which the row is due, if there is one
 abbrev pub due_of : Row → Option ℕ
 due_of row = row.due
 
--- both indexes with the pairs of the row
-abbrev pub with_row : Row → Indexes → Indexes
-with_row row both = record {
-  moments = with_pair (due_of row) row.shown.key both.moments;
-  sessions = with_pair
-      (holder_of row) row.shown.key both.sessions;
+-- both indexes edited at the pairs of the row
+abbrev pub row_edited : Edit → Row → Indexes → Indexes
+row_edited edit row both = record {
+  moments = pair_edited edit (due_of row) row.shown.key both.moments;
+  sessions = pair_edited edit (holder_of row) row.shown.key both.sessions;
 }
 
 -- both indexes with the pairs of these rows
 abbrev pub with_rows : List Row → Indexes → Indexes
-with_rows rows both = fold (λ before row. with_row row before) both rows
-
--- both indexes without the pairs of the row
-abbrev pub without_row : Row → Indexes → Indexes
-without_row row both = record {
-  moments = without_pair (due_of row) row.shown.key both.moments;
-  sessions = without_pair
-      (holder_of row) row.shown.key both.sessions;
-}
+with_rows rows both = fold (λ before row. row_edited insert_by row before) both rows
 
 -- the index has room for one more pair
 abbrev pub HasRoom : IndexModel → Type 0
@@ -87,18 +63,14 @@ is_removable row = can_go row.shown.key.group
 
 -- a row of the group may have a due moment or a holder
 abbrev pub may_rank : Group → Bool
-may_rank group.Ga = true
-may_rank group.LockGl = true
-may_rank group.LockGa = true
+may_rank Ga = true
+may_rank LockGl = true
+may_rank LockGa = true
 may_rank other = false
 
--- 1 for such a row
-abbrev pub removable_count : Row → ℕ
-removable_count row = if is_removable row then 1 else 0
-
--- how many such rows there are
+-- how many rows are of a device that comes and goes
 abbrev pub removable_rows : State → ℕ
-removable_rows state = sum_by removable_count state
+removable_rows state = count_by is_removable state
 
 -- no row has a rank but of an accessory or a lock, and its port is one that its group may have
 pub record IsRankedRow (row : Row) : Type 0 where

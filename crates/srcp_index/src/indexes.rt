@@ -1,6 +1,7 @@
 //! The index of due moments and that of the sessions that hold locks.
 ghost use Rattle.std.specs.Prelude.{◌≡◌, ◌+◌, ◌≤◌, IsSome, [], OnOk, length};
-ghost use Rattle.srcp_index.specs.Indexed.{HasRoom, due_of, with_pair, with_row, with_rows, without_pair, without_row};
+ghost use Rattle.srcp_index.specs.Indexed.{HasRoom, due_of, pair_edited, row_edited, with_rows};
+ghost use Rattle.srcp_index.specs.Ordered.{insert_by, remove_by};
 ghost use Rattle.srcp_rules.specs.State.{holder_of};
 
 use crate::index::{Index, Pair};
@@ -51,7 +52,7 @@ impl Indexes {
     pub(crate) fn insert(&mut self, row: &Row)
         requires moments { IsSome (due_of row.now) → HasRoom self.old.moments }
         requires sessions { IsSome (holder_of row.now) → HasRoom self.old.sessions }
-        ensures { self.new ≡ with_row row.now self.old }
+        ensures { self.new ≡ row_edited insert_by row.now self.old }
     {
         insert_ranked(&mut self.moments, row.due, row.shown.key);
         insert_ranked(&mut self.sessions, holder(row), row.shown.key);
@@ -70,7 +71,7 @@ impl Indexes {
 
     /// Removes the pairs of a row.
     pub(crate) fn remove(&mut self, row: &Row)
-        ensures { self.new ≡ without_row row.now self.old }
+        ensures { self.new ≡ row_edited remove_by row.now self.old }
     {
         remove_ranked(&mut self.moments, row.due, row.shown.key);
         remove_ranked(&mut self.sessions, holder(row), row.shown.key);
@@ -90,7 +91,7 @@ fn holder(row: &Row) -> Option<u64>
 /// Inserts the pair of a key, if it has a rank.
 fn insert_ranked(index: &mut Index, rank: Option<u64>, key: Key)
     requires { IsSome rank → HasRoom index.old }
-    ensures { index.new ≡ with_pair rank key index.old }
+    ensures { index.new ≡ pair_edited insert_by rank key index.old }
 {
     if let Some(rank) = rank {
         index.insert(Pair { rank, key });
@@ -99,7 +100,7 @@ fn insert_ranked(index: &mut Index, rank: Option<u64>, key: Key)
 
 /// Removes the pair of a key, if it has a rank.
 fn remove_ranked(index: &mut Index, rank: Option<u64>, key: Key)
-    ensures { index.new ≡ without_pair rank key index.old }
+    ensures { index.new ≡ pair_edited remove_by rank key index.old }
 {
     if let Some(rank) = rank {
         index.remove(Pair { rank, key });

@@ -109,9 +109,9 @@ fn put_functions<const N: usize>(functions: &Bits, buffer: &mut ArrayVec<u8, N>)
 {
     let count = functions.len();
     let bits = functions.as_slice();
-    // The spaces between the digits are there already.
-    let mut words = [b' '; 2 * Bits::CAPACITY];
+    let mut words = [0; 2 * Bits::CAPACITY];
     for index in 0..count {
+        words[2 * index] = b' ';
         words[2 * index + 1] = b'0' + u8::from(bits[index]);
     }
     put_bytes(&words[..2 * count], buffer);

@@ -6,8 +6,6 @@ mod lines;
 #[cfg(test)]
 mod mirror;
 #[cfg(test)]
-mod refused;
-#[cfg(test)]
 mod replies;
 #[cfg(test)]
 mod values;

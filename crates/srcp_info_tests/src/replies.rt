@@ -1,7 +1,18 @@
 //! The lines of replies.
 
+ghost use Rattle.srcp_info.specs.WellFormed.{IsWellFormedReply};
+
 use srcp_info::{Code, Group, Key, Reply, Shown, Value, write_reply};
 use srcp_text::LineBuf;
+use std::process::Abort;
+
+fn assert_line(rt: &impl Abort, stamp: u64, reply: &Reply, line: &str)
+    requires { IsWellFormedReply reply.now }
+{
+    let mut written = LineBuf::new();
+    write_reply(stamp, reply, &mut written);
+    assert_eq!(rt; written.as_slice(), line.as_bytes());
+}
 
 #[test]
 fn short_replies(rt: HostRuntime) {
@@ -15,9 +26,7 @@ fn short_replies(rt: HostRuntime) {
             "18446744073709551.615 401 ERROR unsupported connection mode\n",
         ),
     ] {
-        let mut written = LineBuf::new();
-        write_reply(stamp, &reply, &mut written);
-        assert_eq!(rt; written.as_slice(), line.as_bytes());
+        assert_line(&rt, stamp, &reply, line);
     }
 }
 
@@ -27,9 +36,7 @@ fn sessions_that_begin(rt: HostRuntime) {
         (1, "1.000 200 OK GO 1\n"),
         (4294967295, "1.000 200 OK GO 4294967295\n"),
     ] {
-        let mut written = LineBuf::new();
-        write_reply(1000, &Reply::Go(id), &mut written);
-        assert_eq!(rt; written.as_slice(), line.as_bytes());
+        assert_line(&rt, 1000, &Reply::Go(id), line);
     }
 }
 
@@ -52,9 +59,7 @@ fn refusals(rt: HostRuntime) {
         (Code::C423, "7.000 423 ERROR unsupported operation\n"),
         (Code::C500, "7.000 500 ERROR out of resources\n"),
     ] {
-        let mut written = LineBuf::new();
-        write_reply(7000, &Reply::Refused(code), &mut written);
-        assert_eq!(rt; written.as_slice(), line.as_bytes());
+        assert_line(&rt, 7000, &Reply::Refused(code), line);
     }
 }
 
@@ -71,7 +76,6 @@ fn a_row(rt: HostRuntime) {
         stamp: 1050,
         value: Value::Fb { on: true },
     };
-    let mut written = LineBuf::new();
-    write_reply(9000, &Reply::Shows(shown), &mut written);
-    assert_eq!(rt; written.as_slice(), b"1.050 100 INFO 1 FB 2 1\n".as_slice());
+    let line = "1.050 100 INFO 1 FB 2 1\n";
+    assert_line(&rt, 9000, &Reply::Shows(shown), line);
 }

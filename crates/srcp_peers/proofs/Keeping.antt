@@ -19,7 +19,7 @@ use Rattle.srcp_serve.specs.Calls.{ReadCall}
 use Rattle.srcp_serve.specs.declared.door.DoorFault.{DoorFault}
 use Rattle.srcp_serve.specs.declared.door.Got.{Got}
 use Rattle.srcp_serve.specs.declared.door.Got.TheVariants as got
-use Rattle.srcp_peers.specs.Accounts.{Account, Sent, Received, account, account_step, answered_step, is_at_rest, is_short}
+use Rattle.srcp_peers.specs.Accounts.{Account, Sent, Received, account, account_step, answered_step, is_at_rest, is_short_wait}
 use Rattle.srcp_peers.specs.Accounts.{may_end, may_fail}
 use Rattle.srcp_peers.specs.Accounts.{refused_read, refused_write, shut_down, untouched, waited, wrote, woken, woken_sent}
 use Rattle.srcp_peers.specs.Accounts.{woken_came}
@@ -329,7 +329,7 @@ or_so false c e = e
 
 -- a wait, long only if the peer rests
 pub kept_waited : (old new : Option (List Step)) (p : Peer) (most : Option ℕ) (count : ℕ) (ready : List Ready)
-    → (is_short most ≡ false → is_resting p ≡ true)
+    → (is_short_wait most ≡ false → is_resting p ≡ true)
     → Tells old (Waits most count ready) new → IsKept old p → IsKept new (fold after_wake p (take count ready))
 kept_waited old new p most count ready rest tells kept =
     kept_after old new (Waits most count ready) p (fold after_wake p (take count ready)) tells (all_number p (take count ready))
@@ -344,9 +344,9 @@ kept_waited old new p most count ready rest tells kept =
       served = h.served;
       line = h.line;
       honest = h.honest;
-      rested = ap (λ b. b && (not (a.watched || (p.number == 0)) || (is_short most || is_at_rest a.sent a.received))) h.rested
-          ∙ or_so (not (a.watched || (p.number == 0))) (is_short most || is_at_rest a.sent a.received)
-          (unless_long (is_short most) (is_at_rest a.sent a.received) (λ long. resting a p h (rest long)));
+      rested = ap (λ b. b && (not (a.watched || (p.number == 0)) || (is_short_wait most || is_at_rest a.sent a.received))) h.rested
+          ∙ or_so (not (a.watched || (p.number == 0))) (is_short_wait most || is_at_rest a.sent a.received)
+          (unless_long (is_short_wait most) (is_at_rest a.sent a.received) (λ long. resting a p h (rest long)));
     }))) kept
 
 -- ---- the same, by the names that a function gives to the parts

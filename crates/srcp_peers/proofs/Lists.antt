@@ -8,7 +8,7 @@ use Rattle.srcp_peers.specs.declared.peer.Peer.{Peer}
 use Rattle.srcp_peers.specs.declared.stay.Stay.{Stay}
 use Rattle.srcp_peers.specs.declared.system.Ready.{Ready}
 use Rattle.srcp_peers.specs.Steps.{Clocks, Step, Tells, Waits}
-use Rattle.srcp_peers.specs.Accounts.{Account, is_short, account}
+use Rattle.srcp_peers.specs.Accounts.{Account, is_short_wait, account}
 use Rattle.srcp_peers.specs.Peers.{Agrees, IsKept, Spares, IsRead, after_wake, is_resting, stay_after}
 use Rattle.srcp_peers.specs.AllPeers.{AreApart, AreKept, AreThose, AreWithin, IsAbsent}
 use Rattle.srcp_peers.proofs.Keeping.{alien, all_number, kept_after, kept_waited, skips}
@@ -164,7 +164,7 @@ woken_apart before after ready long woken apart = apart_later before after long
 
 -- all peers after a wait, which is long only if all rest
 pub waited_all : (old new : Option (List Step)) (peers later : List Peer) (most : Option ℕ) (count : ℕ) (ready : List Ready)
-    → (is_short most ≡ false → All (λ peer. is_resting peer ≡ true) peers) → Tells old (Waits most count ready) new
+    → (is_short_wait most ≡ false → All (λ peer. is_resting peer ≡ true) peers) → Tells old (Waits most count ready) new
     → length later ≡ length peers
     → ((k : ℕ) (d : Peer) → k < length peers → slice_index_or later k d ≡ fold after_wake (slice_index_or peers k d) (take count ready))
     → AreKept old peers → AreKept new later

@@ -92,9 +92,9 @@ abbrev pub may_fail : Account → Bool
 may_fail a = not a.watched || (a.received.failed || a.sent.lost)
 
 -- a wait that ends by itself, and soon: in 8 milliseconds
-abbrev pub is_short : Option ℕ → Bool
-is_short None = false
-is_short (Some most) = nat_lt most 9
+abbrev pub is_short_wait : Option ℕ → Bool
+is_short_wait None = false
+is_short_wait (Some most) = nat_lt most 9
 
 -- ---- when it may be shut down and closed
 
@@ -164,7 +164,7 @@ woken socket a ready = if ready.socket == socket then record a {
 -- a wait begins: a long one is for peers at rest. The listener, which is socket 0, is always open
 abbrev pub waited : ℕ → Account → Option ℕ → Account
 waited socket a most = record a {
-  rested = a.rested && (not (a.watched || (socket == 0)) || (is_short most || is_at_rest a.sent a.received));
+  rested = a.rested && (not (a.watched || (socket == 0)) || (is_short_wait most || is_at_rest a.sent a.received));
 }
 
 -- a read may find something, and less than a piece is held

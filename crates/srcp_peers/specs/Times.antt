@@ -13,7 +13,7 @@ use Rattle.std.specs.declared.io.ErrorKind.{ErrorKind}
 use Rattle.srcp_peers.specs.declared.system.Refusal.{Refusal}
 use Rattle.srcp_peers.specs.declared.system.Refusal.TheVariants.{Later, Again, Fault}
 use Rattle.srcp_peers.specs.declared.turn.Turn.{Turn}
-use Rattle.srcp_peers.specs.Accounts.{is_short}
+use Rattle.srcp_peers.specs.Accounts.{is_short_wait}
 use Rattle.srcp_peers.specs.Steps.{Step, Accepts, Clocks, Closes, Reads, Shuts, Answers, Waits, Writes, refusal_of}
 use Rattle.srcp_peers.specs.Turns.{after_call, after_read, after_wait, begun, first_turn, got_bytes, hands_out}
 use Rattle.srcp_peers.specs.Turns.{is_pending, moment_at, reports_end, time_left, reported_at}
@@ -79,15 +79,15 @@ answered_read t who answer buffer = record t {
 }
 
 -- what `accept` is to answer, if an accept of the system failed
-abbrev pub refused_newcomer : Refusal → Result (Option ℕ) DoorFault
-refused_newcomer Later = Ok None
-refused_newcomer Again = Ok None
-refused_newcomer Fault = Err Accept
+abbrev pub refused_accept : Refusal → Result (Option ℕ) DoorFault
+refused_accept Later = Ok None
+refused_accept Again = Ok None
+refused_accept Fault = Err Accept
 
 -- and if it answered so
-abbrev pub newcomer_of : (number : ℕ) → Result Unit ErrorKind → Result (Option ℕ) DoorFault
-newcomer_of number (Ok done) = Ok (Some number)
-newcomer_of number (Err fault) = refused_newcomer (refusal_of fault)
+abbrev pub accept_answer : (number : ℕ) → Result Unit ErrorKind → Result (Option ℕ) DoorFault
+accept_answer number (Ok done) = Ok (Some number)
+accept_answer number (Err fault) = refused_accept (refusal_of fault)
 
 -- that was answered. If the system was not asked, nobody came, or memory or the numbers ran out
 abbrev pub is_as_heard : (heard : Option (Result (Option ℕ) DoorFault)) → Result (Option ℕ) DoorFault → Bool
@@ -121,7 +121,7 @@ clocked t (Some time) = record t { clock = time }
 clocked t None = t
 
 abbrev pub times_step : Times → Step → Times
-times_step t (Accepts number answer) = record t { heard = Some (newcomer_of number answer) }
+times_step t (Accepts number answer) = record t { heard = Some (accept_answer number answer) }
 times_step t (Reads who buffer answer) = t
 times_step t (Writes who bytes answer) = t
 times_step t (Shuts who) = t
@@ -130,7 +130,7 @@ times_step t (Waits most count ready) = record t {
   turn = after_wait t.turn;
   waits = t.waits + 1;
   punctual = t.punctual && in_time t.turn most;
-  patient = t.patient && (is_short most || not (is_pending t.turn.slack t.turn.busy));
+  patient = t.patient && (is_short_wait most || not (is_pending t.turn.slack t.turn.busy));
 }
 times_step t (Clocks answer) = clocked t answer
 times_step t (Answers call) = answered_times t call

@@ -16,7 +16,6 @@ mod readiness;
 mod stay;
 mod system;
 mod turn;
-mod waiting;
 
 pub use ending::Ending;
 pub use lingering::{MOST_LINGERING, count_lingering, first_gone, first_shut};
@@ -25,5 +24,4 @@ pub use queue::{MOST_INCOMING, MOST_OUTGOING, Outgoing, Queue, Queues};
 pub use readiness::{Flush, Input, Output};
 pub use stay::{LINGER, Stay};
 pub use system::{Ready, Refusal, System, refusal_of};
-pub use turn::Turn;
-pub use waiting::{Listening, RETRY_DELAY, longest_wait};
+pub use turn::{Listening, RETRY_DELAY, Turn, longest_wait};

@@ -11,7 +11,7 @@ ghost use Rattle.srcp_peers.specs.Listeners.{woken_listening};
 use crate::peer::Peer;
 use crate::readiness::Flush;
 use crate::system::{Ready, System};
-use crate::waiting::Listening;
+use crate::turn::Listening;
 
 /// Flushes each peer that is there, and goes on with those that linger.
 pub fn flush<S: System>(system: &mut S, peers: &mut [Peer], what: Flush)

@@ -1,16 +1,17 @@
 -- What holds of whatever a command does, if it holds of its refusals, of what GET shows and of the changes that are accepted.
 use Rattle.srcp_rules.proofs.Names
-use Names.{◌≡◌, ℕ, zero, suc, ◌+◌, ◌<◌, ◌≤◌, Bool, true, false, cond, ◌==◌, List, [], ◌∷◌, ◌++◌, map, Option, Some, None, Result, Ok, Err}
+use Names.{◌≡◌, ℕ, zero, suc, ◌+◌, ◌<◌, ◌≤◌, Bool, true, false, cond, ◌==◌, List, [], ◌∷◌, ◌++◌, map, Option, Some, None}
 use Names.{refl, arith, AllByRecursion, range_with_len, Key, Device, Row, Code, C414, C416, Accepted, first_key, all_append, DeviceGroup}
 use Names.{Command, SetPower, SetGl, CheckGl, InitGl, TermGl, SetGa, CheckGa, InitGa, TermGa, SetFb, SetLock, CheckLock, TermLock, key_at}
 use Names.{session_device, power_device, fb_device, device_in, lock_at, lock_on, State, Update, row_at, is_there, Effect, effect, accepted}
-use Names.{refused, done, unless_refused, refusals, put_at, gone_at, removal, removals, is_locked, gl_init, fresh_gl, fresh_ga}
+use Names.{refused, unless_refused, put_of, option_map_or, not, refusals, put_at, gone_at, removal, removals, is_locked, gl_init, fresh_gl}
+use Names.{fresh_ga}
 use Names.value
 use Names.devices
 use Rattle.srcp_info.specs.declared.change.Code.TheVariants.{C415}
 use Rattle.srcp_info.specs.declared.change.Reply.TheVariants.{Shows}
 use Rattle.srcp_grammar.specs.declared.command.Command.TheVariants.{GetSession, TermSession, GetPower, GetGl, GetGa, GetFb, GetLock}
-use Rattle.srcp_rules.specs.Effect.{checked, lock_refusals, gl_refusals, has_init, gl_put, ga_put, lock_put, showing}
+use Rattle.srcp_rules.specs.Effect.{gl_refusals, has_init, gl_put, row_of_port, row_of_lock}
 
 -- no refusal of the list applies
 abbrev pub NoneApplies : List (Bool × Code) → Type 0
@@ -18,12 +19,11 @@ NoneApplies refusals = AllByRecursion (λ refusal. refusal.0 ≡ false) refusals
 
 -- what holds of each refusal holds of a list of them, if it holds of what is done where none applies
 pub unless_made : (P : Effect → Type 0) → ((code : Code) → P (refused code)) → (refusals : List (Bool × Code)) (updates : List Update)
-    → (NoneApplies refusals → P (accepted updates)) → P (done (unless_refused refusals updates))
+    → (NoneApplies refusals → P (accepted updates)) → P (unless_refused refusals updates)
 unless_made P refuses [] updates h = h tt
 unless_made P refuses (refusal ∷ others) updates h = by refusal.0 (λ e. unless_made P refuses others updates (λ more. h (e, more)))
   where
-    by : (b : Bool) → (b ≡ false → P (done (unless_refused others updates)))
-        → P (done (cond b (Err refusal.1) (unless_refused others updates)))
+    by : (b : Bool) → (b ≡ false → P (unless_refused others updates)) → P (unless_refused ((b, refusal.1) ∷ others) updates)
     by true later = refuses refusal.1
     by false later = later refl
 
@@ -37,7 +37,8 @@ module _ (state : State) (session moment : ℕ) where
   refusals_of (InitGa ga) = (is_locked state session devices.Ga ga.bus ga.address, C414) ∷ []
   refusals_of (TermGa bus address) = refusals state session devices.Ga bus address
   refusals_of (SetLock lock) = refusals state session lock.target.group lock.target.bus lock.target.address
-  refusals_of (TermLock target) = lock_refusals state session target.group target.bus target.address
+  refusals_of (TermLock target) =
+      (not (is_there (lock_at target) state), C416) ∷ (is_locked state session target.group target.bus target.address, C414) ∷ []
   refusals_of other = []
 
   -- and what it changes, an INIT unless it finds its device as it would make it
@@ -46,11 +47,11 @@ module _ (state : State) (session moment : ℕ) where
   changes_of (SetGl drive) = gl_put state moment drive ∷ []
   changes_of (InitGl gl) = removals state moment devices.Gl gl.bus gl.address ++ fresh_gl moment gl
   changes_of (TermGl bus address) = removals state moment devices.Gl bus address
-  changes_of (SetGa switch) = ga_put moment switch ∷ []
+  changes_of (SetGa switch) = put_of (row_of_port moment switch) ∷ []
   changes_of (InitGa ga) = removals state moment devices.Ga ga.bus ga.address ++ fresh_ga moment ga
   changes_of (TermGa bus address) = removals state moment devices.Ga bus address
   changes_of (SetFb sensor) = put_at moment (first_key (fb_device sensor.bus sensor.port)) (value.Fb sensor.on) None ∷ []
-  changes_of (SetLock lock) = lock_put session moment lock ∷ []
+  changes_of (SetLock lock) = put_of (row_of_lock moment session lock) ∷ []
   changes_of (TermLock target) = gone_at moment (lock_at target) ∷ []
   changes_of other = []
 
@@ -58,7 +59,8 @@ module _ (state : State) (session moment : ℕ) where
       (ends : P (record { reply = Accepted; updates = []; ends = true }))
       (shows : (key : Key) (row : Row) → row_at key state ≡ Some row → P (record { reply = Shows row.shown; updates = []; ends = false }))
     where
-      shown : (key : Key) (o : Option Row) → row_at key state ≡ o → P (showing o)
+      shown : (key : Key) (o : Option Row) → row_at key state ≡ o
+          → P (option_map_or (λ row. record { reply = Shows row.shown; updates = []; ends = false }) o (refused C416))
       shown key None e = refuses C416
       shown key (Some row) e = shows key row e
 
@@ -67,12 +69,11 @@ module _ (state : State) (session moment : ℕ) where
       ended false = refuses C415
 
       made : (command : Command) (updates : List Update) → (NoneApplies (refusals_of command) → P (accepted updates))
-          → P (done (unless_refused (refusals_of command) updates))
+          → P (unless_refused (refusals_of command) updates)
       made command = unless_made P refuses (refusals_of command)
 
-      tried : (r : Result (List Update) Code) → P (checked r)
-      tried (Ok updates) = nothing
-      tried (Err code) = refuses code
+      tried : (refusals : List (Bool × Code)) → P (unless_refused refusals [])
+      tried refusals = unless_made P refuses refusals [] (λ none. nothing)
 
       -- an INIT that is not refused
       new : (same : Bool) (updates : List Update) → P (accepted updates) → P (accepted (cond same [] updates))
@@ -88,13 +89,13 @@ module _ (state : State) (session moment : ℕ) where
       of_effect (SetPower power) h = h tt
       of_effect (GetGl bus address) h = shown (key_at (device_in devices.Gl bus address) 1) _ refl
       of_effect (SetGl drive) h = made (SetGl drive) _ h
-      of_effect (CheckGl drive) h = tried (unless_refused (refusals_of (SetGl drive)) (changes_of (SetGl drive)))
+      of_effect (CheckGl drive) h = tried (refusals_of (SetGl drive))
       of_effect (InitGl gl) h =
           made (InitGl gl) _ (λ none. new (has_init state devices.Gl gl.bus gl.address (gl_init gl)) _ (h none))
       of_effect (TermGl bus address) h = made (TermGl bus address) _ h
       of_effect (GetGa bus address port) h = shown (key_at (device_in devices.Ga bus address) (1 + port)) _ refl
       of_effect (SetGa switch) h = made (SetGa switch) _ h
-      of_effect (CheckGa switch) h = tried (unless_refused (refusals_of (SetGa switch)) (changes_of (SetGa switch)))
+      of_effect (CheckGa switch) h = tried (refusals_of (SetGa switch))
       of_effect (InitGa ga) h =
           made (InitGa ga) _ (λ none. new (has_init state devices.Ga ga.bus ga.address (value.GaInit ga.letter)) _ (h none))
       of_effect (TermGa bus address) h = made (TermGa bus address) _ h
@@ -102,7 +103,7 @@ module _ (state : State) (session moment : ℕ) where
       of_effect (SetFb sensor) h = h tt
       of_effect (GetLock target) h = shown (first_key (lock_at target)) _ refl
       of_effect (SetLock lock) h = made (SetLock lock) _ h
-      of_effect (CheckLock lock) h = tried (unless_refused (refusals_of (SetLock lock)) (changes_of (SetLock lock)))
+      of_effect (CheckLock lock) h = tried (refusals_of (SetLock lock))
       of_effect (TermLock target) h = made (TermLock target) _ h
       of_effect other h = nothing
 

@@ -2,11 +2,11 @@
 use Rattle.srcp_rules.proofs.Names
 use Names.{◌≡◌, ◌<◌, Bool, true, false, not, ◌&&◌, cond, List, [], ◌∷◌, length, filter, find, Option, Some, None, refl, sym, ap, subst, ◌∙◌}
 use Names.{true≢false, arith, Less, Key, Row, Cursor, key_cmp, has_reached, filter_every, reached_below, after_from_less, State, IsRising}
-use Names.{row_after, found_holds, false_from_ne_true, weaken}
+use Names.{first_beyond, row_after, found_holds, false_from_ne_true, weaken}
 use Names.cursor
 use Rattle.srcp_info.proofs.ClientLaws.{after_not_itself}
 use Rattle.srcp_rules.specs.declared.filter.RowFilter.{RowFilter}
-use Rattle.srcp_rules.specs.Filter.{passes, first_passed}
+use Rattle.srcp_rules.specs.Filter.{passes}
 use Rattle.srcp_rules.proofs.KeyLaws.{not_after}
 
 -- the rows beyond the cursor
@@ -86,22 +86,22 @@ fewer_beyond at state rising row next = let e = ap length (beyond-next at row st
 -- ---- seeking from row to row
 
 module _ (row_filter : RowFilter) (at : Cursor) (state : State) where
-  seek : first_passed row_filter at state ≡ find (passes row_filter) (beyond at state)
+  seek : first_beyond at (passes row_filter) state ≡ find (passes row_filter) (beyond at state)
   seek = find-both (λ row. not (has_reached at row.shown.key)) (passes row_filter) state
 
-  pub passed_none : row_after at state ≡ None → first_passed row_filter at state ≡ None
+  pub passed_none : row_after at state ≡ None → first_beyond at (passes row_filter) state ≡ None
   passed_none e = seek ∙ ap (find (passes row_filter)) (beyond-none at state e)
 
   module _ (rising : IsRising state) (row : Row) (next : row_after at state ≡ Some row) where
-    first : first_passed row_filter at state
+    first : first_beyond at (passes row_filter) state
         ≡ cond (passes row_filter row) (Some row) (find (passes row_filter) (beyond (cursor.After row.shown.key) state))
     first = seek ∙ ap (find (passes row_filter)) (beyond-next at row state rising next)
 
-    pub passed_here : passes row_filter row ≡ true → first_passed row_filter at state ≡ Some row
+    pub passed_here : passes row_filter row ≡ true → first_beyond at (passes row_filter) state ≡ Some row
     passed_here e = first ∙ rw e
 
     pub passed_later : passes row_filter row ≡ false
-        → first_passed row_filter (cursor.After row.shown.key) state ≡ first_passed row_filter at state
+        → first_beyond (cursor.After row.shown.key) (passes row_filter) state ≡ first_beyond at (passes row_filter) state
     passed_later e =
         find-both (λ other. not (has_reached (cursor.After row.shown.key) other.shown.key)) (passes row_filter) state
         ∙ sym (first ∙ rw e)

@@ -2,16 +2,16 @@
 use Rattle.srcp_rules.proofs.Names
 use Names.{◌≡◌, ℕ, ◌+◌, ◌<◌, min, Bool, true, false, cond, map, filter, List, [], ◌∷◌, Option, Some, None, refl, sym, ap, subst, ◌∙◌, arith}
 use Names.{false_from_ne_true, option_map_or, AllByRecursion, Key, Value, Row, Code, Accepted, device_of, first_key, owns, IsMoment}
-use Names.{IsValueAt, is_lock, Bus, SetLock, key_at, device_in, lock_at, State, Update, IsWhole, MayFall, row_at, updated, updated_all}
-use Names.{row_put, done, unless_refused, refusals, put_at, port_end, lock_end, due, due_change, is_due, device_from_owns, each_filtered}
-use Names.{found_holds}
+use Names.{IsValueAt, is_lock, Bus, SetLock, lock_at, State, Update, IsWhole, MayFall, row_at, updated, updated_all}
+use Names.{row_put, put_of, nat_le, SetGa, unless_refused, refusals, port_end, lock_end, due, due_change, is_due, device_from_owns}
+use Names.{each_filtered, found_holds}
 use Names.value
 use Names.devices
 use Rattle.std.specs.Prelude.{◌*◌}
 use Rattle.std.proofs.lemmas.Bool.{lt-ltb}
 use Rattle.std.proofs.Math.Nat.{min-eq_left, min-eq_right}
-use Rattle.srcp_rules.specs.Effect.{moment_after}
-use Rattle.srcp_rules.specs.Laws.{EndsInTime, LocksAreSet, LocksRunOut, PortsAreSet, PortsFallBack, comes_to, fallen, port_on}
+use Rattle.srcp_rules.specs.Effect.{moment_after, port_key, row_of_lock, row_of_port}
+use Rattle.srcp_rules.specs.Laws.{LocksAreSet, LocksRunOut, MomentsEnd, PortsAreSet, PortsFallBack, comes_to, fallen}
 use Rattle.srcp_rules.proofs.KeyLaws.{same_key, same_key-true}
 use Rattle.srcp_grammar.proofs.FindLaws.{each_unfiltered}
 use Rattle.srcp_rules.proofs.StateLaws.{row_at-put_row, row_at-put_same, row_at-without, row_at_key, IsKnown, each_known}
@@ -143,30 +143,24 @@ module _ (buses : List Bus) (moment : ℕ) (now : IsMoment moment) where
 -- ---- what a SET leaves behind
 
 -- a command that is accepted makes its changes
-accepted_done : (refused : List (Bool × Code)) (updates : List Update) → (done (unless_refused refused updates)).reply ≡ Accepted
-    → (done (unless_refused refused updates)).updates ≡ updates
+accepted_done : (refused : List (Bool × Code)) (updates : List Update) → (unless_refused refused updates).reply ≡ Accepted
+    → (unless_refused refused updates).updates ≡ updates
 accepted_done refused updates =
     unless_made (λ did. did.reply ≡ Accepted → did.updates ≡ updates) (λ code e. cc) refused updates (λ none e. refl)
 
 -- so the row that a SET puts is there
-put_there : (refused : List (Bool × Code)) (moment : ℕ) (key : Key) (shows : Value) (ends : Option ℕ) (state : State)
-    → (done (unless_refused refused (put_at moment key shows ends ∷ []))).reply ≡ Accepted
-    → row_at key (updated_all (done (unless_refused refused (put_at moment key shows ends ∷ []))).updates state)
-    ≡ Some (row_put moment key shows ends)
-put_there refused moment key shows ends state e =
-    ap (λ us. row_at key (updated_all us state)) (accepted_done refused (put_at moment key shows ends ∷ []) e)
-    ∙ row_at-put_same (row_put moment key shows ends) state
+put_there : (refused : List (Bool × Code)) (row : Row) (state : State) → (unless_refused refused (put_of row ∷ [])).reply ≡ Accepted
+    → row_at row.shown.key (updated_all (unless_refused refused (put_of row ∷ [])).updates state) ≡ Some row
+put_there refused row state e =
+    ap (λ us. row_at row.shown.key (updated_all us state)) (accepted_done refused (put_of row ∷ []) e) ∙ row_at-put_same row state
 
 pub port_set : PortsAreSet
 port_set state session moment switch e =
-    put_there (refusals state session devices.Ga switch.bus switch.address) moment
-    (key_at (device_in devices.Ga switch.bus switch.address) (1 + switch.port))
-    (value.GaPort switch.on) (port_end moment switch.on switch.time) state e
+    put_there (refusals state session devices.Ga switch.bus switch.address) (row_of_port moment switch) state e
 
 pub lock_set : LocksAreSet
 lock_set state session moment lock e =
-    put_there (refusals state session lock.target.group lock.target.bus lock.target.address) moment (first_key (lock_at lock.target))
-    (value.Lock lock.seconds session) (lock_end moment lock.seconds) state e
+    put_there (refusals state session lock.target.group lock.target.bus lock.target.address) (row_of_lock moment session lock) state e
 
 -- ---- and what becomes of it
 
@@ -176,36 +170,39 @@ some_time moment n some = rw (lt-ltb 0 n some)
 some_seconds : (moment n : ℕ) → 0 < n → lock_end moment n ≡ Some (moment_after moment (1000 * n))
 some_seconds moment n some = rw (lt-ltb 0 n some)
 
+-- what a later moment makes of a row that has a due moment
+falls : (later : ℕ) (row : Row) (ends : ℕ) → row.due ≡ Some ends
+    → comes_to later row ≡ cond (nat_le ends later) (fallen later row.shown.key row.shown.value) (Some row)
+falls later row ends due =
+    ap (λ o. cond (option_map_or (λ m. nat_le m later) o false) (fallen later row.shown.key row.shown.value) (Some row)) due
+
+either : (b : Bool) (x y : Row) → cond b (Some x) (Some y) ≡ Some (cond b x y)
+either true x y = refl
+either false x y = refl
+
 pub port_falls : PortsFallBack
-port_falls buses state session moment later bus address port milliseconds may begins now some e after is =
-    let key = key_at (device_in devices.Ga bus address) (1 + port) in
-    let whole : IsWhole buses after =
-    subst (IsWhole buses) (sym is)
-    (effect_kept buses state may.whole session moment may.begun begins (port_on bus address port milliseconds) may.of) in
-    let there : row_at key after ≡ Some (row_put moment key (value.GaPort true) (Some (moment_after moment milliseconds))) =
-    ap (row_at key) is ∙ port_set state session moment
-    (record { bus = bus; address = address; port = port; on = true; time = Some milliseconds }) e
-    ∙ ap (λ ends. Some (row_put moment key (value.GaPort true) ends)) (some_time moment milliseconds some) in
-    due_rows buses later now after whole key ∙ ap (λ o. option_map_or (comes_to later) o None) there
+port_falls buses state session moment later milliseconds switch may begins now on time some e =
+    let whole = effect_kept buses state may.whole session moment may.begun begins (SetGa switch) may.of in
+    let ends = moment_after moment milliseconds in
+    let due : port_end moment switch.on switch.time ≡ Some ends =
+    (λ i. port_end moment (on i) (time i)) ∙ some_time moment milliseconds some in
+    due_rows buses later now _ whole (port_key switch)
+    ∙ ap (λ o. option_map_or (comes_to later) o None) (port_set state session moment switch e)
+    ∙ falls later (row_of_port moment switch) ends due
+    ∙ either (nat_le ends later) (row_put later (port_key switch) (value.GaPort false) None) (row_of_port moment switch)
 
 pub lock_runs_out : LocksRunOut
-lock_runs_out buses state session moment later lock may begins now some e after is =
-    let key = first_key (lock_at lock.target) in
-    let whole : IsWhole buses after =
-    subst (IsWhole buses) (sym is)
-    (effect_kept buses state may.whole session moment may.begun begins (SetLock lock) may.of) in
-    let ends = moment_after moment (1000 * lock.seconds) in
-    let there : row_at key after ≡ Some (row_put moment key (value.Lock lock.seconds session) (Some ends)) =
-    ap (row_at key) is ∙ lock_set state session moment lock e
-    ∙ ap (λ due. Some (row_put moment key (value.Lock lock.seconds session) due)) (some_seconds moment lock.seconds some) in
-    due_rows buses later now after whole key ∙ ap (λ o. option_map_or (comes_to later) o None) there
+lock_runs_out buses state session moment later lock may begins now some e =
+    let whole = effect_kept buses state may.whole session moment may.begun begins (SetLock lock) may.of in
+    due_rows buses later now _ whole (first_key (lock_at lock.target))
+    ∙ ap (λ o. option_map_or (comes_to later) o None) (lock_set state session moment lock e)
+    ∙ falls later (row_of_lock moment session lock) (moment_after moment (1000 * lock.seconds)) (some_seconds moment lock.seconds some)
 
 -- ---- the greatest moment
 
-pub ends_in_time : (moment milliseconds : ℕ) → EndsInTime moment milliseconds
-ends_in_time moment milliseconds = record {
-  within = λ h. min-eq_left (omega (arith, h));
-  beyond =
-      λ h. let e : min (moment + milliseconds) 18446744073709551615 ≡ 18446744073709551615 = min-eq_right (omega (arith, h)) in
-      omega (arith, e);
-}
+pub ends_in_time : MomentsEnd
+ends_in_time moment milliseconds = (
+  λ h. min-eq_left (omega (arith, h)),
+  λ h. let e : min (moment + milliseconds) 18446744073709551615 ≡ 18446744073709551615 = min-eq_right (omega (arith, h)) in
+      omega (arith, e),
+)

@@ -1,8 +1,8 @@
 -- A device that is made, or made afresh.
 use Rattle.srcp_rules.proofs.Names
-use Names.{◌≡◌, ℕ, ◌<◌, Bool, true, false, cond, is_some, List, [], ◌∷◌, ◌++◌, map, Ok, Err, refl, sym, ap, ◌∙◌, true≢false, Row, Change}
+use Names.{◌≡◌, ℕ, ◌<◌, Bool, true, false, cond, is_some, List, [], ◌∷◌, ◌++◌, map, refl, sym, ap, ◌∙◌, true≢false, Row, Change}
 use Names.{C414, Value, first_key, owns, Bus, DeviceGroup, row_count, device_in, lock_on, State, Update, IsWhole, is_there, put_of, without}
-use Names.{updated_all, accepted, done, gone_at, is_locked, removal, removals, AreRowsOf, AreNewRowsOf, put_rows}
+use Names.{updated_all, accepted, unless_refused, gone_at, is_locked, removal, removals, AreRowsOf, AreNewRowsOf, put_rows}
 use Names.devices
 use Rattle.std.proofs.lemmas.List.{map-append}
 use Rattle.srcp_rules.specs.Effect.{has_init, init_device}
@@ -98,7 +98,7 @@ module _ (buses : List Bus) (state : State) (whole : IsWhole buses state) (momen
 -- a device that nobody else has locked, and that has other parameters or is not there, is made
 pub init_accepted : (state : State) (session moment : ℕ) (g : DeviceGroup) (bus address : ℕ) (init : Value) (fresh : List Update)
     → is_locked state session g bus address ≡ false → has_init state g bus address init ≡ false
-    → accepted (removals state moment g bus address ++ fresh) ≡ done (init_device state session moment g bus address init fresh)
+    → accepted (removals state moment g bus address ++ fresh) ≡ init_device state session moment g bus address init fresh
 init_accepted state session moment g bus address init fresh free other =
     let made = removals state moment g bus address ++ fresh in
-    λ i. done (cond (sym free i) (Err C414) (Ok (cond (sym other i) [] made)))
+    λ i. unless_refused ((sym free i, C414) ∷ []) (cond (sym other i) [] made)

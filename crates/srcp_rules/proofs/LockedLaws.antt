@@ -5,7 +5,6 @@ use Names.{Gone, first_key, key_of, owns, owns-device_of, all_append, DeviceGrou
 use Names.{TermGa, SetFb, SetLock, TermLock, key_at, power_device, fb_device, device_in, lock_on, lock_group, State, Update, row_at}
 use Names.{updated, updated_by, updated_all, effect, is_locked, removals, fresh_gl, fresh_ga, false_from_ne_true, can_go, is_lock, weaken}
 use Names.devices
-use Rattle.srcp_rules.specs.Laws.{IsKept}
 use Rattle.srcp_rules.proofs.KeyLaws.{same_key-true, no_owner}
 use Rattle.srcp_rules.proofs.OrderLaws.{owns-other}
 use Rattle.srcp_rules.proofs.DueRowLaws.{lock_goes}
@@ -33,6 +32,12 @@ pub apart_row : (device : Device) (port : ℕ) (updates : List Update) (state : 
     → row_at (key_at device port) (updated_all updates state) ≡ row_at (key_at device port) state
 apart_row device port [] state h = refl
 apart_row device port (u ∷ us) state h = apart_row device port us (updated u state) h.1 ∙ apart_by device port u.change u.due state h.0
+
+-- the rows of the device, and of its lock, are as before
+pub record AreKept (group : DeviceGroup) (bus address : ℕ) (before after : State) : Type 0 where
+  pub device : (port : ℕ)
+      → row_at (key_at (device_in group bus address) port) after ≡ row_at (key_at (device_in group bus address) port) before
+  pub lock : (port : ℕ) → row_at (key_at (lock_on group bus address) port) after ≡ row_at (key_at (lock_on group bus address) port) before
 
 -- ---- groups
 
@@ -120,7 +125,7 @@ module _ (state : State) (session moment : ℕ) (g : DeviceGroup) (bus address :
   effect_apart command = of_changes state session moment AllApart tt command (changes_apart command)
 
   -- so its rows and its lock stay
-  pub locked_kept : (command : Command) → IsKept g bus address state (updated_all (effect state session moment command).updates state)
+  pub locked_kept : (command : Command) → AreKept g bus address state (updated_all (effect state session moment command).updates state)
   locked_kept command =
       let updates = (effect state session moment command).updates in
       record {

@@ -57,15 +57,16 @@ pub use Rattle.srcp_grammar.specs.declared.command.Command.TheVariants.{SetLock,
 pub use Rattle.srcp_grammar.specs.declared.command.DeviceGroup.{DeviceGroup}
 pub use Rattle.srcp_grammar.specs.declared.command.DeviceGroup.TheVariants as devices
 pub use Rattle.srcp_grammar.specs.declared.layout.Bus.{Bus}
-pub use Rattle.srcp_rules.specs.Due.{began, due, due_change, first_due, first_held, freed, is_due, is_held_by}
-pub use Rattle.srcp_rules.specs.Effect.{Effect, accepted, done, effect, fresh_ga, fresh_gl, gl_init, gone_at, is_locked, lock_end, port_end}
+pub use Rattle.srcp_rules.specs.Due.{began, due, due_change, freed, is_due, is_held_by}
+pub use Rattle.srcp_rules.specs.Effect.{Effect, accepted, effect, fresh_ga, fresh_gl, gl_init, gone_at, is_locked, lock_end, port_end}
 pub use Rattle.srcp_rules.specs.Effect.{put_at, refusals, refused, removal, removals, unless_refused}
 pub use Rattle.srcp_rules.specs.KeyIndex.{HasKeyAt}
 pub use Rattle.srcp_rules.specs.Nested.{AreOfDevice, AreRowsOfBus, AreSorted, IsIn, bus_rows, device_rows, entry_at, listed}
 pub use Rattle.srcp_rules.specs.Numbered.{numbered}
 pub use Rattle.srcp_rules.specs.Obeyed.{MayObey, Took}
 pub use Rattle.srcp_rules.specs.Rows.{AreNewRowsOf, AreRowsOf, Kept, most_rows, put_rows}
-pub use Rattle.srcp_rules.specs.State.{AddsNoRow, IsRising, IsRowOf, IsWhole, MayFall, State, Update, first_row, functions_of, has_row}
-pub use Rattle.srcp_rules.specs.State.{holder_in, holder_of, is_there, opening, opening_on, put_of, put_row, row_after, row_at, row_put}
+pub use Rattle.srcp_rules.specs.State.{AddsNoRow, IsRising, IsRowOf, IsWhole, MayFall, State, Update, first_beyond, first_row}
+pub use Rattle.srcp_rules.specs.State.{functions_of, has_row, holder_in, holder_of, is_there, opening, opening_on, put_of, put_row}
+pub use Rattle.srcp_rules.specs.State.{row_after, row_at, row_put}
 pub use Rattle.srcp_rules.specs.State.{updated, updated_all, updated_by, without}
 pub use Rattle.srcp_rules.proofs.EachLaws.{weaken, each_and, each-mapped}

@@ -2,8 +2,8 @@
 use Rattle.srcp_rules.proofs.Names
 use Names.{◌≡◌, ℕ, Bool, true, false, not, ◌&&◌, cond, is_some, List, [], ◌∷◌, ◌++◌, map, filter, find, option_map, Some, None, refl, sym}
 use Names.{ap, subst, ◌∙◌, second_so, Key, Value, Row, Cursor, device_of, first_key, key_of, has_reached, IsMoment, IsValueAt, IsWellFormed}
-use Names.{Bus, session_device, State, Update, AddsNoRow, IsWhole, MayFall, row_at, is_there, updated, gone_at, due_change, first_due}
-use Names.{first_held, is_due, is_held_by, freed, found_holds, find_passes, weaken, slice_get}
+use Names.{Bus, session_device, State, Update, AddsNoRow, IsWhole, MayFall, row_at, is_there, updated, gone_at, due_change, first_beyond}
+use Names.{is_due, is_held_by, freed, found_holds, find_passes, weaken, slice_get}
 use Names.value
 use Rattle.srcp_rules.specs.Due.{due_after}
 use Rattle.srcp_grammar.proofs.FindLaws.{find_same}
@@ -67,7 +67,7 @@ module _ (buses : List Bus) (state : State) (whole : IsWhole buses state) (momen
         by false e = no_more (not (has_reached cursor row.shown.key))
 
     -- the first change beyond the cursor is that of the first row beyond it that is due
-    due_after-first : due_after state moment cursor ≡ option_map brings (first_due moment cursor state)
+    due_after-first : due_after state moment cursor ≡ option_map brings (first_beyond cursor (is_due moment) state)
     due_after-first =
         find-map brings (λ update. not (has_reached cursor (key_of update.change))) (filter (is_due moment) state)
         ∙ ap (option_map brings)
@@ -86,7 +86,7 @@ pub record IsNextDue (buses : List Bus) (state : State) (moment : ℕ) (cursor :
   pub adds : AddsNoRow state (due_change moment row.shown.key row.shown.value).change
 
 module _ {buses : List Bus} {state : State} (whole : IsWhole buses state) (moment : ℕ) (now : IsMoment moment) (cursor : Cursor) where
-  pub next_due : (row : Row) → Some row ≡ first_due moment cursor state → IsNextDue buses state moment cursor row
+  pub next_due : (row : Row) → Some row ≡ first_beyond cursor (is_due moment) state → IsNextDue buses state moment cursor row
   next_due row is =
       let test = λ (other : Row). not (has_reached cursor other.shown.key) && is_due moment other in
       let key = row.shown.key in
@@ -105,7 +105,7 @@ module _ {buses : List Bus} {state : State} (whole : IsWhole buses state) (momen
         adds = AddsNoRow-from_put buses state whole (due_change moment key shows).change (due_put buses moment key shows k.0.place);
       }
 
-  pub none_due : None ≡ first_due moment cursor state → due_after state moment cursor ≡ None
+  pub none_due : None ≡ first_beyond cursor (is_due moment) state → due_after state moment cursor ≡ None
   none_due is = due_after-first buses state whole moment now cursor ∙ ap (option_map (brings buses state whole moment now)) (sym is)
 
 -- ---- the end of a session
@@ -136,7 +136,7 @@ module _ (state : State) (session moment : ℕ) where
   own there = cond there (gone_at moment (session_device session) ∷ []) []
 
   -- the first lock of the session goes first
-  freed_held : (row : Row) → first_held session state ≡ Some row
+  freed_held : (row : Row) → find (is_held_by session) state ≡ Some row
       → (later : List Update) × (freed state session moment ≡ gone_at moment (device_of row.shown.key) ∷ later)
   freed_held row found =
       let first = found_first (is_held_by session) state row found in (
@@ -145,7 +145,7 @@ module _ (state : State) (session moment : ℕ) where
       )
 
   -- if it has none its own row goes
-  pub freed_own : (there : Bool) → None ≡ first_held session state → is_there (session_device session) state ≡ there
+  pub freed_own : (there : Bool) → None ≡ find (is_held_by session) state → is_there (session_device session) state ≡ there
       → freed state session moment ≡ own there
   freed_own there none e =
       ap (λ rows. gone_rows rows ++ own (is_there (session_device session) state)) (found_none (is_held_by session) state (sym none))
@@ -166,12 +166,12 @@ module _ {buses : List Bus} {state : State} (whole : IsWhole buses state) (sessi
     told = (subst CanBeTold e (freed_told buses state whole moment now session)).0;
   }
 
-  pub next_lock : (row : Row) → Some row ≡ first_held session state
+  pub next_lock : (row : Row) → Some row ≡ find (is_held_by session) state
       → IsNextFreed buses state session moment (gone_at moment (device_of row.shown.key))
   next_lock row found =
       let held = freed_held state session moment row (sym found) in next_freed (gone_at moment (device_of row.shown.key)) held.0 held.1
 
-  pub next_own : None ≡ first_held session state → is_there (session_device session) state ≡ true
+  pub next_own : None ≡ find (is_held_by session) state → is_there (session_device session) state ≡ true
       → IsNextFreed buses state session moment (gone_at moment (session_device session))
   next_own none there =
       next_freed (gone_at moment (session_device session)) [] (freed_own state session moment true none there)

@@ -1,16 +1,15 @@
 -- What is refused and what is accepted of a command, and the rows that it sets.
 use Rattle.srcp_rules.proofs.Names
-use Names.{◌≡◌, ℕ, ◌+◌, ◌≤◌, ◌<◌, min, Bool, true, false, not, cond, nat_lt, List, [], ◌∷◌, length, Option, Some, None, Ok, Err, IfSome}
-use Names.{refl, sym, ap, ◌∙◌, arith, option_map_or, Group, Key, Row, Code, Accepted, Value, first_key, IsMoment, IsValueAt, Bus, row_count}
+use Names.{◌≡◌, ℕ, ◌+◌, ◌≤◌, ◌<◌, min, Bool, true, false, not, cond, nat_lt, List, [], length, Option, Some, None, IfSome}
+use Names.{refl, sym, ap, arith, option_map_or, Group, Key, Row, Code, Accepted, Value, first_key, IsMoment, IsValueAt, Bus, row_count}
 use Names.{SetPower, SetGl, SetGa, SetFb, SetLock, key_at, power_device, fb_device, device_in, lock_at, session_device, key_address, State}
-use Names.{Update, IsRowOf, IsWhole, MayFall, has_row, row_at, is_there, functions_of, row_put, Effect, done, refused, accepted}
+use Names.{Update, IsRowOf, IsWhole, MayFall, has_row, row_at, is_there, functions_of, row_put, Effect, refused, accepted}
 use Names.{unless_refused, lock_end, port_end, MayObey}
 use Names.value
 use Names.devices
 use Rattle.std.specs.Prelude.{◌*◌}
 use Rattle.std.proofs.Common.{length-append, length-drop}
 use Rattle.std.proofs.Math.Nat.{min-le_right}
-use Rattle.std.specs.Result.{result_err}
 use Rattle.srcp_grammar.specs.Command.{kept_speed}
 use Rattle.srcp_grammar.specs.declared.command.Drive.{Drive}
 use Rattle.srcp_grammar.specs.declared.command.Switch.{Switch}
@@ -27,26 +26,13 @@ use Rattle.srcp_rules.proofs.WholeLaws.{functions_at}
 
 -- ---- refusals
 
-decided : (refusals : List (Bool × Code)) (updates : List Update)
-    → unless_refused refusals updates ≡ option_map_or Err (first_refusal refusals) (Ok updates)
-decided [] updates = refl
-decided (refusal ∷ others) updates = by refusal.0 (decided others updates)
-  where
-    by : (b : Bool) → unless_refused others updates ≡ option_map_or Err (first_refusal others) (Ok updates)
-        → cond b (Err refusal.1) (unless_refused others updates)
-        ≡ option_map_or Err (result_err (cond b (Err refusal.1) (unless_refused others []))) (Ok updates)
-    by true later = refl
-    by false later = later
-
 pub refused_done : (refusals : List (Bool × Code)) (updates : List Update) (code : Code) → Some code ≡ first_refusal refusals
-    → refused code ≡ done (unless_refused refusals updates)
-refused_done refusals updates code e =
-    ap (λ o. done (option_map_or Err o (Ok updates))) e ∙ ap done (sym (decided refusals updates))
+    → refused code ≡ unless_refused refusals updates
+refused_done refusals updates code e = ap (λ o. option_map_or refused o (accepted updates)) e
 
 pub accepted_done : (refusals : List (Bool × Code)) (updates : List Update) → None ≡ first_refusal refusals
-    → accepted updates ≡ done (unless_refused refusals updates)
-accepted_done refusals updates e =
-    ap (λ o. done (option_map_or Err o (Ok updates))) e ∙ ap done (sym (decided refusals updates))
+    → accepted updates ≡ unless_refused refusals updates
+accepted_done refusals updates e = ap (λ o. option_map_or refused o (accepted updates)) e
 
 pub none_applies : (refusals : List (Bool × Code)) → None ≡ first_refusal refusals → NoneApplies refusals
 none_applies refusals e =

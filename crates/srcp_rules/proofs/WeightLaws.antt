@@ -18,7 +18,7 @@ use Rattle.srcp_grammar.specs.declared.command.CommandGroup.TheVariants.{Session
 use Rattle.srcp_grammar.specs.declared.command.Command.TheVariants.{GetSession, TermSession, GetPower, CheckPower, GetGl, GetGa, GetFb}
 use Rattle.srcp_grammar.specs.declared.command.Command.TheVariants.{CheckFb, GetLock}
 use Rattle.srcp_grammar.specs.Layout.{has_group}
-use Rattle.srcp_grammar.specs.Grammar.{◌>>=◌, number_in, groups, named_in, alone, addressed, get_session, term_session, powered, driven}
+use Rattle.srcp_grammar.specs.Grammar.{◌>>=◌, number_in, groups, named_in, alone, one_number, term_session, powered, driven}
 use Rattle.srcp_grammar.specs.Grammar.{ga_port, get_ga, switched, sensed, named_lock, timed_lock, asked, directed, parsed}
 use Rattle.srcp_rules.specs.Weight.{names_session, weight_of, weight, LinesWeighEnough, WeightsAreSmall, GoesWeighOne}
 use Rattle.srcp_grammar.proofs.GrammarLaws.{read_any, then_ok, reads_fits}
@@ -31,7 +31,7 @@ abbrev bus_named : List Bus → List ℕ → Result Bus Code
 bus_named buses word = ok_or (option_and_then (bus_at buses) (number_of 250 word)) C412
 
 abbrev on_group : Operation → List (List ℕ) → Bus → CommandGroup → Result Command Code
-on_group operation words bus g = cond (has_group bus g) (asked operation g bus words) (Err C422)
+on_group operation words bus g = cond (has_group bus g) (asked bus operation g words) (Err C422)
 
 module _ (P : Command → Type 0) where
   abbrev All : Result Command Code → Type 0
@@ -41,15 +41,11 @@ module _ (P : Command → Type 0) where
   alone_all command [] h = h
   alone_all command (w ∷ ws) h = tt
 
-  addressed_all : (most : ℕ) (make : ℕ → Command) (words : List (List ℕ)) → ((a : ℕ) → P (make a)) → All (addressed most make words)
-  addressed_all most make [] h = tt
-  addressed_all most make (a ∷ []) h = read_any P (number_in 1 most a) (λ n. Ok (make n)) h
-  addressed_all most make (a ∷ b ∷ ws) h = tt
-
-  get_session_all : (words : List (List ℕ)) → ((n : ℕ) → P (GetSession n)) → All (get_session words)
-  get_session_all [] h = tt
-  get_session_all (s ∷ []) h = read_any P (number_in 0 4294967295 s) (λ n. Ok (GetSession n)) h
-  get_session_all (s ∷ t ∷ ws) h = tt
+  one_number_all : (least most : ℕ) (make : ℕ → Command) (words : List (List ℕ)) → ((n : ℕ) → P (make n))
+      → All (one_number least most make words)
+  one_number_all least most make [] h = tt
+  one_number_all least most make (n ∷ []) h = read_any P (number_in least most n) (λ n. Ok (make n)) h
+  one_number_all least most make (n ∷ m ∷ ws) h = tt
 
   term_session_all : (words : List (List ℕ)) → ((id : Option ℕ) → P (TermSession id)) → All (term_session words)
   term_session_all [] h = h None
@@ -66,13 +62,13 @@ module _ (P : Command → Type 0) where
 
   -- the words after the operation
   directed_all : (buses : List Bus) (operation : Operation) (words : List (List ℕ))
-      → ((g : CommandGroup) (bus : Bus) (ws : List (List ℕ)) → All (asked operation g bus ws)) → All (directed buses operation words)
+      → ((g : CommandGroup) (bus : Bus) (ws : List (List ℕ)) → All (asked bus operation g ws)) → All (directed buses operation words)
   directed_all buses operation [] h = tt
   directed_all buses operation (n ∷ []) h = tt
   directed_all buses operation (n ∷ w ∷ ws) h =
       read_any P (bus_named buses n) (λ bus. ok_or (named_in groups w) C421 >>= on_group operation ws bus) (λ bus.
       read_any P (ok_or (named_in groups w) C421) (on_group operation ws bus) (λ g.
-      then_ok P (has_group bus g) C422 (asked operation g bus ws) (λ on. h g bus ws)))
+      then_ok P (has_group bus g) C422 (asked bus operation g ws) (λ on. h g bus ws)))
 
 -- ---- how many changes the commands of an operation make
 
@@ -87,18 +83,18 @@ module _ (state : State) (session moment : ℕ) where
   brings : (n : ℕ) (command : Command) → AtMost n (changes_of state session moment command) → Brings n command
   brings n command h = of_changes state session moment (AtMost n) (omega arith) command (λ none. h)
 
-  gets_none : (g : CommandGroup) (bus : Bus) (words : List (List ℕ)) → IfOk (asked Get g bus words) (Brings 0)
-  gets_none Session bus words = get_session_all (Brings 0) words (λ n. brings 0 (GetSession n) (omega arith))
+  gets_none : (g : CommandGroup) (bus : Bus) (words : List (List ℕ)) → IfOk (asked bus Get g words) (Brings 0)
+  gets_none Session bus words = one_number_all (Brings 0) 0 4294967295 GetSession words (λ n. brings 0 (GetSession n) (omega arith))
   gets_none Power bus words = alone_all (Brings 0) (GetPower bus.number) words (brings 0 (GetPower bus.number) (omega arith))
   gets_none Gl bus words =
-      addressed_all (Brings 0) bus.gl_max (GetGl bus.number) words (λ a. brings 0 (GetGl bus.number a) (omega arith))
+      one_number_all (Brings 0) 1 bus.gl_max (GetGl bus.number) words (λ a. brings 0 (GetGl bus.number a) (omega arith))
   gets_none Ga bus words = get_ga_all (Brings 0) bus words (λ a p. brings 0 (GetGa bus.number a p) (omega arith))
   gets_none Fb bus words =
-      addressed_all (Brings 0) bus.fb_ports (GetFb bus.number) words (λ p. brings 0 (GetFb bus.number p) (omega arith))
+      one_number_all (Brings 0) 1 bus.fb_ports (GetFb bus.number) words (λ p. brings 0 (GetFb bus.number p) (omega arith))
   gets_none Lock bus words =
       read_any (Brings 0) (named_lock bus words) (λ place. Ok (GetLock place)) (λ place. brings 0 (GetLock place) (omega arith))
 
-  checks_none : (g : CommandGroup) (bus : Bus) (words : List (List ℕ)) → IfOk (asked Check g bus words) (Brings 0)
+  checks_none : (g : CommandGroup) (bus : Bus) (words : List (List ℕ)) → IfOk (asked bus Check g words) (Brings 0)
   checks_none Session bus words = tt
   checks_none Power bus words = read_any (Brings 0) (powered bus words) (λ power. Ok (CheckPower power)) (λ power. omega arith)
   checks_none Gl bus words =
@@ -109,7 +105,7 @@ module _ (state : State) (session moment : ℕ) where
   checks_none Lock bus words =
       read_any (Brings 0) (timed_lock bus words) (λ lock. Ok (CheckLock lock)) (λ lock. brings 0 (CheckLock lock) (omega arith))
 
-  sets_one : (g : CommandGroup) (bus : Bus) (words : List (List ℕ)) → IfOk (asked Set g bus words) (Brings 1)
+  sets_one : (g : CommandGroup) (bus : Bus) (words : List (List ℕ)) → IfOk (asked bus Set g words) (Brings 1)
   sets_one Session bus words = tt
   sets_one Power bus words = read_any (Brings 1) (powered bus words) (λ power. Ok (SetPower power)) (λ power. omega arith)
   sets_one Gl bus words =
@@ -120,7 +116,7 @@ module _ (state : State) (session moment : ℕ) where
   sets_one Lock bus words =
       read_any (Brings 1) (timed_lock bus words) (λ lock. Ok (SetLock lock)) (λ lock. brings 1 (SetLock lock) (omega arith))
 
-  of_session : (operation : Operation) (bus : Bus) (words : List (List ℕ)) → IfOk (asked operation Session bus words) (Brings 0)
+  of_session : (operation : Operation) (bus : Bus) (words : List (List ℕ)) → IfOk (asked bus operation Session words) (Brings 0)
   of_session Get bus words = gets_none Session bus words
   of_session Term bus words = term_session_all (Brings 0) words (λ id. brings 0 (TermSession id) (omega arith))
   of_session operation bus words = tt
@@ -135,7 +131,7 @@ module _ (state : State) (session moment : ℕ) where
         read_any (Brings 0) (bus_named buses n) (λ bus. ok_or (named_in groups w) C421 >>= on_group operation ws bus) (λ bus.
         subst (λ b. IfOk (ok_or (group_by b) C421 >>= on_group operation ws bus) (Brings 0))
         (sym (second_so (bytes_eq n (codes "0")) (is_keyword (codes "SESSION") w) h))
-        (then_ok (Brings 0) (has_group bus Session) C422 (asked operation Session bus ws) (λ on. of_session operation bus ws)))
+        (then_ok (Brings 0) (has_group bus Session) C422 (asked bus operation Session ws) (λ on. of_session operation bus ws)))
       where
         others : List (List ℕ × CommandGroup)
         others = (codes "POWER", Power) ∷ (codes "GL", Gl) ∷ (codes "GA", Ga) ∷ (codes "FB", Fb) ∷ (codes "LOCK", Lock) ∷ []

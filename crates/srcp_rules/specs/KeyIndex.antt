@@ -7,13 +7,14 @@ use Rattle.srcp_info.specs.declared.change.Row.{Row}
 use Rattle.srcp_info.specs.Key.{key_cmp}
 use Rattle.srcp_rules.specs.State.{State}
 
--- the row at the index has the key
-pub record HasKeyAt (state : State) (key : Key) (index : ℕ) : Type 0 where
-  pub within : index < length state
-  pub here : (d : Row) → (slice_index_or state index d).shown.key ≡ key
+module _ (state : State) (key : Key) (index : ℕ) where
+  -- the row at the index has the key
+  pub record HasKeyAt : Type 0 where
+    pub within : index < length state
+    pub here : (d : Row) → (slice_index_or state index d).shown.key ≡ key
 
--- the key belongs between the rows before the index and those from it on
-pub record IsGapAt (state : State) (key : Key) (index : ℕ) : Type 0 where
-  pub within : index ≤ length state
-  pub below : AllByRecursion (λ row. key_cmp row.shown.key key ≡ Less) (take index state)
-  pub above : AllByRecursion (λ row. key_cmp key row.shown.key ≡ Less) (drop index state)
+  -- the key belongs between the rows before the index and those from it on
+  pub record IsGapAt : Type 0 where
+    pub within : index ≤ length state
+    pub below : AllByRecursion (λ row. key_cmp row.shown.key key ≡ Less) (take index state)
+    pub above : AllByRecursion (λ row. key_cmp key row.shown.key ≡ Less) (drop index state)

@@ -5,7 +5,7 @@ use Rattle.std.specs.List.{AllByRecursion}
 use Rattle.std.specs.Option.{option_map_or, ForSome}
 use Rattle.srcp_info.specs.declared.key.Key.{Key}
 use Rattle.srcp_info.specs.declared.value.Value.{Value}
-use Rattle.srcp_info.specs.declared.value.Value.TheVariants as value
+use Rattle.srcp_info.specs.declared.value.Value.TheVariants.{GaPort, Lock}
 use Rattle.srcp_info.specs.declared.change.Row.{Row}
 use Rattle.srcp_info.specs.Key.{first_key}
 use Rattle.srcp_info.specs.declared.change.Code.{Code}
@@ -14,7 +14,6 @@ use Rattle.srcp_info.specs.declared.value.Mode.{Mode}
 use Rattle.srcp_info.specs.WellFormed.{IsMoment, IsWellFormed, IsWellFormedReply}
 use Rattle.srcp_grammar.specs.declared.layout.Bus.{Bus}
 use Rattle.srcp_grammar.specs.declared.command.DeviceGroup.{DeviceGroup}
-use Rattle.srcp_grammar.specs.declared.command.DeviceGroup.TheVariants as devices
 use Rattle.srcp_grammar.specs.declared.command.Switch.{Switch}
 use Rattle.srcp_grammar.specs.declared.command.TimedLock.{TimedLock}
 use Rattle.srcp_grammar.specs.declared.command.Command.{Command}
@@ -25,7 +24,7 @@ use Rattle.srcp_grammar.specs.Devices.{key_at, session_device, device_in, lock_a
 use Rattle.srcp_rules.specs.State.{State, Update, AddsNoRow, IsRising, IsWhole, opening, row_at, is_there}
 use Rattle.srcp_rules.specs.State.{updated, updated_all, row_put}
 use Rattle.srcp_grammar.specs.Command.{IsCommandOf}
-use Rattle.srcp_rules.specs.Effect.{Effect, effect, is_locked, port_end, lock_end, moment_after}
+use Rattle.srcp_rules.specs.Effect.{effect, refused, is_locked, port_key, row_of_port, row_of_lock, moment_after}
 use Rattle.srcp_rules.specs.Obeyed.{MayObey}
 use Rattle.srcp_rules.specs.Due.{due, freed, began, is_due, is_held_by}
 
@@ -49,15 +48,14 @@ CommandsKeepWhole = (buses : List Bus) (state : State) (session moment : ℕ) (c
 -- those of a moment do so one by one: after the first k of them it is whole, and the others are still to come
 abbrev pub MomentsKeepWhole : Type 0
 MomentsKeepWhole = (buses : List Bus) (state : State) (moment k : ℕ) → IsWhole buses state → IsMoment moment
-    → IsWhole buses (updated_all (take k (due state moment)) state)
-    × (due (updated_all (take k (due state moment)) state) moment ≡ drop k (due state moment))
+    → let after = updated_all (take k (due state moment)) state in
+    IsWhole buses after × (due after moment ≡ drop k (due state moment))
 
 -- and those of a session's end
 abbrev pub EndsKeepWhole : Type 0
 EndsKeepWhole = (buses : List Bus) (state : State) (session moment k : ℕ) → IsWhole buses state
-    → IsWhole buses (updated_all (take k (freed state session moment)) state)
-    × (freed (updated_all (take k (freed state session moment)) state) session moment
-    ≡ drop k (freed state session moment))
+    → let after = updated_all (take k (freed state session moment)) state in
+    IsWhole buses after × (freed after session moment ≡ drop k (freed state session moment))
 
 -- and a session's beginning
 abbrev pub BeginningsKeepWhole : Type 0
@@ -129,16 +127,11 @@ BeginningsCanBeTold = (session moment : ℕ) (mode : Mode) → IsMoment moment �
 
 -- ---- what a command does not do
 
--- a refusal changes nothing and ends nothing
-pub record ChangesNothing (did : Effect) : Type 0 where
-  pub updates : did.updates ≡ []
-  pub ends : did.ends ≡ false
-
--- a command that is refused does so
+-- a command that is refused does no more than to refuse: it changes nothing and ends nothing
 abbrev pub RefusalsChangeNothing : Type 0
 RefusalsChangeNothing = (state : State) (session moment : ℕ) (command : Command) (code : Code)
     → (effect state session moment command).reply ≡ Refused code
-    → ChangesNothing (effect state session moment command)
+    → effect state session moment command ≡ refused code
 
 -- the SET that a CHECK is about
 abbrev pub set_of : Command → Option Command
@@ -149,52 +142,46 @@ set_of (CheckFb sensor) = Some (SetFb sensor)
 set_of (CheckLock lock) = Some (SetLock lock)
 set_of other = None
 
--- the one command answers as the other, and changes nothing
-pub record AnswersAs (check set : Effect) : Type 0 where
-  pub reply : check.reply ≡ set.reply
-  pub nothing : ChangesNothing check
-
--- CHECK answers what SET would, and changes nothing
+-- CHECK answers what SET would, and changes nothing and ends nothing
 abbrev pub ChecksAnswerAsSets : Type 0
 ChecksAnswerAsSets = (state : State) (session moment : ℕ) (command : Command)
-    → IfSome (set_of command) (λ set. AnswersAs (effect state session moment command) (effect state session moment set))
+    → IfSome (set_of command)
+    (λ set.
+    effect state session moment command ≡ record (effect state session moment set) { updates = []; ends = false })
+
+-- ---- one row
+
+-- what stands at the key is as before
+abbrev pub IsKept : Key → (before after : State) → Type 0
+IsKept key before after = row_at key after ≡ row_at key before
 
 -- ---- locks
-
--- the rows of the device, and of its lock, are as before
-pub record IsKept (group : DeviceGroup) (bus address : ℕ) (before after : State) : Type 0 where
-  pub device : (port : ℕ)
-      → row_at (key_at (device_in group bus address) port) after
-      ≡ row_at (key_at (device_in group bus address) port) before
-  pub lock : (port : ℕ)
-      → row_at (key_at (lock_on group bus address) port) after ≡ row_at (key_at (lock_on group bus address) port) before
 
 -- no command of a session changes a device, or its lock, that another session has locked
 abbrev pub LocksHold : Type 0
 LocksHold = (state : State) (session moment : ℕ) (command : Command) (group : DeviceGroup) (bus address : ℕ)
     → IsTrue (is_locked state session group bus address)
-    → IsKept group bus address state (updated_all (effect state session moment command).updates state)
+    → let after = updated_all (effect state session moment command).updates state in
+    (port : ℕ) → IsKept (key_at (device_in group bus address) port) state after
+    × IsKept (key_at (lock_on group bus address) port) state after
 
 -- ---- sessions
 
 -- no command touches the row of a session
 abbrev pub CommandsKeepSessions : Type 0
 CommandsKeepSessions = (state : State) (session moment : ℕ) (command : Command) (id : ℕ)
-    → row_at (first_key (session_device id)) (updated_all (effect state session moment command).updates state)
-    ≡ row_at (first_key (session_device id)) state
+    → IsKept (first_key (session_device id)) state (updated_all (effect state session moment command).updates state)
 
 -- nor does a moment
 abbrev pub MomentsKeepSessions : Type 0
 MomentsKeepSessions = (buses : List Bus) (state : State) (moment id : ℕ) → IsWhole buses state
-    → row_at (first_key (session_device id)) (updated_all (due state moment) state)
-    ≡ row_at (first_key (session_device id)) state
+    → IsKept (first_key (session_device id)) state (updated_all (due state moment) state)
 
 -- the session is gone with all its locks, and every other session is as before
 pub record IsFreed (session : ℕ) (before after : State) : Type 0 where
   pub gone : is_there (session_device session) after ≡ false
   pub locks : (key : Key) → ForSome (row_at key after) (λ row. is_held_by session row ≡ false)
-  pub others : (id : ℕ) → id ≢ session
-      → row_at (first_key (session_device id)) after ≡ row_at (first_key (session_device id)) before
+  pub others : (id : ℕ) → id ≢ session → IsKept (first_key (session_device id)) before after
 
 -- the end of a session takes out its locks and its row, and no other session's row
 abbrev pub EndsFreeAll : Type 0
@@ -205,8 +192,8 @@ EndsFreeAll = (buses : List Bus) (state : State) (session moment : ℕ) → IsWh
 
 -- a lock that is due is gone, a port that is due is 0
 abbrev pub fallen : (moment : ℕ) → Key → Value → Option Row
-fallen moment key (value.Lock seconds session) = None
-fallen moment key other = Some (row_put moment key (value.GaPort false) None)
+fallen moment key (Lock seconds session) = None
+fallen moment key other = Some (row_put moment key (GaPort false) None)
 
 -- what a moment makes of a row: one that is due falls, and any other stays
 abbrev pub comes_to : (moment : ℕ) → Row → Option Row
@@ -217,63 +204,44 @@ abbrev pub MomentsCarryOut : Type 0
 MomentsCarryOut = (buses : List Bus) (state : State) (moment : ℕ) (key : Key) → IsWhole buses state → IsMoment moment
     → row_at key (updated_all (due state moment) state) ≡ option_map_or (comes_to moment) (row_at key state) None
 
--- the key of an accessory's port, the first of which is 0
-abbrev pub port_key : (bus address port : ℕ) → Key
-port_key bus address port = key_at (device_in devices.Ga bus address) (1 + port)
-
--- SET of an accessory's port to 1 for some milliseconds
-abbrev pub port_on : (bus address port milliseconds : ℕ) → Command
-port_on bus address port milliseconds =
-    SetGa (record { bus = bus; address = address; port = port; on = true; time = Some milliseconds })
-
 -- after a SET that is accepted the port has its due moment or none, whatever it had
 abbrev pub PortsAreSet : Type 0
 PortsAreSet = (state : State) (session moment : ℕ) (switch : Switch)
     → (effect state session moment (SetGa switch)).reply ≡ Accepted
-    → row_at (port_key switch.bus switch.address switch.port)
-    (updated_all (effect state session moment (SetGa switch)).updates state)
-    ≡ Some (row_put moment (port_key switch.bus switch.address switch.port) (value.GaPort switch.on)
-    (port_end moment switch.on switch.time))
+    → row_at (port_key switch) (updated_all (effect state session moment (SetGa switch)).updates state)
+    ≡ Some (row_of_port moment switch)
 
 -- and so has a lock
 abbrev pub LocksAreSet : Type 0
 LocksAreSet = (state : State) (session moment : ℕ) (lock : TimedLock)
     → (effect state session moment (SetLock lock)).reply ≡ Accepted
     → row_at (first_key (lock_at lock.target)) (updated_all (effect state session moment (SetLock lock)).updates state)
-    ≡ Some (row_put moment (first_key (lock_at lock.target)) (value.Lock lock.seconds session)
-    (lock_end moment lock.seconds))
+    ≡ Some (row_of_lock moment session lock)
 
 -- a port that was set to 1 for some milliseconds is 1 at each moment before their end, and 0 at each from it on
 abbrev pub PortsFallBack : Type 0
-PortsFallBack = (buses : List Bus) (state : State) (session moment later bus address port milliseconds : ℕ)
-    → MayObey buses state session (port_on bus address port milliseconds) → IsMoment moment → IsMoment later
-    → 0 < milliseconds
-    → (effect state session moment (port_on bus address port milliseconds)).reply ≡ Accepted
-    → (after : State)
-    → after ≡ updated_all (effect state session moment (port_on bus address port milliseconds)).updates state
-    → row_at (port_key bus address port) (updated_all (due after later) after)
-    ≡ (if nat_le (moment_after moment milliseconds) later
-    then Some (row_put later (port_key bus address port) (value.GaPort false) None)
-    else Some (row_put moment (port_key bus address port) (value.GaPort true)
-    (Some (moment_after moment milliseconds))))
+PortsFallBack = (buses : List Bus) (state : State) (session moment later milliseconds : ℕ) (switch : Switch)
+    → MayObey buses state session (SetGa switch) → IsMoment moment → IsMoment later
+    → switch.on ≡ true → switch.time ≡ Some milliseconds → 0 < milliseconds
+    → (effect state session moment (SetGa switch)).reply ≡ Accepted
+    → let after = updated_all (effect state session moment (SetGa switch)).updates state in
+    row_at (port_key switch) (updated_all (due after later) after)
+    ≡ Some (if nat_le (moment_after moment milliseconds) later
+    then row_put later (port_key switch) (GaPort false) None
+    else row_of_port moment switch)
 
 -- a lock that was set for some seconds is there at each moment before their end, and gone at each from it on
 abbrev pub LocksRunOut : Type 0
 LocksRunOut = (buses : List Bus) (state : State) (session moment later : ℕ) (lock : TimedLock)
     → MayObey buses state session (SetLock lock) → IsMoment moment → IsMoment later
     → 0 < lock.seconds → (effect state session moment (SetLock lock)).reply ≡ Accepted
-    → (after : State)
-    → after ≡ updated_all (effect state session moment (SetLock lock)).updates state
-    → row_at (first_key (lock_at lock.target)) (updated_all (due after later) after)
+    → let after = updated_all (effect state session moment (SetLock lock)).updates state in
+    row_at (first_key (lock_at lock.target)) (updated_all (due after later) after)
     ≡ (if nat_le (moment_after moment (1000 * lock.seconds)) later then None
-    else Some (row_put moment (first_key (lock_at lock.target)) (value.Lock lock.seconds session)
-    (Some (moment_after moment (1000 * lock.seconds)))))
+    else Some (row_of_lock moment session lock))
 
--- that many milliseconds later if there is such a moment, and else the greatest one
-pub record EndsInTime (moment milliseconds : ℕ) : Type 0 where
-  pub within : moment + milliseconds < 2 ^ 64 → moment_after moment milliseconds ≡ moment + milliseconds
-  pub beyond : 2 ^ 64 ≤ moment + milliseconds → moment_after moment milliseconds + 1 ≡ 2 ^ 64
-
--- every time ends so
+-- a time ends that many milliseconds later if there is such a moment, and else at the greatest one
 abbrev pub MomentsEnd : Type 0
-MomentsEnd = (moment milliseconds : ℕ) → EndsInTime moment milliseconds
+MomentsEnd = (moment milliseconds : ℕ)
+    → (moment + milliseconds < 2 ^ 64 → moment_after moment milliseconds ≡ moment + milliseconds)
+    × (2 ^ 64 ≤ moment + milliseconds → moment_after moment milliseconds + 1 ≡ 2 ^ 64)

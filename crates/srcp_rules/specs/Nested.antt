@@ -17,10 +17,6 @@ use Rattle.srcp_rules.specs.State.{State, IsRising, is_there}
 use Rattle.srcp_rules.specs.declared.nested.bus_rows.BusRows.{BusRows}
 use Rattle.srcp_info.specs.declared.key.TheConstants.{GROUPS}
 
--- the key is of the group of the bus
-abbrev pub IsIn : (bus : ℕ) → Group → Key → Type 0
-IsIn bus group key = (key.bus ≡ bus) × (key.group ≡ group)
-
 -- ---- entries by number
 
 -- the rows of all entries, one after another
@@ -41,33 +37,38 @@ entry_at number entries = lookup (is_at (nat_cmp number)) entries
 abbrev pub device_rows : List (ℕ × State) → State
 device_rows devices = listed (λ rows. rows) devices
 
--- these are rows of the device at the address in the group of the bus, by rising port
-pub record AreOfDevice (bus : ℕ) (group : Group) (address : ℕ) (rows : State) : Type 0 where
-  pub rising : IsRising rows
-  pub each : AllByRecursion (λ row. IsIn bus group row.shown.key × (row.shown.key.address ≡ address)) rows
-  pub some : 0 < length rows
+module _ (bus : ℕ) where
+  -- the key is of the group of the bus
+  abbrev pub IsIn : Group → Key → Type 0
+  IsIn group key = (key.bus ≡ bus) × (key.group ≡ group)
 
--- these are devices of the group of the bus, by address
-pub record AreDevices (bus : ℕ) (group : Group) (devices : List (ℕ × State)) : Type 0 where
-  pub each : AllByRecursion (λ e. AreOfDevice bus group e.0 e.1) devices
-  pub sorted : AreSorted devices
+  -- these are rows of the device at the address in the group of the bus, by rising port
+  pub record AreOfDevice (group : Group) (address : ℕ) (rows : State) : Type 0 where
+    pub rising : IsRising rows
+    pub each : AllByRecursion (λ row. IsIn group row.shown.key × (row.shown.key.address ≡ address)) rows
+    pub some : 0 < length rows
+
+  -- these are devices of the group of the bus, by address
+  pub record AreDevices (group : Group) (devices : List (ℕ × State)) : Type 0 where
+    pub each : AllByRecursion (λ e. AreOfDevice group e.0 e.1) devices
+    pub sorted : AreSorted devices
+
+  -- these are rows of the group of the bus, by rising key
+  pub record AreOfGroup (group : Group) (rows : State) : Type 0 where
+    pub rising : IsRising rows
+    pub each : AllByRecursion (λ row. IsIn group row.shown.key) rows
+
+  -- these are rows of the bus, each in its group
+  pub record AreRowsOfBus (rows : BusRows) : Type 0 where
+    pub sessions : AreOfGroup Session rows.sessions.items
+    pub power : AreOfGroup Power (option_to_list rows.power)
+    pub locomotives : AreDevices Gl rows.locomotives
+    pub accessories : AreDevices Ga rows.accessories
+    pub feedback : AreOfGroup Fb rows.feedback.items
+    pub locomotive_locks : AreDevices LockGl rows.locomotive_locks
+    pub accessory_locks : AreDevices LockGa rows.accessory_locks
 
 -- ---- the rows of a bus, group by group in the order of a listing
-
--- these are rows of the group of the bus, by rising key
-pub record AreOfGroup (bus : ℕ) (group : Group) (rows : State) : Type 0 where
-  pub rising : IsRising rows
-  pub each : AllByRecursion (λ row. IsIn bus group row.shown.key) rows
-
--- these are rows of the bus, each in its group
-pub record AreRowsOfBus (bus : ℕ) (rows : BusRows) : Type 0 where
-  pub sessions : AreOfGroup bus Session rows.sessions.items
-  pub power : AreOfGroup bus Power (option_to_list rows.power)
-  pub locomotives : AreDevices bus Gl rows.locomotives
-  pub accessories : AreDevices bus Ga rows.accessories
-  pub feedback : AreOfGroup bus Fb rows.feedback.items
-  pub locomotive_locks : AreDevices bus LockGl rows.locomotive_locks
-  pub accessory_locks : AreDevices bus LockGa rows.accessory_locks
 
 -- the rows of one group of a bus
 abbrev pub group_rows : BusRows → Group → State

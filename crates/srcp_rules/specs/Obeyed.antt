@@ -16,26 +16,26 @@ pub record IsTold (did : Effect) (obeyed : Obeyed) : Type 0 where
   pub changes : obeyed.changes.items ≡ map (λ update. update.change) did.updates
   pub ends : obeyed.ends ≡ did.ends
 
--- the effect took place: it is told, and the rows are updated by its changes
-pub record Took (did : Effect) (before after : State) (obeyed : Obeyed) : Type 0 where
-  pub told : IsTold did obeyed
-  pub rows : after ≡ updated_all did.updates before
+module _ (did : Effect) (before after : State) (obeyed : Obeyed) where
+  -- the effect took place: it is told, and the rows are updated by its changes
+  pub record Took : Type 0 where
+    pub told : IsTold did obeyed
+    pub rows : after ≡ updated_all did.updates before
 
--- memory was refused to a command that nothing else refuses, and nothing has changed
-pub record WantsMemory (did : Effect) (before after : State) (obeyed : Obeyed) : Type 0 where
-  pub accepts : did.reply ≡ Accepted
-  pub told : IsTold (refused C500) obeyed
-  pub rows : after ≡ before
+  -- memory was refused to a command that nothing else refuses, and nothing has changed
+  pub record WantsMemory : Type 0 where
+    pub accepts : did.reply ≡ Accepted
+    pub told : IsTold (refused C500) obeyed
+    pub rows : after ≡ before
 
--- the effect took place, or rows are added and memory was refused
-abbrev pub TookUnless : (adds : Bool) → Effect → (before after : State) → Obeyed → Type 0
-TookUnless adds did before after obeyed =
-    Took did before after obeyed ⊎ (IsTrue adds × WantsMemory did before after obeyed)
+  -- the effect took place, or rows are added and memory was refused
+  abbrev pub TookUnless : (adds : Bool) → Type 0
+  TookUnless adds = Took ⊎ (IsTrue adds × WantsMemory)
 
 -- the command did what it does, or it adds rows and memory was refused
 abbrev pub IsObeyed : (before after : State) → (session moment : ℕ) → Command → Obeyed → Type 0
 IsObeyed before after session moment command obeyed =
-    TookUnless (adds_rows before command) (effect before session moment command) before after obeyed
+    TookUnless (effect before session moment command) before after obeyed (adds_rows before command)
 
 -- a command may be obeyed: the registry is whole, the session has begun, the command is one of the layout
 pub record MayObey (buses : List Bus) (state : State) (session : ℕ) (command : Command) : Type 0 where

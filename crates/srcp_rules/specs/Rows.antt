@@ -3,7 +3,7 @@ use Rattle.std.specs.Prelude.{◌≡◌, ℕ, ◌≤◌, false, List, map, fold,
 use Rattle.std.specs.List.{AllByRecursion, range_with_len}
 use Rattle.srcp_info.specs.declared.key.Device.{Device}
 use Rattle.srcp_info.specs.declared.key.Group.{Group}
-use Rattle.srcp_info.specs.declared.key.Group.TheVariants as group
+use Rattle.srcp_info.specs.declared.key.Group.TheVariants.{Gl, Ga}
 use Rattle.srcp_info.specs.declared.change.Row.{Row}
 use Rattle.srcp_grammar.specs.declared.layout.Bus.{Bus}
 use Rattle.srcp_grammar.specs.Layout.{row_count}
@@ -21,8 +21,8 @@ put_rows rows state = fold (λ before row. put_row row before) state rows
 
 -- how many rows a device of the group has at most
 abbrev pub most_rows : Group → ℕ
-most_rows group.Gl = 2
-most_rows group.Ga = 9
+most_rows Gl = 2
+most_rows Ga = 9
 most_rows other = 1
 
 -- these are all the rows of the device, in key order

@@ -4,8 +4,7 @@ ghost use Rattle.std.specs.Prelude.{◌≡◌, ◌≤◌, [], length, is_some, I
 ghost use Rattle.std.specs.Result.{result_err};
 ghost use Rattle.srcp_grammar.specs.declared.command.DeviceGroup.TheVariants as devices;
 ghost use Rattle.srcp_grammar.specs.Command.{kept_speed};
-ghost use Rattle.srcp_rules.specs.Effect.{accepted, done, first_refusal, functions_after, gl_refusals, port_end};
-ghost use Rattle.srcp_rules.specs.Effect.{set_ga, set_gl};
+ghost use Rattle.srcp_rules.specs.Effect.{accepted, effect, first_refusal, functions_after, gl_refusals, port_end};
 ghost use Rattle.srcp_rules.specs.Obeyed.{IsTold, MayObey, Took};
 ghost use Rattle.srcp_grammar.specs.Devices.{device_in};
 ghost use Rattle.srcp_rules.specs.State.{IsWhole, functions_of, is_there};
@@ -92,7 +91,7 @@ fn kept_speed(mode: u32, v: u32) -> u32
 pub(crate) fn set_gl<R: Rows>(rows: &mut R, sender: Sender, drive: &Drive, obeyed: &mut Obeyed)
     requires blank { IsTold (accepted []) obeyed.old }
     requires may { MayObey (R.buses rows.old) (R.state rows.old) sender.session (Command.SetGl drive.now) }
-    ensures took { Took (done (set_gl (R.state rows.old) sender.session sender.moment drive.now))
+    ensures took { Took (effect (R.state rows.old) sender.session sender.moment (Command.SetGl drive.now))
         (R.state rows.old) (R.state rows.new) obeyed.new }
     ensures layout { R.buses rows.new ≡ R.buses rows.old }
 {
@@ -126,7 +125,7 @@ fn port_end(moment: u64, on: bool, time: Option<u32>) -> Option<u64>
 pub(crate) fn set_ga<R: Rows>(rows: &mut R, sender: Sender, switch: &Switch, obeyed: &mut Obeyed)
     requires blank { IsTold (accepted []) obeyed.old }
     requires may { MayObey (R.buses rows.old) (R.state rows.old) sender.session (Command.SetGa switch.now) }
-    ensures took { Took (done (set_ga (R.state rows.old) sender.session sender.moment switch.now))
+    ensures took { Took (effect (R.state rows.old) sender.session sender.moment (Command.SetGa switch.now))
         (R.state rows.old) (R.state rows.new) obeyed.new }
     ensures layout { R.buses rows.new ≡ R.buses rows.old }
 {

@@ -5,8 +5,8 @@ ghost use Rattle.std.specs.List.{AllByRecursion};
 ghost use Rattle.arrayvec.specs.ArrayVec.{array_vec_len};
 ghost use Rattle.srcp_info.specs.WellFormed.{can_go};
 ghost use Rattle.srcp_grammar.specs.Layout.{row_count};
-ghost use Rattle.srcp_rules.specs.Effect.{accepted, done, has_init, init_device, is_same_init, removal, removals};
-ghost use Rattle.srcp_rules.specs.Effect.{term_device};
+ghost use Rattle.srcp_rules.specs.Effect.{accepted, has_init, init_device, is_same_init, refusals, removal, removals};
+ghost use Rattle.srcp_rules.specs.Effect.{unless_refused};
 ghost use Rattle.srcp_rules.specs.Obeyed.{IsTold, Took, TookUnless};
 ghost use Rattle.srcp_rules.specs.Rows.{AreRowsOf, put_rows};
 ghost use Rattle.srcp_grammar.specs.Devices.{device_at};
@@ -70,8 +70,9 @@ pub(crate) fn term_device<R: Rows>(
     obeyed: &mut Obeyed,
 )
     requires blank { IsTold (accepted []) obeyed.old }
-    ensures took { Took (done
-        (term_device (R.state rows.old) sender.session sender.moment target.group target.bus target.address))
+    ensures took { Took (unless_refused
+        (refusals (R.state rows.old) sender.session target.group target.bus target.address)
+        (removals (R.state rows.old) sender.moment target.group target.bus target.address))
         (R.state rows.old) (R.state rows.new) obeyed.new }
     ensures layout { R.buses rows.new ≡ R.buses rows.old }
 {
@@ -192,11 +193,11 @@ pub(crate) fn init_device<R: Rows>(
     requires whole { IsWhole (R.buses rows.old) (R.state rows.old) }
     requires some { 0 < row_count (R.buses rows.old) (device_at target) }
     requires fresh { AreRowsOf (R.buses rows.old) (device_at target) fresh.now }
-    ensures took { TookUnless (not (is_there (device_at target) (R.state rows.old)))
-        (done
+    ensures took { TookUnless
         (init_device (R.state rows.old) sender.session sender.moment target.group target.bus target.address init.now
-        (map put_of fresh.now)))
-        (R.state rows.old) (R.state rows.new) obeyed.new }
+        (map put_of fresh.now))
+        (R.state rows.old) (R.state rows.new) obeyed.new
+        (not (is_there (device_at target) (R.state rows.old))) }
     ensures layout { R.buses rows.new ≡ R.buses rows.old }
 {
     if is_locked(rows, sender.session, target) {

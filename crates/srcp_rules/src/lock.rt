@@ -1,8 +1,9 @@
 //! SET and TERM of a lock, and whether a lock keeps a session from a device.
 
 ghost use Rattle.std.specs.Prelude.{◌≡◌, []};
-ghost use Rattle.srcp_rules.specs.Effect.{accepted, first_refusal, is_locked, lock_end};
-ghost use Rattle.srcp_rules.specs.Effect.{refusals, refused_or_not, term_lock, done};
+ghost use Rattle.std.specs.Option.{option_map_or};
+ghost use Rattle.srcp_rules.specs.Effect.{accepted, effect, first_refusal, is_locked, lock_end};
+ghost use Rattle.srcp_rules.specs.Effect.{refusals, refused};
 ghost use Rattle.srcp_rules.specs.Obeyed.{IsObeyed, IsTold, MayObey, Took};
 
 use crate::device::{device_at, lock_at};
@@ -46,7 +47,7 @@ pub(crate) fn refusal<R: Rows>(rows: &R, session: u32, target: Target) -> Option
 /// Answers CHECK: with the refusal, if there is one, and else that SET would be accepted.
 pub(crate) fn refuse_if(refusal: Option<Code>, obeyed: &mut Obeyed)
     requires { IsTold (accepted []) obeyed.old }
-    ensures { IsTold (refused_or_not refusal) obeyed.new }
+    ensures { IsTold (option_map_or refused refusal (accepted [])) obeyed.new }
 {
     if let Some(code) = refusal {
         obeyed.refuse(code);
@@ -95,8 +96,7 @@ pub(crate) fn set_lock<R: Rows>(rows: &mut R, sender: Sender, lock: TimedLock, o
 /// Carries out TERM of a lock.
 pub(crate) fn term_lock<R: Rows>(rows: &mut R, sender: Sender, target: Target, obeyed: &mut Obeyed)
     requires blank { IsTold (accepted []) obeyed.old }
-    ensures took { Took (done
-        (term_lock (R.state rows.old) sender.session sender.moment target.group target.bus target.address))
+    ensures took { Took (effect (R.state rows.old) sender.session sender.moment (Command.TermLock target))
         (R.state rows.old) (R.state rows.new) obeyed.new }
     ensures layout { R.buses rows.new ≡ R.buses rows.old }
 {

@@ -6,8 +6,8 @@ ghost use Rattle.std.specs.Map.{keys_of};
 ghost use Rattle.srcp_info.specs.declared.key.Key.{Key};
 ghost use Rattle.srcp_info.specs.Key.{has_reached};
 ghost use Rattle.srcp_grammar.specs.Layout.{server};
-ghost use Rattle.srcp_rules.specs.Filter.{first_passed};
-ghost use Rattle.srcp_rules.specs.State.{opening, row_after};
+ghost use Rattle.srcp_rules.specs.Filter.{passes};
+ghost use Rattle.srcp_rules.specs.State.{first_beyond, opening, row_after};
 ghost use Rattle.srcp_rules.specs.Nested.{AreRowsOfBus, AreSorted, bus_rows, listed};
 
 mod bus_rows;
@@ -119,7 +119,7 @@ impl Nested {
 
     /// Finds the first row beyond the cursor that the filter passes.
     fn first_after(&self, cursor: Cursor, filter: RowFilter) -> Option<Row>
-        ensures { result ≡ first_passed filter cursor self.now.state }
+        ensures { result ≡ first_beyond cursor (passes filter) self.now.state }
     {
         // The proof learns here that the rows are in key order.
         let _rows = &self.by_number;

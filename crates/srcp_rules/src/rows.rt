@@ -1,12 +1,13 @@
 //! The interface of a keeper of rows.
 
-ghost use Rattle.std.specs.Prelude.{◌≡◌, List, IsTrue, IfOk, OnOk, OnErr, option_copied};
+ghost use Rattle.std.specs.Prelude.{◌≡◌, List, IsTrue, IfOk, OnOk, OnErr, find, option_copied};
 ghost use Rattle.srcp_info.specs.declared.key.Device.{Device};
 ghost use Rattle.srcp_info.specs.WellFormed.{can_go};
 ghost use Rattle.srcp_grammar.specs.declared.layout.Bus.{Bus};
-ghost use Rattle.srcp_rules.specs.Due.{first_due, first_held};
+ghost use Rattle.srcp_rules.specs.Due.{is_due, is_held_by};
 ghost use Rattle.srcp_rules.specs.Rows.{AreNewRowsOf, most_rows, put_rows};
-ghost use Rattle.srcp_rules.specs.State.{State, IsRowOf, has_row, opening, put_row, row_at, row_after, without};
+ghost use Rattle.srcp_rules.specs.State.{State, IsRowOf, first_beyond, has_row, opening, put_row, row_at, row_after};
+ghost use Rattle.srcp_rules.specs.State.{without};
 
 use crate::obeyed::Memory;
 use srcp_grammar::Layout;
@@ -52,13 +53,13 @@ pub trait Rows: Drop {
 
     /// Finds the first row beyond the cursor, in key order, whose due moment has come, if there is one.
     fn next_due(&mut self, moment: u64, cursor: Cursor) -> Option<Row>
-        ensures row { result ≡ first_due moment cursor (state self.old) }
+        ensures row { result ≡ first_beyond cursor (is_due moment) (state self.old) }
         ensures layout { buses self.new ≡ buses self.old }
         ensures rows { state self.new ≡ state self.old };
 
     /// Finds the first of the locks that the session holds, in key order, if it holds one.
     fn first_held(&self, session: u32) -> Option<Row>
-        ensures { result ≡ first_held session (state self.now) };
+        ensures { result ≡ find (is_held_by session) (state self.now) };
 
     /// Adds all the rows of one device that is not there, in key order. Fails, and changes nothing, if memory is
     /// refused.

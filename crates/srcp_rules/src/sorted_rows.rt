@@ -4,8 +4,8 @@ ghost use Rattle.std.specs.Prelude.{◌≡◌, ◌+◌, ◌<◌, ◌≤◌, IsTr
 ghost use Rattle.std.specs.Prelude.{vec_capacity};
 ghost use Rattle.srcp_rules.specs.Rows.{put_rows};
 ghost use Rattle.srcp_rules.specs.KeyIndex.{HasKeyAt, IsGapAt};
-ghost use Rattle.srcp_rules.specs.Filter.{first_passed};
-ghost use Rattle.srcp_rules.specs.State.{IsRising, has_row, put_row, row_after, row_at, without};
+ghost use Rattle.srcp_rules.specs.Filter.{passes};
+ghost use Rattle.srcp_rules.specs.State.{IsRising, first_beyond, has_row, put_row, row_after, row_at, without};
 
 use crate::filter::RowFilter;
 use crate::obeyed::Memory;
@@ -44,7 +44,7 @@ pub(crate) fn row_after_in(rows: &[Row], cursor: Cursor) -> Option<&Row>
 
 /// Finds the first row beyond the cursor that the filter passes.
 pub(crate) fn first_in(rows: &[Row], cursor: Cursor, filter: RowFilter) -> Option<&Row>
-    ensures { option_copied result ≡ first_passed filter cursor rows.now }
+    ensures { option_copied result ≡ first_beyond cursor (passes filter) rows.now }
 {
     rows.iter().find(|row| !cursor.has_reached(&row.shown.key) && filter.passes(row))
 }

@@ -2,19 +2,13 @@
 #![tactic(auto)]
 
 #[cfg(test)]
-mod inits;
-#[cfg(test)]
 mod keepers;
 #[cfg(test)]
 mod layouts;
 #[cfg(test)]
-mod locked;
-#[cfg(test)]
 mod moments;
 #[cfg(test)]
 mod pairs;
-#[cfg(test)]
-mod ports;
 #[cfg(test)]
 mod refusals;
 #[cfg(test)]

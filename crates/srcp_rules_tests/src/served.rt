@@ -156,58 +156,106 @@ impl Served {
         push_rows(nested, &self.nested)
     }
 
-    /// Asserts what each line of a session brings at its moment, one after another.
-    fn tells(
-        &mut self,
-        rt: &impl Abort,
-        alloc: Global,
-        table: &[(u32, u64, &str, &str)],
-    ) -> Result<(), Fail> {
-        for (session, moment, line, want) in table {
+    /// Asserts what each line brings, one after another.
+    fn tells(&mut self, rt: &impl Abort, alloc: Global, lines: &[Line]) -> Result<(), Fail> {
+        for (session, moment, line, want) in lines {
             let told = self.tell(alloc, *session, *moment, line)?;
             assert_eq!(rt; told.as_slice(), want.as_bytes(), "at {line}");
         }
         Ok(())
     }
+}
 
-    /// Asserts that each line of the session 1 at the moment 1000 is refused so, and nothing else follows.
-    fn refuses(
-        &mut self,
-        rt: &impl Abort,
-        alloc: Global,
-        table: &[(&str, Code)],
-    ) -> Result<(), Fail> {
-        for (line, code) in table {
-            let said = self.say(alloc, 1, 1000, line.as_bytes())?;
-            let mut want = Vec::new(alloc);
-            push_reply(&mut want, 1000, &Reply::Refused(*code))?;
-            assert_eq!(rt; said.as_slice(), want.as_slice(), "at {line}");
-        }
-        Ok(())
+/// A session, a moment, a line of the session, and what it brings then. That is a reply and the changes, each as its
+/// line, and a last line if the session is to end. A line `go` begins its session, `end` ends it, and `now` is the
+/// moment alone.
+pub(crate) type Line = (u32, u64, &'static str, &'static str);
+
+/// The session 1 begins.
+const GO: Line = (1, 0, "go", "0.000 101 INFO 0 SESSION 1 COMMAND\n");
+
+/// The session 2 begins.
+pub(crate) const GO_2: Line = (2, 0, "go", "0.000 101 INFO 0 SESSION 2 COMMAND\n");
+
+pub(crate) const INIT_GL_3_AT_0: Line = (
+    1,
+    0,
+    "INIT 1 GL 3 N 1 28 0",
+    "0.000 200 OK\n0.000 101 INFO 1 GL 3 N 1 28 0\n0.000 100 INFO 1 GL 3 1 0 0\n",
+);
+
+pub(crate) const INIT_GL_3_AT_1: Line = (
+    1,
+    1000,
+    "INIT 1 GL 3 N 1 28 0",
+    "1.000 200 OK\n1.000 101 INFO 1 GL 3 N 1 28 0\n1.000 100 INFO 1 GL 3 1 0 0\n",
+);
+
+pub(crate) const INIT_GA_5_AT_0: Line = (
+    1,
+    0,
+    "INIT 1 GA 5 N",
+    "0.000 200 OK\n0.000 101 INFO 1 GA 5 N\n0.000 100 INFO 1 GA 5 0 0\n0.000 100 INFO 1 GA 5 1 0\n",
+);
+
+pub(crate) const INIT_GA_5_AT_1: Line = (
+    1,
+    1000,
+    "INIT 1 GA 5 N",
+    "1.000 200 OK\n1.000 101 INFO 1 GA 5 N\n1.000 100 INFO 1 GA 5 0 0\n1.000 100 INFO 1 GA 5 1 0\n",
+);
+
+pub(crate) const LOCK_GA_5_AT_0: Line = (
+    1,
+    0,
+    "SET 1 LOCK GA 5 0",
+    "0.000 200 OK\n0.000 100 INFO 1 LOCK GA 5 0 1\n",
+);
+
+/// It ends after 60 seconds.
+pub(crate) const LOCK_GL_3_FOR_60_AT_1: Line = (
+    1,
+    1000,
+    "SET 1 LOCK GL 3 60",
+    "1.000 200 OK\n1.000 100 INFO 1 LOCK GL 3 60 1\n",
+);
+
+/// Asserts over these buses that the session 1 begins, and then what each line brings, one after another.
+pub(crate) fn tells_over(
+    rt: &impl Abort,
+    alloc: Global,
+    buses: &[Bus],
+    lines: &[Line],
+) -> Result<(), Fail> {
+    let mut served = Served::open(alloc, buses)?;
+    served.tells(rt, alloc, &[GO])?;
+    served.tells(rt, alloc, lines)
+}
+
+/// Asserts this over bus 1 alone.
+pub(crate) fn tells(rt: &impl Abort, alloc: Global, lines: &[Line]) -> Result<(), Fail> {
+    tells_over(rt, alloc, &[bus(1)], lines)
+}
+
+/// Asserts over these buses that each line of the session 1 at the moment 1000 is refused so, and nothing else follows.
+pub(crate) fn refuses_over(
+    rt: &impl Abort,
+    alloc: Global,
+    buses: &[Bus],
+    lines: &[(&str, Code)],
+) -> Result<(), Fail> {
+    let mut served = Served::open(alloc, buses)?;
+    served.tells(rt, alloc, &[GO])?;
+    for (line, code) in lines {
+        let said = served.say(alloc, 1, 1000, line.as_bytes())?;
+        let mut want = Vec::new(alloc);
+        push_reply(&mut want, 1000, &Reply::Refused(*code))?;
+        assert_eq!(rt; said.as_slice(), want.as_slice(), "at {line}");
     }
+    Ok(())
 }
 
-/// Asserts over these buses what each line of a session brings at its moment, one after another. That is a reply and
-/// the changes, each as its line, and a last line if the session is to end. A line `go` begins its session, `end` ends
-/// it, and `now` is the moment alone.
-pub(crate) fn tells(
-    rt: &impl Abort,
-    alloc: Global,
-    buses: &[Bus],
-    table: &[(u32, u64, &str, &str)],
-) -> Result<(), Fail> {
-    let mut served = Served::open(alloc, buses)?;
-    served.tells(rt, alloc, table)
-}
-
-/// Asserts over these buses that each line of a session at the moment 1000 is refused so, and nothing else follows.
-pub(crate) fn refuses(
-    rt: &impl Abort,
-    alloc: Global,
-    buses: &[Bus],
-    table: &[(&str, Code)],
-) -> Result<(), Fail> {
-    let mut served = Served::open(alloc, buses)?;
-    let _ = served.begin(alloc, 1, 0)?;
-    served.refuses(rt, alloc, table)
+/// Asserts this over bus 1 alone.
+pub(crate) fn refuses(rt: &impl Abort, alloc: Global, lines: &[(&str, Code)]) -> Result<(), Fail> {
+    refuses_over(rt, alloc, &[bus(1)], lines)
 }

@@ -1,7 +1,7 @@
 -- A peer that is accepted gets a connection and the first free slot, or is closed.
-use Rattle.std.proofs.Common.{◌≡◌, ◌∙◌, ℕ, suc, ◌+◌, ◌<◌, Bool, true, false, List, [], ◌∷◌, ◌++◌, length, if◌then◌else◌, Some, None, Result}
+use Rattle.std.proofs.Common.{◌≡◌, ◌∙◌, ℕ, suc, ◌+◌, ◌<◌, Bool, true, false, List, [], ◌∷◌, ◌++◌, length, if◌then◌else◌, Some, None, Ok}
 use Rattle.std.proofs.Common.{refl, ap, sym, arith, length-append}
-use Rattle.std.specs.List.{filter, slice_set, AllByRecursion}
+use Rattle.std.specs.List.{filter, slice_set}
 use Rattle.std.specs.Prelude.{is_none, not, position, nat_lt}
 use Rattle.std.proofs.lemmas.List.Sums.{fold-append}
 use Rattle.srcp_grammar.specs.declared.layout.Bus.{Bus}
@@ -16,27 +16,15 @@ use Rattle.srcp_core.specs.declared.record.CoreFault.{CoreFault}
 use Rattle.srcp_core.specs.declared.record.CoreFault.TheVariants.{Full, Memory as MemoryFault}
 use Rattle.srcp_core.proofs.Agreement.CallLaws.{calls_agree, calls_lead}
 use Rattle.srcp_core.proofs.Agreement.NumbersAndKeys.{key_push_last}
-use Rattle.srcp_serve.specs.Calls.{Trace}
-use Rattle.srcp_serve.specs.Given.{Accepted, CloseCall}
-use Rattle.srcp_serve.specs.Serving.{Client, Stand, Closes as ClosesQuestion, with_connection, with_accept, Slots}
-use Rattle.srcp_serve.specs.Slots.{IsNotOf, IsLeftOut, HasConnected, Connects, Owns}
+use Rattle.srcp_serve.specs.Calls.{Call as DoorCall, Trace}
+use Rattle.srcp_serve.specs.Given.{Accepted, AcceptCall, CloseCall}
+use Rattle.srcp_serve.specs.Serving.{Client, Stand, Closes as ClosesQuestion, with_client, with_connection}
+use Rattle.srcp_serve.specs.Slots.{IsSettled, Connects, Owns}
 use Rattle.srcp_serve.specs.Visits.{Closes}
-use Rattle.srcp_serve.specs.declared.door.DoorFault.{DoorFault}
 use Rattle.srcp_serve.specs.declared.serving.visit.Client.{Client as Own}
-use Rattle.srcp_serve.proofs.SlotsAreTakenAndFreed.{count_append, count_cons, count_connected, differ_connected, in_state_on, free_is}
+use Rattle.srcp_serve.proofs.SlotsAreTakenAndFreed.{clients_differ, slots_differ, few_slots, differ_connected, in_state_on, free_is}
 use Rattle.srcp_serve.proofs.SlotsAreTakenAndFreed.{new_apart, none_free, owns_pushed, owns_connected}
 use Rattle.srcp_serve.proofs.CallsAreAdded.{adds_none, asked_one}
-
-pub none_left_out : (slots : Slots) → AllByRecursion (IsLeftOut []) slots
-none_left_out [] = tt
-none_left_out (None ∷ slots) = (tt, none_left_out slots)
-none_left_out (Some client ∷ slots) = (tt, none_left_out slots)
-
-closed_left_out : (peer : ℕ) (answer : Result Unit DoorFault) (slots : Slots) → AllByRecursion (IsNotOf peer) slots
-    → AllByRecursion (IsLeftOut (CloseCall peer answer ∷ [])) slots
-closed_left_out peer answer [] h = tt
-closed_left_out peer answer (None ∷ slots) h = (tt, closed_left_out peer answer slots h.1)
-closed_left_out peer answer (Some client ∷ slots) h = ((h.0, tt), closed_left_out peer answer slots h.1)
 
 module _ (buses : List Bus) where
   -- a connection that is refused since there are too many is refused whatever memory answers
@@ -61,9 +49,15 @@ module _ (buses : List Bus) where
       let w = course buses events in
       simp (fold-append, e, full_open)
 
+-- the peer was closed
+abbrev Refused : (buses : List Bus) (stand : Stand) (old : Trace) (trace : List DoorCall) (held : Held) (owns : Owns) (core_old : Held)
+    (peer : ℕ) → Type 0
+Refused buses stand old trace held owns core_old peer =
+    (granted : Bool) × IsSettled buses stand old trace held owns core_old (AcceptCall (Ok (Some peer)) granted) [] false
+
 pub connects_refused : (peer : ℕ) (old mid : Held) (cause : CoreFault) (trace_old trace_new : Trace) (owns : Owns)
     → Closes peer trace_old trace_new
-    → IsNotAdmitted cause old mid → Connects peer old trace_old owns mid trace_new owns false
+    → IsNotAdmitted cause old mid → Connects old trace_old owns mid trace_new owns peer false
 connects_refused peer old mid cause trace_old trace_new owns closes not_admitted buses stand keys trace in_state is new =
     by cause not_admitted (calls_agree.refuses cause old mid not_admitted buses stand.events keys in_state.layout in_state.stands)
   where
@@ -76,31 +70,28 @@ connects_refused peer old mid cause trace_old trace_new owns closes not_admitted
     refused : (cause : CoreFault) (granted : Bool) → fault buses (course buses stand.events) (Open granted) ≡ Some cause
         → StandsFor buses keys mid (course buses (stand.events ++ Open granted ∷ [])) → mid.denied ≡ denied_by old.denied (granted ∷ [])
         → mid.denied ≡ denied_in buses old.denied (counted (course buses stand.events)) (Open granted)
-        → HasConnected buses stand trace_old trace mid owns old peer false
+        → Refused buses stand trace_old trace mid owns old peer
     refused cause granted denies after_open counts asks =
         let accept : Accepted = record { peer = peer; granted = granted } in
         let shut = ap is_none denies in
         let after : Stand = record { events = stand.events ++ Open granted ∷ []; connected = stand.connected; slots = stand.slots } in
         let w = ap (λ b. if b then with_connection buses stand accept else after) shut in
-        let c = closes trace is in
-        record {
-          granted = granted;
-          early = CloseCall peer c.answer ∷ [];
-          adds = c.adds;
-          settled = record {
+        let c = closes trace is in (
+          granted,
+          record {
+            early = CloseCall peer c.2.0 ∷ [];
             keys = keys;
+            adds = rw c.2.1 at c.1;
             counted = counts;
             asked_for = rw w (asked_one buses stand.events (Open granted) old mid asks);
             asked = sym (ap (λ b. (if b then [] else ClosesQuestion peer ∷ []) ++ []) shut);
-            others =
-                rw w (closed_left_out peer c.answer stand.slots new);
             in_state = rw w (in_state_on buses stand (stand.events ++ Open granted ∷ []) keys old mid owns in_state after_open);
             opened = ap (λ (s : Stand). length s.connected) w ∙ no_more (length stand.connected);
-          };
-        }
+          },
+        )
 
     by : (cause : CoreFault) → IsNotAdmitted cause old mid → fault buses (course buses stand.events) (Open false) ≡ Some cause
-        → HasConnected buses stand trace_old trace mid owns old peer false
+        → Refused buses stand trace_old trace mid owns old peer
     by Full a out =
         refused Full true (full_open buses (course buses stand.events) out)
         (rw full_course at stands) (ap (λ (h : Held). h.denied) a.1)
@@ -113,7 +104,7 @@ connects_refused peer old mid cause trace_old trace_new owns closes not_admitted
 
 pub connects_done : (peer key free : ℕ) (old mid : Held) (trace_old : Trace) (owns : Owns) → IsAdmitted key old mid
     → position is_none owns ≡ Some free
-    → Connects peer old trace_old owns mid trace_old (slice_set owns free (Some (record { peer = peer; key = key }))) true
+    → Connects old trace_old owns mid trace_old (slice_set owns free (Some (record { peer = peer; key = key }))) peer true
 connects_done peer key free old mid trace_old owns admitted slot buses stand keys trace in_state is new =
     let own : Own = record { peer = peer; key = key } in
     let accept : Accepted = record { peer = peer; granted = true } in
@@ -127,41 +118,34 @@ connects_done peer key free old mid trace_old owns admitted slot buses stand key
     let number : client.conn ≡ suc (length keys) = omega (arith, conn) in
     let named : key_of client.conn pushed ≡ Some key = cc (key_push_last keys (Some key)) in
     let sitting =
-    owns_connected pushed own client owns stand.slots (refl, named) (owns_pushed keys key owns stand.slots in_state.owns_are) in
-    let c = count_append keys (Some key ∷ []) in
-    let none = [] in
-    let one = count_cons (Some key) none in
-    let more = count_connected client stand.slots in
-    let before = in_state.few in
-    record {
-      granted = true;
-      early = [];
-      adds = adds_none is;
-      settled = record {
+    owns_connected pushed own client owns stand.slots (refl, named) (owns_pushed keys key owns stand.slots in_state.owns_are) in (
+      true,
+      record {
+        early = [];
         keys = pushed;
+        adds = adds_none is;
         counted = ap (λ (h : Held). h.denied) admitted.rest;
         asked_for = rw w (asked_one buses stand.events (Open true) old mid (ap (λ (h : Held). h.denied) admitted.rest));
         asked = sym (ap (λ b. (if b then [] else ClosesQuestion peer ∷ []) ++ []) connects_is);
-        others = none_left_out (with_accept buses stand accept).slots;
         in_state = rw w (record {
           layout = in_state.layout;
           owns_are =
               rw (free_is owns free slot) sitting;
-          few = omega (arith, c, one, more, before);
-          differ = differ_connected client stand.slots (new_apart keys client owns stand.slots in_state.owns_are conn new) in_state.differ;
+          differ = clients_differ (with_client client stand.slots) (differ_connected client stand.slots
+              (new_apart keys client owns stand.slots in_state.owns_are conn new) (slots_differ stand.slots in_state.differ));
           long = cc (length-append keys (Some key ∷ []), length-append stand.connected (peer ∷ []));
           stands = calls_lead.opened key old mid admitted buses stand.events keys in_state.layout in_state.stands;
         });
         opened = simp (w, length-append);
-      };
-    }
+      },
+    )
 
 -- a slot is free if the core has room for a connection
 pub connects_without_slot : (peer : ℕ) (opens : Bool) (old new : Held) (trace_old trace_new : Trace) (owns : Owns)
     → open_count old < 64 → length owns ≡ 64
-    → position is_none owns ≡ None → Connects peer old trace_old owns new trace_new owns opens
+    → position is_none owns ≡ None → Connects old trace_old owns new trace_new owns peer opens
 connects_without_slot peer opens old new trace_old trace_new owns below long none buses stand keys trace in_state is fresh =
     let taken = none_free keys owns stand.slots in_state.owns_are none in
-    let few = in_state.few in
+    let few = few_slots keys owns stand.slots in_state.owns_are (slots_differ stand.slots in_state.differ) in
     let opened = calls_agree.counted old buses stand.events keys in_state.stands in
     absurd (omega (arith, taken, few, opened, below, long))

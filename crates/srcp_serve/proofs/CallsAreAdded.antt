@@ -103,4 +103,4 @@ makes_none buses events trace_old trace old is =
 
 pub closes_by : (peer : ℕ) (answer : Result Unit DoorFault) (old new : Trace) → Tells old (CloseCall peer answer) new
     → Closes peer old new
-closes_by peer answer old new h trace is = record { answer = answer; adds = adds_one _ old new trace h is }
+closes_by peer answer old new h trace is = (CloseCall peer answer ∷ [], adds_one _ old new trace h is, (answer, refl))

@@ -4,11 +4,11 @@ use Rattle.std.proofs.Common.{length, Ok, Err, arith}
 use Rattle.std.proofs.lemmas.Grind.{flat_map-append}
 use Rattle.std.proofs.lemmas.List.Folds.{list_all-append}
 use Rattle.srcp_info.proofs.ClientLaws.{all_append}
-use Rattle.std.specs.List.{list_all}
-use Rattle.std.specs.Prelude.{IfOk}
+use Rattle.std.specs.List.{list_all, AllByRecursion}
+use Rattle.std.specs.Prelude.{IfOk, flat_map}
 use Rattle.srcp_serve.specs.Calls.{Call, Tells, ExpectCall, NowCall, AcceptCall, ReadCall, WriteCall, CloseCall, IsFair, is_expect, turns}
 use Rattle.srcp_serve.specs.Calls.{Trace, one_more}
-use Rattle.srcp_serve.specs.Turns.{AreAboutPeers, AreTurns, AsksMoment, AsksAccept, AsksPeers, AsksTurns, IsTurn, is_of_peer, AreAccept}
+use Rattle.srcp_serve.specs.Turns.{AreAboutPeers, AreTurns, AreMoment, Asks, AreAccept, IsTurn, is_of_peer}
 use Rattle.srcp_serve.specs.Turns.{AreMoment, Asks}
 use Rattle.srcp_serve.specs.declared.door.DoorFault.{DoorFault}
 use Rattle.srcp_serve.proofs.CallsByTurnAndPeer.{one_part, parts-append}
@@ -24,59 +24,41 @@ of_peers_then xs ys x y = record {
   fair = all_append IsFair xs ys x.fair y.fair;
 }
 
-pub asks_none : (old : Trace) → AsksPeers old old
-asks_none old trace is = record { calls = []; adds = adds_none is; are = record { peers = refl; fair = tt } }
+pub asks_none : (old : Trace) → Asks AreAboutPeers old old
+asks_none old trace is = ([], adds_none is, record { peers = refl; fair = tt })
 
 pub asks_one : (Are : List Call → Type 0) (call : Call) (old new : Trace) → Are (call ∷ []) → Tells old call new → Asks Are old new
-asks_one Are call old new are h trace is = record { calls = call ∷ []; adds = adds_one call old new trace h is; are = are }
+asks_one Are call old new are h trace is = (call ∷ [], adds_one call old new trace h is, are)
 
 -- calls that are so, and then others
 pub asks_then : {A B C : List Call → Type 0} → ((xs ys : List Call) → A xs → B ys → C (xs ++ ys)) → (old mid new : Trace)
     → Asks A old mid → Asks B mid new → Asks C old new
 asks_then join old mid new first second trace is =
     let y = second trace is in
-    let x = first _ y.adds.was in
-    record {
-      calls = x.calls ++ y.calls;
-      adds = adds_then y.adds.was x.adds y.adds;
-      are = join x.calls y.calls x.are y.are;
-    }
+    let x = first _ y.1.was in
+    (x.0 ++ y.0, adds_then y.1.was x.1 y.1, join x.0 y.0 x.2 y.2)
 
 pub asks_moment : (due slack : Option ℕ) (answer : Result ℕ DoorFault) (old mid new : Trace) → Tells old (ExpectCall due slack) mid
-    → Tells mid (NowCall answer) new → AsksMoment old new
+    → Tells mid (NowCall answer) new → Asks AreMoment old new
 asks_moment due slack answer old mid new first second =
     asks_then {A = λ xs. xs ≡ ExpectCall due slack ∷ []} {B = λ ys. ys ≡ NowCall answer ∷ []}
-    (λ xs ys x y. record { due = due; slack = slack; answer = answer; is = rw (x, y) refl }) old mid new
+    (λ xs ys x y. rw (x, y) tt) old mid new
     (asks_one _ _ old mid refl first) (asks_one _ _ mid new refl second)
 
 pub asks_accept : (answer : Result (Option ℕ) DoorFault) (old mid new : Trace) → Tells old (AcceptCall answer) mid
-    → AsksPeers mid new → AsksAccept old new
+    → Asks AreAboutPeers mid new → Asks AreAccept old new
 asks_accept answer old mid new first later =
     asks_then {A = λ xs. xs ≡ AcceptCall answer ∷ []}
-    (λ xs ys x peers. record { answer = answer; rest = ys; is = rw x refl; peers = peers }) old mid new
+    (λ xs ys x peers. rw x peers) old mid new
     (asks_one _ _ old mid refl first) later
 
 pub turn_begins : (xs ys : List Call) → AreMoment xs → AreAccept ys → IsTurn (xs ++ ys)
-turn_begins xs ys x y = record {
-  due = x.due;
-  slack = x.slack;
-  now = x.answer;
-  accept = y.answer;
-  rest = y.rest;
-  is = rw (x.is, y.is) refl;
-  peers = y.peers;
-}
+turn_begins (ExpectCall due slack ∷ NowCall answer ∷ []) ys x y = y
+turn_begins other ys x y = absurd x
 
 pub turn_goes_on : (xs ys : List Call) → IsTurn xs → AreAboutPeers ys → IsTurn (xs ++ ys)
-turn_goes_on xs ys t y = record {
-  due = t.due;
-  slack = t.slack;
-  now = t.now;
-  accept = t.accept;
-  rest = t.rest ++ ys;
-  is = rw t.is refl;
-  peers = of_peers_then t.rest ys t.peers y;
-}
+turn_goes_on (ExpectCall due slack ∷ NowCall now ∷ AcceptCall answer ∷ rest) ys t y = of_peers_then rest ys t y
+turn_goes_on other ys t y = absurd t
 
 -- ---- turn after turn
 
@@ -89,27 +71,35 @@ not_now (ReadCall peer answer buffer ∷ calls) h = not_now calls h
 not_now (WriteCall peer bytes answer ∷ calls) h = not_now calls h
 not_now (CloseCall peer answer ∷ calls) h = not_now calls h
 
-pub turns_none : (old : Trace) → AsksTurns 0 old old
-turns_none old trace is = record {
-  calls = [];
-  adds = adds_none is;
-  are = record { many = refl; each = tt; all = refl; fair = tt };
-}
+pub turns_none : (old : Trace) → Asks (AreTurns 0) old old
+turns_none old trace is = ([], adds_none is, record { many = refl; each = tt; all = refl })
 
 pub one_more_turn : {count : ℕ} (trace calls : List Call) → AreTurns count trace → IsTurn calls → AreTurns (count + 1) (trace ++ calls)
-one_more_turn trace calls so t =
-    let rest = NowCall t.now ∷ AcceptCall t.accept ∷ t.rest in
-    let whole = ExpectCall t.due t.slack ∷ rest in
-    let alone = one_part is_expect rest (not_now t.rest t.peers.peers) in
+one_more_turn trace (ExpectCall due slack ∷ NowCall now ∷ AcceptCall answer ∷ rest) so t =
+    let later = NowCall now ∷ AcceptCall answer ∷ rest in
+    let whole = ExpectCall due slack ∷ later in
+    let alone = one_part is_expect later (not_now rest t.peers) in
     let last : turns whole ≡ whole ∷ [] = rw (alone.0, alone.1) refl in
-    let all : turns (trace ++ calls) ≡ turns trace ++ calls ∷ [] =
-    rw (t.is, parts-append, last) refl in
+    let all : turns (trace ++ whole) ≡ turns trace ++ whole ∷ [] =
+    rw (parts-append, last) refl in
     record {
       many = rw (all, length-append, so.many) refl;
-      each = rw all (all_append IsTurn (turns trace) (calls ∷ []) so.each (t, tt));
+      each = rw all (all_append IsTurn (turns trace) (whole ∷ []) so.each (t, tt));
       all = rw (all, flat_map-append, so.all, append-nil) refl;
-      fair = all_append IsFair trace calls so.fair (rw t.is (tt, (tt, (tt, t.peers.fair))));
     }
+one_more_turn trace other so t = absurd t
+
+-- each answer of a turn is one that the door may give, and so is each of all turns
+fair_turn : (calls : List Call) → IsTurn calls → AllByRecursion IsFair calls
+fair_turn (ExpectCall due slack ∷ NowCall now ∷ AcceptCall answer ∷ rest) t = (tt, (tt, (tt, t.fair)))
+fair_turn other t = absurd t
+
+fair_each : (all : List (List Call)) → AllByRecursion IsTurn all → AllByRecursion IsFair (flat_map (λ turn. turn) all)
+fair_each [] h = tt
+fair_each (calls ∷ all) h = all_append IsFair calls _ (fair_turn calls h.0) (fair_each all h.1)
+
+pub fair_turns : {count : ℕ} (calls : List Call) → AreTurns count calls → AllByRecursion IsFair calls
+fair_turns calls t = rw t.all at (fair_each (turns calls) t.each)
 
 -- ---- what a door answers is within what it was asked
 
@@ -166,13 +156,13 @@ counts_then a b c d e f first second = record {
 
 module _ {D : Type 0} (faults : D → ℕ) (trace : D → Trace) where
   -- no call
-  pub calls_none : (s : Server D) → s.tally.faults ≤ faults s.door.now → CallsDoor faults trace AsksPeers s s
+  pub calls_none : (s : Server D) → s.tally.faults ≤ faults s.door.now → CallsDoor faults trace AreAboutPeers s s
   calls_none s counted = record { same_door = refl; counted = none_failed _ _ _ counted refl; asks = asks_none (trace s.door.now) }
 
   -- one call, about a peer
   pub calls_one : (call : Call) (s t : Server D) → t.door.ghost_name ≡ s.door.ghost_name
       → CountsFaults s.tally.faults (faults s.door.now) t.tally.faults (faults t.door.now) → is_of_peer call ≡ true → IsFair call
-      → Tells (trace s.door.now) call (trace t.door.now) → CallsDoor faults trace AsksPeers s t
+      → Tells (trace s.door.now) call (trace t.door.now) → CallsDoor faults trace AreAboutPeers s t
   calls_one call s t same counted of_peer fair tells = record {
     same_door = same;
     counted = counted;
@@ -181,7 +171,7 @@ module _ {D : Type 0} (faults : D → ℕ) (trace : D → Trace) where
 
   -- some calls, and then others
   pub calls_then : {A B C : List Call → Type 0} → ((xs ys : List Call) → A xs → B ys → C (xs ++ ys)) → (s t u : Server D)
-      → CallsDoor faults trace (Asks A) s t → CallsDoor faults trace (Asks B) t u → CallsDoor faults trace (Asks C) s u
+      → CallsDoor faults trace A s t → CallsDoor faults trace B t u → CallsDoor faults trace C s u
   calls_then join s t u first second = record {
     same_door = second.same_door ∙ first.same_door;
     counted = counts_then _ _ _ _ _ _ first.counted second.counted;
@@ -189,6 +179,6 @@ module _ {D : Type 0} (faults : D → ℕ) (trace : D → Trace) where
   }
 
   -- calls about peers, and then others about peers
-  pub calls_on : (s t u : Server D) → CallsDoor faults trace AsksPeers s t → CallsDoor faults trace AsksPeers t u
-      → CallsDoor faults trace AsksPeers s u
+  pub calls_on : (s t u : Server D) → CallsDoor faults trace AreAboutPeers s t → CallsDoor faults trace AreAboutPeers t u
+      → CallsDoor faults trace AreAboutPeers s u
   calls_on = calls_then of_peers_then

@@ -1,6 +1,6 @@
 -- One call of the door follows the course: the time, the read of a visit, and one write.
-use Rattle.std.proofs.Common.{◌≡◌, ◌∙◌, ℕ, List, [], ◌∷◌, map, Option, Some, Ok, Err, Result, ap, ◌≤◌, Bool, true, false, not, take, length}
-use Rattle.std.proofs.Common.{None, refl, sym, arith, append-nil, length-take, suc, ◌<◌, ◌==◌, IsSome, inl, inr}
+use Rattle.std.proofs.Common.{◌≡◌, ◌∙◌, ℕ, List, [], ◌∷◌, map, Option, Some, Ok, Err, Result, ap, ◌≤◌, Bool, true, false, not, take}
+use Rattle.std.proofs.Common.{length, None, refl, sym, arith, append-nil, length-take, suc, ◌<◌, ◌==◌, IsSome, inl, inr}
 use Rattle.srcp_grammar.specs.declared.layout.Bus.{Bus}
 use Rattle.srcp_core.specs.Course.{course, fault}
 use Rattle.srcp_core.specs.Held.{Held, Place, at}
@@ -16,7 +16,7 @@ use Rattle.srcp_serve.specs.Serving.{Expects, expects, Reads, is_ready, question
 use Rattle.srcp_serve.specs.Slots.{TakesMoment}
 use Rattle.srcp_serve.specs.declared.door.DoorFault.{DoorFault}
 use Rattle.srcp_serve.proofs.CallsAreAdded.{adds_one, adds_then, asked_none, asked_one, makes_none, adds_none}
-use Rattle.srcp_serve.specs.Visits.{Keys, ReadsIn, WritesOnce}
+use Rattle.srcp_serve.specs.Visits.{FromEveryCourse, Keys, ReadsIn, Took, WritesOnce}
 use Rattle.std.specs.Prelude.{is_none, if◌then◌else◌, ◌||◌, MatchResult, OnOk}
 use Rattle.std.specs.Result.{is_ok}
 use Rattle.srcp_core.specs.Agrees.{OfConnection}
@@ -28,6 +28,7 @@ use Rattle.std.proofs.lemmas.Bool.Decides.{nat_tests}
 use Rattle.srcp_serve.specs.declared.serving.visit.Wrote.{Wrote}
 use Rattle.srcp_serve.specs.declared.serving.visit.Wrote.TheVariants.{All, Less, Failed}
 use Rattle.srcp_serve.specs.Calls as door
+use Rattle.srcp_serve.specs.Given as given
 use Rattle.srcp_serve.specs.declared.door.Got.TheVariants as got
 
 -- what the door is told of a core is what the course says
@@ -194,46 +195,42 @@ module _ (peer key : ℕ) (old : Held) (trace_old : Trace) where
 
     pub wrote_none : (bytes : List ℕ) → Lends bytes → (length bytes == 0) ≡ true → WritesOnce peer key old trace_old mid trace_old Less
     wrote_none bytes lends none buses events keys n trace s is =
-        inl (record {
-          none = sym (lent_is bytes lends buses events keys n s.layout s.named s.stands) ∙ nil_of bytes none;
-          adds = adds_none is;
-          stands = asked buses events keys n s.layout s.named s.stands;
-        })
+        inl (
+          sym (lent_is bytes lends buses events keys n s.layout s.named s.stands) ∙ nil_of bytes none,
+          record { adds = adds_none is; stands = asked buses events keys n s.layout s.named s.stands },
+        )
 
     pub wrote_failed : (bytes : List ℕ) (fault : DoorFault) (trace_new : Trace) → Lends bytes
         → Tells trace_old (WriteCall peer bytes (Err fault)) trace_new → (length bytes == 0) ≡ false
         → WritesOnce peer key old trace_old mid trace_new Failed
     wrote_failed bytes fault trace_new lends tells some buses events keys n trace s named =
-        let lent_bytes = lent_is bytes lends buses events keys n s.layout s.named s.stands in
-        record {
-          fault = fault;
-          adds =
-              rw lent_bytes at (adds_one (WriteCall peer bytes (Err fault)) trace_old trace_new trace tells named);
-          some = rw lent_bytes at (some_of bytes some);
-          stands = asked buses events keys n s.layout s.named s.stands;
-        }
+        let lent_bytes = lent_is bytes lends buses events keys n s.layout s.named s.stands in (
+          fault,
+          rw lent_bytes at (some_of bytes some),
+          record {
+            adds = rw lent_bytes at (adds_one (WriteCall peer bytes (Err fault)) trace_old trace_new trace tells named);
+            stands = asked buses events keys n s.layout s.named s.stands;
+          },
+        )
 
   module _ (bytes : List ℕ) (count : ℕ) (new : Held) (trace_new : Trace) (lends : Lends bytes)
       (sends : LeadsAt key (λ n. Room n count) old new) (tells : Tells trace_old (WriteCall peer bytes (Ok count)) trace_new) where
+    took : FromEveryCourse peer key old trace_old new trace_new (λ buses events keys n trace.
+        Took buses events keys n peer trace_old trace new (given.WriteCall peer (lent buses n events) (Ok count) ∷ []) count)
+    took buses events keys n trace s named =
+        let lent_bytes = lent_is bytes lends buses events keys n s.layout s.named s.stands in
+        record {
+          adds = rw lent_bytes at (adds_one (WriteCall peer bytes (Ok count)) trace_old trace_new trace tells named);
+          stands = sends buses events keys n s.layout s.named s.stands;
+        }
+
     pub wrote_less : count < length bytes → WritesOnce peer key old trace_old new trace_new Less
     wrote_less few buses events keys n trace s named =
         let lent_bytes = lent_is bytes lends buses events keys n s.layout s.named s.stands in
-        inr (record {
-          count = count;
-          adds =
-              rw lent_bytes at (adds_one (WriteCall peer bytes (Ok count)) trace_old trace_new trace tells named);
-          short = rw lent_bytes at few;
-          stands = sends buses events keys n s.layout s.named s.stands;
-        })
+        inr (count, rw lent_bytes at few, took buses events keys n trace s named)
 
     pub wrote_all : count ≡ length bytes → (length bytes == 0) ≡ false → WritesOnce peer key old trace_old new trace_new All
     wrote_all full some buses events keys n trace s named =
         let lent_bytes = lent_is bytes lends buses events keys n s.layout s.named s.stands in
-        record {
-          count = count;
-          adds =
-              rw lent_bytes at (adds_one (WriteCall peer bytes (Ok count)) trace_old trace_new trace tells named);
-          all = rw lent_bytes at full;
-          some = rw full (some_of bytes some);
-          stands = sends buses events keys n s.layout s.named s.stands;
-        }
+        let whole : count ≡ length (lent buses n events) = rw lent_bytes at full in
+        (rw lent_bytes at (some_of bytes some), rw whole at (took buses events keys n trace s named))

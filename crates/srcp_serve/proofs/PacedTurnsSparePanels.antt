@@ -14,7 +14,7 @@ use Rattle.std.proofs.lemmas.List.{drop_at}
 use Rattle.srcp_core.specs.Waits.{IsOverrun, option_or_256, slack, room}
 use Rattle.srcp_core.proofs.CourseLaws.WaitsGrow.{few_close_none}
 use Rattle.srcp_core.proofs.CourseLaws.LinesBringTheirWeight.{light_lines}
-use Rattle.srcp_serve.specs.Pacing.{IsLight, IsPaced, LightServingSparesAll, LightTurnsSpare, PacedServingSparesAll, PacedTurnsSpare}
+use Rattle.srcp_serve.specs.Pacing.{IsLight, IsPaced, ServingSparesAll, TurnsSpare}
 use Rattle.srcp_serve.specs.Pacing.{SparesPanels, trace_room}
 use Rattle.srcp_serve.proofs.CallsByTurnAndPeer.{AreTurnsAsked, turns_parted}
 
@@ -132,18 +132,18 @@ module _ (buses : List Bus) where
   none_first zero later over = let e = over.there in cc
   none_first (suc number) later over = let e = over.there in cc
 
-  pub paced_spare : PacedTurnsSpare buses
+  pub paced_spare : TurnsSpare buses (IsPaced buses)
   paced_spare count trace served =
       each_spares _ spares empty_stand (turns trace) (turns_parted buses empty_stand trace [] tt served.asked).1
 
-  pub paced_spares_all : PacedServingSparesAll buses
+  pub paced_spares_all : ServingSparesAll buses (IsPaced buses)
   paced_spares_all count trace served paced =
       all_spared (IsPaced buses) empty_stand (turns trace) (paced_spare count trace served) paced none_first
 
-  pub light_spare : LightTurnsSpare buses
+  pub light_spare : IsLayout buses → TurnsSpare buses (IsLight buses)
   light_spare layout count trace served =
       each_spares _ (light_spares layout) empty_stand (turns trace) (turns_parted buses empty_stand trace [] tt served.asked).1
 
-  pub light_spares_all : LightServingSparesAll buses
+  pub light_spares_all : IsLayout buses → ServingSparesAll buses (IsLight buses)
   light_spares_all layout count trace served light =
       all_spared _ _ _ (light_spare layout count trace served) light none_first

@@ -8,7 +8,7 @@ use Rattle.std.proofs.Math.Nat.{zero-min, min-eq_left}
 use Rattle.std.proofs.lemmas.List.{take-append-le, drop_at}
 use Rattle.std.proofs.lemmas.Grind.{flat_map-append}
 use Rattle.srcp_info.specs.declared.change.Shown.{Shown}
-use Rattle.srcp_feed.specs.declared.answers.Next.{Next}
+use Rattle.srcp_feed.specs.declared.feed.Next.{Next}
 use Rattle.srcp_core.specs.Connection.{Connection, History, line_of, text, given, sent, unsent, prefix, fitting, available, items_of, owed}
 use Rattle.srcp_core.specs.Connection.{overran, took, given_room, is_open}
 use Rattle.std.proofs.Math.Seq.{take-nil}

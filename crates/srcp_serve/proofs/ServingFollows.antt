@@ -4,20 +4,22 @@ use Rattle.std.proofs.Common.{sym, subst, arith, append-nil}
 use Rattle.std.proofs.lemmas.List.{append_cancel_left, map-append}
 use Rattle.std.proofs.lemmas.List.Elements.{filter_map-append}
 use Rattle.std.proofs.lemmas.Option.{same_Some}
-use Rattle.std.specs.List.{filter_map, AllByRecursion}
+use Rattle.std.specs.List.{filter_map, AllZip, IsDistinct}
 use Rattle.srcp_grammar.specs.declared.layout.Bus.{Bus}
 use Rattle.srcp_core.specs.Course.{denied_over, start}
 use Rattle.srcp_core.specs.Held.{Held}
 use Rattle.srcp_serve.specs.Calls.{Call as DoorCall, peer_of, Trace}
 use Rattle.srcp_serve.specs.Given.{Call, door_call, CountsRefusals}
 use Rattle.srcp_serve.specs.Serving.{Stand, IsServed, stand_after, events_of}
-use Rattle.srcp_serve.specs.Slots.{Begins, IsInState, IsOneOf, one_if, MakesTurn, ClientsDiffer, ServesCourse, AreSlotsOf, Owns}
-use Rattle.srcp_serve.specs.Turns.{AsksTurn, AsksTurns}
+use Rattle.srcp_serve.specs.Slots.{Begins, IsInState, one_if, MakesTurn, ClientsDiffer, IsSlotOf, ServesCourse, Owns}
+use Rattle.srcp_serve.specs.Turns.{IsTurn, Asks, AreTurns}
 use Rattle.srcp_serve.specs.Visits.{CountsAsked, Keys}
 use Rattle.srcp_serve.proofs.CallsByTurnAndPeer.{served-more}
 use Rattle.srcp_serve.proofs.CallsAreAdded.{adds_then, refusals_then, same_calls}
 use Rattle.srcp_serve.proofs.SentIsTakenAfterAllTurns.{sent_taken}
-use Rattle.srcp_serve.proofs.TurnsFollow.{fair_given, peers_prefix}
+use Rattle.srcp_serve.proofs.DoorIsCalled.{fair_turns}
+use Rattle.srcp_serve.proofs.TurnsFollow.{fair_given, known_turned, peers_prefix}
+use Rattle.srcp_serve.proofs.SlotsAreTakenAndFreed.{AreOf}
 
 -- the calls are those of this many turns, and the core and the slots are as the answers say
 pub record IsServing (buses : List Bus) (count opens : ℕ) (trace : List DoorCall) (old held : Held) (owns : Owns) : Type 0 where
@@ -27,7 +29,7 @@ pub record IsServing (buses : List Bus) (count opens : ℕ) (trace : List DoorCa
   pub counted : CountsRefusals old calls held
   pub asked_for : CountsAsked buses [] (events_of buses calls) old held
   pub served : IsServed buses count calls
-  pub known : AllByRecursion (IsOneOf (filter_map peer_of trace)) (stand_after buses calls).slots
+  pub known : AreOf (filter_map peer_of trace) (stand_after buses calls).slots
   pub in_state : IsInState buses (stand_after buses calls) keys held owns
   pub opened : length (stand_after buses calls).connected ≡ opens
 
@@ -36,15 +38,16 @@ abbrev pub ServesSoFar : (count opens : ℕ) (old : Held) (trace_old : Trace) (n
 ServesSoFar count opens old trace_old new trace_new owns =
     Begins (λ buses calls. IsServing buses count opens calls old new owns) old trace_old trace_new
 
-owns_none : (n : ℕ) → AreSlotsOf [] (replicate n None) (replicate n None)
+owns_none : (n : ℕ) → AllZip (IsSlotOf []) (replicate n None) (replicate n None)
 owns_none zero = tt
 owns_none (suc n) = (tt, owns_none n)
 
-known_none : (n : ℕ) → AllByRecursion (IsOneOf []) (replicate n None)
+known_none : (n : ℕ) → AreOf [] (replicate n None)
 known_none zero = tt
-known_none (suc n) = (tt, known_none n)
+known_none (suc n) = known_none n
 
 differ_none : (n : ℕ) → ClientsDiffer (replicate n None)
+unfolding IsDistinct
 differ_none zero = tt
 differ_none (suc n) = differ_none n
 
@@ -62,7 +65,6 @@ serves_first old trace_old buses before calls layout stands was is differ =
       in_state = record {
         layout = layout;
         owns_are = owns_none 64;
-        few = omega arith;
         differ = differ_none 64;
         long = refl;
         stands = stands;
@@ -72,7 +74,8 @@ serves_first old trace_old buses before calls layout stands was is differ =
 
 pub serves_on : (count opened : ℕ) (opens : Bool) (old mid new : Held) (trace_old trace_mid trace_new : Trace)
     (owns owns_new : Owns)
-    → ServesSoFar count opened old trace_old mid trace_mid owns → AsksTurns count trace_old trace_mid → AsksTurn trace_mid trace_new
+    → ServesSoFar count opened old trace_old mid trace_mid owns → Asks (AreTurns count) trace_old trace_mid
+    → Asks IsTurn trace_mid trace_new
     → MakesTurn mid trace_mid owns new trace_new owns_new opens
     → ServesSoFar (count + 1) (opened + one_if opens) old trace_old new trace_new owns_new
 serves_on count opened opens old mid new trace_old trace_mid trace_new owns owns_new so asks_before asks turn buses before calls layout
@@ -80,25 +83,25 @@ serves_on count opened opens old mid new trace_old trace_mid trace_new owns owns
     was is differ =
     let trace = before ++ calls in
     let later = asks trace is in
-    let w = later.adds in
+    let w = later.1 in
     let earlier = asks_before w.before w.was in
-    let first = earlier.calls in
+    let first = earlier.0 in
     let mid_is : w.before ≡ before ++ first =
-    cc (same_Some earlier.adds.before before (sym earlier.adds.was ∙ was)) in
+    cc (same_Some earlier.1.before before (sym earlier.1.was ∙ was)) in
     let whole =
-    same_calls {trace = trace} (record { before = before; was = was; is = refl }) (adds_then w.was earlier.adds w) in
+    same_calls {trace = trace} (record { before = before; was = was; is = refl }) (adds_then w.was earlier.1 w) in
     let differ_all = rw whole at differ in
-    let s = so buses before first layout stands was (cc) (peers_prefix [] first later.calls differ_all) in
+    let s = so buses before first layout stands was (cc) (peers_prefix [] first later.0 differ_all) in
     let peers = filter_map peer_of first in
     let stood = stand_after buses s.calls in
     let x =
-    turn buses stood s.keys trace s.in_state is peers later.calls w
+    turn buses stood s.keys trace s.in_state is peers later.0 w
     (rw filter_map-append at differ_all) s.known in
     let same = same_calls w x.made.adds in
     let more = served-more buses count s.calls x.calls s.served x.asked in
     let known =
-    rw (ap (λ c. peers ++ filter_map peer_of c) (sym same) ∙ sym (filter_map-append peer_of first later.calls)
-    ∙ ap (filter_map peer_of) (sym whole)) at x.known in
+    rw (ap (λ c. peers ++ filter_map peer_of c) (sym same) ∙ sym (filter_map-append peer_of first later.0)
+    ∙ ap (filter_map peer_of) (sym whole)) at (known_turned buses peers stood x.calls s.known) in
     record {
       calls = s.calls ++ x.calls;
       keys = x.keys;
@@ -113,15 +116,15 @@ serves_on count opened opens old mid new trace_old trace_mid trace_new owns owns
     }
 
 pub serves_all : (count turns opened : ℕ) (old now : Held) (trace_old trace_now : Trace) (owns : Owns)
-    → count ≡ turns → AsksTurns turns trace_old trace_now → ServesSoFar count opened old trace_old now trace_now owns
+    → count ≡ turns → Asks (AreTurns turns) trace_old trace_now → ServesSoFar count opened old trace_old now trace_now owns
     → ServesCourse turns opened old trace_old now trace_now
 serves_all count turns opened old now _ _ owns e asks so buses before calls layout stands was is differ =
     let s = so buses before calls layout stands was is differ in
     let a = asks _ is in
     let same =
-    same_calls a.adds (record { before = before; was = was; is = refl }) ∙ sym s.are in
+    same_calls a.1 (record { before = before; was = was; is = refl }) ∙ sym s.are in
     let fair =
-    fair_given s.calls (rw same at a.are.fair) in
+    fair_given s.calls (rw same at (fair_turns a.0 a.2)) in
     let served = rw e at s.served in
     record {
       calls = s.calls;

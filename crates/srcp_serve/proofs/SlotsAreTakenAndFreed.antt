@@ -1,87 +1,148 @@
 -- Who has which slot: peers take slots and free them, and a round visits those that have one.
 use Rattle.std.proofs.Common.{◌≡◌, ◌∙◌, ℕ, List, [], ◌∷◌, ◌++◌, map, refl, ap, sym, append-nil, append_assoc, zero, suc, ◌+◌, ◌≤◌, Bool}
-use Rattle.std.proofs.Common.{true, false, ◌==◌, cond, length, if◌then◌else◌, Option, Some, None, subst, arith}
-use Rattle.std.specs.Prelude.{flat_map, not, is_some, is_none, position, nat_lt}
+use Rattle.std.proofs.Common.{true, false, ◌==◌, cond, length, if◌then◌else◌, Option, Some, None, subst, arith, filter}
+use Rattle.std.specs.Prelude.{flat_map, not, is_some, is_none, position, nat_lt, ◌||◌, IfSome}
 use Rattle.std.proofs.lemmas.List.Elements.{filter-append}
-use Rattle.std.specs.List.{list_any, count_by, slice_index_or, slice_set, prefix_len, AllByRecursion}
+use Rattle.std.specs.List.{list_any, count_by, slice_index_or, slice_set, prefix_len, AllByRecursion, AllZip, IsDistinct}
 use Rattle.srcp_core.specs.Under.{Event, Shut}
-use Rattle.srcp_info.proofs.ClientLaws.{filter_every, filter_no_one, all_append, all_weaker}
+use Rattle.srcp_info.proofs.ClientLaws.{filter-map}
 use Rattle.srcp_grammar.specs.declared.layout.Bus.{Bus}
 use Rattle.srcp_serve.specs.Given.{Call}
-use Rattle.srcp_serve.specs.Slots.{Visit, calls_of, made_by, asked_by, IsOther, visits_of, client_of, left_by, AreOwn, IsSlotOf, AreSlotsOf}
-use Rattle.srcp_serve.specs.Slots.{IsApartFrom, ClientsDiffer, IsNotOf, IsInState, IsOneOf, IsLeftOut, Owns}
-use Rattle.srcp_serve.specs.Serving.{is_about, visit, visit_asks, visits_ask, visit_events, exchange, is_close, Client, Stand, with_client}
-use Rattle.srcp_serve.specs.Serving.{clients, kept, Slots}
-use Rattle.srcp_serve.specs.Visits.{AreAbout, Keys}
+use Rattle.srcp_serve.specs.Slots.{IsSlotOf, ClientsDiffer, IsInState, Owns}
+use Rattle.srcp_serve.specs.Serving.{is_about, asks_of, visit, visit_asks, visits_ask, visit_events, exchange, is_close, Client, Stand}
+use Rattle.srcp_serve.specs.Serving.{with_client, clients, kept, Slots, question}
+use Rattle.srcp_serve.specs.Visits.{Keys}
+use Rattle.srcp_serve.proofs.VisitsFollow.{AreAbout}
 use Rattle.std.proofs.lemmas.Bool.Decides.{nat_tests}
-use Rattle.std.proofs.lemmas.List.Sums.{sum_by-append, sum_by-cons}
+use Rattle.std.proofs.lemmas.List.Sums.{sum_by-cons}
 use Rattle.srcp_core.specs.Course.{course}
 use Rattle.srcp_core.specs.Held.{Held}
 use Rattle.srcp_core.specs.Recording.{key_of, without_key}
 use Rattle.srcp_core.specs.Stands.{StandsFor}
 use Rattle.srcp_core.proofs.Agreement.NumbersAndKeys.{key_push, key_within, without_other}
 use Rattle.srcp_serve.specs.declared.serving.visit.Client.{Client as Own}
-use Rattle.srcp_serve.proofs.CallsByTurnAndPeer.{other_question}
+use Rattle.srcp_serve.proofs.CallsByTurnAndPeer.{AreOf as AskOf, none_asked}
 
--- each visit is its peer's, and no call of another visit, or before the visits, is
-pub record IsApart (before : List Call) (v : Visit) (after : List Call) : Type 0 where
-  pub own : AreAbout v.0.peer v.1
-  pub earlier : IsOther v.0.peer before
-  pub later : IsOther v.0.peer after
+-- the slots of a server are those of the state, place by place
+abbrev pub AreSlotsOf : Keys → Owns → Slots → Type 0
+AreSlotsOf keys owns slots = AllZip (IsSlotOf keys) owns slots
 
-abbrev pub AreApart : List Call → List Visit → Type 0
-AreApart before [] = Unit {0}
-AreApart before (v ∷ visits) = IsApart before v (calls_of visits) × AreApart (before ++ v.1) visits
+-- the slot is free, or another peer on another connection has it
+abbrev pub IsApartFrom : Client → Option Client → Type 0
+IsApartFrom client slot = IfSome slot (λ other. ((client.conn == other.conn) ≡ false) × ((client.peer == other.peer) ≡ false))
 
--- the peer's calls among all are its visit
-pub one_visit : (before : List Call) (v : Visit) (after : List Call) → IsApart before v after → visit (before ++ (v.1 ++ after)) v.0 ≡ v.1
-one_visit before v after h =
-    let peer : ℕ = v.0.peer in
-    cc (
-      filter-append (is_about peer) before (v.1 ++ after),
-      filter_no_one (is_about peer) before h.earlier,
-      filter-append (is_about peer) v.1 after,
-      filter_every (is_about peer) v.1 h.own,
-      filter_no_one (is_about peer) after h.later,
-      append-nil v.1,
-    )
+-- no connection and no peer has two slots, slot by slot
+abbrev pub SlotsDiffer : Slots → Type 0
+SlotsDiffer [] = Unit {0}
+SlotsDiffer (None ∷ slots) = SlotsDiffer slots
+SlotsDiffer (Some client ∷ slots) = AllByRecursion (IsApartFrom client) slots × SlotsDiffer slots
 
--- what a visit makes happen is seen in its own calls
-same_events : (calls : List Call) (v : Visit) → AreAbout v.0.peer v.1 → visit calls v.0 ≡ v.1
-    → visit_events calls v.0 ≡ visit_events v.1 v.0
-same_events calls v own e =
-    let events : List Call → List Event = λ mine. exchange v.0.conn mine ++ (if list_any is_close mine then Shut v.0.conn ∷ [] else []) in
-    ap events (e ∙ sym (filter_every _ v.1 own))
+neither : (a b : Bool) → a || b ≡ false → (a ≡ false) × (b ≡ false)
+neither true b e = cc
+neither false b e = (refl, e)
 
-pub visits_make : (before : List Call) (visits : List Visit) → AreApart before visits → (calls : List Call)
-    → calls ≡ before ++ calls_of visits → flat_map (visit_events calls) (map (λ v. v.0) visits) ≡ made_by visits
-visits_make before [] h calls e = refl
-visits_make before (v ∷ visits) h calls e =
-    let mine : visit calls v.0 ≡ v.1 = cc (e, one_visit before v (calls_of visits) h.0) in
-    let others = visits_make (before ++ v.1) visits h.1 calls (e ∙ sym (append_assoc before v.1 (calls_of visits))) in
-    cc (same_events calls v h.0.own mine)
+either_no : (a b : Bool) → (a ≡ false) × (b ≡ false) → a || b ≡ false
+either_no true b e = let h = e.0 in cc
+either_no false b e = e.1
+
+abbrev overlap : Client → Client → Bool
+overlap a b = (a.conn == b.conn) || (a.peer == b.peer)
+
+apart_in : (client : Client) (slots : Slots) → AllByRecursion (λ other. overlap client other ≡ false) (clients slots)
+    → AllByRecursion (IsApartFrom client) slots
+apart_in client [] h = tt
+apart_in client (None ∷ slots) h = (tt, apart_in client slots h)
+apart_in client (Some other ∷ slots) h = (neither (client.conn == other.conn) (client.peer == other.peer) h.0, apart_in client slots h.1)
+
+apart_of : (client : Client) (slots : Slots) → AllByRecursion (IsApartFrom client) slots
+    → AllByRecursion (λ other. overlap client other ≡ false) (clients slots)
+apart_of client [] h = tt
+apart_of client (None ∷ slots) h = apart_of client slots h.1
+apart_of client (Some other ∷ slots) h = (either_no (client.conn == other.conn) (client.peer == other.peer) h.0, apart_of client slots h.1)
+
+pub slots_differ : (slots : Slots) → ClientsDiffer slots → SlotsDiffer slots
+unfolding IsDistinct
+slots_differ [] h = tt
+slots_differ (None ∷ slots) h = slots_differ slots h
+slots_differ (Some client ∷ slots) h = (apart_in client slots h.0, slots_differ slots h.1)
+
+pub clients_differ : (slots : Slots) → SlotsDiffer slots → ClientsDiffer slots
+unfolding IsDistinct
+clients_differ [] h = tt
+clients_differ (None ∷ slots) h = clients_differ slots h
+clients_differ (Some client ∷ slots) h = (apart_of client slots h.0, clients_differ slots h.1)
+
+-- the peer has no slot
+abbrev pub HasNone : ℕ → Slots → Type 0
+HasNone peer slots = AllByRecursion (λ client. (peer == client.peer) ≡ false) (clients slots)
+
+-- each that has a slot is one of these peers
+abbrev pub AreOf : List ℕ → Slots → Type 0
+AreOf peers slots = AllByRecursion (λ client. list_any (λ peer. peer == client.peer) peers ≡ true) (clients slots)
+
+-- the calls are about the peer if what they ask is
+pub about_asked : (peer : ℕ) (calls : List Call) → AskOf peer (map question calls) → AreAbout peer calls
+about_asked peer [] h = tt
+about_asked peer (call ∷ calls) h = (h.0, about_asked peer calls h.1)
+
+-- ---- the calls about a peer among others
+
+abbrev pub SameVisits : List Call → List Call → List Client → Type 0
+SameVisits xs ys all = AllByRecursion (λ client. visit xs client ≡ visit ys client) all
+
+-- no call is about any of them
+abbrev pub NoVisits : List Call → List Client → Type 0
+NoVisits calls all = AllByRecursion (λ client. visit calls client ≡ []) all
+
+pub first_visits : (xs ys : List Call) (all : List Client) → NoVisits ys all → SameVisits (xs ++ ys) xs all
+first_visits xs ys [] h = tt
+first_visits xs ys (client ∷ all) h =
+    (cc (filter-append (is_about client.peer) xs ys, h.0, append-nil (visit xs client)), first_visits xs ys all h.1)
+
+pub second_visits : (xs ys : List Call) (all : List Client) → NoVisits xs all → SameVisits (xs ++ ys) ys all
+second_visits xs ys [] h = tt
+second_visits xs ys (client ∷ all) h = (cc (filter-append (is_about client.peer) xs ys, h.0), second_visits xs ys all h.1)
+
+-- what a visit makes happen and asks is seen in its own calls
+same_events : (xs ys : List Call) (client : Client) → visit xs client ≡ visit ys client → visit_events xs client ≡ visit_events ys client
+same_events xs ys client e =
+    ap {B = List Event} (λ mine. exchange client.conn mine ++ (if list_any is_close mine then Shut client.conn ∷ [] else [])) e
+
+pub same_made : (xs ys : List Call) (all : List Client) → SameVisits xs ys all
+    → flat_map (visit_events xs) all ≡ flat_map (visit_events ys) all
+same_made xs ys [] h = refl
+same_made xs ys (client ∷ all) h = cc (same_events xs ys client h.0, same_made xs ys all h.1)
+
+pub same_kept : (xs ys : List Call) (slots : Slots) → SameVisits xs ys (clients slots) → map (kept xs) slots ≡ map (kept ys) slots
+same_kept xs ys [] h = refl
+same_kept xs ys (None ∷ slots) h = ap (λ more. None ∷ more) (same_kept xs ys slots h)
+same_kept xs ys (Some client ∷ slots) h =
+    let left : List Call → Option Client = λ mine. if list_any is_close mine then None else Some client in
+    cc (ap left h.0, same_kept xs ys slots h.1)
+
+no_calls : (calls : List Call) → map question calls ≡ [] → calls ≡ []
+no_calls [] e = refl
+no_calls (call ∷ calls) e = cc
+
+no_visit : (calls : List Call) (client : Client) → filter (asks_of client.peer) (map question calls) ≡ [] → visit calls client ≡ []
+no_visit calls client e = no_calls (visit calls client) (rw (← filter-map question (asks_of client.peer) calls) e)
 
 module _ (buses : List Bus) where
-  pub visits_asked : (before : List Call) (visits : List Visit) → AreApart before visits → (calls : List Call)
-      → calls ≡ before ++ calls_of visits → (events : List Event)
-      → visits_ask buses events calls (map (λ v. v.0) visits) ≡ asked_by buses events visits
-  visits_asked before [] h calls e events = refl
-  visits_asked before (v ∷ visits) h calls e events =
-      let mine : visit calls v.0 ≡ v.1 = cc (e, one_visit before v (calls_of visits) h.0) in
-      let others =
-      visits_asked (before ++ v.1) visits h.1 calls (e ∙ sym (append_assoc before v.1 (calls_of visits)))
-      (events ++ visit_events v.1 v.0) in
-      cc (same_events calls v h.0.own mine)
+  pub same_asked : (events : List Event) (xs ys : List Call) (all : List Client) → SameVisits xs ys all
+      → visits_ask buses events xs all ≡ visits_ask buses events ys all
+  same_asked events xs ys [] h = refl
+  same_asked events xs ys (client ∷ all) h =
+      cc (h.0, same_events xs ys client h.0, same_asked (events ++ visit_events ys client) xs ys all h.1)
 
-  -- some visits and then others
-  pub asked_by-append : (events : List Event) (xs ys : List Visit)
-      → asked_by buses events (xs ++ ys) ≡ asked_by buses events xs ++ asked_by buses (events ++ made_by xs) ys
-  asked_by-append events [] ys = ap (λ all. asked_by buses all ys) (sym (append-nil events))
-  asked_by-append events (v ∷ xs) ys =
+  pub visits_ask-append : (events : List Event) (calls : List Call) (xs ys : List Client)
+      → visits_ask buses events calls (xs ++ ys)
+      ≡ visits_ask buses events calls xs ++ visits_ask buses (events ++ flat_map (visit_events calls) xs) calls ys
+  visits_ask-append events calls [] ys = ap (λ all. visits_ask buses all calls ys) (sym (append-nil events))
+  visits_ask-append events calls (client ∷ xs) ys =
       cc (
-        asked_by-append (events ++ visit_events v.1 v.0) xs ys,
-        append_assoc events (visit_events v.1 v.0) (made_by xs),
-        append_assoc (visit_asks buses events v.1 v.0) _ _,
+        visits_ask-append (events ++ visit_events calls client) calls xs ys,
+        append_assoc events (visit_events calls client) (flat_map (visit_events calls) xs),
+        append_assoc (visit_asks buses events (visit calls client) client) _ _,
       )
 
 -- ---- which peer has which slot, who takes one and who frees one
@@ -93,7 +154,6 @@ pub in_state_on : (buses : List Bus) (stand : Stand) (events : List Event) (keys
 in_state_on buses stand events keys old held owns h stands = record {
   layout = h.layout;
   owns_are = h.owns_are;
-  few = h.few;
   differ = h.differ;
   long = h.long;
   stands = stands;
@@ -109,19 +169,6 @@ other_no a b e same = grind (arith, nat_tests)
 
 pub count_cons : {X : Type 0} (o : Option X) (xs : List (Option X)) → count_by is_some (o ∷ xs) ≡ cond (is_some o) 1 0 + count_by is_some xs
 count_cons o xs = sum_by-cons (λ x. cond (is_some x) 1 0) o xs
-
-pub count_append : {X : Type 0} (xs ys : List (Option X)) → count_by is_some (xs ++ ys) ≡ count_by is_some xs + count_by is_some ys
-count_append xs ys = sum_by-append (λ x. cond (is_some x) 1 0) xs ys
-
--- one slot more is free
-pub count_cleared : {X : Type 0} (x : X) (before after : List (Option X))
-    → count_by is_some (before ++ None ∷ after) + 1 ≡ count_by is_some (before ++ Some x ∷ after)
-count_cleared x before after =
-    let a = count_append before (None ∷ after) in
-    let b = count_append before (Some x ∷ after) in
-    let c = count_cons None after in
-    let d = count_cons (Some x) after in
-    omega (arith, a, b, c, d)
 
 pub count_without : (n : ℕ) (keys : Keys) (key : ℕ) → key_of n keys ≡ Some key
     → count_by is_some (without_key n keys) + 1 ≡ count_by is_some keys
@@ -140,15 +187,6 @@ count_without (suc (suc n)) (k ∷ keys) key e =
     let h = count_without (suc n) keys key e in
     let a = count_cons k (without_key (suc n) keys) in
     let b = count_cons k keys in
-    omega (arith, a, b, h)
-
-pub count_connected : (client : Client) (slots : Slots) → count_by is_some (with_client client slots) ≤ count_by is_some slots + 1
-count_connected client [] = omega arith
-count_connected client (None ∷ slots) = let a = count_cons None slots in let b = count_cons (Some client) slots in omega (arith, a, b)
-count_connected client (Some other ∷ slots) =
-    let h = count_connected client slots in
-    let a = count_cons (Some other) slots in
-    let b = count_cons (Some other) (with_client client slots) in
     omega (arith, a, b, h)
 
 -- ---- which peer has which slot
@@ -204,6 +242,23 @@ numbers_after client [] h = tt
 numbers_after client (None ∷ slots) h = (tt, numbers_after client slots h.1)
 numbers_after client (Some other ∷ slots) h = (h.0.0, numbers_after client slots h.1)
 
+-- no more slots are taken than there are connections
+pub few_slots : (keys : Keys) (owns : Owns) (slots : Slots) → AreSlotsOf keys owns slots → SlotsDiffer slots
+    → count_by is_some slots ≤ count_by is_some keys
+few_slots keys [] [] h d = omega arith
+few_slots keys [] (slot ∷ slots) h d = absurd h
+few_slots keys (own ∷ owns) [] h d = absurd h
+few_slots keys (None ∷ owns) (None ∷ slots) h d =
+    let ih = few_slots keys owns slots h.1 d in let a = count_cons None slots in omega (arith, ih, a)
+few_slots keys (None ∷ owns) (Some client ∷ slots) h d = absurd h.0
+few_slots keys (Some own ∷ owns) (None ∷ slots) h d = absurd h.0
+few_slots keys (Some own ∷ owns) (Some client ∷ slots) h d =
+    let n : ℕ = client.conn in
+    let ih = few_slots (without_key n keys) owns slots (owns_kept n keys owns slots (numbers_after client slots d.0) h.1) d.1 in
+    let a = count_cons (Some client) slots in
+    let b = count_without n keys own.key h.0.1 in
+    omega (arith, ih, a, b)
+
 pub all_here : {X : Type 0} (P : X → Type 0) (before : List X) (x : X) (after : List X) → AllByRecursion P (before ++ x ∷ after) → P x
 all_here P [] x after h = h.0
 all_here P (y ∷ before) x after h = all_here P before x after h.1
@@ -213,7 +268,7 @@ all_cleared : (P : Option Client → Type 0) (before : Slots) (slot : Option Cli
 all_cleared P [] slot after none h = (none, h.1)
 all_cleared P (p ∷ before) slot after none h = (h.0, all_cleared P before slot after none h.1)
 
-numbers_around : (before : Slots) (client : Client) (after : Slots) → ClientsDiffer (before ++ Some client ∷ after)
+numbers_around : (before : Slots) (client : Client) (after : Slots) → SlotsDiffer (before ++ Some client ∷ after)
     → AllByRecursion (IsNotNumber client.conn) (before ++ None ∷ after)
 numbers_around [] client after h = (tt, numbers_after client after h.0)
 numbers_around (None ∷ before) client after h = (tt, numbers_around before client after h)
@@ -223,14 +278,14 @@ numbers_around (Some other ∷ before) client after h =
 -- the peer that has that slot is disconnected
 pub owns_without : (keys : Keys) (owns : Owns) (before : Slots) (client : Client)
     (after : Slots) (i : ℕ)
-    → length before ≡ i → ClientsDiffer (before ++ Some client ∷ after) → AreSlotsOf keys owns (before ++ Some client ∷ after)
+    → length before ≡ i → SlotsDiffer (before ++ Some client ∷ after) → AreSlotsOf keys owns (before ++ Some client ∷ after)
     → AreSlotsOf (without_key client.conn keys) (slice_set owns i None) (before ++ None ∷ after)
 owns_without keys owns before client after i e differ h =
     owns_kept client.conn keys (slice_set owns i None) (before ++ None ∷ after) (numbers_around before client after differ)
     (owns_cleared keys owns before (Some client) after i e h)
 
-pub differ_cleared : (before : Slots) (client : Client) (after : Slots) → ClientsDiffer (before ++ Some client ∷ after)
-    → ClientsDiffer (before ++ None ∷ after)
+pub differ_cleared : (before : Slots) (client : Client) (after : Slots) → SlotsDiffer (before ++ Some client ∷ after)
+    → SlotsDiffer (before ++ None ∷ after)
 differ_cleared [] client after h = h.1
 differ_cleared (None ∷ before) client after h = differ_cleared before client after h
 differ_cleared (Some other ∷ before) client after h =
@@ -303,8 +358,8 @@ all_connected P client [] new h = tt
 all_connected P client (None ∷ slots) new h = (new, h.1)
 all_connected P client (Some other ∷ slots) new h = (h.0, all_connected P client slots new h.1)
 
-pub differ_connected : (client : Client) (slots : Slots) → AllByRecursion (IsApartFrom client) slots → ClientsDiffer slots
-    → ClientsDiffer (with_client client slots)
+pub differ_connected : (client : Client) (slots : Slots) → AllByRecursion (IsApartFrom client) slots → SlotsDiffer slots
+    → SlotsDiffer (with_client client slots)
 differ_connected client [] new h = tt
 differ_connected client (None ∷ slots) new h = (new.1, h)
 differ_connected client (Some other ∷ slots) new h = (
@@ -313,11 +368,11 @@ differ_connected client (Some other ∷ slots) new h = (
 )
 
 pub new_apart : (keys : Keys) (client : Client) (owns : Owns) (slots : Slots) → AreSlotsOf keys owns slots
-    → client.conn ≡ length keys + 1 → AllByRecursion (IsNotOf client.peer) slots → AllByRecursion (IsApartFrom client) slots
+    → client.conn ≡ length keys + 1 → HasNone client.peer slots → AllByRecursion (IsApartFrom client) slots
 new_apart keys client [] [] h e new = tt
 new_apart keys client [] (slot ∷ slots) h e new = absurd h
 new_apart keys client (own ∷ owns) [] h e new = absurd h
-new_apart keys client (None ∷ owns) (None ∷ slots) h e new = (tt, new_apart keys client owns slots h.1 e new.1)
+new_apart keys client (None ∷ owns) (None ∷ slots) h e new = (tt, new_apart keys client owns slots h.1 e new)
 new_apart keys client (None ∷ owns) (Some other ∷ slots) h e new = absurd h.0
 new_apart keys client (Some own ∷ owns) (None ∷ slots) h e new = absurd h.0
 new_apart keys client (Some own ∷ owns) (Some other ∷ slots) h e new =
@@ -328,64 +383,40 @@ new_apart keys client (Some own ∷ owns) (Some other ∷ slots) h e new =
     past : (a b n : ℕ) → a ≡ n + 1 → b ≤ n → (a == b) ≡ false
     past a b n e h = grind (arith, nat_tests)
 
--- ---- a round of visits
+-- ---- visits of some slots, and of the next one
 
-pub visits-append : (xs ys : List (Option Visit)) → visits_of (xs ++ ys) ≡ visits_of xs ++ visits_of ys
-visits-append [] ys = refl
-visits-append (None ∷ xs) ys = visits-append xs ys
-visits-append (Some v ∷ xs) ys = ap (λ more. v ∷ more) (visits-append xs ys)
+module _ (buses : List Bus) (slot : Option Client) (after : Slots) (events : List Event) (calls : List Call) where
+  -- the visit of the next slot is of no client before it
+  pub none_before : (slots : Slots) → SlotsDiffer (slots ++ slot ∷ after)
+      → map question calls ≡ visits_ask buses events calls (clients (slot ∷ [])) → NoVisits calls (clients slots)
+  none_before [] h e = tt
+  none_before (None ∷ slots) h e = none_before slots h e
+  none_before (Some client ∷ slots) h e = (
+    no_visit calls client (ap (filter (asks_of client.peer)) e ∙ by slot (all_here (IsApartFrom client) slots slot after h.0)),
+    none_before slots h.1 e,
+  )
+    where
+      by : (next : Option Client) → IsApartFrom client next
+          → filter (asks_of client.peer) (visits_ask buses events calls (clients (next ∷ []))) ≡ []
+      by None a = refl
+      by (Some other) a = none_asked buses client.peer events calls (other ∷ []) (same_no client.peer other.peer a.1, tt)
 
-pub round_clients : (round : List (Option Visit)) → clients (map client_of round) ≡ map (λ v. v.0) (visits_of round)
-round_clients [] = refl
-round_clients (None ∷ round) = round_clients round
-round_clients (Some v ∷ round) = ap (λ more. v.0 ∷ more) (round_clients round)
+  -- nor is one before it of its client
+  pub none_next : (slots : Slots) → SlotsDiffer (slots ++ slot ∷ after) → map question calls ≡ visits_ask buses events calls (clients slots)
+      → NoVisits calls (clients (slot ∷ []))
+  none_next slots h e = by slot h
+    where
+      apart : (slots : Slots) (client : Client) → SlotsDiffer (slots ++ Some client ∷ after)
+          → AllByRecursion (λ other. (other.peer == client.peer) ≡ false) (clients slots)
+      apart [] client h = tt
+      apart (None ∷ slots) client h = apart slots client h
+      apart (Some other ∷ slots) client h =
+          ((all_here (IsApartFrom other) slots (Some client) after h.0).1, apart slots client h.1)
 
-own_other : (p q : ℕ) (calls : List Call) → (p == q) ≡ false → AreAbout p calls → IsOther q calls
-own_other p q calls e = all_weaker _ _ (λ call own. other_question p q _ e own) calls
-
-later_other : (client : Client) (round : List (Option Visit)) → AllByRecursion (IsApartFrom client) (map client_of round)
-    → AreOwn (visits_of round)
-    → IsOther client.peer (calls_of (visits_of round))
-later_other client [] h own = tt
-later_other client (None ∷ round) h own = later_other client round h.1 own
-later_other client (Some v ∷ round) h own =
-    all_append _ v.1 _ (own_other v.0.peer client.peer v.1 (same_no client.peer v.0.peer h.0.1) own.0)
-    (later_other client round h.1 own.1)
-
-left_out_more : (before : List Call) (client : Client) (calls : List Call) (round : List (Option Visit)) → AreAbout client.peer calls
-    → AllByRecursion (IsApartFrom client) (map client_of round) → AllByRecursion (IsLeftOut before) (map client_of round)
-    → AllByRecursion (IsLeftOut (before ++ calls)) (map client_of round)
-left_out_more before client calls [] own h k = tt
-left_out_more before client calls (None ∷ round) own h k = (tt, left_out_more before client calls round own h.1 k.1)
-left_out_more before client calls (Some v ∷ round) own h k = (
-  all_append _ before calls k.0 (own_other client.peer v.0.peer calls h.0.1 own),
-  left_out_more before client calls round own h.1 k.1,
-)
-
-pub visits_apart : (before : List Call) (round : List (Option Visit)) → AreOwn (visits_of round) → ClientsDiffer (map client_of round)
-    → AllByRecursion (IsLeftOut before) (map client_of round) → AreApart before (visits_of round)
-visits_apart before [] own h k = tt
-visits_apart before (None ∷ round) own h k = visits_apart before round own h k.1
-visits_apart before (Some v ∷ round) own h k = (
-  record { own = own.0; earlier = k.0; later = later_other v.0 round h.0 own.1 },
-  visits_apart _ round own.1 h.1 (left_out_more before v.0 v.1 round own.0 h.0 k.1),
-)
-
-pub kept_by : (before : List Call) (round : List (Option Visit)) → AreApart before (visits_of round) → (calls : List Call)
-    → calls ≡ before ++ calls_of (visits_of round) → map (kept calls) (map client_of round) ≡ map left_by round
-kept_by before [] h calls e = refl
-kept_by before (None ∷ round) h calls e = ap (λ more. None ∷ more) (kept_by before round h calls e)
-kept_by before (Some v ∷ round) h calls e =
-    let mine : visit calls v.0 ≡ v.1 = cc (e, one_visit before v (calls_of (visits_of round)) h.0) in
-    let others = kept_by (before ++ v.1) round h.1 calls (e ∙ sym (append_assoc before v.1 (calls_of (visits_of round)))) in
-    cc
-
-pub known_left : (peers : List ℕ) (round : List (Option Visit)) → AllByRecursion (IsOneOf peers) (map client_of round)
-    → AllByRecursion (IsOneOf peers) (map left_by round)
-known_left peers [] h = tt
-known_left peers (None ∷ round) h = (tt, known_left peers round h.1)
-known_left peers (Some v ∷ round) h = (by _, known_left peers round h.1)
-  where
-    by : (b : Bool) → IsOneOf peers (if b then None else Some v.0)
-    by true = tt
-    by false = h.0
+      by : (next : Option Client) → SlotsDiffer (slots ++ next ∷ after) → NoVisits calls (clients (next ∷ []))
+      by None h = tt
+      by (Some client) h = (
+        no_visit calls client
+            (ap (filter (asks_of client.peer)) e ∙ none_asked buses client.peer events calls (clients slots) (apart slots client h)),
+        tt,
+      )

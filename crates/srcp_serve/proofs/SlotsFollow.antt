@@ -1,12 +1,11 @@
 -- The visits of the slots follow the course, and the slots behind those in use stay free.
-use Rattle.std.proofs.Common.{◌≡◌, ◌∙◌, ℕ, ◌+◌, ◌<◌, Bool, true, false, List, [], ◌∷◌, ◌++◌, map, length, if◌then◌else◌, Option, Some, None}
-use Rattle.std.proofs.Common.{refl, ap, sym, subst, arith, append_assoc, append-nil, length-append, inl, inr, zero, suc, ◌-◌, ◌≤◌, max}
-use Rattle.std.proofs.Common.{add-one}
+use Rattle.std.proofs.Common.{◌≡◌, ◌∙◌, ℕ, ◌+◌, ◌<◌, Bool, true, false, List, [], ◌∷◌, ◌++◌, map, length, if◌then◌else◌, Option, Some}
+use Rattle.std.proofs.Common.{None, refl, ap, sym, subst, arith, append_assoc, append-nil, length-append, inl, inr, zero, suc, ◌-◌, ◌≤◌}
+use Rattle.std.proofs.Common.{max, add-one}
 use Rattle.std.proofs.lemmas.Grind.{flat_map-append}
 use Rattle.std.proofs.lemmas.List.{map-append, length-map}
-use Rattle.std.specs.List.{slice_index_or, slice_set}
+use Rattle.std.specs.List.{list_any, slice_index_or, slice_set}
 use Rattle.std.specs.Prelude.{not}
-use Rattle.srcp_info.proofs.ClientLaws.{all_append}
 use Rattle.srcp_grammar.specs.declared.layout.Bus.{Bus}
 use Rattle.srcp_core.specs.Course.{course}
 use Rattle.srcp_core.specs.Held.{Held}
@@ -15,25 +14,29 @@ use Rattle.srcp_core.specs.Stands.{StandsFor}
 use Rattle.srcp_core.specs.Under.{Event}
 use Rattle.srcp_core.proofs.Agreement.NumbersAndKeys.{length_without}
 use Rattle.srcp_serve.specs.Calls.{Call as DoorCall, Trace}
-use Rattle.srcp_serve.specs.Serving.{Client, Stand, question, visit_events, Slots}
-use Rattle.srcp_serve.specs.Slots.{Visit, calls_of, made_by, visits_of, client_of, left_by, AreSlotsOf, IsInState, HasVisited, VisitsSlot}
-use Rattle.srcp_serve.specs.Slots.{VisitsSlots, FromEveryState, OfTurn, Owns, AreFreeFrom, MayFree}
-use Rattle.srcp_serve.specs.Turns.{AsksPeers}
-use Rattle.srcp_serve.specs.Visits.{Keys, Visits}
+use Rattle.srcp_serve.specs.Serving.{Client, clients, Stand, is_about, is_close, kept, question, visit, visit_asks, visit_events, Slots}
+use Rattle.srcp_serve.specs.Slots.{IsInState, HasVisited, VisitsSlot, VisitsSlots, FromEveryState, Owns, AreFreeFrom, MayFree}
+use Rattle.srcp_serve.specs.Turns.{AreAboutPeers, Asks}
+use Rattle.srcp_serve.specs.Given.{Call}
+use Rattle.srcp_serve.specs.Visits.{Keys, Makes, Visits}
 use Rattle.srcp_serve.specs.declared.serving.visit.Client.{Client as Own}
-use Rattle.srcp_serve.proofs.SlotsAreTakenAndFreed.{count_cleared, count_without, differ_cleared, in_state_on, length-owns, owns_without}
-use Rattle.srcp_serve.proofs.SlotsAreTakenAndFreed.{own_here, visits-append, asked_by-append}
+use Rattle.srcp_serve.proofs.SlotsAreTakenAndFreed.{differ_cleared, in_state_on, length-owns, owns_without, AreSlotsOf, clients_differ}
+use Rattle.srcp_serve.proofs.SlotsAreTakenAndFreed.{slots_differ, own_here, about_asked, first_visits, none_before, none_next}
+use Rattle.srcp_serve.proofs.SlotsAreTakenAndFreed.{same_asked, same_kept, same_made, SameVisits, second_visits, SlotsDiffer}
+use Rattle.srcp_serve.proofs.SlotsAreTakenAndFreed.{visits_ask-append}
+use Rattle.srcp_info.proofs.ClientLaws.{filter_every}
+use Rattle.srcp_serve.proofs.CallsByTurnAndPeer.{AreOf as AskOf, visit_own}
+use Rattle.std.proofs.lemmas.List.Elements.{filter_map-append}
+use Rattle.std.specs.Prelude.{flat_map}
 use Rattle.srcp_serve.proofs.CallsAreAdded.{makes_none, makes_then}
 use Rattle.srcp_serve.proofs.DoorIsCalled.{asks_none}
 
 pub slot_free : (slot : ℕ) (d : Option Own) (old : Held) (trace_old : Trace) (owns : Owns)
-    → slice_index_or owns slot d ≡ None → VisitsSlot slot old trace_old owns old trace_old owns
+    → slice_index_or owns slot d ≡ None → VisitsSlot old trace_old owns old trace_old owns slot
 slot_free slot d old trace_old owns here buses stand keys trace in_state is before None after e at = record {
-  round = None ∷ [];
+  calls = [];
   keys = keys;
   made = makes_none buses stand.events trace_old trace old is;
-  clients_are = refl;
-  own = tt;
   asked = refl;
   in_state =
       rw append-nil (subst (λ (all : Slots).
@@ -46,57 +49,69 @@ slot_free slot d old trace_old owns here buses stand keys trace in_state is befo
 
 module _ (slot : ℕ) (d : Option Own) (own : Own) (old new : Held) (trace_old trace_new : Trace) (owns : Owns)
     (here : slice_index_or owns slot d ≡ Some own) where
-  -- the peer of the slot was visited, and has the slot still or not
-  slot_visited : (stays : Bool) (owns_after : Owns) → Visits own.peer own.key old trace_old new trace_new stays
-      → ((buses : List Bus) (stand : Stand) (events : List Event) (keys : Keys) (before : Slots) (client : Client)
+  module _ (stays : Bool) (owns_after : Owns) (visits : Visits own.peer own.key old trace_old new trace_new stays)
+      (in_state_after : (buses : List Bus) (stand : Stand) (events : List Event) (keys : Keys) (before : Slots) (client : Client)
       (after : Slots) → length before ≡ slot
       → IsInState buses (record stand { slots = before ++ Some client ∷ after }) keys old owns → key_of client.conn keys ≡ Some own.key
-      → StandsFor buses (if stays then keys else without_key client.conn keys) new (course buses events)
+      → StandsFor buses (if not stays then without_key client.conn keys else keys) new (course buses events)
       → IsInState buses
       (record { events = events; connected = stand.connected; slots = before ++ (if not stays then None else Some client) ∷ after })
-      (if stays then keys else without_key client.conn keys) new owns_after)
-      → VisitsSlot slot old trace_old owns new trace_new owns_after
-  slot_visited stays owns_after visits in_state_after buses stand keys trace in_state is before None after e at =
-      absurd (rw here at
-      (own_here keys owns before None after slot d e (subst (λ (all : Slots). AreSlotsOf keys owns all) at in_state.owns_are)))
-  slot_visited stays owns_after visits in_state_after buses stand keys trace in_state is before (Some client) after e at =
-      let h =
-      subst (λ (all : Slots). IsInState buses (record stand { slots = all }) keys old owns) at in_state in
-      let own_is =
-      rw here at (own_here keys owns before (Some client) after slot d e h.owns_are) in
-      let visit =
-      rw own_is.0 at visits in
-      let x = visit buses stand.events keys client.conn trace (record { layout = h.layout; named = own_is.1; stands = h.stands }) is in
-      let events = visit_events x.calls client in
-      let left =
-      ap (λ b. if b then None else Some client) x.closes in
-      let keys_after = if stays then keys else without_key client.conn keys in
-      record {
-        round = Some (client, x.calls) ∷ [];
-        keys = keys_after;
-        made = rw (append-nil, append-nil) x.made;
-        clients_are = refl;
-        own = (x.own, tt);
-        asked = cc (append-nil x.calls, append-nil _);
-        in_state =
-            rw append-nil (rw left (in_state_after buses stand (stand.events ++ events) keys before client after e h own_is.1 x.stands));
-      }
+      (if not stays then without_key client.conn keys else keys) new owns_after) where
+    -- the peer of the slot was visited, and has the slot still or not
+    visited_here : (buses : List Bus) (stand : Stand) (keys : Keys) (trace : List DoorCall) (conn : ℕ) (before after : Slots)
+        → trace_new ≡ Some trace → length before ≡ slot → key_of conn keys ≡ Some own.key
+        → IsInState buses (record stand { slots = before ++ Some (record { peer = own.peer; conn = conn }) ∷ after }) keys old owns
+        → HasVisited buses stand trace_old trace new owns_after old before (Some (record { peer = own.peer; conn = conn }) ∷ []) after
+    visited_here buses stand keys trace conn before after is e named h =
+        let client : Client = record { peer = own.peer; conn = conn } in
+        let x = visits buses stand.events keys conn trace (record { layout = h.layout; named = named; stands = h.stands }) is in
+        let keys_after = if not stays then without_key conn keys else keys in
+        let about = about_asked own.peer x.calls (subst (AskOf own.peer) (sym x.asked) (visit_own buses stand.events x.calls client)) in
+        let mine : visit x.calls client ≡ x.calls = filter_every (is_about own.peer) x.calls about in
+        let kept_as : List Call → Option Client = λ calls. if list_any is_close calls then None else Some client in
+        let left : kept_as (visit x.calls client) ≡ (if not stays then None else Some client) =
+        ap kept_as mine ∙ ap (λ b. if b then None else Some client) x.stays_is in
+        let made = visit_events x.calls client in
+        let all : made ≡ made ++ [] = sym (append-nil made) in
+        let stands = subst (λ (more : List Event). StandsFor buses keys_after new (course buses (stand.events ++ more))) all x.stands in
+        record {
+          calls = x.calls;
+          keys = keys_after;
+          made = subst (λ (more : List Event). Makes buses stand.events (stand.events ++ more) x.calls trace_old trace old new) all x.made;
+          asked = x.asked ∙ ap (λ calls. visit_asks buses stand.events calls client) (sym mine)
+              ∙ sym (append-nil (visit_asks buses stand.events (visit x.calls client) client));
+          in_state = subst (λ (left : Option Client). IsInState buses
+              (record { events = stand.events ++ (made ++ []); connected = stand.connected; slots = before ++ left ∷ after }) keys_after new
+              owns_after) (sym left) (in_state_after buses stand (stand.events ++ (made ++ [])) keys before client after e h named stands);
+        }
 
-  pub slot_stays : Visits own.peer own.key old trace_old new trace_new true → VisitsSlot slot old trace_old owns new trace_new owns
+    slot_visited : VisitsSlot old trace_old owns new trace_new owns_after slot
+    slot_visited buses stand keys trace in_state is before None after e at =
+        absurd (rw here at
+        (own_here keys owns before None after slot d e (subst (λ (all : Slots). AreSlotsOf keys owns all) at in_state.owns_are)))
+    slot_visited buses stand keys trace in_state is before (Some client) after e at =
+        let h =
+        subst (λ (all : Slots). IsInState buses (record stand { slots = all }) keys old owns) at in_state in
+        let own_is =
+        rw here at (own_here keys owns before (Some client) after slot d e h.owns_are) in
+        let of : ℕ → Client = λ peer. record { peer = peer; conn = client.conn } in
+        let same : of own.peer ≡ client = ap of own_is.0 in
+        subst (λ (c : Client). HasVisited buses stand trace_old trace new owns_after old before (Some c ∷ []) after) same
+        (visited_here buses stand keys trace client.conn before after is e own_is.1
+        (subst (λ (c : Client). IsInState buses (record stand { slots = before ++ Some c ∷ after }) keys old owns) (sym same) h))
+
+  pub slot_stays : Visits own.peer own.key old trace_old new trace_new true → VisitsSlot old trace_old owns new trace_new owns slot
   slot_stays visits = slot_visited true owns visits (λ buses stand events keys before client after e h named stands.
       in_state_on buses (record stand { slots = before ++ Some client ∷ after }) events keys old new owns h stands)
 
   pub slot_goes : Visits own.peer own.key old trace_old new trace_new false
-      → VisitsSlot slot old trace_old owns new trace_new (slice_set owns slot None)
+      → VisitsSlot old trace_old owns new trace_new (slice_set owns slot None) slot
   slot_goes visits = slot_visited false _ visits (λ buses stand events keys before client after e h named stands.
-      let a = count_cleared client before after in
-      let b = count_without _ keys own.key named in
-      let c = h.few in
+      let apart = slots_differ (before ++ Some client ∷ after) h.differ in
       record {
         layout = h.layout;
-        owns_are = owns_without keys owns before client after slot e h.differ h.owns_are;
-        few = omega (arith, a, b, c);
-        differ = differ_cleared before client after h.differ;
+        owns_are = owns_without keys owns before client after slot e apart h.owns_are;
+        differ = clients_differ (before ++ None ∷ after) (differ_cleared before client after apart);
         long = length_without client.conn keys ∙ h.long;
         stands = stands;
       })
@@ -113,9 +128,10 @@ pub record HasVisitedSoFar (buses : List Bus) (stand : Stand) (old : Trace) (tra
   pub visited : HasVisited buses stand old trace held owns core_old [] clients after
 
 -- this many slots are visited, in their order
-abbrev pub VisitsSoFar : (count : ℕ) → OfTurn (Type 0)
-VisitsSoFar count old trace_old owns_old now trace_now owns_now = FromEveryState
-    (λ buses stand keys trace. HasVisitedSoFar buses stand trace_old trace now owns_now old count) old owns_old trace_now
+abbrev pub VisitsSoFar : (count : ℕ) (old : Held) (trace_old : Trace) (owns_old : Owns) (now : Held) (trace_now : Trace) (owns_now : Owns)
+    → Type 0
+VisitsSoFar count old trace_old owns_old now trace_now owns_now = FromEveryState old trace_old owns_old now trace_now owns_now
+    (λ buses stand keys trace. HasVisitedSoFar buses stand trace_old trace now owns_now old count)
 
 pub slots_first : (old : Held) (trace_old : Trace) (owns : Owns)
     → VisitsSoFar 0 old trace_old owns old trace_old owns
@@ -125,96 +141,105 @@ slots_first old trace_old owns buses stand keys trace in_state is = record {
   are = refl;
   many = refl;
   visited = record {
-    round = [];
+    calls = [];
     keys = keys;
     made = makes_none buses stand.events trace_old trace old is;
-    clients_are = refl;
-    own = tt;
     asked = refl;
     in_state =
         rw append-nil in_state;
   };
 }
 
-module _ (buses : List Bus) (stand : Stand) (old : Trace) (core_old : Held) (clients : Slots) where
+module _ (buses : List Bus) (stand : Stand) (old : Trace) (core_old : Held) (slots : Slots) where
   -- one slot more was visited
   visited_then : (mid : List DoorCall) (trace_mid : Trace) (between new : Held) (owns owns_after : Owns)
-      (trace : List DoorCall) (slot : Option Client) (after : Slots)
+      (trace : List DoorCall) (slot : Option Client) (after : Slots) → SlotsDiffer (slots ++ slot ∷ after)
       → trace_mid ≡ Some mid
-      → (x : HasVisited buses stand old mid between owns core_old [] clients (slot ∷ after))
-      → HasVisited buses (record {
-        events = stand.events ++ made_by (visits_of x.round);
-        connected = stand.connected;
-        slots = map left_by x.round ++ slot ∷ after;
-      }) trace_mid trace new owns_after between
-      (map left_by x.round) (slot ∷ []) after
-      → HasVisited buses stand old trace new owns_after core_old [] (clients ++ slot ∷ []) after
-  visited_then mid trace_mid between new owns owns_after trace slot after is x y =
-      let both = x.round ++ y.round in
-      let xs = visits_of x.round in
-      let ys = visits_of y.round in
-      let all = visits-append x.round y.round in
-      let calls : calls_of (visits_of both) ≡ calls_of xs ++ calls_of ys = cc (flat_map-append (λ v. v.1) xs ys) in
-      let made : made_by (visits_of both) ≡ made_by xs ++ made_by ys = cc (flat_map-append (λ v. visit_events v.1 v.0) xs ys) in
-      let events : (stand.events ++ made_by xs) ++ made_by ys ≡ stand.events ++ made_by (visits_of both) =
-      cc (append_assoc stand.events (made_by xs) (made_by ys)) in
-      let slots : map left_by x.round ++ (map left_by y.round ++ after) ≡ map left_by both ++ after =
-      simp (append_assoc, map-append) in
+      → (x : HasVisited buses stand old mid between owns core_old [] slots (slot ∷ after))
+      → HasVisited buses (record stand {
+        events = stand.events ++ flat_map (visit_events x.calls) (clients slots);
+        slots = map (kept x.calls) slots ++ slot ∷ after;
+      }) trace_mid trace new owns_after between (map (kept x.calls) slots) (slot ∷ []) after
+      → HasVisited buses stand old trace new owns_after core_old [] (slots ++ slot ∷ []) after
+  visited_then mid trace_mid between new owns owns_after trace slot after differ is x y =
+      let a : List Call = x.calls in
+      let b : List Call = y.calls in
+      let all : List Call = a ++ b in
+      let mine : List Client = clients slots in
+      let next : List Client = clients (slot ∷ []) in
+      let events : List Event = stand.events ++ flat_map (visit_events a) mine in
+      let same_a : SameVisits all a mine = first_visits a b mine (none_before buses slot after events b slots differ y.asked) in
+      let same_b : SameVisits all b next = second_visits a b next (none_next buses slot after stand.events a slots differ x.asked) in
+      let parts : clients (slots ++ slot ∷ []) ≡ mine ++ next = filter_map-append (λ s. s) slots (slot ∷ []) in
+      let made_a = same_made all a mine same_a in
+      let made : events ++ flat_map (visit_events b) next ≡ stand.events ++ flat_map (visit_events all) (clients (slots ++ slot ∷ [])) =
+      cc (
+        parts,
+        flat_map-append (visit_events all) mine next,
+        made_a,
+        same_made all b next same_b,
+        append_assoc stand.events (flat_map (visit_events a) mine) (flat_map (visit_events b) next),
+      ) in
+      let left : map (kept a) slots ++ (map (kept b) (slot ∷ []) ++ after) ≡ map (kept all) (slots ++ slot ∷ []) ++ after =
+      cc (
+        map-append (kept all) slots (slot ∷ []),
+        same_kept all a slots same_a,
+        same_kept all b (slot ∷ []) same_b,
+        append_assoc (map (kept a) slots) (map (kept b) (slot ∷ [])) after,
+      ) in
       record {
-        round = both;
+        calls = all;
         keys = y.keys;
-        made = rw (← events, calls) (makes_then is x.made y.made);
-        clients_are =
-            cc (map-append client_of x.round y.round);
-        own = rw all (all_append _ xs ys x.own y.own);
+        made = subst (λ (es : List Event). Makes buses stand.events es all old trace core_old new) made (makes_then is x.made y.made);
         asked =
-            cc (map-append question (calls_of xs) (calls_of ys), asked_by-append buses stand.events xs ys);
-        in_state =
-            rw events at (rw slots at y.in_state);
+            cc (
+              map-append question a b,
+              parts,
+              visits_ask-append buses stand.events all mine next,
+              same_asked buses stand.events all a mine same_a,
+              same_asked buses events all b next same_b,
+              made_a,
+              x.asked,
+              y.asked,
+            );
+        in_state = subst (λ (es : List Event). IsInState buses
+            (record stand { events = es; slots = map (kept all) (slots ++ slot ∷ []) ++ after }) y.keys new owns_after)
+            made (subst (λ (ss : Slots). IsInState buses
+            (record stand { events = events ++ flat_map (visit_events b) next; slots = ss }) y.keys new owns_after)
+            left y.in_state);
       }
-
--- there are as many slots after the visits as before
-length-left : (round : List (Option Visit)) (clients : Slots) → map client_of round ≡ clients
-    → length (map left_by round) ≡ length clients
-length-left round clients e = cc (length-map round left_by, length-map round client_of, e)
 
 module _ (slot : ℕ) (old mid new : Held) (trace_old trace_mid trace_new : Trace)
     (owns_old owns owns_after : Owns) (long : length owns ≡ 64) (within : slot < 64)
-    (visits : VisitsSlot slot mid trace_mid owns new trace_new owns_after) where
+    (visits : VisitsSlot mid trace_mid owns new trace_new owns_after slot) where
   slotd_on : (buses : List Bus) (stand : Stand) (trace trace_then : List DoorCall) → trace_new ≡ Some trace → trace_mid ≡ Some trace_then
-      → (clients after : Slots) → stand.slots ≡ clients ++ after → length clients ≡ slot
+      → SlotsDiffer stand.slots → (clients after : Slots) → stand.slots ≡ clients ++ after → length clients ≡ slot
       → HasVisited buses stand trace_old trace_then mid owns old [] clients after
       → HasVisitedSoFar buses stand trace_old trace new owns_after old (slot + 1)
-  slotd_on buses stand trace trace_then is was clients [] are many x =
-      let a = length-owns x.keys owns (map left_by x.round ++ []) x.in_state.owns_are in
+  slotd_on buses stand trace trace_then is was differ clients [] are many x =
+      let a = length-owns x.keys owns (map (kept x.calls) clients ++ []) x.in_state.owns_are in
       let none = [] in
-      let b = length-append (map left_by x.round) none in
-      let c = length-left x.round clients x.clients_are in
+      let b = length-append (map (kept x.calls) clients) none in
+      let c = length-map clients (kept x.calls) in
       absurd (omega (arith, a, b, c, many, long, within))
-  slotd_on buses stand trace trace_then is was clients (p ∷ after) are many x =
-      let now : Stand =
-      record {
-        events = stand.events ++ made_by (visits_of x.round);
-        connected = stand.connected;
-        slots = map left_by x.round ++ p ∷ after;
-      } in
+  slotd_on buses stand trace trace_then is was differ clients (p ∷ after) are many x =
       let y =
-      visits buses now x.keys trace x.in_state is (map left_by x.round) p after
-      (length-left x.round clients x.clients_are ∙ many) refl in
+      visits buses _ x.keys trace x.in_state is (map (kept x.calls) clients) p after (length-map clients (kept x.calls) ∙ many) refl in
       record {
         clients = clients ++ p ∷ [];
         after = after;
         are = are ∙ sym (append_assoc clients (p ∷ []) after);
         many = cc (length-append clients (p ∷ []));
-        visited = visited_then buses stand trace_old old clients trace_then trace_mid mid new owns owns_after trace p after was x y;
+        visited = visited_then buses stand trace_old old clients trace_then trace_mid mid new owns owns_after trace p after
+            (subst SlotsDiffer are differ) was x y;
       }
 
-  pub slots_on : VisitsSoFar slot old trace_old owns_old mid trace_mid owns → AsksPeers trace_mid trace_new
+  pub slots_on : VisitsSoFar slot old trace_old owns_old mid trace_mid owns → Asks AreAboutPeers trace_mid trace_new
       → VisitsSoFar (slot + 1) old trace_old owns_old new trace_new owns_after
   slots_on so asks buses stand keys trace in_state is =
-      let w = (asks trace is).adds in
+      let w = (asks trace is).1 in
       let s = so buses stand keys w.before in_state w.was in
-      slotd_on buses stand trace w.before is w.was s.clients s.after s.are s.many s.visited
+      slotd_on buses stand trace w.before is w.was (slots_differ stand.slots in_state.differ) s.clients s.after s.are s.many s.visited
 
 pub slots_all : (slot : ℕ) (old now : Held) (trace_old trace_now : Trace) (owns_old owns : Owns)
     → length owns ≡ 64 → slot ≡ 64 → VisitsSoFar slot old trace_old owns_old now trace_now owns
@@ -229,9 +254,9 @@ slots_all slot old now trace_old trace_now owns_old owns long most so buses stan
     all clients [] are many x =
         subst (λ (ps : Slots). HasVisited buses stand trace_old trace now owns old [] ps []) (sym (are ∙ append-nil clients)) x
     all clients (p ∷ after) are many x =
-        let a = length-owns x.keys owns (map left_by x.round ++ p ∷ after) x.in_state.owns_are in
-        let b = length-append (map left_by x.round) (p ∷ after) in
-        let c = length-left x.round clients x.clients_are in
+        let a = length-owns x.keys owns (map (kept x.calls) clients ++ p ∷ after) x.in_state.owns_are in
+        let b = length-append (map (kept x.calls) clients) (p ∷ after) in
+        let c = length-map clients (kept x.calls) in
         absurd (omega (arith, a, b, c, many, long, most))
 
 -- ---- the slots from some slot on stay free in a turn, and no peer is visited there

@@ -12,20 +12,21 @@ use Rattle.srcp_core.specs.Course.{course}
 use Rattle.srcp_core.specs.Held.{Held}
 use Rattle.srcp_core.specs.Stands.{StandsFor}
 use Rattle.srcp_core.specs.Under.{Open}
+use Rattle.srcp_info.proofs.ClientLaws.{filter_no_one}
 use Rattle.srcp_core.proofs.CourseLaws.SentLinesAreOneList.{all_prefix}
 use Rattle.srcp_serve.specs.Calls.{Call as DoorCall, Tells, PeersDiffer, peer_of, Trace}
 use Rattle.srcp_serve.specs.Given.{Accepted, Call, ExpectCall, NowCall, AcceptCall, ReadCall, WriteCall, CloseCall, door_call}
-use Rattle.srcp_serve.specs.Serving.{Stand, Expects, Moments, expects, Accepts, IsFair, question, moment_of, accept_of, clients, visits_ask}
-use Rattle.srcp_serve.specs.Serving.{connects, with_connection, with_accept, with_moment, timed, begun, turned, turn_asks, refuses, Slots}
-use Rattle.srcp_serve.specs.Slots.{IsInState, IsLeftOut, IsNotOf, IsOneOf, one_if, AcceptsOne, MakesTurn, Connects, ClientsDiffer}
-use Rattle.srcp_serve.specs.Slots.{TakesMoment, Visit, VisitsSlots, AreOwn, asked_by, calls_of, left_by, made_by, client_of, visits_of}
-use Rattle.srcp_serve.specs.Slots.{Owns}
-use Rattle.srcp_serve.specs.Turns.{AsksAccept, AsksPeers, AsksTurn, IsTurn, is_of_peer}
+use Rattle.srcp_serve.specs.Serving.{Client, Closes, Stand, Expects, Moments, expects, Accepts, IsFair, question, moment_of, accept_of}
+use Rattle.srcp_serve.specs.Serving.{clients, is_about, kept, visit_events, visits_ask, connects, with_connection, with_accept}
+use Rattle.srcp_serve.specs.Serving.{with_moment, timed, begun, turned, turn_asks, refuses, Slots}
+use Rattle.srcp_serve.specs.Slots.{IsInState, one_if, AcceptsOne, MakesTurn, Connects, TakesMoment, VisitsSlots, Owns}
+use Rattle.srcp_serve.specs.Turns.{AreAccept, Asks, AreAboutPeers, IsTurn, is_of_peer}
 use Rattle.srcp_serve.specs.Visits.{Keys, Makes}
 use Rattle.srcp_serve.specs.declared.door.DoorFault.{DoorFault}
-use Rattle.srcp_serve.proofs.AcceptedPeersConnect.{none_left_out}
-use Rattle.srcp_serve.proofs.SlotsAreTakenAndFreed.{all_here, all_connected, in_state_on, kept_by, known_left, round_clients, visits_apart}
-use Rattle.srcp_serve.proofs.SlotsAreTakenAndFreed.{AreApart, visits_asked, visits_make}
+use Rattle.srcp_serve.proofs.PeersAreSentTheirVisits.{connected_all, kept_all}
+use Rattle.srcp_serve.proofs.VisitsFollow.{closing_call}
+use Rattle.srcp_serve.proofs.SlotsAreTakenAndFreed.{all_here, in_state_on, AreOf, HasNone, NoVisits, SameVisits, same_asked, same_kept}
+use Rattle.srcp_serve.proofs.SlotsAreTakenAndFreed.{same_made, second_visits}
 use Rattle.srcp_serve.proofs.CallsAreAdded.{adds_one, adds_then, asked_moment, given_then, makes_then, same_calls}
 use Rattle.srcp_serve.proofs.SentIsTakenAfterAllTurns.{peers_trace}
 use Rattle.srcp_serve.specs.Calls as door
@@ -82,16 +83,20 @@ not_known (x ∷ peers) p r h k = by (x == r) refl k (λ e. not_known peers p r 
     by true e k more = no_either x p r h.0 e
     by false e k more = more k
 
-fresh : (peers : List ℕ) (p : ℕ) (slots : Slots) → AllByRecursion (λ x. (x == p) ≡ false) peers
-    → AllByRecursion (IsOneOf peers) slots → AllByRecursion (IsNotOf p) slots
+fresh : (peers : List ℕ) (p : ℕ) (slots : Slots) → AllByRecursion (λ x. (x == p) ≡ false) peers → AreOf peers slots → HasNone p slots
 fresh peers p [] h k = tt
-fresh peers p (None ∷ slots) h k = (tt, fresh peers p slots h k.1)
+fresh peers p (None ∷ slots) h k = fresh peers p slots h k
 fresh peers p (Some client ∷ slots) h k = (not_known peers p _ h k.0, fresh peers p slots h k.1)
 
-known_more : (peers more : List ℕ) (slots : Slots) → AllByRecursion (IsOneOf peers) slots
-    → AllByRecursion (IsOneOf (peers ++ more)) slots
+-- a peer that the door accepts has no slot
+new_peer : (peers : List ℕ) (answer : Result (Option ℕ) DoorFault) (later : List DoorCall) (slots : Slots)
+    → PeersDiffer peers (door.AcceptCall answer ∷ later) → AreOf peers slots → (peer : ℕ) → answer ≡ Ok (Some peer) → HasNone peer slots
+new_peer peers answer later slots differ known peer e =
+    fresh peers peer slots (differ_last peers peer (filter_map peer_of later) (rw e at differ)) known
+
+known_more : (peers more : List ℕ) (slots : Slots) → AreOf peers slots → AreOf (peers ++ more) slots
 known_more peers more [] h = tt
-known_more peers more (None ∷ slots) h = (tt, known_more peers more slots h.1)
+known_more peers more (None ∷ slots) h = known_more peers more slots h
 known_more peers more (Some client ∷ slots) h = (
   cc (list_any-append (λ q. q == client.peer) peers more),
   known_more peers more slots h.1,
@@ -105,39 +110,72 @@ known_last (x ∷ peers) p = by (x == p) (known_last peers p)
     by true e = refl
     by false e = e
 
+none_seen : (early : List Call) (all : List Client) → map question early ≡ [] → NoVisits early all
+none_seen early [] e = tt
+none_seen [] (client ∷ all) e = (refl, none_seen [] all e)
+none_seen (call ∷ early) (client ∷ all) e = cc
+
+closed_seen : (peer : ℕ) (answer : Result Unit DoorFault) (all : List Client) → AllByRecursion (λ client. (peer == client.peer) ≡ false) all
+    → NoVisits (CloseCall peer answer ∷ []) all
+closed_seen peer answer [] h = tt
+closed_seen peer answer (client ∷ all) h =
+    (filter_no_one (is_about client.peer) (CloseCall peer answer ∷ []) (h.0, tt), closed_seen peer answer all h.1)
+
 module _ (buses : List Bus) where
-  known_accept : (peers : List ℕ) (stand : Stand) (accept : Accepted) → AllByRecursion (IsOneOf peers) stand.slots
-      → AllByRecursion (IsOneOf (peers ++ accept.peer ∷ [])) (with_accept buses stand accept).slots
+  known_accept : (peers : List ℕ) (stand : Stand) (accept : Accepted) → AreOf peers stand.slots
+      → AreOf (peers ++ accept.peer ∷ []) (with_accept buses stand accept).slots
   known_accept peers stand accept h = by (connects buses stand.events accept.granted)
     where
-      more : AllByRecursion (IsOneOf (peers ++ accept.peer ∷ [])) stand.slots
+      more : AreOf (peers ++ accept.peer ∷ []) stand.slots
       more = known_more peers (accept.peer ∷ []) stand.slots h
 
-      by : (b : Bool)
-          → AllByRecursion (IsOneOf (peers ++ accept.peer ∷ []))
+      by : (b : Bool) → AreOf (peers ++ accept.peer ∷ [])
           (if b then with_connection buses stand accept else record stand { events = stand.events ++ Open accept.granted ∷ [] }).slots
       by true =
-          all_connected (IsOneOf (peers ++ accept.peer ∷ [])) (record { peer = accept.peer; conn = length stand.connected + 1 }) stand.slots
-          (known_last peers accept.peer) more
+          connected_all _ (record { peer = accept.peer; conn = length stand.connected + 1 }) stand.slots (known_last peers accept.peer) more
       by false = more
 
-  known_accepts : (answer : Result (Option ℕ) DoorFault) (granted : Bool) (peers : List ℕ) (stand : Stand)
-      → AllByRecursion (IsOneOf peers) stand.slots
-      → AllByRecursion (IsOneOf (peers ++ filter_map peer_of (door.AcceptCall answer ∷ [])))
-      (fold (with_accept buses) stand (filter_map accept_of (AcceptCall answer granted ∷ []))).slots
-  known_accepts (Ok None) granted peers stand h = known_more peers [] _ h
-  known_accepts (Ok (Some p)) granted peers stand h = known_accept peers stand (record { peer = p; granted = granted }) h
-  known_accepts (Err failed) granted peers stand h = known_more peers [] stand.slots h
+  known_accepts : (accepts : List Accepted) (peers : List ℕ) (stand : Stand) → AreOf peers stand.slots
+      → AreOf (peers ++ map (λ accept. accept.peer) accepts) (fold (with_accept buses) stand accepts).slots
+  known_accepts [] peers stand h = known_more peers [] stand.slots h
+  known_accepts (accept ∷ accepts) peers stand h =
+      let slots : Slots = (fold (with_accept buses) stand (accept ∷ accepts)).slots in
+      subst (λ (ps : List ℕ). AreOf ps slots) (append_assoc peers (accept.peer ∷ []) (map (λ a. a.peer) accepts))
+      (known_accepts accepts (peers ++ accept.peer ∷ []) (with_accept buses stand accept) (known_accept peers stand accept h))
+
+  known_moments : (moments : List ℕ) (peers : List ℕ) (stand : Stand) → AreOf peers stand.slots
+      → AreOf peers (fold (with_moment buses) stand moments).slots
+  known_moments [] peers stand h = h
+  known_moments (moment ∷ moments) peers stand h = known_moments moments peers (with_moment buses stand moment) h
+
+  -- after a turn, each that has a slot was one of the peers or was accepted
+  pub known_turned : (peers : List ℕ) (stand : Stand) (calls : List Call) → AreOf peers stand.slots
+      → AreOf (peers ++ filter_map peer_of (map door_call calls)) (turned buses stand calls).slots
+  known_turned peers stand calls h =
+      let timed_known = known_moments (filter_map moment_of calls) peers stand h in
+      let begun_known = known_accepts (filter_map accept_of calls) peers (timed buses stand calls) timed_known in
+      kept_all _ calls (begun buses stand calls).slots
+      (subst (λ (ps : List ℕ). AreOf (peers ++ ps) (begun buses stand calls).slots) (sym (peers_trace calls)) begun_known)
+
+  -- the calls that follow an accept are about no peer that has a slot then
+  early_seen : (stand : Stand) (answer : Result (Option ℕ) DoorFault) (granted : Bool) (early : List Call)
+      → ((peer : ℕ) → answer ≡ Ok (Some peer) → HasNone peer stand.slots)
+      → map question early ≡ flat_map (refuses buses stand.events) (filter_map accept_of (AcceptCall answer granted ∷ []))
+      → NoVisits early (clients (fold (with_accept buses) stand (filter_map accept_of (AcceptCall answer granted ∷ []))).slots)
+  early_seen stand (Ok None) granted early new asked = none_seen early (clients stand.slots) asked
+  early_seen stand (Err failed) granted early new asked = none_seen early (clients stand.slots) asked
+  early_seen stand (Ok (Some p)) granted early new asked = by (connects buses stand.events granted) asked
+    where
+      by : (b : Bool) → map question early ≡ (if b then [] else Closes p ∷ []) ++ []
+          → NoVisits early (clients (if b then with_connection buses stand (record { peer = p; granted = granted })
+          else record stand { events = stand.events ++ Open granted ∷ [] }).slots)
+      by true e = none_seen early _ e
+      by false e = let c = closing_call p early e in rw c.1 (closed_seen p c.0 (clients stand.slots) (new p refl))
 
   connected_timed : (answer : Result ℕ DoorFault) (stand : Stand)
       → length (timed buses stand (NowCall answer ∷ [])).connected ≡ length stand.connected
   connected_timed (Ok moment) stand = refl
   connected_timed (Err failed) stand = refl
-
-  known_timed : (answer : Result ℕ DoorFault) (peers : List ℕ) (stand : Stand) → AllByRecursion (IsOneOf peers) stand.slots
-      → AllByRecursion (IsOneOf peers) (timed buses stand (NowCall answer ∷ [])).slots
-  known_timed (Ok moment) peers stand h = h
-  known_timed (Err failed) peers stand h = h
 
   in_state_timed : (answer : Result ℕ DoorFault) (stand : Stand) (keys : Keys) (old held : Held) (owns : Owns)
       → IsInState buses stand keys old owns → StandsFor buses keys held (course buses (timed buses stand (NowCall answer ∷ [])).events)
@@ -152,78 +190,71 @@ no_more n = omega arith
 
 module _ (old : Held) (trace_old trace_new : Trace) (owns : Owns) where
   pub accepts_nobody : Tells trace_old (door.AcceptCall (Ok None)) trace_new → AcceptsOne old trace_old owns old trace_new owns false
-  accepts_nobody h buses stand keys trace in_state is peers calls adds differ known = record {
-    answer = Ok None;
-    granted = true;
-    early = [];
-    adds = adds_one (door.AcceptCall (Ok None)) trace_old trace_new trace h is;
-    settled = record {
+  accepts_nobody h buses stand keys trace in_state is peers calls adds differ known = (
+    Ok None,
+    true,
+    record {
+      early = [];
       keys = keys;
+      adds = adds_one (door.AcceptCall (Ok None)) trace_old trace_new trace h is;
       counted = refl;
       asked_for = λ first e. e;
       asked = refl;
-      others = none_left_out stand.slots;
       in_state = in_state;
       opened = no_more (length stand.connected);
-    };
-  }
+    },
+  )
 
   pub accept_fails : (failed : DoorFault) → Tells trace_old (door.AcceptCall (Err failed)) trace_new
       → AcceptsOne old trace_old owns old trace_new owns false
-  accept_fails failed h buses stand keys trace in_state is peers calls adds differ known = record {
-    answer = Err failed;
-    granted = true;
-    early = [];
-    adds = adds_one (door.AcceptCall (Err failed)) trace_old trace_new trace h is;
-    settled = record {
+  accept_fails failed h buses stand keys trace in_state is peers calls adds differ known = (
+    Err failed,
+    true,
+    record {
+      early = [];
       keys = keys;
+      adds = adds_one (door.AcceptCall (Err failed)) trace_old trace_new trace h is;
       counted = refl;
       asked_for = λ first e. e;
       asked = refl;
-      others = none_left_out stand.slots;
       in_state = in_state;
       opened = no_more (length stand.connected);
-    };
-  }
+    },
+  )
 
 pub accepts_peer : (peer : ℕ) (opens : Bool) (old new : Held) (trace_old trace_mid trace_new : Trace)
     (owns owns_new : Owns)
-    → Tells trace_old (door.AcceptCall (Ok (Some peer))) trace_mid → AsksPeers trace_mid trace_new
-    → Connects peer old trace_mid owns new trace_new owns_new opens → AcceptsOne old trace_old owns new trace_new owns_new opens
+    → Tells trace_old (door.AcceptCall (Ok (Some peer))) trace_mid → Asks AreAboutPeers trace_mid trace_new
+    → Connects old trace_mid owns new trace_new owns_new peer opens → AcceptsOne old trace_old owns new trace_new owns_new opens
 accepts_peer peer opens old new trace_old trace_mid trace_new owns owns_new h asks own_is buses stand keys trace in_state is peers calls
     adds
     differ
     known =
     let call = door.AcceptCall (Ok (Some peer)) in
     let later = asks trace is in
-    let first = adds_one call trace_old trace_mid later.adds.before h later.adds.was in
-    let same =
-    same_calls adds
-    (adds_then later.adds.was first later.adds) in
-    let apart =
-    rw same at differ in
-    let x =
-    own_is buses stand keys trace in_state is
-    (fresh peers peer stand.slots (differ_last peers peer (filter_map peer_of later.calls) apart) known) in
-    record {
-      answer = Ok (Some peer);
-      granted = x.granted;
-      early = x.early;
-      adds =
-          given_then
-          (AcceptCall (Ok (Some peer)) x.granted ∷ []) x.early later.adds.was first x.adds;
-      settled = x.settled;
-    }
+    let first = adds_one call trace_old trace_mid later.1.before h later.1.was in
+    let apart = rw (same_calls adds (adds_then later.1.was first later.1)) at differ in
+    let x = own_is buses stand keys trace in_state is (new_peer peers (Ok (Some peer)) later.0 stand.slots apart known peer refl) in (
+      Ok (Some peer),
+      x.0,
+      record {
+        early = x.1.early;
+        keys = x.1.keys;
+        adds = given_then (AcceptCall (Ok (Some peer)) x.0 ∷ []) x.1.early later.1.was first x.1.adds;
+        counted = x.1.counted;
+        asked_for = x.1.asked_for;
+        asked = x.1.asked;
+        in_state = x.1.in_state;
+        opened = x.1.opened;
+      },
+    )
 
 -- ---- the calls of a turn
 
 module _ (buses : List Bus) (stand : Stand) (due slack : Option ℕ) (now : Result ℕ DoorFault) (answer : Result (Option ℕ) DoorFault)
-    (granted : Bool) (early : List Call) (round : List (Option Visit)) where
-  abbrev visits : List Visit
-  visits = visits_of round
-
+    (granted : Bool) (early seen : List Call) where
   abbrev tail : List Call
-  tail = early ++ calls_of visits
+  tail = early ++ seen
 
   abbrev calls : List Call
   calls = ExpectCall due slack ∷ NowCall now ∷ AcceptCall answer granted ∷ tail
@@ -238,7 +269,10 @@ module _ (buses : List Bus) (stand : Stand) (due slack : Option ℕ) (now : Resu
   second = fold (with_accept buses) first accepts
 
   abbrev third : Stand
-  third = record { events = second.events ++ made_by visits; connected = second.connected; slots = map left_by round ++ [] }
+  third = record second {
+    events = second.events ++ flat_map (visit_events seen) (clients second.slots);
+    slots = map (kept seen) second.slots ++ [];
+  }
 
   module _ (peers : list_all is_of_peer (map door_call tail) ≡ true) where
     accepts_are : filter_map accept_of calls ≡ accepts
@@ -255,71 +289,47 @@ module _ (buses : List Bus) (stand : Stand) (due slack : Option ℕ) (now : Resu
     begun_is : begun buses stand calls ≡ second
     begun_is = rw (timed_is, accepts_are)
 
-    module _ (own : AreOwn visits) (slots : map client_of round ≡ second.slots) (differ : ClientsDiffer second.slots)
-        (others : AllByRecursion (IsLeftOut early) second.slots) where
-      apart : AreApart (ExpectCall due slack ∷ NowCall now ∷ AcceptCall answer granted ∷ early) visits
-      apart =
-          visits_apart (ExpectCall due slack ∷ NowCall now ∷ AcceptCall answer granted ∷ early) round own
-          (rw slots differ)
-          (left_out (map client_of round) (rw slots others))
-        where
-          left_out : (ps : Slots) → AllByRecursion (IsLeftOut early) ps
-              → AllByRecursion (IsLeftOut (ExpectCall due slack ∷ NowCall now ∷ AcceptCall answer granted ∷ early)) ps
-          left_out [] h = tt
-          left_out (None ∷ ps) h = (tt, left_out ps h.1)
-          left_out (Some client ∷ ps) h = ((refl, (refl, (refl, h.0))), left_out ps h.1)
-
-      clients_are : clients second.slots ≡ map (λ v. v.0) visits
-      clients_are = cc (round_clients round)
+    module _ (others : NoVisits early (clients second.slots)) where
+      same : SameVisits calls seen (clients second.slots)
+      same = second_visits (ExpectCall due slack ∷ NowCall now ∷ AcceptCall answer granted ∷ early) seen (clients second.slots) others
 
       pub turned_is : turned buses stand calls ≡ third
       turned_is =
           cc (
             begun_is,
-            clients_are,
-            visits_make (ExpectCall due slack ∷ NowCall now ∷ AcceptCall answer granted ∷ early) visits apart calls refl,
-            slots,
-            kept_by (ExpectCall due slack ∷ NowCall now ∷ AcceptCall answer granted ∷ early) round apart calls refl,
-            append-nil (map left_by round),
+            same_made calls seen (clients second.slots) same,
+            same_kept calls seen second.slots same,
+            append-nil (map (kept seen) second.slots),
           )
 
       pub turn_asked : Expects due slack ≡ expects buses stand.events → map question early ≡ flat_map (refuses buses first.events) accepts
-          → map question (calls_of visits) ≡ asked_by buses second.events visits → map question calls ≡ turn_asks buses stand calls
+          → map question seen ≡ visits_ask buses second.events seen (clients second.slots)
+          → map question calls ≡ turn_asks buses stand calls
       turn_asked first_asked refused asked =
-          let asks_second : visits_ask buses second.events calls (clients second.slots) ≡ asked_by buses second.events visits =
-          cc (
-            clients_are,
-            visits_asked buses (ExpectCall due slack ∷ NowCall now ∷ AcceptCall answer granted ∷ early) visits apart calls refl
-                second.events,
-          ) in
+          let asks_second = same_asked buses second.events calls seen (clients second.slots) same ∙ sym asked in
           let asks : turn_asks buses stand calls
-          ≡ expects buses stand.events ∷ Moments ∷ Accepts
-          ∷ (flat_map (refuses buses first.events) accepts ++ asked_by buses second.events visits) =
+          ≡ expects buses stand.events ∷ Moments ∷ Accepts ∷ (flat_map (refuses buses first.events) accepts ++ map question seen) =
           cc (timed_is, accepts_are, begun_is, asks_second) in
-          cc (map-append question early (calls_of visits))
-
-tail_of : (trace : List DoorCall) (due slack : Option ℕ) (now : Result ℕ DoorFault) (answer : Result (Option ℕ) DoorFault)
-    (rest : List DoorCall)
-    → IsTurn trace → trace ≡ door.ExpectCall due slack ∷ door.NowCall now ∷ door.AcceptCall answer ∷ rest → list_all is_of_peer rest ≡ true
-tail_of trace due slack now answer rest t e = cc
+          cc (map-append question early seen)
 
 pub makes_turn : (opens : Bool) (old mid between new : Held) (trace_old trace_mid trace_between trace_new : Trace)
     (owns_old owns owns_new : Owns)
-    → TakesMoment old trace_old mid trace_mid → mid.denied ≡ old.denied → AsksAccept trace_mid trace_between
+    → TakesMoment old trace_old mid trace_mid → mid.denied ≡ old.denied → Asks AreAccept trace_mid trace_between
     → AcceptsOne mid trace_mid owns_old between trace_between owns opens
-    → AsksPeers trace_between trace_new → VisitsSlots between trace_between owns new trace_new owns_new → AsksTurn trace_old trace_new
+    → Asks AreAboutPeers trace_between trace_new → VisitsSlots between trace_between owns new trace_new owns_new
+    → Asks IsTurn trace_old trace_new
     → MakesTurn old trace_old owns_old new trace_new owns_new opens
 makes_turn opens old mid between new trace_old trace_mid trace_between trace_new owns_old owns owns_new moment same_count asks_in
     accepts_one
     asks_visits visits asks_turn buses stand keys trace in_state is peers calls adds differ known =
     let later = asks_visits trace is in
-    let w = later.adds in
+    let w = later.1 in
     let one = asks_in w.before w.was in
-    let v = one.adds in
+    let v = one.1 in
     let t = moment owns_old buses stand keys v.before in_state v.was in
     let first_stand = timed buses stand (NowCall t.answer ∷ []) in
     let in_state_then = in_state_timed buses t.answer stand keys old mid owns_old in_state t.stands in
-    let in_calls = one.calls in
+    let in_calls = one.0 in
     let prefix = door.ExpectCall t.due t.slack ∷ door.NowCall t.answer ∷ in_calls in
     let adds_in =
     adds_then v.was t.adds v in
@@ -327,54 +337,39 @@ makes_turn opens old mid between new trace_old trace_mid trace_between trace_new
     same_calls adds
     (adds_then w.was adds_in w) in
     let differ_in =
-    peers_prefix peers prefix later.calls (rw whole at differ) in
-    let known_first = known_timed buses t.answer peers stand known in
+    peers_prefix peers prefix later.0 (rw whole at differ) in
+    let known_first = known_moments buses (filter_map moment_of (NowCall t.answer ∷ [])) peers stand known in
     let b = accepts_one buses first_stand keys w.before in_state_then w.was peers in_calls v differ_in known_first in
-    let accepts_then = filter_map accept_of (AcceptCall b.answer b.granted ∷ []) in
+    let accepts_then = filter_map accept_of (AcceptCall b.0 b.1 ∷ []) in
     let second_stand = fold (with_accept buses) first_stand accepts_then in
-    let x = visits buses second_stand b.settled.keys trace b.settled.in_state is in
-    let seen = calls_of (visits_of x.round) in
-    let begins = ExpectCall t.due t.slack ∷ NowCall t.answer ∷ AcceptCall b.answer b.granted ∷ b.early in
-    let all = ExpectCall t.due t.slack ∷ NowCall t.answer ∷ AcceptCall b.answer b.granted ∷ (b.early ++ seen) in
+    let x = visits buses second_stand b.2.keys trace b.2.in_state is in
+    let others =
+    early_seen buses first_stand b.0 b.1 b.2.early
+    (new_peer peers b.0 (map door_call b.2.early) first_stand.slots (rw (same_calls v b.2.adds) at differ_in) known_first) b.2.asked in
+    let seen = x.calls in
+    let begins = ExpectCall t.due t.slack ∷ NowCall t.answer ∷ AcceptCall b.0 b.1 ∷ b.2.early in
+    let all = ExpectCall t.due t.slack ∷ NowCall t.answer ∷ AcceptCall b.0 b.1 ∷ (b.2.early ++ seen) in
     let first_made : Makes buses stand.events first_stand.events (ExpectCall t.due t.slack ∷ NowCall t.answer ∷ []) trace_old v.before
     old mid =
     record { adds = t.adds; counted = same_count; asked_for = asked_moment buses t.answer stand old mid same_count } in
-    let second_made : Makes buses first_stand.events second_stand.events (AcceptCall b.answer b.granted ∷ b.early) trace_mid w.before
-    mid between = record { adds = b.adds; counted = b.settled.counted; asked_for = b.settled.asked_for } in
+    let second_made : Makes buses first_stand.events second_stand.events (AcceptCall b.0 b.1 ∷ b.2.early) trace_mid w.before
+    mid between = record { adds = b.2.adds; counted = b.2.counted; asked_for = b.2.asked_for } in
     let begun_then =
     makes_then v.was first_made second_made in
     let made =
     makes_then w.was begun_then x.made in
     let turned_then = asks_turn trace is in
-    let same =
-    same_calls turned_then.adds made.adds in
-    let of_peers =
-    tail_of turned_then.calls t.due t.slack t.answer b.answer (map door_call (b.early ++ seen)) turned_then.are same in
+    let of_peers = (rw (same_calls turned_then.1 made.adds) at turned_then.2).peers in
     let ends =
-    turned_is buses stand t.due t.slack t.answer b.answer b.granted b.early x.round of_peers x.own x.clients_are b.settled.in_state.differ
-    b.settled.others in
-    let came =
-    peers_trace all
-    ∙ ap (λ connected. map (λ accept. accept.peer) connected)
-    (accepts_are buses stand t.due t.slack t.answer b.answer b.granted b.early x.round of_peers)
-    ∙ sym (peers_trace (AcceptCall b.answer b.granted ∷ [])) in
-    let peers_then = peers ++ filter_map peer_of (map door_call all) in
-    let known_second : AllByRecursion (IsOneOf peers_then) second_stand.slots =
-    rw came (known_accepts buses b.answer b.granted peers first_stand known_first) in
-    let known_round : AllByRecursion (IsOneOf peers_then) (map client_of x.round) =
-    rw x.clients_are known_second in
-    let known_last : AllByRecursion (IsOneOf peers_then) (map left_by x.round ++ []) =
-    rw (append-nil (map left_by x.round)) (known_left peers_then x.round known_round) in
+    turned_is buses stand t.due t.slack t.answer b.0 b.1 b.2.early seen of_peers others in
     record {
       calls = all;
       keys = x.keys;
       made = subst (λ (s : Stand). Makes buses stand.events s.events all trace_old trace old new) (sym ends) made;
       asked =
-          turn_asked buses stand t.due t.slack t.answer b.answer b.granted b.early x.round of_peers x.own x.clients_are
-          b.settled.in_state.differ b.settled.others t.asked b.settled.asked x.asked;
-      known = subst (λ (s : Stand). AllByRecursion (IsOneOf peers_then) s.slots) (sym ends) known_last;
+          turn_asked buses stand t.due t.slack t.answer b.0 b.1 b.2.early seen of_peers others t.asked b.2.asked x.asked;
       in_state = rw ends x.in_state;
       opened =
-          ap (λ (s : Stand). length s.connected) ends ∙ b.settled.opened
+          ap (λ (s : Stand). length s.connected) ends ∙ b.2.opened
           ∙ ap (λ n. n + one_if opens) (connected_timed buses t.answer stand);
     }

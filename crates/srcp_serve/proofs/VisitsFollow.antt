@@ -1,13 +1,13 @@
 -- A visit: one read, the writes, and how it ends.
-use Rattle.std.proofs.Common.{◌⊎◌, ⊎_elim, ◌≡◌, ◌∙◌, ℕ, ◌+◌, Bool, true, false, cond, ◌==◌, not, List, [], ◌∷◌, ◌++◌, map, take, Some, refl}
-use Rattle.std.proofs.Common.{ap, sym, subst, arith, append_assoc, append-nil}
+use Rattle.std.proofs.Common.{◌⊎◌, ⊎_elim, ◌≡◌, ◌∙◌, ℕ, ◌+◌, Bool, true, false, cond, ◌==◌, not, List, [], ◌∷◌, ◌++◌, map, take, Some}
+use Rattle.std.proofs.Common.{refl, ap, sym, subst, arith, append_assoc, append-nil, Result}
 use Rattle.std.proofs.Math.Bool.{or-false}
 use Rattle.std.proofs.lemmas.Bool.Decides.{nat_tests}
 use Rattle.std.proofs.lemmas.List.{map-append}
 use Rattle.std.proofs.lemmas.List.Elements.{filter_map-append}
 use Rattle.std.proofs.lemmas.List.Folds.{list_any-append}
 use Rattle.std.proofs.lemmas.List.Sums.{sum_by-append}
-use Rattle.std.specs.List.{list_any, filter_map, count_by}
+use Rattle.std.specs.List.{list_any, filter_map, count_by, AllByRecursion}
 use Rattle.std.specs.Prelude.{◌||◌, if◌then◌else◌}
 use Rattle.srcp_info.proofs.ClientLaws.{all_append, filter_every}
 use Rattle.srcp_grammar.specs.declared.layout.Bus.{Bus}
@@ -15,20 +15,26 @@ use Rattle.srcp_core.specs.Course.{course}
 use Rattle.srcp_core.specs.Held.{Held}
 use Rattle.srcp_core.specs.Connection.{is_last}
 use Rattle.srcp_core.specs.Machine.{hung_up, finish_at}
+use Rattle.srcp_core.specs.Recording.{without_key}
 use Rattle.srcp_core.specs.Stands.{StandsFor}
 use Rattle.srcp_core.specs.Under.{Event, Piece, Bytes, Room, Shut}
 use Rattle.srcp_core.proofs.Agreement.CallLaws.{calls_agree, calls_lead}
+use Rattle.srcp_core.proofs.Agreement.RunsAnEvent.{shut_count}
 use Rattle.srcp_serve.specs.Calls.{Call as DoorCall, Trace}
-use Rattle.srcp_serve.specs.Given.{Call, ExpectCall, NowCall, AcceptCall, ReadCall, WriteCall, CloseCall, answers_of}
-use Rattle.srcp_serve.specs.Serving.{Client, Question, Reads, Writes, Closes as ClosesQuestion, question, visit, exchange, rooms, handed}
-use Rattle.srcp_serve.specs.Serving.{is_closing, reads_of, writes_of, closes_of, visit_events, is_about, is_close, is_write, is_ready}
-use Rattle.srcp_serve.specs.Serving.{loses, loses_reading, loses_writing, falls_short, piece_of, count_of}
-use Rattle.srcp_serve.specs.Turns.{AsksPeers}
-use Rattle.srcp_serve.specs.Visits.{AreAbout, Closes, FromEveryCourse, Makes, OfVisit, IsDisconnected, IsReadFrom, IsVisited, IsWrittenTo}
-use Rattle.srcp_serve.specs.Visits.{Disconnects, ReadsIn, Visits, WritesOut, Keys}
-use Rattle.srcp_serve.proofs.CallsAreAdded.{asked_one, asked_rooms, makes_then}
+use Rattle.srcp_serve.specs.Given.{Call, ReadCall, WriteCall, CloseCall, answers_of}
+use Rattle.srcp_serve.specs.Serving.{Client, Question, Reads, Writes, Closes as ClosesQuestion, question, visit, visit_asks, exchange}
+use Rattle.srcp_serve.specs.Serving.{rooms, handed, is_closing, reads_of, writes_of, closes_of, visit_events, is_about, is_close}
+use Rattle.srcp_serve.specs.Serving.{is_write, is_ready, loses, loses_reading, falls_short, piece_of, count_of}
+use Rattle.srcp_serve.specs.Turns.{AreAboutPeers, Asks}
+use Rattle.srcp_serve.specs.Visits.{Closes, FromEveryCourse, HasActed, Makes, Disconnects, ReadsIn, Visits, WritesOut, Keys}
+use Rattle.srcp_serve.specs.declared.door.DoorFault.{DoorFault}
+use Rattle.srcp_serve.proofs.CallsAreAdded.{asked_one, makes_then}
 
-same_peer : (peer : ℕ) → (peer == peer) ≡ true
+-- all calls are about that peer
+abbrev pub AreAbout : ℕ → List Call → Type 0
+AreAbout peer calls = AllByRecursion (λ call. is_about peer call ≡ true) calls
+
+pub same_peer : (peer : ℕ) → (peer == peer) ≡ true
 same_peer peer = grind (arith, nat_tests)
 
 -- ---- the calls of a read, and those of writes
@@ -44,40 +50,28 @@ record AreReads (peer : ℕ) (calls : List Call) : Type 0 where
 are_reads : (peer : ℕ) (b : Bool) (calls : List Call) → map question calls ≡ (if b then Reads peer 256 ∷ [] else []) → AreReads peer calls
 are_reads peer b [] e = record { counts = refl; short = refl; many = refl; quiet = refl; losing = refl; about = tt }
 are_reads peer false (call ∷ calls) e = cc
-are_reads peer true (call ∷ other ∷ calls) e = cc
-are_reads peer true (ExpectCall due slack ∷ []) e = cc
-are_reads peer true (NowCall answer ∷ []) e = cc
-are_reads peer true (AcceptCall answer granted ∷ []) e = cc
-are_reads peer true (WriteCall who bytes answer ∷ []) e = cc
-are_reads peer true (CloseCall who answer ∷ []) e = cc
 are_reads peer true (ReadCall who answer buffer grants ∷ []) e =
     let same : who ≡ peer = cc in
-    let losing = or-false (loses_reading (ReadCall who answer buffer grants)) in
     record {
       counts = refl;
       short = refl;
       many = refl;
       quiet = refl;
-      losing = ap (λ t. t || false) losing;
+      losing = refl;
       about = (rw same (same_peer peer), tt);
     }
+are_reads peer true other e = cc
 
-record AreWrites (peer : ℕ) (calls : List Call) : Type 0 where
-  pieces : filter_map piece_of calls ≡ []
-  reading : list_any loses_reading calls ≡ false
-  quiet : list_any is_close calls ≡ false
-  losing : list_any loses calls ≡ list_any loses_writing calls
-  answers : answers_of calls ≡ []
-  about : AreAbout peer calls
+pub record AreWrites (peer : ℕ) (calls : List Call) : Type 0 where
+  pub pieces : filter_map piece_of calls ≡ []
+  pub reading : list_any loses_reading calls ≡ false
+  pub quiet : list_any is_close calls ≡ false
+  pub answers : answers_of calls ≡ []
+  pub about : AreAbout peer calls
 
-are_writes : (peer : ℕ) (texts : List (List ℕ)) (calls : List Call) → map question calls ≡ map (Writes peer) texts → AreWrites peer calls
-are_writes peer texts [] e = record { pieces = refl; reading = refl; quiet = refl; losing = refl; answers = refl; about = tt }
-are_writes peer [] (call ∷ calls) e = cc
-are_writes peer (text ∷ texts) (ExpectCall due slack ∷ calls) e = cc
-are_writes peer (text ∷ texts) (NowCall answer ∷ calls) e = cc
-are_writes peer (text ∷ texts) (AcceptCall answer granted ∷ calls) e = cc
-are_writes peer (text ∷ texts) (ReadCall who answer buffer grants ∷ calls) e = cc
-are_writes peer (text ∷ texts) (CloseCall who answer ∷ calls) e = cc
+pub are_writes : (peer : ℕ) (texts : List (List ℕ)) (calls : List Call) → map question calls ≡ map (Writes peer) texts
+    → AreWrites peer calls
+are_writes peer texts [] e = record { pieces = refl; reading = refl; quiet = refl; answers = refl; about = tt }
 are_writes peer (text ∷ texts) (WriteCall who bytes answer ∷ calls) e =
     let same : who ≡ peer = cc in
     let rest : map question calls ≡ map (Writes peer) texts = cc in
@@ -86,10 +80,15 @@ are_writes peer (text ∷ texts) (WriteCall who bytes answer ∷ calls) e =
       pieces = w.pieces;
       reading = w.reading;
       quiet = w.quiet;
-      losing = ap (λ t. loses_writing (WriteCall who bytes answer) || t) w.losing;
       answers = w.answers;
       about = (rw same (same_peer peer), w.about);
     }
+are_writes peer texts other e = cc
+
+pub closing_call : (peer : ℕ) (calls : List Call) → map question calls ≡ ClosesQuestion peer ∷ []
+    → (answer : Result Unit DoorFault) × (calls ≡ CloseCall peer answer ∷ [])
+closing_call peer (CloseCall who answer ∷ []) e = let same : who ≡ peer = cc in (answer, rw same refl)
+closing_call peer other e = cc
 
 -- ---- calls after calls
 
@@ -112,9 +111,28 @@ same_rooms xs ys c l s k =
     cc
 
 module _ (buses : List Bus) (events : List Event) (keys : Keys) (n peer : ℕ)
-    (old : Trace) (trace : List DoorCall) (new : Held) where
+    (old : Trace) (trace : List DoorCall) (new core_old : Held) where
+  -- what each function of a visit did
+  abbrev pub IsReadFrom : Bool → Type 0
+  IsReadFrom = HasActed buses events core_old old new trace (λ calls. reads_of buses events (record { peer = peer; conn = n }))
+      (λ calls. map (Bytes n) (filter_map piece_of calls)) loses_reading keys
+
+  abbrev pub IsWrittenTo : Bool → Type 0
+  IsWrittenTo = HasActed buses events core_old old new trace
+      (λ calls. map (Writes peer) (take 300 (handed buses n events (filter_map count_of calls)))) (λ calls. map (Room n) (rooms calls))
+      loses keys
+
+  abbrev pub IsDisconnected : Type 0
+  IsDisconnected =
+      HasActed buses events core_old old new trace (λ calls. ClosesQuestion peer ∷ []) (λ calls. Shut n ∷ []) is_close (without_key n keys)
+      false
+
+  abbrev pub IsVisited : Bool → Type 0
+  IsVisited stays = HasActed buses events core_old old new trace (λ calls. visit_asks buses events calls (record { peer = peer; conn = n }))
+      (λ calls. visit_events calls (record { peer = peer; conn = n })) is_close (if not stays then without_key n keys else keys) stays
+
   -- the peer was read and then written to
-  pub record IsExchanged (core_old : Held) (stays : Bool) : Type 0 where
+  pub record IsExchanged (stays : Bool) : Type 0 where
     pub calls : List Call
     pub made : Makes buses events (events ++ exchange n calls) calls old trace core_old new
     pub own : AreAbout peer calls
@@ -126,9 +144,9 @@ module _ (buses : List Bus) (events : List Event) (keys : Keys) (n peer : ℕ)
     pub stands : StandsFor buses keys new (course buses (events ++ exchange n calls))
 
 -- the peer is read and written to
-abbrev pub Exchanges : OfVisit (Bool → Type 0)
-Exchanges peer key old trace_old new trace_new stays = FromEveryCourse
-    (λ buses events keys n trace. IsExchanged buses events keys n peer trace_old trace new old stays) key old trace_new
+abbrev pub Exchanges : (peer key : ℕ) (old : Held) (trace_old : Trace) (new : Held) (trace_new : Trace) → Bool → Type 0
+Exchanges peer key old trace_old new trace_new stays = FromEveryCourse peer key old trace_old new trace_new
+    (λ buses events keys n trace. IsExchanged buses events keys n peer trace_old trace new old stays)
 
 module _ (buses : List Bus) (events : List Event) (keys : Keys) (n peer : ℕ) (core_old : Held) where
   abbrev client : Client
@@ -175,10 +193,10 @@ module _ (buses : List Bus) (events : List Event) (keys : Keys) (n peer : ℕ) (
 
   -- it was written to after the read
   pub exchanged : (old trace_mid : Trace) (mid trace : List DoorCall) (between new : Held) (stays : Bool)
-      → trace_mid ≡ Some mid → new.denied ≡ between.denied → (r : IsReadFrom buses events keys n peer old mid between core_old true)
-      → IsWrittenTo buses (events ++ map (Bytes n) (filter_map piece_of r.calls)) keys n peer trace_mid trace new stays
+      → trace_mid ≡ Some mid → (r : IsReadFrom buses events keys n peer old mid between core_old true)
+      → IsWrittenTo buses (events ++ map (Bytes n) (filter_map piece_of r.calls)) keys n peer trace_mid trace new between stays
       → IsExchanged buses events keys n peer old trace new core_old stays
-  exchanged old trace_mid mid trace between new stays is same r w =
+  exchanged old trace_mid mid trace between new stays is r w =
       let reads = r.calls in
       let rd = are_reads peer (is_ready buses n events) reads r.asked in
       let wr = are_writes peer _ w.calls w.asked in
@@ -205,25 +223,18 @@ module _ (buses : List Bus) (events : List Event) (keys : Keys) (n peer : ℕ) (
         calls = calls;
         made = subst (λ (all : List Event). Makes buses events all calls old trace core_old new)
             (append_assoc events read (map (Room n) (rooms w.calls)) ∙ ap (λ all. events ++ all) (sym more))
-            (makes_then is r.made (record {
-              adds = w.adds;
-              counted = cc;
-              asked_for = asked_rooms buses n (rooms w.calls) (events ++ read) between new same;
-            }));
+            (makes_then is r.made w.made);
         own = all_append _ reads w.calls rd.about wr.about;
         quiet = any_second is_close reads w.calls rd.quiet ∙ wr.quiet;
         asked =
             rw (map-append, r.asked, w.asked, ← asks);
-        loses_is = losing ∙ wr.losing ∙ w.stays_is;
+        loses_is = losing ∙ w.stays_is;
         stands =
             rw (append_assoc events read (map (Room n) (rooms w.calls)) ∙ ap (λ all. events ++ all) (sym more)) at w.stands;
       }
     where
       none_more : (k : ℕ) → 0 + k ≡ k
       none_more k = omega arith
-
-  abbrev ending : Bool → List Question
-  ending b = if b then ClosesQuestion peer ∷ [] else []
 
   -- it keeps its slot
   pub visited_stays : (old : Trace) (trace : List DoorCall) (new : Held)
@@ -238,22 +249,23 @@ module _ (buses : List Bus) (events : List Event) (keys : Keys) (n peer : ℕ) (
       record {
         calls = x.calls;
         made = rw more x.made;
-        own = x.own;
         asked =
             x.asked ∙ sym (append-nil (reads_of buses events client ++ writes_of buses events x.calls client))
             ∙ ap (λ qs. (reads_of buses events client ++ writes_of buses events x.calls client) ++ qs) (sym none);
-        closes = x.quiet;
+        stays_is = x.quiet;
         stands = rw more x.stands;
       }
 
   -- it is disconnected
-  pub visited_goes : (old trace_mid : Trace) (mid trace : List DoorCall) (between new : Held) (value : Bool)
-      → trace_mid ≡ Some mid → new.denied ≡ between.denied → (x : IsExchanged buses events keys n peer old mid between core_old value)
-      → list_any loses x.calls || is_closing buses n (events ++ exchange n x.calls) ≡ true
-      → IsDisconnected buses (events ++ exchange n x.calls) keys n peer trace_mid trace new
+  visited_closed : (old trace_mid : Trace) (mid trace : List DoorCall) (between new : Held) (value : Bool)
+      → trace_mid ≡ Some mid → (x : IsExchanged buses events keys n peer old mid between core_old value)
+      → list_any loses x.calls || is_closing buses n (events ++ exchange n x.calls) ≡ true → (answer : Result Unit DoorFault)
+      → Makes buses (events ++ exchange n x.calls) ((events ++ exchange n x.calls) ++ Shut n ∷ []) (CloseCall peer answer ∷ [])
+      trace_mid trace between new
+      → StandsFor buses (without_key n keys) new (course buses ((events ++ exchange n x.calls) ++ Shut n ∷ []))
       → IsVisited buses events keys n peer old trace new core_old false
-  visited_goes old trace_mid mid trace between new value is same x ends g =
-      let last : Call = CloseCall peer g.closed.answer in
+  visited_closed old trace_mid mid trace between new value is x ends answer made stands =
+      let last : Call = CloseCall peer answer in
       let calls : List Call = x.calls ++ last ∷ [] in
       let pieces : filter_map piece_of calls ≡ filter_map piece_of x.calls =
       filter_map-append _ x.calls _ ∙ append-nil _ in
@@ -279,21 +291,25 @@ module _ (buses : List Bus) (events : List Event) (keys : Keys) (n peer : ℕ) (
         calls = calls;
         made = subst (λ (all : List Event). Makes buses events all calls old trace core_old new)
             (append_assoc events (exchange n x.calls) (Shut n ∷ []) ∙ ap (λ all. events ++ all) (sym more))
-            (makes_then is x.made (record {
-              adds = g.closed.adds;
-              counted = same;
-              asked_for = asked_one buses (events ++ exchange n x.calls) (Shut n) between new same;
-            }));
-        own = own;
+            (makes_then is x.made made);
         asked =
             cc (map-append question x.calls (last ∷ []));
-        closes = closing;
+        stays_is = closing;
         stands =
-            rw (append_assoc events (exchange n x.calls) (Shut n ∷ []) ∙ ap (λ all. events ++ all) (sym more)) at g.stands;
+            rw (append_assoc events (exchange n x.calls) (Shut n ∷ []) ∙ ap (λ all. events ++ all) (sym more)) at stands;
       }
     where
       no_more : (k : ℕ) → k + 0 ≡ k
       no_more k = omega arith
+
+  pub visited_goes : (old trace_mid : Trace) (mid trace : List DoorCall) (between new : Held) (value : Bool)
+      → trace_mid ≡ Some mid → (x : IsExchanged buses events keys n peer old mid between core_old value)
+      → list_any loses x.calls || is_closing buses n (events ++ exchange n x.calls) ≡ true
+      → IsDisconnected buses (events ++ exchange n x.calls) keys n peer trace_mid trace new between
+      → IsVisited buses events keys n peer old trace new core_old false
+  visited_goes old trace_mid mid trace between new value is x ends g =
+      let c = closing_call peer g.calls g.asked in
+      visited_closed old trace_mid mid trace between new value is x ends c.0 (rw c.1 at g.made) g.stands
 
 -- ---- the functions
 
@@ -314,32 +330,32 @@ module _ (peer key : ℕ) (old mid : Held) (trace_old trace_mid : Trace) where
       visited_stays buses events keys n peer old _ trace mid x
       (sym (says ∙ calls_agree.closes key mid buses (events ++ exchange n x.calls) keys n s.layout s.named x.stands) ∙ open_still)
 
-  module _ (new : Held) (trace_new : Trace) (same : new.denied ≡ mid.denied) (asks : AsksPeers trace_mid trace_new) where
+  module _ (new : Held) (trace_new : Trace) (asks : Asks AreAboutPeers trace_mid trace_new) where
     pub exchanges_on : (stays : Bool) → ReadsIn peer key old trace_old mid trace_mid true
         → WritesOut peer key mid trace_mid new trace_new stays
         → Exchanges peer key old trace_old new trace_new stays
     exchanges_on stays reads writes buses events keys n trace s is =
-        let w = (asks trace is).adds in
+        let w = (asks trace is).1 in
         let r = reads buses events keys n w.before s w.was in
-        exchanged buses events keys n peer old trace_old trace_mid w.before trace mid new stays w.was same r
+        exchanged buses events keys n peer old trace_old trace_mid w.before trace mid new stays w.was r
         (writes buses (events ++ map (Bytes n) (filter_map piece_of r.calls)) keys n trace
         (record { layout = s.layout; named = s.named; stands = r.stands }) is)
 
     module _ (goes : Disconnects peer key mid trace_mid new trace_new) where
       pub visit_lost : Exchanges peer key old trace_old mid trace_mid false → Visits peer key old trace_old new trace_new false
       visit_lost exchanges buses events keys n trace s is =
-          let w = (asks trace is).adds in
+          let w = (asks trace is).1 in
           let x = exchanges buses events keys n w.before s w.was in
-          visited_goes buses events keys n peer old trace_old trace_mid w.before trace mid new false w.was same x
+          visited_goes buses events keys n peer old trace_old trace_mid w.before trace mid new false w.was x
           (ap (λ t. t || is_closing buses n (events ++ exchange n x.calls)) x.loses_is)
           (goes buses (events ++ exchange n x.calls) keys n trace (record { layout = s.layout; named = s.named; stands = x.stands }) is)
 
       pub visit_closed : (closing : Bool) → Exchanges peer key old trace_old mid trace_mid true → closing ≡ is_last (finish_at key mid)
           → closing ≡ true → Visits peer key old trace_old new trace_new false
       visit_closed closing exchanges says ends buses events keys n trace s is =
-          let w = (asks trace is).adds in
+          let w = (asks trace is).1 in
           let x = exchanges buses events keys n _ s w.was in
-          visited_goes buses events keys n peer old _ _ _ trace mid new true w.was same x
+          visited_goes buses events keys n peer old _ _ _ trace mid new true w.was x
           (cc (calls_agree.closes key mid buses (events ++ exchange n x.calls) keys n s.layout s.named x.stands))
           (goes buses (events ++ exchange n x.calls) keys n trace (record { layout = s.layout; named = s.named; stands = x.stands }) is)
 
@@ -350,7 +366,13 @@ module _ (peer key : ℕ) (old mid : Held) (trace_old trace_mid : Trace) where
 -- the connection is shut and the peer closed
 pub disconnects : (peer key : ℕ) (old new : Held) (trace_old trace_new : Trace) → new ≡ hung_up key old
     → Closes peer trace_old trace_new → Disconnects peer key old trace_old new trace_new
-disconnects peer key old new _ _ hung closes buses events keys n trace s is = record {
-  closed = closes trace is;
-  stands = calls_lead.shut key old new hung buses events keys n s.layout s.named s.stands;
-}
+disconnects peer key old new _ _ hung closes buses events keys n trace s is =
+    let c = closes trace is in
+    let same = shut_count key old new hung in
+    record {
+      calls = CloseCall peer c.2.0 ∷ [];
+      made = record { adds = rw c.2.1 at c.1; counted = same; asked_for = asked_one buses events (Shut n) old new same };
+      asked = refl;
+      stays_is = refl;
+      stands = calls_lead.shut key old new hung buses events keys n s.layout s.named s.stands;
+    }

@@ -1,12 +1,11 @@
 -- The writes of a visit: all but the last took all that was lent.
 use Rattle.std.proofs.Common.{◌≡◌, ◌∙◌, ℕ, ◌<◌, true, ◌==◌, List, [], ◌∷◌, ◌++◌, map, length, if◌then◌else◌, refl, ap, sym, arith}
-use Rattle.std.proofs.Common.{append_assoc, append-nil, zero, suc, ◌+◌, ◌≤◌, Bool, false, cond, not, take, Some, Ok, Err, ⊎_elim}
+use Rattle.std.proofs.Common.{append_assoc, append-nil, zero, suc, ◌+◌, ◌≤◌, Bool, false, cond, not, take, Some, Ok, Err, inl, inr}
 use Rattle.std.proofs.Common.{length-append}
 use Rattle.std.proofs.lemmas.Bool.Decides.{nat_tests}
 use Rattle.srcp_core.specs.Under.{Event, Room}
 use Rattle.srcp_grammar.specs.declared.layout.Bus.{Bus}
-use Rattle.srcp_serve.specs.Serving.{lent, handed, unless_nil, Writes, question, count_of, is_write, loses, loses_writing, falls_short}
-use Rattle.srcp_serve.specs.Serving.{rooms}
+use Rattle.srcp_serve.specs.Serving.{lent, handed, unless_nil, Writes, question, count_of, is_write, loses, falls_short, rooms}
 use Rattle.std.proofs.Math.Seq.{take-append_seam}
 use Rattle.std.proofs.lemmas.List.{map-append}
 use Rattle.std.proofs.lemmas.List.Sums.{sum_by-cons}
@@ -17,11 +16,11 @@ use Rattle.srcp_core.specs.Held.{Held}
 use Rattle.srcp_core.specs.Stands.{StandsFor}
 use Rattle.srcp_serve.specs.Calls.{Call as DoorCall, Trace}
 use Rattle.srcp_serve.specs.Given.{Call, WriteCall}
-use Rattle.srcp_serve.specs.Turns.{AsksPeers}
-use Rattle.srcp_serve.specs.Visits.{AddsGiven, FromEveryCourse, IsWrittenTo, TookAll, TookLess, TookNone, WasLentNone, WritesOnce}
-use Rattle.srcp_serve.specs.Visits.{WritesOut, Keys}
+use Rattle.srcp_serve.specs.Turns.{AreAboutPeers, Asks}
+use Rattle.srcp_serve.specs.Visits.{AddsGiven, FromEveryCourse, HasWritten, Keys, WritesOnce, WritesOut}
 use Rattle.srcp_serve.specs.declared.serving.visit.Wrote.TheVariants.{All, Less, Failed}
-use Rattle.srcp_serve.proofs.CallsAreAdded.{adds_none, given_then}
+use Rattle.srcp_serve.proofs.CallsAreAdded.{adds_none, asked_rooms, given_then}
+use Rattle.srcp_serve.proofs.VisitsFollow.{are_writes, IsWrittenTo}
 
 -- if there is something, it is the first
 pub unless_some : (bytes : List ℕ) (more : List (List ℕ)) → 0 < length bytes → unless_nil bytes more ≡ bytes ∷ more
@@ -124,11 +123,6 @@ module _ (buses : List Bus) (peer conn : ℕ) where
   written-loses events [] last = refl
   written-loses events (count ∷ counts) last = written-loses (events ++ Room conn count ∷ []) counts last
 
-  written-loses_writing : (events : List Event) (counts : List ℕ) (last : List Call)
-      → list_any loses_writing (written events counts last) ≡ list_any loses_writing last
-  written-loses_writing events [] last = refl
-  written-loses_writing events (count ∷ counts) last = written-loses_writing (events ++ Room conn count ∷ []) counts last
-
   written-short : (events : List Event) (counts : List ℕ) (last : List Call) → AreFull buses conn events counts
       → list_any falls_short (written events counts last) ≡ list_any falls_short last
   written-short events [] last full = refl
@@ -182,8 +176,27 @@ module _ (buses : List Bus) (peer conn : ℕ) where
       pub adds : AddsGiven old trace (written events counts [])
       pub stands : StandsFor buses keys now (course buses (after events counts))
 
+    -- the writes, over a core that counts as many refusals as the one before
     abbrev Writes_out : List Event → List DoorCall → Held → Bool → Type 0
-    Writes_out events trace new stays = IsWrittenTo buses events keys conn peer old trace new stays
+    Writes_out events trace new stays =
+        (before : Held) → new.denied ≡ before.denied → IsWrittenTo buses events keys conn peer old trace new before stays
+
+    -- writes ask for no memory
+    writes_out : (events : List Event) (trace : List DoorCall) (new : Held) (stays : Bool) (calls : List Call) → AddsGiven old trace calls
+        → map question calls ≡ map (Writes peer) (take 300 (handed buses conn events (filter_map count_of calls)))
+        → list_any loses calls ≡ not stays
+        → StandsFor buses keys new (course buses (events ++ map (Room conn) (rooms calls))) → Writes_out events trace new stays
+    writes_out events trace new stays calls adds asked stays_is stands before same = record {
+      calls = calls;
+      made = record {
+        adds = adds;
+        counted = rw (are_writes peer _ calls asked).answers same;
+        asked_for = asked_rooms buses conn (rooms calls) events before new same;
+      };
+      asked = asked;
+      stays_is = stays_is;
+      stands = stands;
+    }
 
     -- the last write, or none
     ended_by : (events : List Event) (trace : List DoorCall) (new : Held) (counts : List ℕ) (last : List Call) (end : List (List ℕ))
@@ -191,34 +204,31 @@ module _ (buses : List Bus) (peer conn : ℕ) where
         → AreFull buses conn events counts → AddsGiven old trace (written events counts last)
         → handed buses conn (after events counts) (filter_map count_of last) ≡ end
         → map question last ≡ map (Writes peer) end → length counts + length end ≤ 300
-        → list_any loses_writing last ≡ not stays → rooms (written events counts last) ≡ counts ++ room
+        → list_any loses last ≡ not stays → rooms (written events counts last) ≡ counts ++ room
         → StandsFor buses keys new (course buses (after events counts ++ map (Room conn) room)) → Writes_out events trace new stays
-    ended_by events trace new counts last end room stays full adds hands asks few lost are stands = record {
-      calls = written events counts last;
-      adds = adds;
-      asked =
-          cc (
-            written-asked events counts last,
-            map-append (Writes peer) (texts buses conn events counts) end,
-            handed_then events counts (filter_map count_of last) end full hands few,
-            written-counts events counts last,
-          );
-      stays_is = written-loses_writing events counts last ∙ lost;
-      stands = rw (append_assoc events (map (Room conn) counts) (map (Room conn) room)
-          ∙ ap (λ more. events ++ more) (sym (map-append (Room conn) counts room))
-          ∙ ap (λ all. events ++ map (Room conn) all) (sym are)) at stands;
-    }
+    ended_by events trace new counts last end room stays full adds hands asks few lost are stands =
+        let asked : map question (written events counts last)
+        ≡ map (Writes peer) (take 300 (handed buses conn events (filter_map count_of (written events counts last)))) =
+        cc (
+          written-asked events counts last,
+          map-append (Writes peer) (texts buses conn events counts) end,
+          handed_then events counts (filter_map count_of last) end full hands few,
+          written-counts events counts last,
+        ) in
+        writes_out events trace new stays (written events counts last) adds asked (written-loses events counts last ∙ lost)
+        (rw (append_assoc events (map (Room conn) counts) (map (Room conn) room)
+        ∙ ap (λ more. events ++ more) (sym (map-append (Room conn) counts room))
+        ∙ ap (λ all. events ++ map (Room conn) all) (sym are)) at stands)
 
     -- the peer took less, or the write failed
     last_write : (events : List Event) (trace : List DoorCall) (new : Held) (counts : List ℕ) (call : Call) (count : ℕ)
-        (stays lost short : Bool)
+        (stays short : Bool)
         → AreFull buses conn events counts → AddsGiven old trace (written events counts (call ∷ []))
         → count_of call ≡ Some count → question call ≡ Writes peer (lent buses conn (after events counts))
         → count < length (lent buses conn (after events counts)) → length counts < 300
-        → list_any loses_writing (call ∷ []) ≡ not stays → list_any loses (call ∷ []) ≡ lost → list_any falls_short (call ∷ []) ≡ short
-        → not lost && not short ≡ false
+        → list_any loses (call ∷ []) ≡ not stays → list_any falls_short (call ∷ []) ≡ short → not (not stays) && not short ≡ false
         → StandsFor buses keys new (course buses (after events counts ++ Room conn count ∷ [])) → Writes_out events trace new stays
-    last_write events trace new counts call count stays lost short full adds count_is asks short_of few stays_is lost_is short_is ends
+    last_write events trace new counts call count stays short full adds count_is asks short_of few stays_is short_is ends
         stands =
         let bytes = lent buses conn (after events counts) in
         let differs : (count == length bytes) ≡ false = grind (arith, nat_tests) in
@@ -229,9 +239,9 @@ module _ (buses : List Bus) (peer conn : ℕ) where
         ∙ ap (λ t. bytes ∷ (if t then handed buses conn (after events counts ++ Room conn count ∷ []) [] else [])) differs in
         let size : length counts + 1 ≤ 300 = omega arith in
         let no_more =
-        stops lost short (nat_lt (length counts + count_by is_write (call ∷ [])) 300) ends in
+        stops (not stays) short (nat_lt (length counts + count_by is_write (call ∷ [])) 300) ends in
         let are =
-        rooms_are events counts (call ∷ []) lost short full lost_is short_is
+        rooms_are events counts (call ∷ []) (not stays) short full stays_is short_is
         ∙ ap (λ xs. (counts ++ filter_map count_of (call ∷ [])) ++ xs) no_more
         ∙ append-nil (counts ++ filter_map count_of (call ∷ []))
         ∙ ap (λ xs. counts ++ xs) counted in
@@ -263,17 +273,19 @@ module _ (buses : List Bus) (peer conn : ℕ) where
 
     takes_more : (events : List Event) (mid trace : List DoorCall) (before new : Held) (times : ℕ) (trace_mid : Trace)
         → trace_mid ≡ Some mid → (t : IsTaking events mid before times)
-        → TookAll buses (after events t.counts) keys conn peer trace_mid trace new → IsTaking events trace new (times + 1)
-    takes_more events mid trace before new times trace_mid is t took = record {
-      counts = t.counts ++ took.count ∷ [];
-      many = cc (length-append t.counts (took.count ∷ []));
-      full = full-more buses conn events t.counts took.count t.full took.all took.some;
-      adds =
-          rw written-more (adds_last events t.counts mid trace
-          (WriteCall peer (lent buses conn (after events t.counts)) (Ok took.count) ∷ []) trace_mid is t.adds took.adds);
-      stands = rw (append_assoc events (map (Room conn) t.counts) (Room conn took.count ∷ [])
-          ∙ ap (λ more. events ++ more) (sym (map-append (Room conn) t.counts (took.count ∷ [])))) at took.stands;
-    }
+        → HasWritten buses (after events t.counts) keys conn peer trace_mid trace new All → IsTaking events trace new (times + 1)
+    takes_more events mid trace before new times trace_mid is t took =
+        let bytes = lent buses conn (after events t.counts) in
+        let count = length bytes in
+        record {
+          counts = t.counts ++ count ∷ [];
+          many = cc (length-append t.counts (count ∷ []));
+          full = full-more buses conn events t.counts count t.full refl took.0;
+          adds =
+              rw written-more (adds_last events t.counts mid trace (WriteCall peer bytes (Ok count) ∷ []) trace_mid is t.adds took.1.adds);
+          stands = rw (append_assoc events (map (Room conn) t.counts) (Room conn count ∷ [])
+              ∙ ap (λ more. events ++ more) (sym (map-append (Room conn) t.counts (count ∷ [])))) at took.1.stands;
+        }
 
     -- the most writes there may be took all
     out_full : (events : List Event) (trace : List DoorCall) (now : Held) → IsTaking events trace now 300 → Writes_out events trace now true
@@ -286,68 +298,58 @@ module _ (buses : List Bus) (peer conn : ℕ) where
         ap last_room (over (length counts) many) in
         let are : rooms (written events counts []) ≡ counts =
         cc (rooms_are events counts [] false false t.full refl refl, append-nil (counts ++ []), append-nil counts) in
-        record {
-          calls = written events counts [];
-          adds = t.adds;
-          asked =
-              cc (
-                written-asked events counts [],
-                append-nil (map (Writes peer) prefix),
-                take-append_seam prefix (handed buses conn (after events counts) []),
-                handed-append buses conn events counts [] t.full,
-                written-counts events counts [],
-              );
-          stays_is = written-loses_writing events counts [];
-          stands =
-              rw (ap (λ all. events ++ map (Room conn) all) (sym are)) at t.stands;
-        }
+        let asked : map question (written events counts [])
+        ≡ map (Writes peer) (take 300 (handed buses conn events (filter_map count_of (written events counts [])))) =
+        cc (
+          written-asked events counts [],
+          append-nil (map (Writes peer) prefix),
+          take-append_seam prefix (handed buses conn (after events counts) []),
+          handed-append buses conn events counts [] t.full,
+          written-counts events counts [],
+        ) in
+        writes_out events trace now true (written events counts []) t.adds asked (written-loses events counts [])
+        (rw (ap (λ all. events ++ map (Room conn) all) (sym are)) at t.stands)
       where
         over : (k : ℕ) → k ≡ 300 → nat_lt (k + 0) 300 ≡ false
         over k e = grind (arith, nat_tests)
 
-    -- nothing was lent
-    out_none : (events : List Event) (mid trace : List DoorCall) (before new : Held) (times : ℕ) (trace_mid : Trace)
-        → trace_mid ≡ Some mid → times < 300 → (t : IsTaking events mid before times)
-        → WasLentNone buses (after events t.counts) keys conn peer trace_mid trace new → Writes_out events trace new true
-    out_none events mid trace before new times trace_mid is few t was =
-        let counts = t.counts in
-        let many = t.many in
-        let size : length counts + 0 ≤ 300 = omega (arith, many, few) in
-        let more =
-        ap last_room (below (length counts) (omega (arith, many, few))) in
-        let are : rooms (written events counts []) ≡ counts ++ 0 ∷ [] =
-        cc (rooms_are events counts [] false false t.full refl refl, append-nil counts) in
-        ended_by events trace new counts [] [] (0 ∷ []) true t.full (adds_last events counts mid trace [] trace_mid is t.adds was.adds)
-        (ap (λ l. unless_nil l []) was.none) refl size refl are was.stands
-      where
-        below : (k : ℕ) → k < 300 → nat_lt (k + 0) 300 ≡ true
-        below k h = grind (arith, nat_tests)
+    module _ (events : List Event) (mid trace : List DoorCall) (before new : Held) (times : ℕ) (trace_mid : Trace)
+        (is : trace_mid ≡ Some mid) (few : times < 300) (t : IsTaking events mid before times) where
+      -- nothing was lent, or the peer took less
+      out_less : HasWritten buses (after events t.counts) keys conn peer trace_mid trace new Less → Writes_out events trace new true
+      out_less (inl was) =
+          let counts = t.counts in
+          let many = t.many in
+          let size : length counts + 0 ≤ 300 = omega (arith, many, few) in
+          let more =
+          ap last_room (below (length counts) (omega (arith, many, few))) in
+          let are : rooms (written events counts []) ≡ counts ++ 0 ∷ [] =
+          cc (rooms_are events counts [] false false t.full refl refl, append-nil counts) in
+          ended_by events trace new counts [] [] (0 ∷ []) true t.full
+          (adds_last events counts mid trace [] trace_mid is t.adds was.1.adds)
+          (ap (λ l. unless_nil l []) was.0) refl size refl are was.1.stands
+        where
+          below : (k : ℕ) → k < 300 → nat_lt (k + 0) 300 ≡ true
+          below k h = grind (arith, nat_tests)
+      out_less (inr took) =
+          let bytes = lent buses conn (after events t.counts) in
+          let many = t.many in
+          let call = WriteCall peer bytes (Ok took.0) in
+          let size : length t.counts < 300 = omega (arith, many, few) in
+          let short : nat_lt took.0 (length bytes) ≡ true = let less = took.1 in grind (arith, nat_tests) in
+          last_write events trace new t.counts call took.0 true true t.full
+          (adds_last events t.counts mid trace (call ∷ []) trace_mid is t.adds took.2.adds)
+          refl refl took.1 size refl (ap (λ b. b || false) short) refl took.2.stands
 
-    out_less : (events : List Event) (mid trace : List DoorCall) (before new : Held) (times : ℕ) (trace_mid : Trace)
-        → trace_mid ≡ Some mid → times < 300 → (t : IsTaking events mid before times)
-        → TookLess buses (after events t.counts) keys conn peer trace_mid trace new → Writes_out events trace new true
-    out_less events mid trace before new times trace_mid is few t took =
-        let bytes = lent buses conn (after events t.counts) in
-        let many = t.many in
-        let call = WriteCall peer bytes (Ok took.count) in
-        let size : length t.counts < 300 = omega (arith, many, few) in
-        let short : nat_lt took.count (length bytes) ≡ true = let less = took.short in grind (arith, nat_tests) in
-        last_write events trace new t.counts call took.count true false true t.full
-        (adds_last events t.counts mid trace (call ∷ []) trace_mid is t.adds took.adds)
-        refl refl took.short size refl refl
-        (ap (λ b. b || false) short) refl took.stands
-
-    out_failed : (events : List Event) (mid trace : List DoorCall) (before new : Held) (times : ℕ) (trace_mid : Trace)
-        → trace_mid ≡ Some mid → times < 300 → (t : IsTaking events mid before times)
-        → TookNone buses (after events t.counts) keys conn peer trace_mid trace new → Writes_out events trace new false
-    out_failed events mid trace before new times trace_mid is few t took =
-        let bytes = lent buses conn (after events t.counts) in
-        let many = t.many in
-        let call = WriteCall peer bytes (Err took.fault) in
-        let size : length t.counts < 300 = omega (arith, many, few) in
-        last_write events trace new t.counts call 0 false true false t.full
-        (adds_last events t.counts mid trace (call ∷ []) trace_mid is t.adds took.adds)
-        refl refl took.some size refl refl refl refl took.stands
+      out_failed : HasWritten buses (after events t.counts) keys conn peer trace_mid trace new Failed → Writes_out events trace new false
+      out_failed took =
+          let bytes = lent buses conn (after events t.counts) in
+          let many = t.many in
+          let call = WriteCall peer bytes (Err took.0) in
+          let size : length t.counts < 300 = omega (arith, many, few) in
+          last_write events trace new t.counts call 0 false false t.full
+          (adds_last events t.counts mid trace (call ∷ []) trace_mid is t.adds took.2.adds)
+          refl refl took.1 size refl refl refl took.2.stands
 
 -- ---- the loop of the writes
 
@@ -356,41 +358,41 @@ abbrev pub TakesSoFar : (peer key : ℕ) (old : Held) (trace_old : Trace) (now :
     (times : ℕ)
     → Type 0
 TakesSoFar peer key old trace_old now trace_now times =
-    FromEveryCourse (λ buses events keys n trace. IsTaking buses peer n keys trace_old events trace now times) key old trace_now
+    FromEveryCourse peer key old trace_old now trace_now
+    (λ buses events keys n trace. IsTaking buses peer n keys trace_old events trace now times)
 
 pub takes_first : (peer key : ℕ) (old : Held) (trace_old : Trace) → TakesSoFar peer key old trace_old old trace_old 0
 takes_first peer key old trace_old buses events keys n trace s is = takes_none buses peer n keys trace_old events trace old is s.stands
 
 module _ (peer key : ℕ) (old mid new : Held) (trace_old trace_mid trace_new : Trace) (times : ℕ)
-    (so : TakesSoFar peer key old trace_old mid trace_mid times) (asks : AsksPeers trace_mid trace_new) where
+    (so : TakesSoFar peer key old trace_old mid trace_mid times) (asks : Asks AreAboutPeers trace_mid trace_new) where
   pub takes_on : WritesOnce peer key mid trace_mid new trace_new All → TakesSoFar peer key old trace_old new trace_new (times + 1)
   takes_on once buses events keys n trace s is =
-      let w = (asks trace is).adds in
+      let w = (asks trace is).1 in
       let t = so buses events keys n w.before s w.was in
       takes_more buses peer n keys trace_old events w.before trace mid new times trace_mid w.was t
       (once buses (after buses peer n events t.counts) keys n trace
       (record { layout = s.layout; named = s.named; stands = t.stands }) is)
 
-  pub ends_less : times < 300 → WritesOnce peer key mid trace_mid new trace_new Less → WritesOut peer key old trace_old new trace_new true
-  ends_less few once buses events keys n trace s is =
-      let w = (asks trace is).adds in
-      let t = so buses events keys n w.before s w.was in
-      ⊎_elim
-      (λ was. out_none buses peer n keys trace_old events w.before trace mid new times trace_mid w.was few t was)
-      (λ took. out_less buses peer n keys trace_old events w.before trace mid new times trace_mid w.was few t took)
-      (once buses (after buses peer n events t.counts) keys n trace (record { layout = s.layout; named = s.named; stands = t.stands }) is)
+  module _ (few : times < 300) (same : new.denied ≡ old.denied) where
+    pub ends_less : WritesOnce peer key mid trace_mid new trace_new Less → WritesOut peer key old trace_old new trace_new true
+    ends_less once buses events keys n trace s is =
+        let w = (asks trace is).1 in
+        let t = so buses events keys n w.before s w.was in
+        out_less buses peer n keys trace_old events w.before trace mid new times trace_mid w.was few t
+        (once buses (after buses peer n events t.counts) keys n trace
+        (record { layout = s.layout; named = s.named; stands = t.stands }) is) old same
 
-  pub ends_failed : times < 300 → WritesOnce peer key mid trace_mid new trace_new Failed
-      → WritesOut peer key old trace_old new trace_new false
-  ends_failed few once buses events keys n trace s is =
-      let w = (asks trace is).adds in
-      let t = so buses events keys n w.before s w.was in
-      out_failed buses peer n keys trace_old events w.before trace mid new times trace_mid w.was few t
-      (once buses (after buses peer n events t.counts) keys n trace
-      (record { layout = s.layout; named = s.named; stands = t.stands }) is)
+    pub ends_failed : WritesOnce peer key mid trace_mid new trace_new Failed → WritesOut peer key old trace_old new trace_new false
+    ends_failed once buses events keys n trace s is =
+        let w = (asks trace is).1 in
+        let t = so buses events keys n w.before s w.was in
+        out_failed buses peer n keys trace_old events w.before trace mid new times trace_mid w.was few t
+        (once buses (after buses peer n events t.counts) keys n trace
+        (record { layout = s.layout; named = s.named; stands = t.stands }) is) old same
 
-pub ends_full : (peer key : ℕ) (old now : Held) (trace_old trace_now : Trace) (times : ℕ) → times ≡ 300
+pub ends_full : (peer key : ℕ) (old now : Held) (trace_old trace_now : Trace) (times : ℕ) → times ≡ 300 → now.denied ≡ old.denied
     → TakesSoFar peer key old trace_old now trace_now times → WritesOut peer key old trace_old now trace_now true
-ends_full peer key old now trace_old trace_now times e so buses events keys n trace s is =
+ends_full peer key old now trace_old trace_now times e same so buses events keys n trace s is =
     out_full buses peer n keys _ events trace now
-    (rw e at (so buses events keys n trace s is))
+    (rw e at (so buses events keys n trace s is)) old same

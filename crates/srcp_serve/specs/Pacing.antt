@@ -1,6 +1,5 @@
 -- To be believed: which turns make no panel overrun, by how many changes they bring and what the door was told.
 use Rattle.std.specs.Prelude.{ℕ, ◌+◌, ◌≤◌, List, [], ◌∷◌, drop, length}
-use Rattle.srcp_grammar.specs.Layout.{IsLayout}
 use Rattle.srcp_grammar.specs.declared.layout.Bus.{Bus}
 use Rattle.srcp_core.specs.Connection.{Connection}
 use Rattle.srcp_core.specs.Course.{course}
@@ -42,14 +41,6 @@ module _ (buses : List Bus) where
       → OfEachTurn buses Law empty_stand (turns trace)
       → (number : ℕ) (later : Connection) → IsOverrun buses (course buses (events_of buses trace)) number later → ⊥
 
-  abbrev pub PacedTurnsSpare : Type 0
-  PacedTurnsSpare = TurnsSpare IsPaced
-
-  abbrev pub PacedServingSparesAll : Type 0
-  PacedServingSparesAll = ServingSparesAll IsPaced
-
-  -- ---- by the lines that the door handed out
-
   -- the weight of the lines that end in the bytes of the turn, and how many changes its moment and the ends of sessions
   -- brought, are together no more than the door was told
   abbrev pub IsLight : Stand → List Call → Type 0
@@ -58,10 +49,3 @@ module _ (buses : List Bus) where
       let later = (turned buses stand calls).events in
       weighs buses w (drop (length stand.events) later) + brought_besides buses w (course buses later)
       ≤ trace_room calls
-
-  -- so it is of turns that are so, over any layout
-  abbrev pub LightTurnsSpare : Type 0
-  LightTurnsSpare = IsLayout buses → TurnsSpare IsLight
-
-  abbrev pub LightServingSparesAll : Type 0
-  LightServingSparesAll = IsLayout buses → ServingSparesAll IsLight

@@ -56,14 +56,10 @@ loses_reading (ReadCall peer (Ok got.Ended) buffer grants) = true
 loses_reading (ReadCall peer (Err failed) buffer grants) = true
 loses_reading other = false
 
--- the write failed
-abbrev pub loses_writing : Call → Bool
-loses_writing (WriteCall peer bytes (Err failed)) = true
-loses_writing other = false
-
--- the peer is lost by this call
+-- the peer is lost by this call: by such a read, or by a write that failed
 abbrev pub loses : Call → Bool
-loses call = loses_reading call || loses_writing call
+loses (WriteCall peer bytes (Err failed)) = true
+loses other = loses_reading other
 
 -- the write took fewer bytes than it was handed
 abbrev pub falls_short : Call → Bool
@@ -99,14 +95,10 @@ asks_of peer other = false
 abbrev pub is_about : ℕ → Call → Bool
 is_about peer call = asks_of peer (question call)
 
--- the question is to close a peer
-abbrev pub asks_close : Question → Bool
-asks_close (Closes peer) = true
-asks_close other = false
-
 -- the call closes a peer
 abbrev pub is_close : Call → Bool
-is_close call = asks_close (question call)
+is_close (CloseCall peer answer) = true
+is_close other = false
 
 -- the answer is one that the door may give
 abbrev pub IsFair : Call → Type 0

@@ -10,7 +10,7 @@ use Rattle.srcp_core.specs.Under.{Event}
 use Rattle.srcp_core.specs.Waits.{IsPanel}
 use Rattle.srcp_serve.specs.Given.{Call}
 use Rattle.srcp_serve.specs.Pacing.{brought_in}
-use Rattle.srcp_serve.specs.Serving.{Client, Stand, IsFair, IsServed, OfEachTurn, OfEachVisit, PeersDiffer, begun}
+use Rattle.srcp_serve.specs.Serving.{Client, IsFair, IsServed, OfEachTurn, OfEachVisit, PeersDiffer, begun}
 use Rattle.srcp_serve.specs.Serving.{empty_stand, events_of, falls_short, loses, clients, turned, turns, visit}
 use Rattle.srcp_serve.specs.Serving.{visit_events}
 
@@ -39,28 +39,20 @@ module _ (buses : List Bus) where
 
   -- ---- all that is owed
 
-  -- the turn brought no change, and the peer took all
-  pub record IsStill (client : Client) (stand : Stand) (calls : List Call) : Type 0 where
-    pub nothing : brought_in buses stand calls ≡ 0
-    pub takes : TakesAll calls client
-
   -- how many writes are left: one for each line that the session is owed, and one more if bytes of others are unsent
   abbrev pub writes_left : World → Connection → ℕ
   writes_left w conn = length (owed conn (history buses w) (rows buses w)) + (if is_nil (unsent conn) then 0 else 1)
-
-  -- how the server stands after these turns
-  abbrev pub after_turns : List (List Call) → Stand
-  after_turns all = fold (turned buses) empty_stand all
 
   -- over any layout, the session of a peer that has a slot is settled after turns without a change, in each of which
   -- its peer took all, if 300 times their number is at least what was left
   abbrev pub SettlesSoon : Type 0
   SettlesSoon = IsLayout buses → (count : ℕ) (trace : List Call) → IsServed buses count trace → PeersDiffer buses trace
       → AllByRecursion IsFair trace → (before after : List (List Call)) → turns trace ≡ before ++ after
-      → let now = after_turns before in
+      → let now = fold (turned buses) empty_stand before in
       let w = course buses (events_of buses trace) in
       (slot : ℕ) (client : Client) → slice_get now.slots slot ≡ Some (Some client)
       → (conn : Connection) → IsPanel buses (course buses now.events) client.conn conn
-      → OfEachTurn buses (IsStill client) now after → writes_left (course buses now.events) conn ≤ 300 * length after
+      → OfEachTurn buses (λ stand calls. (brought_in buses stand calls ≡ 0) × TakesAll calls client) now after
+      → writes_left (course buses now.events) conn ≤ 300 * length after
       → (later : Connection) → numbered client.conn w.connections ≡ Some later
       → is_settled later (history buses w) (rows buses w) ≡ true

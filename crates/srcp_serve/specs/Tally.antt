@@ -1,6 +1,6 @@
 -- What a method of a server does to its door, and how the failures of a door are counted.
-use Rattle.std.specs.Prelude.{◌≡◌, ℕ, ◌+◌, ◌<◌, ◌≤◌}
-use Rattle.srcp_serve.specs.Calls.{Trace}
+use Rattle.std.specs.Prelude.{◌≡◌, ℕ, ◌+◌, ◌<◌, ◌≤◌, List}
+use Rattle.srcp_serve.specs.Calls.{Call, Trace}
 use Rattle.srcp_serve.specs.declared.serving.Server.{Server}
 use Rattle.srcp_serve.specs.Turns.{Asks}
 
@@ -10,9 +10,9 @@ pub record CountsFaults (tally count tally_later count_later : ℕ) : Type 0 whe
   pub onward : count_later < 18446744073709551615 → count ≤ count_later
   pub exact : count_later < 18446744073709551615 → tally_later + count ≡ tally + count_later
 
--- the server has the same door, made calls of it that `Asks` allows, and counted each that failed
-pub record CallsDoor {D : Type 0} (faults : D → ℕ) (trace : D → Trace)
-    (Asks : (old new : Trace) → Type 0) (old new : Server D) : Type 0 where
+-- the server has the same door, made calls of it that are so, and counted each that failed
+pub record CallsDoor {D : Type 0} (faults : D → ℕ) (trace : D → Trace) (Are : List Call → Type 0)
+    (old new : Server D) : Type 0 where
   pub same_door : new.door.ghost_name ≡ old.door.ghost_name
   pub counted : CountsFaults old.tally.faults (faults old.door.now) new.tally.faults (faults new.door.now)
-  pub asks : Asks (trace old.door.now) (trace new.door.now)
+  pub asks : Asks Are (trace old.door.now) (trace new.door.now)

@@ -1,12 +1,12 @@
 //! Laws of every list of calls that serving makes. Each function does nothing: its `ensures` is the law.
 
 ghost use Rattle.std.specs.Prelude.{List};
+ghost use Rattle.srcp_grammar.specs.Layout.{IsLayout};
 ghost use Rattle.srcp_grammar.specs.declared.layout.Bus.{Bus};
 ghost use Rattle.srcp_serve.specs.Given.{GivesUnlessCounted};
 ghost use Rattle.srcp_serve.specs.Serving.{SentIsTaken};
 ghost use Rattle.srcp_serve.specs.Settling.{SettlesSoon, WaitsAreGoneAfterAVisit};
-ghost use Rattle.srcp_serve.specs.Pacing.{LightServingSparesAll, LightTurnsSpare};
-ghost use Rattle.srcp_serve.specs.Pacing.{PacedServingSparesAll, PacedTurnsSpare};
+ghost use Rattle.srcp_serve.specs.Pacing.{IsLight, IsPaced, ServingSparesAll, TurnsSpare};
 
 /// States that each peer took, to the byte, what the course of the calls sends its connection. The calls are those of
 /// some turns, no peer was accepted twice, and each answer is one that a door may give.
@@ -22,8 +22,8 @@ pub fn gives_unless_counted()
 /// States that a turn makes no panel overrun if it brings at most as many changes as the slack that the door was told
 /// (`each`). The slack is 256 if there was no panel. If each turn is so, no panel ever overran (`all`).
 pub fn paced_turns()
-    ensures each { (buses : List Bus) → PacedTurnsSpare buses }
-    ensures all { (buses : List Bus) → PacedServingSparesAll buses }
+    ensures each { (buses : List Bus) → TurnsSpare buses (IsPaced buses) }
+    ensures all { (buses : List Bus) → ServingSparesAll buses (IsPaced buses) }
 {}
 
 /// States that a turn makes no panel overrun if its lines are light enough (`each`). Two sums together have to be
@@ -31,8 +31,8 @@ pub fn paced_turns()
 /// `srcp_rules::weight`, of the lines that end in the bytes of the turn. The other is of the changes of its moment and
 /// of the ends of sessions. If each turn is so, no panel ever overran (`all`).
 pub fn light_turns()
-    ensures each { (buses : List Bus) → LightTurnsSpare buses }
-    ensures all { (buses : List Bus) → LightServingSparesAll buses }
+    ensures each { (buses : List Bus) → IsLayout buses → TurnsSpare buses (IsLight buses) }
+    ensures all { (buses : List Bus) → IsLayout buses → ServingSparesAll buses (IsLight buses) }
 {}
 
 /// States that an information session is settled after enough turns that bring no change. In each of them its peer

@@ -1,20 +1,20 @@
 //! Turns of a server: what it asks of its door in each, and what it does with the answers.
 
-ghost use Rattle.std.specs.Prelude.{◌≡◌, ◌<◌, ◌≤◌, ◌+◌, replicate, None};
+ghost use Rattle.std.specs.Prelude.{◌≡◌, ◌<◌, ◌≤◌, ◌+◌, replicate, None, Some, is_none, length, position, slice_set};
 ghost use Rattle.srcp_core.specs.declared.limits.TheConstants.{MOST_CONNECTIONS};
 ghost use Rattle.srcp_serve.specs.Slots.{AcceptsOne, MakesTurn, MayFree, Connects, ServesCourse, TakesMoment, one_if};
-ghost use Rattle.srcp_serve.specs.Slots.{VisitsSlot, VisitsSlots};
+ghost use Rattle.srcp_serve.specs.Slots.{VisitsSlot, VisitsSlots, AreFreeFrom};
 ghost use Rattle.srcp_serve.specs.Tally.{CallsDoor};
-ghost use Rattle.srcp_serve.specs.Turns.{AsksMoment, AsksAccept, AsksPeers, AsksTurn, AsksTurns};
+ghost use Rattle.srcp_serve.specs.Turns.{AreMoment, AreAccept, AreAboutPeers, IsTurn, AreTurns, Asks};
+ghost use Rattle.std.specs.List.{slice_index_or};
 
-mod slots;
 mod visit;
 
 use crate::door::{Door, Served};
 use crate::tally::Tally;
-use slots::Slots;
-use srcp_core::{Core, MOST_IN_PIECE};
+use srcp_core::{Core, MOST_CONNECTIONS, MOST_IN_PIECE};
 use srcp_rules::Rows;
+use std::marker::Model;
 use visit::Client;
 pub use visit::MOST_WRITES;
 
@@ -38,7 +38,7 @@ struct Server<'d, D: Door> {
 pub fn serve<R: Rows, D: Door>(core: &mut Core<'_, R>, door: &mut D, turns: u64) -> Served
     ensures turns { result.turns ≡ turns }
     ensures faults { D.faults door.new < 18446744073709551615 → D.faults door.old + result.faults ≡ D.faults door.new }
-    ensures trace { AsksTurns turns (D.trace door.old) (D.trace door.new) }
+    ensures trace { Asks (AreTurns turns) (D.trace door.old) (D.trace door.new) }
     ensures course { ServesCourse turns result.opened core.old (D.trace door.old) core.new (D.trace door.new) }
 {
     let mut server = Server::new(door);
@@ -81,7 +81,7 @@ impl<'d, D: Door> Server<'d, D> {
     /// Makes a turn. Returns whether a peer was connected.
     fn turn<R: Rows>(&mut self, core: &mut Core<'_, R>) -> bool
         requires { self.old.tally.faults ≤ D.faults self.old.door.now }
-        ensures calls { CallsDoor D.faults D.trace AsksTurn self.old self.new }
+        ensures calls { CallsDoor D.faults D.trace IsTurn self.old self.new }
         ensures course { MakesTurn core.old (D.trace self.old.door.now) self.old.slots
             core.new (D.trace self.new.door.now) self.new.slots result }
     {
@@ -94,7 +94,7 @@ impl<'d, D: Door> Server<'d, D> {
     /// Visits the peers that have slots, in the order of the slots.
     fn visit_slots<R: Rows>(&mut self, core: &mut Core<'_, R>)
         requires { self.old.tally.faults ≤ D.faults self.old.door.now }
-        ensures calls { CallsDoor D.faults D.trace AsksPeers self.old self.new }
+        ensures calls { CallsDoor D.faults D.trace AreAboutPeers self.old self.new }
         ensures course { VisitsSlots core.old (D.trace self.old.door.now) self.old.slots
             core.new (D.trace self.new.door.now) self.new.slots }
     {
@@ -108,9 +108,9 @@ impl<'d, D: Door> Server<'d, D> {
     fn visit_slot<R: Rows>(&mut self, core: &mut Core<'_, R>, slot: usize)
         requires counted { self.old.tally.faults ≤ D.faults self.old.door.now }
         requires within { slot < MOST_CONNECTIONS }
-        ensures calls { CallsDoor D.faults D.trace AsksPeers self.old self.new }
-        ensures course { VisitsSlot slot core.old (D.trace self.old.door.now) self.old.slots
-            core.new (D.trace self.new.door.now) self.new.slots }
+        ensures calls { CallsDoor D.faults D.trace AreAboutPeers self.old self.new }
+        ensures course { VisitsSlot core.old (D.trace self.old.door.now) self.old.slots
+            core.new (D.trace self.new.door.now) self.new.slots slot }
         ensures slots { MayFree slot self.old.slots self.new.slots }
     {
         let Some(client) = self.slots.client(slot) else {
@@ -126,7 +126,7 @@ impl<'d, D: Door> Server<'d, D> {
     fn take_moment<R: Rows>(&mut self, core: &mut Core<'_, R>)
         requires { self.old.tally.faults ≤ D.faults self.old.door.now }
         ensures slots { self.new.slots ≡ self.old.slots }
-        ensures calls { CallsDoor D.faults D.trace AsksMoment self.old self.new }
+        ensures calls { CallsDoor D.faults D.trace AreMoment self.old self.new }
         ensures denied { core.new.denied ≡ core.old.denied }
         ensures course { TakesMoment core.old (D.trace self.old.door.now)
             core.new (D.trace self.new.door.now) }
@@ -141,7 +141,7 @@ impl<'d, D: Door> Server<'d, D> {
     /// Accepts one peer, if one is pending. Returns whether it got a slot.
     fn accept_one<R: Rows>(&mut self, core: &mut Core<'_, R>) -> bool
         requires { self.old.tally.faults ≤ D.faults self.old.door.now }
-        ensures calls { CallsDoor D.faults D.trace AsksAccept self.old self.new }
+        ensures calls { CallsDoor D.faults D.trace AreAccept self.old self.new }
         ensures course { AcceptsOne core.old (D.trace self.old.door.now) self.old.slots
             core.new (D.trace self.new.door.now) self.new.slots result }
     {
@@ -159,9 +159,9 @@ impl<'d, D: Door> Server<'d, D> {
     /// whether the peer got a slot.
     fn connect<R: Rows>(&mut self, core: &mut Core<'_, R>, peer: u32) -> bool
         requires { self.old.tally.faults ≤ D.faults self.old.door.now }
-        ensures calls { CallsDoor D.faults D.trace AsksPeers self.old self.new }
-        ensures course { Connects peer core.old (D.trace self.old.door.now) self.old.slots
-            core.new (D.trace self.new.door.now) self.new.slots result }
+        ensures calls { CallsDoor D.faults D.trace AreAboutPeers self.old self.new }
+        ensures course { Connects core.old (D.trace self.old.door.now) self.old.slots
+            core.new (D.trace self.new.door.now) self.new.slots peer result }
     {
         let Ok(key) = core.connect() else {
             self.close(peer);
@@ -175,5 +175,81 @@ impl<'d, D: Door> Server<'d, D> {
         };
         self.slots.give(free, client);
         true
+    }
+}
+
+/// Holds the slots, each with the peer that has it. Contracts see them as a list.
+#[derive(Drop)]
+struct Slots {
+    clients: [Option<Client>; MOST_CONNECTIONS],
+    // All slots from here on are free, so a turn skips them.
+    end: usize,
+}
+
+impl Model for Slots {
+    ghost use Rattle.std.specs.Prelude.{◌≡◌, ◌≤◌, Option, List, length};
+    ghost use Rattle.srcp_core.specs.declared.limits.TheConstants.{MOST_CONNECTIONS};
+    ghost use Rattle.srcp_serve.specs.Slots.{AreFreeFrom};
+    ghost use Rattle.srcp_serve.specs.declared.serving.visit.Client.{Client};
+
+    ghost Value = { List (Option Client) };
+
+    ghost view = { λ p. p.clients };
+
+    ghost invariant = { λ p.
+        (length p.clients ≡ MOST_CONNECTIONS) × (p.end ≤ MOST_CONNECTIONS) × AreFreeFrom p.end p.clients };
+}
+
+impl Slots {
+    /// Makes slots that are all free.
+    fn new() -> Slots
+        ensures { result ≡ replicate MOST_CONNECTIONS None }
+    {
+        Slots {
+            clients: [None; MOST_CONNECTIONS],
+            end: 0,
+        }
+    }
+
+    /// Returns the end of the slots in use: all from it on are free.
+    fn end(&self) -> usize
+        ensures free { AreFreeFrom result self.now }
+        ensures most { result ≤ MOST_CONNECTIONS }
+        ensures all { length self.now ≡ MOST_CONNECTIONS }
+    {
+        self.end
+    }
+
+    /// Returns the peer of the slot, if it has one.
+    fn client(&self, slot: usize) -> Option<Client>
+        requires { slot < MOST_CONNECTIONS }
+        ensures { result ≡ slice_index_or self.now slot None }
+    {
+        self.clients[slot]
+    }
+
+    /// Returns the first free slot, if there is one.
+    fn first_free(&self) -> Option<usize>
+        ensures first { result ≡ position is_none self.now }
+        ensures all { length self.now ≡ MOST_CONNECTIONS }
+    {
+        self.clients.iter().position(|slot| slot.is_none())
+    }
+
+    /// Gives the slot to a peer.
+    fn give(&mut self, slot: usize, client: Client)
+        requires { slot < MOST_CONNECTIONS }
+        ensures { self.new ≡ slice_set self.old slot (Some client) }
+    {
+        self.clients[slot] = Some(client);
+        self.end = self.end.max(slot + 1);
+    }
+
+    /// Frees the slot.
+    fn free(&mut self, slot: usize)
+        requires { slot < MOST_CONNECTIONS }
+        ensures { self.new ≡ slice_set self.old slot None }
+    {
+        self.clients[slot] = None;
     }
 }

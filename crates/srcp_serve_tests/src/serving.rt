@@ -31,6 +31,15 @@ const MANY_PORTS: Bus = Bus {
 /// What a panel sends.
 const PANEL: [&[u8]; 1] = [b"SET CONNECTIONMODE SRCP INFO\nGO\n"];
 
+/// Returns the counts of serving without a failure, if `opened` peers were let in.
+fn all_served(turns: u64, opened: u64) -> Served {
+    Served {
+        turns,
+        opened,
+        faults: 0,
+    }
+}
+
 /// Serves the peers of a door for this many turns, and runs the events that its calls make.
 fn serve_and_run(
     alloc: Global,
@@ -59,12 +68,7 @@ fn serves_a_peer(rt: HostRuntime) -> Result<(), Fail> {
     let mut door = ScriptDoor::new(rt.alloc(), &[0, 0, 0], 0);
     door.add(ScriptPeer::new(rt.alloc(), &[b"GO\n", b""], 1000))?;
     let (served, trace) = serve_and_run(rt.alloc(), &layout, &mut door, 3)?;
-    let wanted = Served {
-        turns: 3,
-        opened: 1,
-        faults: 0,
-    };
-    assert_eq!(rt; served, wanted);
+    assert_eq!(rt; served, all_served(3, 1));
     assert_eq!(rt; door.written(0), AT_0);
     assert_eq!(rt; sent(&trace, 0), AT_0);
     assert_eq!(rt; door.closes(0), 1);
@@ -89,9 +93,8 @@ fn goes_on_after_a_call_that_fails(rt: HostRuntime) -> Result<(), Fail> {
         (11, AT_2),
     ];
     let wanted = Served {
-        turns: 4,
-        opened: 1,
         faults: 1,
+        ..all_served(4, 1)
     };
     for (failing, lines) in written {
         let layout = Layout::new(rt.alloc());
@@ -113,12 +116,7 @@ fn writes_a_byte_each_turn(rt: HostRuntime) -> Result<(), Fail> {
         let mut door = ScriptDoor::new(rt.alloc(), &[], 0);
         door.add(ScriptPeer::new(rt.alloc(), &[b"GO\n"], 1))?;
         let (served, trace) = serve_and_run(rt.alloc(), &layout, &mut door, turns)?;
-        let wanted = Served {
-            turns,
-            opened: 1,
-            faults: 0,
-        };
-        assert_eq!(rt; served, wanted);
+        assert_eq!(rt; served, all_served(turns, 1));
         assert_eq!(rt; door.written(0), written);
         assert_eq!(rt; sent(&trace, 0), written);
     }
@@ -133,12 +131,7 @@ fn lets_64_peers_in(rt: HostRuntime) -> Result<(), Fail> {
         door.add(ScriptPeer::new(rt.alloc(), &[], 1000))?;
     }
     let (served, trace) = serve_and_run(rt.alloc(), &layout, &mut door, 66)?;
-    let wanted = Served {
-        turns: 66,
-        opened: 64,
-        faults: 0,
-    };
-    assert_eq!(rt; served, wanted);
+    assert_eq!(rt; served, all_served(66, 64));
     for index in 0..64 {
         assert_eq!(rt; door.written(index), WELCOME);
         assert_eq!(rt; sent(&trace, index), WELCOME);
@@ -168,12 +161,7 @@ fn gives_a_slot_to_the_next(rt: HostRuntime) -> Result<(), Fail> {
     door.add(ScriptPeer::new(rt.alloc(), &[b"GO\n"], 7))?;
     door.add(ScriptPeer::new(rt.alloc(), &[b"GO\n"], 1000))?;
     let (served, trace) = serve_and_run(rt.alloc(), &layout, &mut door, 20)?;
-    let wanted = Served {
-        turns: 20,
-        opened: 3,
-        faults: 0,
-    };
-    assert_eq!(rt; served, wanted);
+    assert_eq!(rt; served, all_served(20, 3));
     for index in 0..3 {
         assert_eq!(rt; sent(&trace, index), door.written(index));
     }

@@ -105,8 +105,8 @@ pub(crate) fn events_of(alloc: Global, calls: &[Asked]) -> Result<Vec<Event>, Al
 }
 
 /// Returns whether the peer that was accepted is closed before anything else is asked of it.
-fn turns_away(turn: &[Asked], newcomer: u32) -> bool {
-    let first = turn.iter().find(|call| call.is_about(newcomer));
+fn turns_away(turn: &[Asked], peer: u32) -> bool {
+    let first = turn.iter().find(|call| call.is_about(peer));
     first.is_some_and(|call| matches!(call, Asked::Close { .. }))
 }
 

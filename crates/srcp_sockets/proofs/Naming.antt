@@ -13,7 +13,7 @@ use Rattle.srcp_serve.specs.Calls.{AcceptCall, Call, peer_of}
 use Rattle.srcp_sockets.specs.Names.{IsNamed, Named}
 use Rattle.srcp_peers.specs.Steps.{SaysNothing, SaysOne, Step, calls}
 use Rattle.srcp_peers.proofs.Saying.{calls_stay}
-use Rattle.srcp_peers.specs.Times.{refused_newcomer}
+use Rattle.srcp_peers.specs.Times.{refused_accept}
 
 unequal_push : (x n : ℕ) (xs : List ℕ) → x < n → AllByRecursion (λ y. (x == y) ≡ false) xs → AllByRecursion (λ y. (x == y) ≡ false)
     (xs ++ n ∷ [])
@@ -64,7 +64,7 @@ named_come old new last n below says named later is =
     subst (λ (xs : List ℕ). Named xs n) (sym more) (named_push (filter_map peer_of (calls s.0)) last n below (named s.0 s.1))
 
 -- nobody came
-pub nobody_named : (said : Refusal) → filter_map peer_of (AcceptCall (refused_newcomer said) ∷ []) ≡ []
+pub nobody_named : (said : Refusal) → filter_map peer_of (AcceptCall (refused_accept said) ∷ []) ≡ []
 nobody_named Later = refl
 nobody_named Again = refl
 nobody_named Fault = refl

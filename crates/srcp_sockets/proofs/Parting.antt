@@ -10,7 +10,7 @@ use Rattle.srcp_serve.specs.declared.door.DoorFault.{DoorFault}
 use Rattle.std.proofs.lemmas.Bool.Decides.{nat_tests}
 use Rattle.srcp_peers.specs.declared.peer.Peer.{Peer}
 use Rattle.srcp_peers.specs.declared.stay.Stay.TheVariants as stay
-use Rattle.srcp_peers.specs.declared.waiting.Listening.{Listening}
+use Rattle.srcp_peers.specs.declared.turn.Listening.{Listening}
 use Rattle.srcp_peers.specs.Steps.{Clocks, Closes, Step, Tells, Answers}
 use Rattle.srcp_serve.specs.Calls.{Call, CloseCall, ReadCall, WriteCall}
 use Rattle.srcp_serve.specs.declared.door.Got.{Got}

@@ -9,7 +9,8 @@ use Rattle.srcp_serve.specs.declared.door.Got.TheVariants as got
 use Rattle.srcp_peers.specs.declared.system.Ready.{Ready}
 use Rattle.srcp_serve.specs.Calls.{Call, ExpectCall, NowCall, AcceptCall, ReadCall, WriteCall, CloseCall}
 use Rattle.srcp_peers.specs.Steps.{Accepts, Clocks, Closes, Reads, Shuts, Step, Answers, Waits, Writes}
-use Rattle.srcp_peers.specs.Accounts.{Account, accepted, account, account_step, closed, heard, is_at_rest, is_short, may_close, may_end}
+use Rattle.srcp_peers.specs.Accounts.{Account, accepted, account, account_step, closed, heard, is_at_rest, is_short_wait}
+use Rattle.srcp_peers.specs.Accounts.{may_close, may_end}
 use Rattle.srcp_peers.specs.Accounts.{may_fail, may_shut, shut_down, untouched, waited, woken, woken_came, woken_sent, wrote, read_of}
 use Rattle.srcp_peers.proofs.Keeping.{own}
 use Rattle.srcp_peers.proofs.Resting.{and_left, and_right}
@@ -77,7 +78,7 @@ rested_before socket a (Reads who buffer answer) h = sym (if_same (λ (x : Accou
 rested_before socket a (Writes who bytes answer) h = sym (if_same (λ (x : Account). x.rested) (who == socket)
     (record a { sent = wrote a.sent bytes answer }) a refl) ∙ h
 rested_before socket a (Waits most count ready) h = and_left a.rested
-    (not (a.watched || (socket == 0)) || (is_short most || is_at_rest a.sent a.received))
+    (not (a.watched || (socket == 0)) || (is_short_wait most || is_at_rest a.sent a.received))
     (sym (ap (λ m. m.1) (woken_marks socket (waited socket a most) (take count ready))) ∙ h)
 rested_before socket a (Shuts who) h = sym (if_same (λ (x : Account). x.rested) (who == socket) (shut_down a) a refl) ∙ h
 rested_before socket a (Closes who) h = sym (if_same (λ (x : Account). x.rested) (who == socket) (closed a) a refl) ∙ h
@@ -219,14 +220,14 @@ long_rests true listener true rests w s h = absurd (true≢false s)
 long_rests false listener true rests w s h = absurd (true≢false s)
 
 pub rested_then : (socket : ℕ) (before after : List Step) (most : Option ℕ) (count : ℕ) (ready : List Ready)
-    → (account socket (before ++ Waits most count ready ∷ after)).rested ≡ true → is_short most ≡ false
+    → (account socket (before ++ Waits most count ready ∷ after)).rested ≡ true → is_short_wait most ≡ false
     → ((account socket before).watched || (socket == 0)) ≡ true → is_at_rest (account socket before).sent
     (account socket before).received ≡ true
 rested_then socket before after most count ready h long there =
     let a = account socket before in
     let step = at_step (λ (x : Account). x.rested) socket (rested_before socket) before after (Waits most count ready) h in
-    long_rests a.watched (socket == 0) (is_short most) (is_at_rest a.sent a.received) there long
-    (and_right a.rested (not (a.watched || (socket == 0)) || (is_short most || is_at_rest a.sent a.received))
+    long_rests a.watched (socket == 0) (is_short_wait most) (is_at_rest a.sent a.received) there long
+    (and_right a.rested (not (a.watched || (socket == 0)) || (is_short_wait most || is_at_rest a.sent a.received))
     (sym (ap (λ m. m.1) (woken_marks socket (waited socket a most) (take count ready))) ∙ step))
 
 -- ---- it was shut down and closed only when it might be

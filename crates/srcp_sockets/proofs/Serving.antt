@@ -5,7 +5,7 @@ use Rattle.std.specs.Prelude.{◌&&◌, option_map, slice_index_or, Result}
 use Rattle.srcp_serve.specs.declared.door.DoorFault.{DoorFault}
 use Rattle.srcp_serve.specs.Calls.{Call, NowCall, Tells as Tells_call}
 use Rattle.srcp_peers.specs.declared.peer.Peer.{Peer}
-use Rattle.srcp_peers.specs.declared.waiting.Listening.{Listening}
+use Rattle.srcp_peers.specs.declared.turn.Listening.{Listening}
 use Rattle.srcp_peers.specs.Steps.{Clocks, SaysOne, Step, Tells, Answers, calls}
 use Rattle.srcp_peers.specs.Accounts.{Account, account, account_step, clocked}
 use Rattle.srcp_peers.specs.Peers.{Agrees, IsKept, IsRead}

@@ -11,7 +11,7 @@ use Rattle.srcp_peers.specs.declared.readiness.Input.TheVariants as input
 use Rattle.srcp_peers.specs.declared.readiness.Output.{Output}
 use Rattle.srcp_peers.specs.declared.readiness.Output.TheVariants as output
 use Rattle.srcp_peers.specs.declared.stay.Stay.TheVariants as stay
-use Rattle.srcp_peers.specs.declared.waiting.Listening.{Listening}
+use Rattle.srcp_peers.specs.declared.turn.Listening.{Listening}
 use Rattle.srcp_peers.specs.Steps.{Step, Tells, Answers}
 use Rattle.srcp_serve.specs.Calls.{Call}
 use Rattle.srcp_peers.specs.Accounts.{Account, account, account_step, answered_step}

@@ -20,11 +20,11 @@ use Rattle.srcp_peers.proofs.Lined.{line_is}
 use Rattle.srcp_peers.specs.declared.system.Ready.{Ready}
 use Rattle.srcp_peers.specs.declared.turn.Turn.{Turn}
 use Rattle.srcp_serve.specs.Calls.{Call, ExpectCall, NowCall, AcceptCall, ReadCall, WriteCall, CloseCall}
-use Rattle.srcp_peers.specs.Accounts.{is_short}
+use Rattle.srcp_peers.specs.Accounts.{is_short_wait}
 use Rattle.srcp_peers.specs.Steps.{Accepts, Clocks, Step, Tells, Answers, Waits}
 use Rattle.srcp_sockets.specs.KeptTimes.{IsTimed, IsTimedFrom, Timed}
 use Rattle.srcp_peers.specs.Times.{KeepsTimes, Times, clocked, ends_by}
-use Rattle.srcp_peers.specs.Times.{in_time, is_as_heard, newcomer_of, times, times_step, answered_accept, answered_moment, answered_read}
+use Rattle.srcp_peers.specs.Times.{in_time, is_as_heard, accept_answer, times, times_step, answered_accept, answered_moment, answered_read}
 use Rattle.srcp_peers.specs.Turns.{after_call, after_read, after_wait, begun, first_turn, got_bytes, hands_out, is_pending, moment_at}
 use Rattle.srcp_peers.specs.Turns.{reports_end, time_left, reported_at}
 use Rattle.srcp_peers.specs.Waiting.{IsWithin}
@@ -126,12 +126,12 @@ timed_unasked old new before after answer is as_heard tells timed =
 -- the system was asked
 pub timed_asked : (old mid new : Option (List Step)) (before after : Turn) (number : ℕ) (said : Result Unit ErrorKind)
     (answer : Result (Option ℕ) DoorFault) → after ≡ after_call before (AcceptCall answer)
-    → is_as_heard (Some (newcomer_of number said)) answer ≡ true → Tells old (Accepts number said) mid
+    → is_as_heard (Some (accept_answer number said)) answer ≡ true → Tells old (Accepts number said) mid
     → Tells mid (Answers (AcceptCall answer)) new → IsTimed old before → IsTimed new after
 timed_asked old mid new before after number said answer is as_heard asks tells timed =
     subst (IsTimed new) (sym is) (timed_two before.timekeeper.wall before.timekeeper.start old mid new (Accepts number said)
     (Answers (AcceptCall answer)) before (after_call before (AcceptCall answer))
-    (λ t h. accepted t before answer (Some (newcomer_of number said)) as_heard h) asks tells timed)
+    (λ t h. accepted t before answer (Some (accept_answer number said)) as_heard h) asks tells timed)
 
 pub timed_write : (old new : Option (List Step)) (before after : Turn) (peer : ℕ) (bytes : List ℕ) (answer : Result ℕ DoorFault)
     → ((p : ℕ) (xs : List ℕ) → after ≡ after_call before (WriteCall p xs answer))
@@ -299,7 +299,8 @@ unless_long true pending f = refl
 unless_long false pending f = ap not (f refl)
 
 pub timed_wait : (old new : Option (List Step)) (turn : Turn) (most : Option ℕ) (count : ℕ) (ready : List Ready)
-    → ((left : ℕ) → time_left turn ≡ Some left → IsWithin left most) → (is_short most ≡ false → is_pending turn.slack turn.busy ≡ false)
+    → ((left : ℕ) → time_left turn ≡ Some left → IsWithin left most)
+    → (is_short_wait most ≡ false → is_pending turn.slack turn.busy ≡ false)
     → Tells old (Waits most count ready) new → IsTimed old turn → IsTimed new (after_wait turn)
 timed_wait old new turn most count ready ends quiet tells timed =
     timed_step turn.timekeeper.wall turn.timekeeper.start old new (Waits most count ready) turn (after_wait turn) tells follows timed
@@ -312,9 +313,9 @@ timed_wait old new turn most count ready ends quiet tells timed =
         exact = h.kept.exact;
         punctual = both t.punctual (in_time t.turn most) h.kept.punctual
             (ap (λ (u : Turn). in_time u most) h.same ∙ left_in_time (time_left turn) most ends);
-        patient = both t.patient (is_short most || not (is_pending t.turn.slack t.turn.busy)) h.kept.patient
-            (ap (λ (u : Turn). is_short most || not (is_pending u.slack u.busy)) h.same
-            ∙ unless_long (is_short most) (is_pending turn.slack turn.busy) quiet);
+        patient = both t.patient (is_short_wait most || not (is_pending t.turn.slack t.turn.busy)) h.kept.patient
+            (ap (λ (u : Turn). is_short_wait most || not (is_pending u.slack u.busy)) h.same
+            ∙ unless_long (is_short_wait most) (is_pending turn.slack turn.busy) quiet);
         prompt = h.kept.prompt;
       };
       paced = record { light = h.paced.light; once = h.paced.once };

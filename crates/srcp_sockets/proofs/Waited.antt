@@ -4,11 +4,11 @@ use Rattle.std.proofs.Common.{subst, ⊎_elim, ◌==◌, if◌then◌else◌, Op
 use Rattle.std.specs.Prelude.{All, ◌&&◌, ◌||◌, fold, slice_index_or, take}
 use Rattle.std.proofs.lemmas.Bool.{cases_eq}
 use Rattle.srcp_peers.specs.declared.peer.Peer.{Peer}
-use Rattle.srcp_peers.specs.declared.waiting.Listening.{Listening}
-use Rattle.srcp_peers.specs.declared.waiting.Listening.TheVariants as listening
+use Rattle.srcp_peers.specs.declared.turn.Listening.{Listening}
+use Rattle.srcp_peers.specs.declared.turn.Listening.TheVariants as listening
 use Rattle.srcp_peers.specs.declared.system.Ready.{Ready}
 use Rattle.srcp_peers.specs.Steps.{Step, Tells, Waits}
-use Rattle.srcp_peers.specs.Accounts.{Account, account, is_at_rest, is_short}
+use Rattle.srcp_peers.specs.Accounts.{Account, account, is_at_rest, is_short_wait}
 use Rattle.srcp_peers.specs.Accounts.{waited, woken, woken_came, woken_sent, noted}
 use Rattle.srcp_peers.specs.Peers.{after_wake, is_resting}
 use Rattle.srcp_peers.specs.Listeners.{woken_listening}
@@ -129,12 +129,12 @@ noted_hears a l h = record {
 
 -- an account as a wait begins
 waited_sound : (socket : ℕ) (a : Account) (most : Option ℕ) → Sound a
-    → (not (a.watched || (socket == 0)) || (is_short most || is_at_rest a.sent a.received)) ≡ true → Sound (waited socket a most)
+    → (not (a.watched || (socket == 0)) || (is_short_wait most || is_at_rest a.sent a.received)) ≡ true → Sound (waited socket a most)
 waited_sound socket a most h rests = record {
   took = h.took;
   handed = h.handed;
   honest = h.honest;
-  rested = ap (λ b. b && (not (a.watched || (socket == 0)) || (is_short most || is_at_rest a.sent a.received))) h.rested ∙ rests;
+  rested = ap (λ b. b && (not (a.watched || (socket == 0)) || (is_short_wait most || is_at_rest a.sent a.received))) h.rested ∙ rests;
   rightly = h.rightly;
   served = h.served;
 }
@@ -144,7 +144,7 @@ unwatched watched listener rests w l = rw (w, l) refl
 
 pub stands_waited : (old new : Option (List Step)) (before after : List Peer) (most : Option ℕ) (count : ℕ) (ready : List Ready)
     (l : Listening) (last : ℕ)
-    → (is_short most ≡ false → All (λ peer. is_resting peer ≡ true) before) → (is_short most ≡ false → l ≡ listening.Quiet)
+    → (is_short_wait most ≡ false → All (λ peer. is_resting peer ≡ true) before) → (is_short_wait most ≡ false → l ≡ listening.Quiet)
     → Tells old (Waits most count ready) new → length after ≡ length before
     → ((k : ℕ) (d : Peer) → k < length before → slice_index_or after k d ≡ fold after_wake (slice_index_or before k d) (take count ready))
     → Stands old before l last → Stands new after (fold woken_listening l (take count ready)) last
@@ -195,10 +195,10 @@ stands_waited old new before after most count ready l last rest quiet tells long
 
     rests : (socket : ℕ) (log : List Step) (is : new ≡ Some log) → IsAbsent socket before
         → (not ((account socket (tells log is).0).watched || (socket == 0))
-        || (is_short most || is_at_rest (account socket (tells log is).0).sent (account socket (tells log is).0).received)) ≡ true
+        || (is_short_wait most || is_at_rest (account socket (tells log is).0).sent (account socket (tells log is).0).received)) ≡ true
     rests socket log is absent = ⊎_elim
         (λ (e : socket ≡ 0). or_so (not ((account socket (tells log is).0).watched || (socket == 0))) _
-        (unless_long (is_short most) _ (λ long. subst (λ (n : ℕ). is_at_rest (account n (tells log is).0).sent
+        (unless_long (is_short_wait most) _ (λ long. subst (λ (n : ℕ). is_at_rest (account n (tells log is).0).sent
         (account n (tells log is).0).received ≡ true) (sym e)
         (listener_rests (account 0 (tells log is).0)
         (subst (λ (x : Listening). Hears (account 0 (tells log is).0) x) (quiet long) (stands.heard (tells log is).0 (tells log is).1))))))

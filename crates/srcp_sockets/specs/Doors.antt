@@ -7,8 +7,8 @@ use Rattle.srcp_peers.specs.declared.peer.Peer.{Peer}
 use Rattle.srcp_peers.specs.declared.readiness.Flush.{Flush}
 use Rattle.srcp_peers.specs.declared.stay.Stay.TheVariants as stay
 use Rattle.srcp_peers.specs.declared.turn.Turn.{Turn}
-use Rattle.srcp_peers.specs.declared.waiting.Listening.{Listening}
-use Rattle.srcp_peers.specs.declared.waiting.Listening.TheVariants as listening
+use Rattle.srcp_peers.specs.declared.turn.Listening.{Listening}
+use Rattle.srcp_peers.specs.declared.turn.Listening.TheVariants as listening
 use Rattle.srcp_peers.specs.Steps.{Step}
 use Rattle.srcp_peers.specs.Accounts.{Account, account}
 use Rattle.srcp_peers.specs.Peers.{IsRead, holds_input, is_here}

@@ -8,8 +8,8 @@ use Rattle.srcp_peers.specs.declared.readiness.Output.{Output}
 use Rattle.srcp_peers.specs.declared.readiness.Output.TheVariants as output
 use Rattle.srcp_peers.specs.declared.stay.Stay.{Stay}
 use Rattle.srcp_peers.specs.declared.stay.Stay.TheVariants as stay
-use Rattle.srcp_peers.specs.declared.waiting.Listening.{Listening}
-use Rattle.srcp_peers.specs.declared.waiting.Listening.TheVariants as listening
+use Rattle.srcp_peers.specs.declared.turn.Listening.{Listening}
+use Rattle.srcp_peers.specs.declared.turn.Listening.TheVariants as listening
 use Rattle.srcp_peers.specs.Steps.{Step}
 use Rattle.srcp_peers.specs.Accounts.{Lingering, Received, Sent}
 use Rattle.srcp_peers.specs.Peers.{ComesAs, ReadsAs, StaysAs, WritesAs}

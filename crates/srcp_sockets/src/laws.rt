@@ -9,7 +9,7 @@ ghost use Rattle.srcp_serve.specs.declared.door.DoorFault.{DoorFault};
 ghost use Rattle.srcp_serve.specs.declared.door.Got.{Got};
 ghost use Rattle.srcp_peers.specs.declared.system.Ready.{Ready};
 ghost use Rattle.srcp_serve.specs.Calls.{ReadCall, NowCall, WriteCall};
-ghost use Rattle.srcp_peers.specs.Accounts.{account, is_at_rest, is_short, may_close, may_end, may_fail, may_shut};
+ghost use Rattle.srcp_peers.specs.Accounts.{account, is_at_rest, is_short_wait, may_close, may_end, may_fail, may_shut};
 ghost use Rattle.srcp_peers.specs.Steps.{Closes, Shuts, Step, Answers, Waits};
 ghost use Rattle.srcp_sockets.specs.Doors.{IsThere};
 ghost use Rattle.srcp_sockets.specs.KeptTimes.{AreKeptTimes, ArePaced};
@@ -80,7 +80,7 @@ pub fn peers_are_read<S: System + Drop>(door: &SocketDoor<S>)
 /// A wait longer than the retry delay found at rest each peer that was there, and the listener, which is socket 0.
 pub fn waits_are_safe<S: System + Drop>(door: &SocketDoor<S>)
     ensures { (before after : List Step) (most : Option ℕ) (count : ℕ) (ready : List Ready)
-        → S.trace door.now.sockets.system ≡ Some (before ++ Waits most count ready ∷ after) → is_short most ≡ false
+        → S.trace door.now.sockets.system ≡ Some (before ++ Waits most count ready ∷ after) → is_short_wait most ≡ false
         → (socket : ℕ) → ((account socket before).watched || (socket == 0)) ≡ true
         → is_at_rest (account socket before).sent (account socket before).received ≡ true }
 {
@@ -117,7 +117,7 @@ pub fn times_are_kept<S: System + Drop>(door: &SocketDoor<S>)
 /// The door answered `accept` as the system did. The answer was the number of the accepted connection, a fault if the
 /// system failed, or nobody if it found nobody or was interrupted. If the system was not asked, the answer was nobody;
 /// or a fault, since memory or the numbers ran out.
-pub fn newcomers_are_true<S: System + Drop>(door: &SocketDoor<S>)
+pub fn accepts_are_true<S: System + Drop>(door: &SocketDoor<S>)
     ensures { (log : List Step) → S.trace door.now.sockets.system ≡ Some log
         → (times door.now.sockets.turn.timekeeper.wall door.now.sockets.turn.timekeeper.start log).honest ≡ true }
 {

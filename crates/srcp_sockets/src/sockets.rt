@@ -8,7 +8,7 @@ ghost use Rattle.srcp_sockets.specs.Facts.{Stands-prop};
 ghost use Rattle.std.specs.List.{list_any};
 ghost use Rattle.srcp_sockets.specs.Names.{IsNamed, IsNamed-prop};
 ghost use Rattle.srcp_sockets.specs.KeptTimes.{IsTimed, IsTimed-prop};
-ghost use Rattle.srcp_peers.specs.Accounts.{is_short};
+ghost use Rattle.srcp_peers.specs.Accounts.{is_short_wait};
 ghost use Rattle.srcp_peers.specs.Peers.{is_resting, holds_input, is_closable, is_here};
 ghost use Rattle.srcp_peers.specs.Turns.{first_turn, flushing, has_ticked, is_pending, room_of, time_left};
 ghost use Rattle.srcp_peers.specs.Waiting.{IsWithin};
@@ -17,7 +17,7 @@ ghost use Rattle.srcp_peers.specs.Steps.{SaysNothing, SaysOne};
 ghost use Rattle.srcp_peers.specs.AllPeers.{AreMarked, AreOffered};
 ghost use Rattle.srcp_sockets.specs.Doors.{AreRead, IsMissing, IsPresent, Stands, flushed_in};
 
-mod newcomers;
+mod accepting;
 
 use crate::delivering::deliver;
 use srcp_peers::peers::{begin_visits, flush, listen, wake};
@@ -125,9 +125,9 @@ impl<S: System + Drop> Sockets<S> {
 
     /// Returns how many milliseconds the turn waits at most; `None` if only a socket ends the wait.
     fn longest_wait(&self) -> Option<u64>
-        ensures rest { is_short result ≡ false → All (λ peer. is_resting peer ≡ true) self.now.peers.items }
-        ensures newcomers { is_short result ≡ false → self.now.listening ≡ Listening.Quiet }
-        ensures panels { is_short result ≡ false → is_pending self.now.turn.slack self.now.turn.busy ≡ false }
+        ensures rest { is_short_wait result ≡ false → All (λ peer. is_resting peer ≡ true) self.now.peers.items }
+        ensures accepts { is_short_wait result ≡ false → self.now.listening ≡ Listening.Quiet }
+        ensures panels { is_short_wait result ≡ false → is_pending self.now.turn.slack self.now.turn.busy ≡ false }
         ensures due { (left : ℕ) → time_left self.now.turn ≡ Some left → IsWithin left result }
     {
         longest_wait(self.peers.as_slice(), self.listening, &self.turn, self.most)

@@ -49,35 +49,26 @@ fn checks_a_configuration(rt: HostRuntime) -> Result<(), Fail> {
     Ok(())
 }
 
+/// Returns for how many turns the words ask to serve over the configuration `f`.
+fn turns_of(alloc: Global, words: &[&str]) -> Result<u64, Fail> {
+    let words = given(alloc, words)?;
+    match read_words(alloc, &words)? {
+        Tool::Serve { config: "f", turns } => Ok(turns),
+        _ => Err(Fail::from("it is not to serve")),
+    }
+}
+
 #[test]
 fn serves_on_and_on(rt: HostRuntime) -> Result<(), Fail> {
-    let words = given(rt.alloc(), &["serve", "--config", "f"])?;
-    let tool = read_words(rt.alloc(), &words)?;
-    assert!(rt;
-        matches!(
-            tool,
-            Tool::Serve {
-                config: "f",
-                turns: u64::MAX
-            }
-        )
-    );
+    let turns = turns_of(rt.alloc(), &["serve", "--config", "f"])?;
+    assert_eq!(rt; turns, u64::MAX);
     Ok(())
 }
 
 #[test]
 fn serves_so_many_turns(rt: HostRuntime) -> Result<(), Fail> {
-    let words = given(rt.alloc(), &["serve", "--turns", "3", "--config", "f"])?;
-    let tool = read_words(rt.alloc(), &words)?;
-    assert!(rt;
-        matches!(
-            tool,
-            Tool::Serve {
-                config: "f",
-                turns: 3
-            }
-        )
-    );
+    let turns = turns_of(rt.alloc(), &["serve", "--turns", "3", "--config", "f"])?;
+    assert_eq!(rt; turns, 3);
     Ok(())
 }
 

@@ -29,18 +29,10 @@ fn tells_nothing_of_a_refused_configuration(rt: HostRuntime) {
 #[test]
 fn reads_a_configuration_up_to_its_limit(rt: HostRuntime) -> Result<(), Fail> {
     let full = vec![in rt.alloc(); b'#'; 1_048_576]?;
-    let mut whole = Source {
-        bytes: full.as_slice(),
-        at_once: 1_000_000,
-        fails: false,
-    };
+    let mut whole = Source::new(full.as_slice(), 1_000_000, false);
     assert_eq!(rt; read_config(rt.alloc(), &mut whole)?.len(), 1_048_576);
     let past = vec![in rt.alloc(); b'#'; 1_048_577]?;
-    let mut large = Source {
-        bytes: past.as_slice(),
-        at_once: 1_000_000,
-        fails: false,
-    };
+    let mut large = Source::new(past.as_slice(), 1_000_000, false);
     let answer = read_config(rt.alloc(), &mut large).err();
     assert_eq!(rt; answer, Some(ToolFault::TooLarge));
     Ok(())

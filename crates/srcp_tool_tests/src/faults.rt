@@ -5,24 +5,16 @@ use srcp_script::{Cause, ScriptFault};
 use srcp_tool::ToolFault;
 use std::test::Fail;
 
+fn at(line: usize, cause: Cause) -> ScriptFault {
+    ScriptFault { line, cause }
+}
+
 #[test]
 fn tells_a_fault_and_its_status(rt: HostRuntime) -> Result<(), Fail> {
-    let word = ScriptFault {
-        line: 2,
-        cause: Cause::Word,
-    };
-    let number = ScriptFault {
-        line: 30,
-        cause: Cause::Number,
-    };
-    let escape = ScriptFault {
-        line: 1,
-        cause: Cause::Escape,
-    };
-    let memory = ScriptFault {
-        line: 1,
-        cause: Cause::Memory,
-    };
+    let word = at(2, Cause::Word);
+    let number = at(30, Cause::Number);
+    let escape = at(1, Cause::Escape);
+    let memory = at(1, Cause::Memory);
     let faults = [
         (ToolFault::Input, "cannot read the input", 1),
         (ToolFault::Output, "cannot write", 1),

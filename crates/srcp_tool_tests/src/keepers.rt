@@ -48,11 +48,7 @@ bytes 1 INIT 1 GA 9 N\\nGET 1 GA 9 3\\nGET 1 GA 9 4\\nGET 0 SESSION 1\\nTERM 0 S
 
 /// Returns what is printed of a run of the script.
 fn printed<R: Rows>(alloc: Global, layout: &Layout, script: &[u8]) -> Result<Vec<u8>, ToolFault> {
-    let mut reader = Source {
-        bytes: script,
-        at_once: 1000,
-        fails: false,
-    };
+    let mut reader = Source::new(script, 1000, false);
     let mut output = Vec::new(alloc);
     replay::<R, Source<'_>, Vec<u8>>(alloc, layout, &mut reader, &mut output)?;
     Ok(output)

@@ -8,9 +8,19 @@ use std::vec::Vec;
 /// Gives its bytes a few at a time, and then ends or fails.
 #[derive(Drop)]
 pub(crate) struct Source<'a> {
-    pub bytes: &'a [u8],
-    pub at_once: usize,
-    pub fails: bool,
+    bytes: &'a [u8],
+    at_once: usize,
+    fails: bool,
+}
+
+impl<'a> Source<'a> {
+    pub(crate) fn new(bytes: &'a [u8], at_once: usize, fails: bool) -> Source<'a> {
+        Source {
+            bytes,
+            at_once,
+            fails,
+        }
+    }
 }
 
 impl Read for Source<'_> {

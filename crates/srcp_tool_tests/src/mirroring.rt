@@ -28,11 +28,7 @@ const ROWS_WITHOUT_ACCESSORY: &[u8] = b"0.000 101 INFO 0 SESSION 1 COMMAND
 #[test]
 fn mirrors_lines(rt: HostRuntime) -> Result<(), Fail> {
     for at_once in [1, 7, 1000] {
-        let mut lines = Source {
-            bytes: ROWS,
-            at_once,
-            fails: false,
-        };
+        let mut lines = Source::new(ROWS, at_once, false);
         let mut output = Vec::new(rt.alloc());
         mirror(rt.alloc(), &mut lines, &mut output)?;
         assert_eq!(rt; output.as_slice(), ROWS);
@@ -44,11 +40,7 @@ fn mirrors_lines(rt: HostRuntime) -> Result<(), Fail> {
 fn mirrors_what_has_gone(rt: HostRuntime) -> Result<(), Fail> {
     let mut input = Vec::from_slice(rt.alloc(), ROWS)?;
     input.extend_from_slice(b"2.000 102 INFO 1 GA 5\n3.000 100 INFO 1 FB 1 1")?;
-    let mut lines = Source {
-        bytes: input.as_slice(),
-        at_once: 100,
-        fails: false,
-    };
+    let mut lines = Source::new(input.as_slice(), 100, false);
     let mut output = Vec::new(rt.alloc());
     mirror(rt.alloc(), &mut lines, &mut output)?;
     assert_eq!(rt; output.as_slice(), ROWS_WITHOUT_ACCESSORY);
@@ -57,11 +49,7 @@ fn mirrors_what_has_gone(rt: HostRuntime) -> Result<(), Fail> {
 
 #[test]
 fn refuses_the_first_wrong_line(rt: HostRuntime) {
-    let mut lines = Source {
-        bytes: b"1.000 100 INFO 1 FB 1 0\n\n",
-        at_once: 10,
-        fails: false,
-    };
+    let mut lines = Source::new(b"1.000 100 INFO 1 FB 1 0\n\n", 10, false);
     let mut output = Vec::new(rt.alloc());
     let answer = mirror(rt.alloc(), &mut lines, &mut output);
     assert_eq!(rt; answer, Err(ToolFault::Line(2)));
@@ -70,11 +58,7 @@ fn refuses_the_first_wrong_line(rt: HostRuntime) {
 
 #[test]
 fn tells_a_failing_read_before_a_wrong_line(rt: HostRuntime) {
-    let mut lines = Source {
-        bytes: b"GET 1 POWER\n",
-        at_once: 10,
-        fails: true,
-    };
+    let mut lines = Source::new(b"GET 1 POWER\n", 10, true);
     let mut output = Vec::new(rt.alloc());
     assert_eq!(rt;
         mirror(rt.alloc(), &mut lines, &mut output),

@@ -9,22 +9,14 @@ use std::vec::Vec;
 #[test]
 fn reads_an_input_in_pieces(rt: HostRuntime) -> Result<(), Fail> {
     let layout = Layout::new(rt.alloc());
-    let mut whole = Source {
-        bytes: b"open\nshut 1\n",
-        at_once: 5,
-        fails: false,
-    };
+    let mut whole = Source::new(b"open\nshut 1\n", 5, false);
     let mut output = Vec::new(rt.alloc());
     replay::<Flat, Source<'_>, Vec<u8>>(rt.alloc(), &layout, &mut whole, &mut output)?;
     assert_eq!(rt;
         output.as_slice(),
         b"connection 1 0 shut\nrows 0\n".as_slice()
     );
-    let mut cut = Source {
-        bytes: b"open\nshut 1\n",
-        at_once: 5,
-        fails: true,
-    };
+    let mut cut = Source::new(b"open\nshut 1\n", 5, true);
     let mut output = Vec::new(rt.alloc());
     assert_eq!(rt;
         replay::<Flat, Source<'_>, Vec<u8>>(rt.alloc(), &layout, &mut cut, &mut output),
@@ -37,11 +29,7 @@ fn reads_an_input_in_pieces(rt: HostRuntime) -> Result<(), Fail> {
 /// Writes `rows 0` and an LF, which is the record of an empty script over no bus.
 fn write_no_rows(rt: HostRuntime, sink: &mut Sink) -> Result<(), ToolFault> {
     let layout = Layout::new(rt.alloc());
-    let mut script = Source {
-        bytes: b"",
-        at_once: 1,
-        fails: false,
-    };
+    let mut script = Source::new(b"", 1, false);
     replay::<Flat, Source<'_>, Sink>(rt.alloc(), &layout, &mut script, sink)
 }
 

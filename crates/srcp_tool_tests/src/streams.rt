@@ -24,20 +24,12 @@ const CHECKED: &[u8] = b"port 4303\nbus 9 GA 1\n";
 
 /// Makes a reader that fails after these bytes.
 fn failing(bytes: &[u8]) -> Source<'_> {
-    Source {
-        bytes,
-        at_once: 7,
-        fails: true,
-    }
+    Source::new(bytes, 7, true)
 }
 
 /// Makes a reader that ends after these bytes.
 fn ending(bytes: &[u8]) -> Source<'_> {
-    Source {
-        bytes,
-        at_once: 7,
-        fails: false,
-    }
+    Source::new(bytes, 7, false)
 }
 
 #[test]

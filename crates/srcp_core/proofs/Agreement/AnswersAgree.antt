@@ -6,7 +6,8 @@ use Rattle.srcp_core.proofs.Names.{OfConnection, lent, Connection, is_open, over
 use Rattle.srcp_core.proofs.Names.{open_connection, Place, Held, at, IsAdmitted, IsNotAdmitted, bytes_fault, bytes_fault_from, finish_at}
 use Rattle.srcp_core.proofs.Names.{unsent_at, let_out, key_of, StandsFor, place_of, CoreFault, Full, Busy, PieceTooLong}
 use Rattle.std.specs.Prelude.{IsSome}
-use Rattle.srcp_core.specs.Agrees.{NamesNewest, CountsOpen, TakesPieces, closes}
+use Rattle.srcp_core.specs.Agrees.{closes}
+use Rattle.srcp_core.proofs.Names.{open_count, ◌≤◌}
 use Rattle.srcp_core.specs.Connection.{is_last}
 use Rattle.srcp_core.specs.declared.record.CoreFault.TheVariants.{Memory as MemoryFault, Closing as ClosingFault}
 use Rattle.srcp_core.proofs.Agreement.LinesAgree.{IsFine}
@@ -28,16 +29,18 @@ fine buses layout events = sound buses (opening_in_order buses layout) Anything 
 -- ---- a connection is opened
 
 pub accepts_agrees : (key : ℕ) (old new : Held) → IsAdmitted key old new
-    → OfCourse old (λ buses events. fault buses (course buses events) (Open true) ≡ None)
+    → OfCourse old (λ buses events _. fault buses (course buses events) (Open true) ≡ None)
 accepts_agrees key old new a buses events keys layout s = free_fault buses keys old _ s a.room true
 
 pub refuses_agrees : (cause : CoreFault) (old new : Held) → IsNotAdmitted cause old new
-    → OfCourse old (λ buses events. fault buses (course buses events) (Open false) ≡ Some cause)
+    → OfCourse old (λ buses events _. fault buses (course buses events) (Open false) ≡ Some cause)
 refuses_agrees Full old new is buses events keys layout s = full_fault buses keys old _ s is.0 false
 refuses_agrees MemoryFault old new is buses events keys layout s = free_fault buses keys old _ s is.0 false
 refuses_agrees other old new is buses events keys layout s = absurd is
 
-pub names_newest : (key : ℕ) (held : Held) → NamesNewest key held
+pub names_newest : (key : ℕ) (held : Held) (buses : List Bus) (events : List Event) (keys : List (Option ℕ))
+    → StandsFor buses keys held (course buses events)
+    → key_of (length (course buses events).connections + 1) (keys ++ Some key ∷ []) ≡ Some key
 names_newest key held buses events keys s =
     let last : length (course buses events).connections + 1 ≡ suc (length keys) = omega (arith, s.long) in
     cc (key_push_last keys _)
@@ -54,7 +57,8 @@ count_keys (key ∷ keys) (conn ∷ conns) l law =
     let more = count_keys keys conns less (λ k other e. law (suc k) other e) in
     cc (count_by_cons is_some key keys, law 0 conn refl, opens_cons conn conns)
 
-pub counts_open : (held : Held) → CountsOpen held
+pub counts_open : (held : Held) (buses : List Bus) (events : List Event) (keys : List (Option ℕ))
+    → StandsFor buses keys held (course buses events) → count_by is_some keys ≡ open_count held
 counts_open held buses events keys s =
     count_keys keys (course buses events).connections s.long (λ k conn e. by k conn e (is_open conn) refl) ∙ sym s.count
   where
@@ -121,7 +125,8 @@ bytes_agree key piece held buses events keys n layout named s = fault_is buses l
 
 -- where a piece of no bytes is accepted, so is any of at most 256
 pub takes_agrees : (key : ℕ) (held : Held) → is_none (bytes_fault key [] held) ≡ true
-    → OfConnection key held (λ buses events n. TakesPieces buses (course buses events) n)
+    → OfConnection key held (λ buses events n.
+    (piece : Piece) → length piece.bytes ≤ 256 → fault buses (course buses events) (Bytes n piece) ≡ None)
 takes_agrees key held accepts buses events keys n layout named s piece few =
     sym (bytes_agree key piece held buses events keys n layout named s) ∙ from _ accepts
   where

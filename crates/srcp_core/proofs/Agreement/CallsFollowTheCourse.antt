@@ -6,7 +6,9 @@ use Rattle.srcp_core.proofs.Names.{one_denied, advanced, hung_up, let_out, unsen
 use Rattle.srcp_core.proofs.Names.{Recording, key_of, record_of, stepped, shut, Runs, count_at, taken_at, taking, StandsFor, CoreFault}
 use Rattle.srcp_core.proofs.Names.{Full}
 use Rattle.srcp_core.specs.declared.record.Step.TheVariants as recorded
-use Rattle.srcp_core.specs.Run.{LeadsTo, LeadsAt, LeadsToFree, LeadsToOpen}
+use Rattle.srcp_core.specs.Agrees.{AtKey}
+use Rattle.srcp_core.proofs.Names.{OfCourse, true, without_key}
+use Rattle.srcp_core.specs.Run.{LeadsTo, LeadsAt}
 use Rattle.srcp_core.specs.declared.record.CoreFault.TheVariants.{Memory as MemoryFault}
 use Rattle.srcp_core.proofs.Agreement.EventsAgree.{stands_counted, full_fault}
 use Rattle.srcp_core.proofs.Agreement.PiecesAgree.{set_same}
@@ -28,12 +30,14 @@ runs_telling buses keys held w s = record { stands = s; tells = record { steps =
 pub at_leads : (moment : ℕ) (old new : Held) → new ≡ advanced moment old → LeadsTo (At moment) old new
 at_leads moment old new is buses events keys layout s =
     let w = course buses events in
-    let h = (at_happens moment (telling keys w) old new new.moment is refl).happens buses events layout (runs_telling buses keys old w s) in
+    let h =
+    ((at_happens moment (telling keys w) old new new.moment is refl).each buses events layout (runs_telling buses keys old w s)).1 in
     let later = stepped (recorded.Moment new.moment ∷ []) (telling keys w) in
     let r = runs_on buses events (At moment) None (length events + 1) later new refl h in
     r.stands
 
-pub open_leads : (key : ℕ) (old new : Held) → IsAdmitted key old new → LeadsToOpen key old new
+pub open_leads : (key : ℕ) (old new : Held) → IsAdmitted key old new
+    → OfCourse old (λ buses events keys. StandsFor buses (keys ++ Some key ∷ []) new (course buses (events ++ Open true ∷ [])))
 open_leads key old new a buses events keys layout s =
     let w = course buses events in
     let h = open_with key (telling keys w) old new a buses events layout (runs_telling buses keys old w s) in
@@ -46,7 +50,7 @@ first_stands buses held first = (runs_start buses _ held refl first).stands
 full_leads : (old new : Held) → open_count old ≡ 64 → new ≡ old → LeadsTo (Open false) old new
 full_leads old new full same buses events keys layout s =
     let w = course buses events in
-    let h = (open_refused (telling keys w) old new Full (full, same)).happens buses events layout (runs_telling buses keys old w s) in
+    let h = ((open_refused (telling keys w) old new Full (full, same)).each buses events layout (runs_telling buses keys old w s)).1 in
     (runs_on buses events (Open false) (Some Full) (length events + 1) (telling keys w) new refl
     (full_fault buses keys old (counted w) (stands_counted buses keys old w s) full false, h.1)).stands
 
@@ -62,12 +66,13 @@ not_open_leads Full old new is = full_leads old new is.0 is.1
 not_open_leads MemoryFault old new is = memory_leads old new is.0 is.1
 not_open_leads other old new is = absurd is
 
-pub shut_leads : (key : ℕ) (old new : Held) → new ≡ hung_up key old → LeadsToFree key old new
+pub shut_leads : (key : ℕ) (old new : Held) → new ≡ hung_up key old
+    → AtKey key old (λ buses events keys n. StandsFor buses (without_key n keys) new (course buses (events ++ Shut n ∷ [])))
 shut_leads key old new is buses events keys n layout named s =
     let w = course buses events in
     let h =
-    (shut_happens n key (telling keys w) old new new.moment named is refl).happens buses events layout
-    (runs_telling buses keys old w s) in
+    ((shut_happens n key (telling keys w) old new new.moment named is refl).each buses events layout
+    (runs_telling buses keys old w s)).1 in
     rw (← (shut_keys n (live_session key old) new.moment (telling keys w)))
     (runs_on buses events (Shut n) None (length events + 1)
     (with_end (live_session key old) new.moment (shut n (telling keys w))) new refl h).stands
@@ -142,9 +147,9 @@ lent_leads key count old new held few is lent buses events keys n layout named s
     cc in
     let all : count - count_at key count held ≡ 0 = omega (arith, now) in
     let h =
-    (room_happens n key count first_r held count first_r held (inl all) refl
-    (gives_first n key count first_r held named)).happens buses events layout
-    (runs_telling buses keys held w s) in
+    ((room_happens n key count first_r held count first_r held (inl all) refl
+    (gives_first n key count first_r held named)).each buses events layout
+    (runs_telling buses keys held w s)).1 in
     rw taken
     (rw (← (taking_keys n key count held first_r))
     (runs_on buses events (Room n count) None (length events + 1) (taking n key count held first_r)

@@ -112,7 +112,7 @@ module _ (buses : List Bus) (order : IsRisingBy key_at (shown_rows (opening buse
   timed held w = record w { moment = held.moment; last_id = held.last_id }
 
   timed_is : (held : Held) (w : World) → StandsBy buses read keys held w → timed held w ≡ w
-  timed_is held w s = ap (λ m. record w { moment = m; last_id = held.last_id }) s.moment ∙ ap (λ l. record w { last_id = l }) s.last_id
+  timed_is held w s = λ i. record w { moment = s.moment i; last_id = s.last_id i }
 
   stands_timed : (held : Held) (w : World) → StandsBy buses read keys held w → StandsBy buses read keys held (timed held w)
   stands_timed held w s = stands_as buses read keys held w _ _ _ _ _ _ _ refl refl s

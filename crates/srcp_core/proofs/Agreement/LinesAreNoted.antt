@@ -14,7 +14,7 @@ use Rattle.srcp_core.specs.declared.record.Step.{Step as PlainStep}
 use Rattle.srcp_core.specs.declared.record.Step.TheVariants as recorded
 use Rattle.srcp_core.specs.Handshake.{greets as greets_of}
 use Rattle.srcp_core.specs.Machine.{steps_gone, steps_greeted, steps_commanded}
-use Rattle.srcp_core.specs.Recording.{changed_in}
+use Rattle.srcp_core.proofs.Names.{option_map_or, slice_set}
 pub use Rattle.srcp_core.specs.Run.{Tells}
 use Rattle.srcp_core.proofs.Agreement.LinesAgree.{IsFine, asks_of}
 use Rattle.srcp_core.proofs.Agreement.PlacesChange.{given_reply}
@@ -23,6 +23,10 @@ use Rattle.srcp_core.proofs.Agreement.NumbersAndKeys.{numbered_with}
 use Rattle.srcp_core.proofs.Agreement.StandsAfterAChange.{Fine}
 
 -- ---- the records of connections
+
+-- the record of a connection is changed, by what is there
+abbrev pub changed_in : ℕ → (ConnRecord → ConnRecord) → List ConnRecord → Option ConnRecord → List ConnRecord
+changed_in index change tolds told = option_map_or (λ one. slice_set tolds index (change one)) told tolds
 
 pub told_with : (n : ℕ) (f : Connection → Connection) (g : ConnRecord → ConnRecord) (xs : List Connection) (conn : Connection)
     → numbered n xs ≡ Some conn → record_of (f conn) ≡ g (record_of conn)

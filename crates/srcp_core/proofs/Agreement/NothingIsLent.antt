@@ -7,7 +7,7 @@ use Rattle.srcp_core.proofs.Names.{World, accepted, counted, course, history, if
 use Rattle.srcp_core.proofs.Names.{let_out, unsent_at}
 use Rattle.std.specs.Prelude.{option_map}
 use Rattle.srcp_feed.specs.declared.Next.{Next}
-use Rattle.srcp_core.specs.Agrees.{lent_of, lends_none, lends_none_of}
+use Rattle.srcp_core.specs.Agrees.{lends_none}
 use Rattle.srcp_core.proofs.Agreement.AnswersAgree.{lends_agrees}
 use Rattle.srcp_core.proofs.CourseLaws.RoomAfterRoom.{left_after}
 use Rattle.srcp_core.proofs.CourseLaws.RoomsAddUp.{rooms_add_up, takes_within}
@@ -15,6 +15,16 @@ use Rattle.srcp_core.proofs.CourseLaws.LinesHaveBytes.{AreFull, owed_full}
 use Rattle.srcp_core.proofs.Agreement.NumbersAndKeys.{numbered_with}
 use Rattle.srcp_core.proofs.CourseLaws.RoomSettles.{sends_replies}
 use Rattle.srcp_core.proofs.Agreement.StandsAfterAChange.{found_at}
+
+-- what a connection lends: its unsent bytes, or none if it overran
+abbrev lent_of : List Bus → World → Connection → List ℕ
+lent_of buses w conn = if overran conn (history buses w) then [] else unsent conn
+
+-- nothing is lent of a connection
+abbrev lends_none_of : List Bus → World → Connection → Bool
+lends_none_of buses w conn =
+    overran conn (history buses w)
+    || (nat_le (length conn.out) conn.taken && (not conn.info || is_settled conn (history buses w) (rows buses w)))
 
 some_bytes : (xs ys : List ℕ) → 0 < length xs → is_nil (xs ++ ys) ≡ false
 some_bytes [] ys h = absurd (omega (arith, h))
@@ -141,7 +151,7 @@ module _ (buses : List Bus) (layout : IsLayout buses) (events : List Event) (n :
           ∙ ap is_nil
           (left_after (length (history buses w)) (owed conn (history buses w) (rows buses w)) conn
           (takes_within buses layout events n conn there))
-          ∙ rests buses w conn up (λ plain. (sends_replies buses layout events n conn there plain).no_items)
+          ∙ rests buses w conn up (λ plain. (sends_replies buses layout events n conn there plain).0)
           ∙ ap (λ t. t || (nat_le (length conn.out) conn.taken && (not conn.info || is_settled conn (history buses w) (rows buses w))))
           (sym e)
 

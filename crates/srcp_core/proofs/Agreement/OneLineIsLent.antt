@@ -45,7 +45,7 @@ module _ (buses : List Bus) (layout : IsLayout buses) (events : List Event) (mom
       by : (t : Bool) → conn.info ≡ t → length (last_line conn.items) ≤ 126
       by true e = last_short conn.items (given_told buses layout events number conn (record { there = there; info = e }) moments)
       by false e =
-          let none = (sends_replies buses layout events number conn there e).no_items in
+          let none = (sends_replies buses layout events number conn there e).0 in
           rw none (omega arith)
 
   -- so what is unsent of it is short

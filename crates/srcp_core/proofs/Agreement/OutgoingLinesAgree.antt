@@ -1,17 +1,18 @@
 -- Bytes that go out: the line that is put in, and the bytes that are taken, by the course.
-use Rattle.srcp_core.proofs.Names.{◌≡◌, ℕ, suc, min, ◌+◌, ◌-◌, ◌≤◌, Bool, true, false, List, [], ◌∷◌, ◌++◌, map, take, drop, length, refl}
+use Rattle.srcp_core.proofs.Names.{◌≡◌, ℕ, suc, ◌-◌, ◌≤◌, Bool, true, false, List, [], ◌∷◌, ◌++◌, map, take, drop, length, refl}
 use Rattle.srcp_core.proofs.Names.{ap, sym, ◌∙◌, subst, arith, append-nil, append_assoc, le-leb, le-ltb, nat_tests, drop-append-le}
 use Rattle.srcp_core.proofs.Names.{take-append-le, and-false, le_refl, flat_map, option_or, Option, Some, None, ◌&&◌, ◌||◌, nat_lt, IfSome}
 use Rattle.srcp_core.proofs.Names.{if◌then◌else◌, Change, Cursor, Done, Shown, Mode, Reading, beyond, moved, Feed, next_of, Next, Told}
 use Rattle.srcp_core.proofs.Names.{Listed, Settled, key_at, IsRisingBy, Connection, History, cursor_at, untold, unsent, sent, given}
-use Rattle.srcp_core.proofs.Names.{line_of, is_nil, owed, prefix, fitting, available, exhausts, items_of, took, given_room, overran, Place}
-use Rattle.srcp_core.proofs.Names.{filled, item_from, feed_in, Listening, Overran, record_of, placed, place_of, ConnRecord, Item}
+use Rattle.srcp_core.proofs.Names.{line_of, is_nil, owed, prefix, fitting, exhausts, items_of, took, given_room, overran, Place}
+use Rattle.srcp_core.proofs.Names.{filled, item_from, feed_in, Listening, Overran, record_of, place_of, ConnRecord}
 use Rattle.srcp_feed.specs.Feed.{first_of}
 use Rattle.srcp_core.specs.Recording.{with_item}
+use Rattle.srcp_core.proofs.CourseLaws.RoomInTwoParts.{parts_same}
 use Rattle.srcp_core.proofs.CourseLaws.RoomAfterRoom.{none_taken}
 use Rattle.srcp_core.proofs.CourseLaws.RoomsAddUp.{owed_plain}
 use Rattle.srcp_core.proofs.CourseLaws.Histories.{rows_after, cursor_by}
-use Rattle.srcp_core.proofs.Agreement.PlacesChange.{plain_place, plain_is, is_over_place, untold_shut}
+use Rattle.srcp_core.proofs.Agreement.PlacesChange.{placed, plain_place, plain_is, is_over_place, untold_shut}
 use Rattle.srcp_core.proofs.CourseLaws.RoomGivesWhatIsOwed.{text_items, done_owes, nothing_owed, fitting_none}
 use Rattle.srcp_core.proofs.CourseLaws.ClientHoldsPassedRows.{Fits, untold_by, owed_by, cursor_told, cursor_item, fits_told, fits_listed}
 use Rattle.srcp_core.proofs.CourseLaws.ClientHoldsPassedRows.{not_done}
@@ -48,16 +49,7 @@ with_given steps (Some Settled) told = told
 took_still : (n : ℕ) (nexts : List Next) (conn : Connection) (byte : ℕ) (bytes : List ℕ) → unsent conn ≡ byte ∷ bytes
     → took 0 n nexts conn ≡ conn
 took_still n nexts conn byte bytes e =
-    ap (λ (items : List Item).
-    record conn {
-      items = items;
-      taken = conn.taken + min 0 (length (available (unsent conn) nexts));
-      done = (took 0 n nexts conn).done;
-    })
-    (ap (λ left. conn.items ++ items_of n (fitting 0 left nexts)) e ∙ none _ refl)
-    ∙ ap (λ taken. record conn { taken = taken; done = (took 0 n nexts conn).done })
-    (none_taken _ _)
-    ∙ ap (λ end. record conn { done = end })
+    parts_same conn (ap (λ left. conn.items ++ items_of n (fitting 0 left nexts)) e ∙ none _ refl) (none_taken _ _)
     (ap (λ left. if conn.info && exhausts 0 left nexts then option_or conn.done (Some n) else conn.done) e
     ∙ ap (λ t. if conn.info && t then option_or conn.done (Some n) else conn.done) not_yet ∙ never _)
   where
@@ -78,16 +70,7 @@ took_one : (n : ℕ) (nexts : List Next) (conn : Connection) → unsent conn ≡
   done = if conn.info && is_nil nexts then option_or conn.done (Some n) else conn.done;
 }
 took_one n nexts conn e =
-    ap (λ (items : List Item).
-    record conn {
-      items = items;
-      taken = conn.taken + min 0 (length (available (unsent conn) nexts));
-      done = (took 0 n nexts conn).done;
-    })
-    (ap (λ left. conn.items ++ items_of n (fitting 0 left nexts)) e)
-    ∙ ap (λ taken. record conn { items = conn.items ++ items_of n (take 1 nexts); taken = taken; done = (took 0 n nexts conn).done })
-    (none_taken _ _)
-    ∙ ap (λ end. record conn { items = conn.items ++ items_of n (take 1 nexts); done = end })
+    parts_same conn (ap (λ left. conn.items ++ items_of n (fitting 0 left nexts)) e) (none_taken _ _)
     (ap (λ left. if conn.info && exhausts 0 left nexts then option_or conn.done (Some n) else conn.done) e
     ∙ ap (λ t. if conn.info && (t || is_nil nexts) then option_or conn.done (Some n) else conn.done)
     (le-ltb _ 0 (omega arith)))
@@ -236,22 +219,10 @@ module _ (first : List Shown) (history : History) (conn : Connection) (shut : co
   -- a connection that is no information session is given nothing
   took_plain : conn.info ≡ false → took 0 n (owed conn history rows_now) conn ≡ conn
   took_plain plain =
-      ap (λ (items : List Item).
-      record conn {
-        items = items;
-        taken = conn.taken + min 0 (length (available (unsent conn) (owed conn history rows_now)));
-        done = (took 0 n (owed conn history rows_now) conn).done;
-      })
+      parts_same conn
       (ap (λ nexts. conn.items ++ items_of n (fitting 0 (unsent conn) nexts)) (owed_plain conn history rows_now plain)
-      ∙ ap (λ nexts. conn.items ++ items_of n nexts) (fitting_none 0 (unsent conn)) ∙ append-nil _)
-      ∙ ap (λ taken. record conn { taken = taken; done = (took 0 n (owed conn history rows_now) conn).done })
-      (none_taken _ _)
-      ∙ ap (λ t.
-      record conn {
-        done =
-            if t && exhausts 0 (unsent conn) (owed conn history rows_now) then option_or conn.done (Some n) else conn.done;
-      })
-      plain
+      ∙ ap (λ nexts. conn.items ++ items_of n nexts) (fitting_none 0 (unsent conn)) ∙ append-nil _) (none_taken _ _)
+      (ap (λ t. if t && exhausts 0 (unsent conn) (owed conn history rows_now) then option_or conn.done (Some n) else conn.done) plain)
 
   fills_plain : (reader : Reading) → conn.info ≡ false → (bytes : List ℕ) → unsent conn ≡ bytes → IsFilled reader conn
   fills_plain reader plain bytes e = record {

@@ -5,7 +5,8 @@ use Rattle.srcp_core.proofs.Names.{Held, IsPromised, Recording, Keeps, kept, cha
 use Rattle.srcp_core.proofs.Names.{nothing_recorded, PlainMoments, ConnRecord, Record}
 use Rattle.std.proofs.lemmas.Option.{slice_get-map}
 use Rattle.srcp_core.specs.Promised.{connection_outline, IsPromisedOutline}
-use Rattle.srcp_core.specs.Recording.{Becomes, recording_outline, changed_in, began}
+use Rattle.srcp_core.specs.Recording.{Becomes, recording_outline, began}
+use Rattle.srcp_core.proofs.Agreement.LinesAreNoted.{changed_in}
 use Rattle.srcp_core.specs.Recording.{took}
 use Rattle.srcp_core.specs.Run.{RunsTold, recorded_in}
 use Rattle.srcp_core.specs.declared.event.Event.{Event as PlainEvent}
@@ -158,24 +159,7 @@ pub record_from : (run : Record) (told : Recording) (held : Held) → run.steps 
     → run.connections ≡ finished held told.keys told.connections → run.rows ≡ held.rows
     → run.denied ≡ held.denied → run ≡ record_at told held
 record_from run told held s r c w d =
-    ap (λ x. record run { steps = x }) s
-    ∙ ap (λ x. record run { steps = told.steps; refused = x }) r
-    ∙ ap (λ x. record run { steps = told.steps; refused = told.refused; connections = x }) c
-    ∙ ap (λ x. record {
-      steps = told.steps;
-      refused = told.refused;
-      connections = finished held told.keys told.connections;
-      rows = x;
-      denied = run.denied;
-    }) w
-    ∙ ap (λ x. record {
-      steps = told.steps;
-      refused = told.refused;
-      connections = finished held told.keys told.connections;
-      rows =
-          held.rows;
-      denied = x;
-    }) d
+    λ i. record { steps = s i; connections = c i; refused = r i; rows = w i; denied = d i }
 
 pub nothing_kept : (in_full : Bool) → nothing_recorded ≡ kept in_full nothing_recorded
 nothing_kept true = refl

@@ -89,7 +89,6 @@ accepted_leads key piece old new free received =
     record {
       grants = a.grants;
       counted = counted;
-      given = λ d. (none_denied a.grants old.denied (cc)).1;
       asked = λ buses events keys n layout named s.
           let first_r = telling keys (course buses events) in
           let i = a.is n first_r named in
@@ -111,14 +110,13 @@ pub refused_leads : (key : ℕ) (piece : List ℕ) (old new : Held) (cause : Cor
 refused_leads key piece old new cause e same = record {
   grants = [];
   counted = cc;
-  given = λ d. tt;
   asked =
       λ buses events keys n layout named s. cc (denied_in_none buses (counted (course buses events)) old.denied (plain.Bytes n piece));
   leads = λ buses events keys n layout named s.
       let first_r = telling keys (course buses events) in
       let h =
-      (bytes_refused n key piece first_r old cause named e).happens buses events layout
-      (runs_telling buses keys old (course buses events) s) in
+      ((bytes_refused n key piece first_r old cause named e).each buses events layout
+      (runs_telling buses keys old (course buses events) s)).1 in
       rw same
       (runs_on buses events (Bytes n (giving piece)) (Some cause) (length events + 1) first_r old refl h).stands;
 }

@@ -3,13 +3,25 @@ use Rattle.srcp_core.proofs.Names.{◌≡◌, ℕ, ◌+◌, ◌≤◌, Bool, tru
 use Rattle.srcp_core.proofs.Names.{◌∙◌, arith, append-nil, append_assoc, nat_tests, length_push, drop-append-le, filter, fold, option_map}
 use Rattle.srcp_core.proofs.Names.{◌&&◌, nat_lt, Option, Some, None, Change, Cursor, Start, Shown, Mode, Info, Reading, concerns}
 use Rattle.srcp_core.proofs.Names.{Connection, History, cursor_at, untold, unsent, text, given, is_info, Place, place_at, told_place}
-use Rattle.srcp_core.proofs.Names.{told_all, told_each, with_unsent, entered_place, panel_for, has_overrun, is_panel, Absent, placed}
+use Rattle.srcp_core.proofs.Names.{told_all, told_each, with_unsent, entered_place, panel_for, has_overrun, is_panel, Absent, if◌then◌else◌}
 use Rattle.srcp_core.proofs.Names.{place_of, panel_at}
 use Rattle.srcp_info.specs.declared.value.Mode.TheVariants.{Command as CommandMode}
 use Rattle.srcp_core.proofs.CourseLaws.Histories.{concerning_by, concerning_push, cursor_by, cursor_later}
 use Rattle.srcp_core.proofs.CourseLaws.ClientHoldsPassedRows.{Fits, tolds, untold_by}
 use Rattle.srcp_core.proofs.Invariants.EveryPlaceIsTold.{told_all_at}
 use Rattle.srcp_core.proofs.CourseLaws.SessionsAreKept.{concerning_start}
+
+-- what is held of a connection; if more changes wait than may, the unsent bytes are dropped
+abbrev pub placed : Reading → Mode → ℕ → Bool → Bool → List ℕ → Cursor → List Change → Place
+placed reader mode session info ended bytes cursor queue =
+    record {
+      reader = reader;
+      mode = mode;
+      session = session;
+      ended = ended;
+      unsent = if info && nat_lt 256 (length queue) then [] else bytes;
+      panel = panel_at info cursor queue;
+    }
 
 -- ---- changes
 

@@ -5,12 +5,13 @@ use Rattle.srcp_core.proofs.Names.{slice_get, slice_index_or, if◌then◌else�
 use Rattle.srcp_core.proofs.Names.{At, Shut, under, all_under, denied_by, Connection, History, is_open, is_nil, overran, unsent, finish}
 use Rattle.srcp_core.proofs.Names.{World, start, numbered, history, counted, open_connection, accepted, or_refused, happens, course}
 use Rattle.srcp_core.proofs.Names.{denied_in, denied_over, Reading, Held, at, IsRecordOf, opening_held, finish_at, Recording, key_of}
-use Rattle.srcp_core.proofs.Names.{record_of, changed_record, finished, finished_by, nothing_recorded, Runs, Happened, HappensAs, RunsUnder}
+use Rattle.srcp_core.proofs.Names.{record_of, changed_record, finished, finished_by, nothing_recorded, Runs, Happened}
 use Rattle.srcp_core.proofs.Names.{StandsFor, place_of, ConnRecord, CoreFault, Record}
 use Rattle.srcp_core.specs.declared.event.Event.{Event as PlainEvent}
 use Rattle.srcp_core.specs.Connection.{recorded}
-use Rattle.srcp_core.specs.Recording.{changed_in, with_refusal}
-use Rattle.srcp_core.specs.Run.{FollowsAs}
+use Rattle.srcp_core.specs.Recording.{with_refusal}
+use Rattle.srcp_core.proofs.Agreement.LinesAreNoted.{changed_in}
+use Rattle.srcp_core.specs.Run.{Answers}
 use Rattle.srcp_core.proofs.Agreement.RefusalsAreCounted.{denied_over_push}
 use Rattle.srcp_core.proofs.Agreement.MemoryAnswers.{under_push, under_length}
 use Rattle.srcp_core.specs.declared.record.Finish.{Finish}
@@ -212,16 +213,31 @@ runs_on buses events event (Some cause) number r held e h =
       };
     })
 
+-- the event is carried out or refused as it is in the course, with its number
+abbrev FollowsAs : ℕ → PlainEvent → Recording → Held → Recording → Held → Type 0
+FollowsAs number event r held later_r later =
+    Answers event r held later
+    (λ buses events under_grants. number ≡ length events + 1 → Runs buses later_r later (course buses (events ++ under_grants ∷ [])))
+
+-- what memory answered in each event of a run, if the core stands for the course of the events under these answers
+pub record RunsUnder (buses : List Bus) (events : List PlainEvent) (r : Recording) (held : Held) : Type 0 where
+  pub grants : List (List Bool)
+  pub count : length grants ≡ length events
+  pub counted : held.denied ≡ fold denied_by 0 grants
+  pub asked : held.denied ≡ denied_over buses 0 start (all_under grants events)
+  pub runs : Runs buses r held (course buses (all_under grants events))
+
 -- an event that was carried out or refused, with what was noted of that
 pub follows : (number : ℕ) (event : PlainEvent) (refusal : Option CoreFault) (r mid later_r : Recording) (held later : Held)
-    → HappensAs event refusal r held mid later → later_r ≡ with_fault number refusal mid → FollowsAs number event r held later_r later
+    → Answers event r held later
+    (λ buses events under_grants. Happened buses under_grants refusal mid later (counted (course buses events)))
+    → later_r ≡ with_fault number refusal mid → FollowsAs number event r held later_r later
 follows number event refusal r mid later_r held later h e = record {
   grants = h.grants;
   counted = h.counted;
-  asked = h.asked;
-  follows = λ buses events layout n s.
-      rw e
-      (runs_on buses events _ refusal number mid later n (h.happens buses events layout s));
+  each = λ buses events layout s.
+      let one = h.each buses events layout s in
+      (one.0, λ n. rw e (runs_on buses events _ refusal number mid later n one.1));
 }
 
 take_one : (events : List PlainEvent) (index : ℕ) (event : PlainEvent) → slice_get events index ≡ Some event
@@ -242,16 +258,17 @@ follows_more buses events index event r later_r held later layout at f u =
     let t = take_one events index event at in
     let all = all_under u.grants _ in
     let long : index ≡ length all = sym (under_length u.grants _ ∙ t.1) in
+    let one = f.each buses all layout u.runs in
     rw t.0 (record {
       grants = u.grants ++ f.grants ∷ [];
       count = cc (length-append u.grants _, u.count, length-append _ _);
       counted = f.counted ∙ ap (λ k. denied_by k f.grants) u.counted ∙ sym (fold-append _ 0 u.grants _);
-      asked = f.asked buses all layout u.runs ∙ ap (λ k. denied_in buses k (counted (course buses all)) (under f.grants event)) u.asked
+      asked = one.0 ∙ ap (λ k. denied_in buses k (counted (course buses all)) (under f.grants event)) u.asked
           ∙ sym (ap (denied_over buses 0 start) (under_push u.grants _ f.grants event u.count)
           ∙ denied_over_push buses 0 start all _);
       runs =
           rw (under_push u.grants _ f.grants event u.count)
-          (f.follows buses all layout (cc) u.runs);
+          (one.1 (cc));
     })
 
 -- before all events
@@ -295,7 +312,7 @@ runs_all buses events index r held h runs = rw (← (take_all index events h)) r
 pub record_is : (buses : List Bus) (events : List Event) (r : Recording) (held : Held) (told : Record) → IsLayout buses
     → Runs buses r held (course buses events)
     → told.steps ≡ r.steps → told.refused ≡ r.refused → told.connections ≡ finished held r.keys r.connections → told.rows ≡ held.rows
-    → IsRecordOf buses events told
+    → IsRecordOf buses (course buses events) told
 record_is buses events r held told layout s steps refused connections rows = record {
   steps = steps ∙ s.tells.steps;
   refused = cc s.tells.refused;

@@ -6,10 +6,11 @@ use Rattle.srcp_core.proofs.Names.{Reading, Bus, IsLayout, opening, shown_rows, 
 use Rattle.srcp_core.proofs.Names.{History, unsent, sent, given, line_of, is_nil, is_open, owed, prefix, available, items_of, given_room}
 use Rattle.srcp_core.proofs.Names.{overran, World, numbered, at_connection, history, rows, Place, Held, AddsUp, item_from, item_of, item_at}
 use Rattle.srcp_core.proofs.Names.{let_out, without_sent, changed_at, changed_in, unsent_at, feed_in, Recording, key_of, record_of, gave}
-use Rattle.srcp_core.proofs.Names.{StandsFor, place_of, Item}
+use Rattle.srcp_core.proofs.Names.{StandsFor, place_of}
 use Rattle.srcp_core.specs.Connection.{took as took_room}
 use Rattle.srcp_core.specs.Recording.{took}
-use Rattle.srcp_core.proofs.CourseLaws.RoomsAddUp.{adds_up, with_twice, shut_after}
+use Rattle.srcp_core.proofs.CourseLaws.RoomInTwoParts.{parts_same}
+use Rattle.srcp_core.proofs.CourseLaws.RoomsAddUp.{adds_none, adds_up, with_twice, shut_after}
 use Rattle.srcp_core.proofs.Agreement.LinesAgree.{IsFine, stands_of}
 use Rattle.srcp_core.proofs.Agreement.EventsAgree.{over_is}
 use Rattle.srcp_core.proofs.Agreement.OutgoingLinesAgree.{IsFilled, fills, with_given}
@@ -53,20 +54,13 @@ room_unsent : (count : ℕ) (history : History) (rows : List Shown) (conn : Conn
     → count ≤ length (unsent conn) → given_room count history rows conn ≡ with_taken count conn
 room_unsent count history rows conn still some few =
     ap (λ t. if t then conn else took_room count (length history) (owed conn history rows) conn) still
-    ∙ ap (λ (items : List Item).
-    record conn {
-      items = items;
-      taken = conn.taken + min count (length (available (unsent conn) (owed conn history rows)));
-      done = (took_room count (length history) (owed conn history rows) conn).done;
-    })
+    ∙ parts_same conn
     (ap (λ t. conn.items
     ++ items_of (length history)
     (if t && is_nil (unsent conn) then take 1 (owed conn history rows)
     else prefix (count - length (unsent conn)) (owed conn history rows)))
     (pos-eqb count some)
-    ∙ ap (λ m. conn.items ++ items_of (length history) (prefix m (owed conn history rows))) none_left ∙ append-nil _)
-    ∙ ap (λ taken. record conn { taken = taken; done = (took_room count (length history) (owed conn history rows) conn).done }) all_taken
-    ∙ ap (λ end. record conn { taken = conn.taken + count; done = end })
+    ∙ ap (λ m. conn.items ++ items_of (length history) (prefix m (owed conn history rows))) none_left ∙ append-nil _) all_taken
     (ap (λ t. if conn.info && (t || ((count == 0) && (is_nil (unsent conn) && is_nil (owed conn history rows))))
     then option_or conn.done (Some (length history)) else conn.done)
     enough
@@ -353,7 +347,7 @@ module _ (buses : List Bus) (layout : IsLayout buses) (order : IsRisingBy key_at
       let more : 0 < left - count = omega (arith, less) in
       let all : count + (left - count) ≡ left = omega (arith, less) in
       let both : roomed count (roomed 0 k.now) ≡ roomed count k.now =
-      roomed_twice 0 count count k.now h.conn h.there (up.first count some) in
+      roomed_twice 0 count count k.now h.conn h.there (adds_none buses k.now h.conn up count some) in
       record {
         now = roomed count _;
         kept = some_taken w bytes left r held k some;
@@ -372,7 +366,7 @@ module _ (buses : List Bus) (layout : IsLayout buses) (order : IsRisingBy key_at
       let up = sums k.now h.conn k.kept.fine h.there h.shut in
       let count = count_of left held in
       let both : roomed count (roomed 0 k.now) ≡ roomed count k.now =
-      roomed_twice 0 count count k.now h.conn h.there (up.first count some) in
+      roomed_twice 0 count count k.now h.conn h.there (adds_none buses k.now h.conn up count some) in
       subst (λ (v : World). Kept (recording_after left r held) (held_after left held) v)
       (both ∙ ap (λ m. roomed m k.now) (sym all) ∙ k.to_come) (some_taken w bytes left r held k some)
 

@@ -2,12 +2,10 @@
 use Rattle.srcp_core.proofs.Names.{◌≡◌, ℕ, zero, suc, List, [], ◌∷◌, map, ◌+◌, ◌≤◌, length, take, refl, ap, sym, ◌∙◌, subst, arith}
 use Rattle.srcp_core.proofs.Names.{take_all, le_refl, AllByRecursion, Some, slice_get, Result, Ok, Err, IfOk, Bus, IsLayout, IsWhole, Event}
 use Rattle.srcp_core.proofs.Names.{all_under, HasPlainMoment, PlainMoments, Connection, World, course, numbered, state, IsPromised}
-use Rattle.srcp_core.proofs.Names.{IsRecordOf, IsSession, AllMoments, ConnRecord, Record}
-use Rattle.std.specs.Prelude.{true}
-use Rattle.srcp_core.specs.Run.{RunsRecord}
+use Rattle.srcp_core.proofs.Names.{IsRecordOf, IsSession, AllMoments, ConnRecord, Record, true}
 use Rattle.srcp_core.proofs.Agreement.MemoryAnswers.{all_moments, none_of_all}
 use Rattle.srcp_core.specs.declared.event.Event.{Event as PlainEvent}
-use Rattle.srcp_core.specs.Promised.{IsRecordedSession, IsRecordedConnection, IsRecordedRegistry}
+use Rattle.srcp_core.specs.Promised.{IsRecordedConnection, RunsRecord}
 use Rattle.srcp_core.specs.Laws.{IsWholeWorld}
 use Rattle.srcp_core.proofs.CourseLaws.EveryCourse.{told_rightly, served_rightly}
 
@@ -34,48 +32,27 @@ told_map f (suc (suc n)) (conn ∷ conns) one e = let t = told_map f (suc n) con
   is = t.is;
 }
 
-pub told_sessions : (buses : List Bus) (events : List Event) (told : Record) → IsLayout buses → AllMoments events
-    → IsRecordOf buses events told
-    → (number : ℕ) (one : ConnRecord) → numbered number told.connections ≡ Some one → one.info ≡ true
-    → IsRecordedSession buses events number one
-told_sessions buses events told layout moments r number one e info =
-    let w = course buses events in
-    let t = told_map _ number _ one (ap (numbered number) (sym r.connections) ∙ e) in
-    let session : IsSession buses events number t.conn =
-    record { there = t.there; info = sym (ap (λ (c : ConnRecord). c.info) t.is) ∙ info } in
-    let laws = told_rightly buses in
-    record {
-      conn = t.conn;
-      session = session;
-      is = t.is;
-      listed = laws.listed layout events number t.conn session;
-      held = laws.held layout events number t.conn session moments;
-    }
-
-pub told_connections : (buses : List Bus) (events : List Event) (told : Record) → IsLayout buses → IsRecordOf buses events told
+pub told_connections : (buses : List Bus) (events : List Event) (told : Record) → IsLayout buses → AllMoments events
+    → IsRecordOf buses (course buses events) told
     → (number : ℕ) (one : ConnRecord) → numbered number told.connections ≡ Some one → IsRecordedConnection buses events number one
-told_connections buses events told layout r number one e =
+told_connections buses events told layout moments r number one e =
     let w = course buses events in
     let t = told_map _ number _ one (ap (numbered number) (sym r.connections) ∙ e) in
     let laws = served_rightly buses in
+    let session : t.conn.info ≡ true → IsSession buses events number t.conn = λ info. record { there = t.there; info = info } in
     record {
       conn = t.conn;
       there = t.there;
       is = t.is;
       served = laws.served layout events number t.conn t.there;
       no_more = laws.no_more events number t.conn t.there;
+      listed = λ info. (told_rightly buses layout events number t.conn (session info)).0;
+      held = λ info. (told_rightly buses layout events number t.conn (session info)).1 moments;
     }
 
-pub told_registry : (buses : List Bus) (events : List Event) (told : Record) → IsLayout buses → AllMoments events
-    → IsRecordOf buses events told → IsRecordedRegistry buses events told
-told_registry buses events told layout moments r =
-    let laws = served_rightly buses in
-    let world = laws.whole layout events moments in
-    record {
-      rows_whole = rw r.rows (whole_now buses _ world);
-      world = world;
-      keys = laws.keys layout events moments;
-    }
+-- the recorded rows are a whole registry
+rows_whole : (buses : List Bus) (events : List PlainEvent) (told : Record) → IsPromised buses events told → IsWhole buses told.rows
+rows_whole buses events told p = rw p.is.rows (whole_now buses _ p.world)
 
 -- so it is of each record that is given
 pub promised : {E : Type 0} (buses : List Bus) (events : List PlainEvent) (result : Result Record E)
@@ -85,15 +62,10 @@ promised buses events (Ok told) r plain_moments layout =
     let all = all_under r.grants events in
     let moments = all_moments r.grants events plain_moments in
     record {
-      grants = r.grants;
-      count = r.count;
-      counted = r.counted;
-      asked = r.asked;
+      runs = r;
       given = λ d. (none_of_all r.grants 0 (sym r.counted ∙ d)).1;
-      is = r.is;
-      sessions = told_sessions buses all told layout moments r.is;
-      connections = told_connections buses all told layout r.is;
-      registry = told_registry buses all told layout moments r.is;
+      connections = told_connections buses all told layout moments r.is;
+      world = (served_rightly buses).whole layout all moments;
     }
 promised buses events (Err fault) r moments layout = tt
 

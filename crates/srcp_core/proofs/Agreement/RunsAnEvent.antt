@@ -6,22 +6,22 @@ use Rattle.srcp_core.proofs.Names.{shown_rows, Next, Told, Listed, Settled, Even
 use Rattle.srcp_core.proofs.Names.{numbered, at_connection, open_connection, did, history, counted, fault, accepted, shut_as, course, Place}
 use Rattle.srcp_core.proofs.Names.{Held, at, open_count, IsAdmitted, IsNotAdmitted, one_denied, hung_up, hung_up_from, advanced}
 use Rattle.srcp_core.proofs.Names.{live_session, let_out, without_sent, changed_at, unsent_at, item_of, item_at, Recording, key_of, shut}
-use Rattle.srcp_core.proofs.Names.{stepped, gave, without_key, changed_record, Tells, Runs, Happened, HappensAs, CountsAsked, count_at}
+use Rattle.srcp_core.proofs.Names.{stepped, gave, without_key, changed_record, Tells, Runs, Happened, count_at, denied_by, denied_in}
 use Rattle.srcp_core.proofs.Names.{taken_at, taking, StandsFor, place_of, ConnRecord, CoreFault, Full, NoSuch}
 use Rattle.std.proofs.Math.Nat.{zero-min}
 use Rattle.srcp_core.specs.declared.event.Event.{Event as PlainEvent}
 use Rattle.srcp_core.specs.declared.event.Event.TheVariants as plain
 use Rattle.srcp_core.specs.declared.record.Step.TheVariants as recorded
 use Rattle.srcp_core.specs.Machine.{changed_in as changed_places_in}
+use Rattle.srcp_core.specs.Run.{Answers}
 use Rattle.srcp_core.specs.Recording.{opened, took}
-use Rattle.srcp_core.specs.Recording.{changed_in}
 use Rattle.srcp_core.specs.declared.record.CoreFault.TheVariants.{Memory as MemoryFault}
 use Rattle.srcp_core.specs.declared.record.Finish.TheVariants.{Shut as ShutFinish}
 use Rattle.srcp_core.proofs.Agreement.LinesAgree.{IsFine}
 use Rattle.srcp_core.proofs.Agreement.EventsAgree.{absent_at, full_fault, free_room, free_fault, stands_counted, stands_advanced}
 use Rattle.srcp_core.proofs.Agreement.EventsAgree.{stands_opened, stands_hung_up}
 use Rattle.srcp_core.proofs.Agreement.RefusalsAreCounted.{denied_in_none}
-use Rattle.srcp_core.proofs.Agreement.LinesAreNoted.{tells_did, tells_changed}
+use Rattle.srcp_core.proofs.Agreement.LinesAreNoted.{changed_in, tells_did, tells_changed}
 use Rattle.srcp_core.proofs.CourseLaws.SessionsOfACourse.{anything, at_number, opening_in_order}
 use Rattle.srcp_core.proofs.Agreement.StandsAfterAChange.{stands_as, Anything, Fine, AllFine, found_at}
 use Rattle.srcp_core.proofs.Agreement.RoomsAgree.{Kept, IsRooming, room_goes_on, room_taken, room_empty}
@@ -37,6 +37,31 @@ tells_counted r w t = record { steps = t.steps; refused = t.refused; connections
 
 pub runs_counted : (buses : List Bus) (r : Recording) (held : Held) (w : World) → Runs buses r held w → Runs buses r held (counted w)
 runs_counted buses r held w s = record { stands = stands_counted buses r.keys held w s.stands; tells = tells_counted r w s.tells }
+
+-- what was refused in the event is what was asked for in the course, whatever the events were before
+abbrev pub CountsAsked : Recording → Held → Held → Event → Type 0
+CountsAsked r held later event =
+    (buses : List Bus) (events : List Event) → IsLayout buses → Runs buses r held (course buses events)
+    → later.denied ≡ denied_in buses held.denied (counted (course buses events)) event
+
+-- the event is carried out or refused as it is in the course
+abbrev pub HappensAs : PlainEvent → Option CoreFault → Recording → Held → Recording → Held → Type 0
+HappensAs event refusal r held later_r later =
+    Answers event r held later
+    (λ buses events under_grants. Happened buses under_grants refusal later_r later (counted (course buses events)))
+
+-- the same by its parts
+pub happens_by : (event : PlainEvent) (refusal : Option CoreFault) (r : Recording) (held : Held) (later_r : Recording) (later : Held)
+    (grants : List Bool)
+    → later.denied ≡ denied_by held.denied grants → CountsAsked r held later (under grants event)
+    → ((buses : List Bus) (events : List Event) → IsLayout buses → Runs buses r held (course buses events)
+    → Happened buses (under grants event) refusal later_r later (counted (course buses events)))
+    → HappensAs event refusal r held later_r later
+happens_by event refusal r held later_r later grants counted asked happens = record {
+  grants = grants;
+  counted = counted;
+  each = λ buses events layout s. (asked buses events layout s, happens buses events layout s);
+}
 
 -- the same of recordings and cores that are the same
 pub told_as : (event : PlainEvent) (refusal : Option CoreFault) (r : Recording) (held : Held) (x y : Recording) (later new : Held) → y ≡ x
@@ -72,24 +97,20 @@ open_with key r old new a buses events layout s =
     )
 
 pub open_happens : (key : ℕ) (r : Recording) (old new : Held) → IsAdmitted key old new → HappensAs plain.Open None r old (opened key r) new
-open_happens key r old new a = record {
-  grants = [];
-  counted = cc a.rest;
-  asked = none_asked plain.Open r old new (cc a.rest);
-  happens = open_with key r old new a;
-}
+open_happens key r old new a =
+    happens_by plain.Open None r old (opened key r) new [] (cc a.rest)
+    (none_asked plain.Open r old new (cc a.rest))
+    (open_with key r old new a)
 
 -- an event that the course refuses, and that asks for no memory, changes nothing
 pub refused_happens : (event : PlainEvent) (cause : CoreFault) (r : Recording) (held : Held)
     → ((buses : List Bus) (events : List Event) → IsLayout buses → StandsFor buses r.keys held (counted (course buses events))
     → fault buses (counted (course buses events)) (under [] event) ≡ Some cause)
     → HappensAs event (Some cause) r held r held
-refused_happens event cause r held why = record {
-  grants = [];
-  counted = refl;
-  asked = none_asked event r held held refl;
-  happens = λ buses events layout s. let c = runs_counted buses r held _ s in (why buses events layout c.stands, c);
-}
+refused_happens event cause r held why =
+    happens_by event (Some cause) r held r held [] refl
+    (none_asked event r held held refl)
+    (λ buses events layout s. let c = runs_counted buses r held _ s in (why buses events layout c.stands, c))
 
 -- memory was refused
 runs_denied : (buses : List Bus) (r : Recording) (held : Held) (w : World) → Runs buses r held w → Runs buses r (one_denied held) w
@@ -108,14 +129,12 @@ memory_with r old new room same buses events layout s =
 
 pub memory_happens : (r : Recording) (old new : Held) → open_count old < 64 → new ≡ one_denied old
     → HappensAs plain.Open (Some MemoryFault) r old r new
-memory_happens r old new room same = record {
-  grants = false ∷ [];
-  counted = cc;
-  asked = λ buses events layout s.
-      let w = counted _ in
-      cc (free_room buses r.keys old w (runs_counted buses r old _ s).stands room);
-  happens = memory_with r old new room same;
-}
+memory_happens r old new room same =
+    happens_by plain.Open (Some MemoryFault) r old r new (false ∷ []) (cc)
+    (λ buses events layout s.
+    let w = counted _ in
+    cc (free_room buses r.keys old w (runs_counted buses r old _ s).stands room))
+    (memory_with r old new room same)
 
 -- no connection was opened
 pub open_refused : (r : Recording) (old new : Held) (cause : CoreFault) → IsNotAdmitted cause old new
@@ -131,30 +150,28 @@ open_refused r old new other is = absurd is
 
 pub at_happens : (moment : ℕ) (r : Recording) (old new : Held) (now : ℕ) → new ≡ advanced moment old → now ≡ new.moment
     → HappensAs (plain.At moment) None r old (stepped (recorded.Moment now ∷ []) r) new
-at_happens moment r old new now is now_is = record {
-  grants = [];
-  counted = cc;
-  asked = none_asked (plain.At moment) r old new (cc);
-  happens = λ buses events layout s.
-      let w = counted _ in
-      let c = runs_counted buses r old _ s in
-      let fine : AllFine buses w =
-      λ n conn e. at_number (Fine buses (history buses w)) n _ conn (fine_course buses layout events) e in
-      let same : now ≡ max w.moment moment = cc c.stands.moment in (
-        refl,
-        record {
-          stands =
-              rw is
-              (stands_advanced buses r.keys old w moment fine c.stands);
-          tells = record {
-            steps =
-                cc (c.tells.steps, map-append _ w.steps _);
-            refused = c.tells.refused;
-            connections = c.tells.connections;
-          };
-        },
-      );
-}
+at_happens moment r old new now is now_is =
+    happens_by (plain.At moment) None r old (stepped (recorded.Moment now ∷ []) r) new [] (cc)
+    (none_asked (plain.At moment) r old new (cc))
+    (λ buses events layout s.
+    let w = counted _ in
+    let c = runs_counted buses r old _ s in
+    let fine : AllFine buses w =
+    λ n conn e. at_number (Fine buses (history buses w)) n _ conn (fine_course buses layout events) e in
+    let same : now ≡ max w.moment moment = cc c.stands.moment in (
+      refl,
+      record {
+        stands =
+            rw is
+            (stands_advanced buses r.keys old w moment fine c.stands);
+        tells = record {
+          steps =
+              cc (c.tells.steps, map-append _ w.steps _);
+          refused = c.tells.refused;
+          connections = c.tells.connections;
+        };
+      },
+    ))
 
 -- ---- a number that no open connection has
 
@@ -206,14 +223,12 @@ shut_count key old new is = cc (hung_up_denied key old (at old key))
 pub gone_happens : (event : PlainEvent) (refusal : Option CoreFault) (n key : ℕ) (r : Recording) (held : Held) (later_r : Recording)
     (later : Held)
     → key_of n r.keys ≡ Some key → at held key ≡ None → later.denied ≡ held.denied → HappensAs event refusal r held later_r later
-gone_happens event refusal n key r held later_r later named gone same = record {
-  grants = [];
-  counted = same;
-  asked = none_asked _ r held later (same);
-  happens = λ buses events layout s.
-      let h = found_at buses (λ n fed. fed) r.keys held _ n key s.stands named in
-      absurd (none-some _ (sym gone ∙ h.place));
-}
+gone_happens event refusal n key r held later_r later named gone same =
+    happens_by event refusal r held later_r later [] same
+    (none_asked _ r held later (same))
+    (λ buses events layout s.
+    let h = found_at buses (λ n fed. fed) r.keys held _ n key s.stands named in
+    absurd (none-some _ (sym gone ∙ h.place)))
 
 pub shut_keys : (n : ℕ) (o : Option ℕ) (m : ℕ) (r : Recording) → (with_end o m (shut n r)).keys ≡ without_key n r.keys
 shut_keys n None m r = refl
@@ -221,35 +236,33 @@ shut_keys n (Some session) m r = refl
 
 pub shut_happens : (n key : ℕ) (r : Recording) (old new : Held) (now : ℕ) → key_of n r.keys ≡ Some key → new ≡ hung_up key old
     → now ≡ new.moment → HappensAs (plain.Shut n) None r old (with_end (live_session key old) now (shut n r)) new
-shut_happens n key r old new now named is now_is = record {
-  grants = [];
-  counted = shut_count key old new is;
-  asked = none_asked (plain.Shut n) r old new (shut_count key old new is);
-  happens = λ buses events layout s.
-      let w = counted (course buses events) in
-      let c = runs_counted buses r old (course buses events) s in
-      let h = found_at buses (λ n fed. fed) r.keys old w n key c.stands named in
-      let p = place_of h.reader (history buses w) h.conn in
-      let order = opening_in_order buses layout in
-      let stands =
-      subst (λ (x : Held). StandsFor buses (without_key n r.keys) x (accepted buses (Shut n) w)) (sym is)
-      (stands_hung_up buses order r.keys old w n key (fine_course buses layout events) c.stands named) in
-      let told =
-      shut_told buses n r w h.conn now (h.conn.session == 0) h.conn.ended h.there refl refl
-      (cc (hung_up_moment key old (at old key), c.stands.moment)) c.tells in
-      let live : live_session key old ≡ (if (h.conn.session == 0) || h.conn.ended then None else Some h.conn.session) =
-      cc h.place in
-      let tells : Tells (with_end (live_session key old) now (shut n r)) (accepted buses (Shut n) w) =
-      rw live
-      (rw h.opened told) in (
-        cc h.opened,
-        record {
-          stands =
-              rw (keys_are (live_session key old) now) stands;
-          tells = tells;
-        },
-      );
-}
+shut_happens n key r old new now named is now_is =
+    happens_by (plain.Shut n) None r old (with_end (live_session key old) now (shut n r)) new [] (shut_count key old new is)
+    (none_asked (plain.Shut n) r old new (shut_count key old new is))
+    (λ buses events layout s.
+    let w = counted (course buses events) in
+    let c = runs_counted buses r old (course buses events) s in
+    let h = found_at buses (λ n fed. fed) r.keys old w n key c.stands named in
+    let p = place_of h.reader (history buses w) h.conn in
+    let order = opening_in_order buses layout in
+    let stands =
+    subst (λ (x : Held). StandsFor buses (without_key n r.keys) x (accepted buses (Shut n) w)) (sym is)
+    (stands_hung_up buses order r.keys old w n key (fine_course buses layout events) c.stands named) in
+    let told =
+    shut_told buses n r w h.conn now (h.conn.session == 0) h.conn.ended h.there refl refl
+    (cc (hung_up_moment key old (at old key), c.stands.moment)) c.tells in
+    let live : live_session key old ≡ (if (h.conn.session == 0) || h.conn.ended then None else Some h.conn.session) =
+    cc h.place in
+    let tells : Tells (with_end (live_session key old) now (shut n r)) (accepted buses (Shut n) w) =
+    rw live
+    (rw h.opened told) in (
+      cc h.opened,
+      record {
+        stands =
+            rw (keys_are (live_session key old) now) stands;
+        tells = tells;
+      },
+    ))
   where
     keys_are : (o : Option ℕ) (m : ℕ) → (with_end o m (shut n r)).keys ≡ without_key n r.keys
     keys_are None m = refl
@@ -351,25 +364,23 @@ pub room_happens : (n key bytes : ℕ) (first_r : Recording) (first : Held) (lef
     → (left - count_at key left held ≡ 0) ⊎ (count_at key left held ≡ 0)
     → held.denied ≡ first.denied → GivesOn n key bytes first_r first left r held
     → HappensAs (plain.Room n bytes) None first_r first (taking n key left held r) (taken_at key left held)
-room_happens n key bytes first_r first left r held ends same gives = record {
-  grants = [];
-  counted = same;
-  asked = none_asked (plain.Room n bytes) first_r first (taken_at key left held) (same);
-  happens = λ buses events layout s.
-      let i = gives buses events layout s in
-      let w = counted (course buses events) in
-      let order = opening_in_order buses layout in
-      let k : Kept buses layout order first_r.keys n key i.named (taking n key left held r) (taken_at key left held)
-      (accepted buses (Room n bytes) w) =
-      by buses events layout i (count_at key left held) refl ends in (
-        i.free,
-        record {
-          stands =
-              rw (taking_keys n key left held r ∙ i.keys) k.stands;
-          tells = k.tells;
-        },
-      );
-}
+room_happens n key bytes first_r first left r held ends same gives =
+    happens_by (plain.Room n bytes) None first_r first (taking n key left held r) (taken_at key left held) [] same
+    (none_asked (plain.Room n bytes) first_r first (taken_at key left held) (same))
+    (λ buses events layout s.
+    let i = gives buses events layout s in
+    let w = counted (course buses events) in
+    let order = opening_in_order buses layout in
+    let k : Kept buses layout order first_r.keys n key i.named (taking n key left held r) (taken_at key left held)
+    (accepted buses (Room n bytes) w) =
+    by buses events layout i (count_at key left held) refl ends in (
+      i.free,
+      record {
+        stands =
+            rw (taking_keys n key left held r ∙ i.keys) k.stands;
+        tells = k.tells;
+      },
+    ))
   where
     by : (buses : List Bus) (events : List Event) (layout : IsLayout buses)
         (i : IsGiving n key bytes first_r left r held buses layout (counted (course buses events))) (count : ℕ)

@@ -3,7 +3,7 @@ use Rattle.srcp_core.proofs.Names.{◌≡◌, ℕ, ◌<◌, ◌≤◌, Bool, tru
 use Rattle.srcp_core.proofs.Names.{fold, Option, Some, None, not, nat_lt, if◌then◌else◌, Bus, IsLayout, Event, Bytes, Piece, lines_under}
 use Rattle.srcp_core.proofs.Names.{denied_by, Connection, is_nil, World, open_connection, counted, accepted, fed_to, new_marks, course}
 use Rattle.srcp_core.proofs.Names.{denied_fed, Place, Held, at, HasRoom, bytes_fault, bytes_fault_from, heard_at, line_answered}
-use Rattle.srcp_core.proofs.Names.{steps_of_line, Recording, key_of, noted, CountsAsked, Tells, Runs, Happened, HappensAs, Asked, CoreFault}
+use Rattle.srcp_core.proofs.Names.{steps_of_line, Recording, key_of, noted, Tells, Runs, Happened, Asked, CoreFault}
 use Rattle.srcp_core.proofs.Names.{NoSuch, Busy, PieceTooLong, Closing}
 use Rattle.srcp_core.specs.declared.event.Event.TheVariants as plain
 use Rattle.srcp_core.specs.declared.record.Step.{Step as PlainStep}
@@ -17,7 +17,7 @@ use Rattle.srcp_core.proofs.Agreement.LinesAreNoted.{tells_same}
 use Rattle.srcp_core.proofs.Agreement.PiecesAgree.{accepting, IsUpTo, world_upto, lined, lines_ended, piece_begun}
 use Rattle.srcp_core.proofs.CourseLaws.SessionsOfACourse.{opening_in_order}
 use Rattle.srcp_core.proofs.Agreement.StandsAfterAChange.{found_at}
-use Rattle.srcp_core.proofs.Agreement.RunsAnEvent.{fine_course, refused_happens, runs_counted}
+use Rattle.srcp_core.proofs.Agreement.RunsAnEvent.{CountsAsked, HappensAs, happens_by, fine_course, refused_happens, runs_counted}
 
 pub bytes_refused : (n key : ℕ) (piece : List ℕ) (r : Recording) (held : Held) (cause : CoreFault) → key_of n r.keys ≡ Some key
     → bytes_fault key piece held ≡ Some cause → HappensAs (plain.Bytes n piece) (Some cause) r held r held
@@ -194,9 +194,8 @@ bytes_asked grants n key piece first_r first start r held new is reads buses eve
 pub bytes_happens : (n key : ℕ) (piece : List ℕ) (first_r : Recording) (first : Held) (start : ℕ) (r : Recording) (held new : Held)
     → ◌≡◌ {A = Option (ℕ × Asked) × Held} (None, new) (heard_at key piece start held) → ReadsOn n key piece first_r first start r held
     → HappensAs (plain.Bytes n piece) None first_r first r new
-bytes_happens n key piece first_r first start r held new is reads = record {
-  grants = reads.grants;
-  counted = cc (heard_denied key piece start held (at held key), reads.counted);
-  asked = bytes_asked reads.grants n key piece first_r first start r held new is reads.reads;
-  happens = bytes_with reads.grants n key piece first_r first start r held new is reads.reads;
-}
+bytes_happens n key piece first_r first start r held new is reads =
+    happens_by (plain.Bytes n piece) None first_r first r new reads.grants
+    (ap (λ (x : Option (ℕ × Asked) × Held). x.1.denied) is ∙ heard_denied key piece start held (at held key) ∙ reads.counted)
+    (bytes_asked reads.grants n key piece first_r first start r held new is reads.reads)
+    (bytes_with reads.grants n key piece first_r first start r held new is reads.reads)

@@ -109,7 +109,7 @@ slack_place reader h conn up =
     ∙ sym (ap (λ t. if t && conn.info then Some (if overran conn h then 256 else 256 - length (if t then untold conn h else [])) else None)
     up)
 
-pub slack_agrees : (held : Held) → OfCourse held (λ buses events. least (map slack_at held.places) ≡ slack buses (course buses events))
+pub slack_agrees : (held : Held) → OfCourse held (λ buses events _. least (map slack_at held.places) ≡ slack buses (course buses events))
 slack_agrees held buses events keys layout s = least_same _ _ to from
   where
     w : World
@@ -199,6 +199,6 @@ earliest_is (Some m) rows is = by (least (map (λ (row : Row). row.due) rows)) r
         cc
 
 pub due_agrees : (first : Option ℕ) (held : Held) → IsEarliestDue first held.rows
-    → OfCourse held (λ buses events. first ≡ due_next buses (course buses events))
+    → OfCourse held (λ buses events _. first ≡ due_next buses (course buses events))
 due_agrees first held earliest buses events keys layout s =
     earliest_is first held.rows earliest ∙ ap (λ rows. least (map (λ (row : Row). row.due) rows)) s.rows

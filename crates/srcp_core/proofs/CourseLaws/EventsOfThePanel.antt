@@ -3,11 +3,16 @@ use Rattle.srcp_core.proofs.Names.{cond_both, ◌≡◌, ℕ, ◌+◌, Bool, tru
 use Rattle.srcp_core.proofs.Names.{fold, ◌==◌, ◌||◌, Option, Some, None, if◌then◌else◌, Bus, Event, Bytes, Room, Ended, Heard, Piece}
 use Rattle.srcp_core.proofs.Names.{Connection, given_room, World, numbered, with_numbered, at_connection, if_open, open_connection, did}
 use Rattle.srcp_core.proofs.Names.{counted, rows, history, answered_as, answered, fault, new_lines, fed_to, shut_as, accepted, or_refused}
-use Rattle.srcp_core.proofs.Names.{happens, is_info_session, CoreFault, Refusal}
+use Rattle.srcp_core.proofs.Names.{happens, CoreFault, Refusal}
+use Rattle.srcp_core.proofs.Names.{option_map_or}
 use Rattle.std.specs.Prelude.{option_map}
 use Rattle.srcp_core.proofs.Agreement.NumbersAndKeys.{numbered_with, with_itself}
 use Rattle.srcp_core.proofs.CourseLaws.TwinConnections.{Alike, IsSimilar, IsTwin, alike_change}
 use Rattle.srcp_core.proofs.CourseLaws.TwinWorlds.{Twin, twin}
+
+-- there is such a connection, and it is an information session
+abbrev pub is_info_session : Option Connection → Bool
+is_info_session o = option_map_or (λ conn. conn.info) o false
 
 pub record Keeps (f : Connection → Connection) : Type 0 where
   pub info : (c : Connection) → (f c).info ≡ c.info

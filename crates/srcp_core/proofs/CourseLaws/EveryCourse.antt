@@ -11,7 +11,7 @@ use Rattle.srcp_core.proofs.CourseLaws.OverrunAt256.{meets_overruns}
 use Rattle.srcp_core.proofs.CourseLaws.SessionsOfACourse.{holds_passed}
 use Rattle.srcp_core.proofs.CourseLaws.RoomSettles.{sends_replies, settles_after_owed}
 use Rattle.srcp_core.proofs.CourseLaws.SentLinesAreOneList.{all_prefix, always_sends_lines, holds_registry}
-use Rattle.srcp_core.proofs.CourseLaws.RegistryStaysWhole.{keeps_whole, keeps_keys}
+use Rattle.srcp_core.proofs.CourseLaws.RegistryStaysWhole.{keeps_whole}
 
 held_rightly : (buses : List Bus) → IsLayout buses → (events : List Event) (number : ℕ) (conn : Connection)
     → IsSession buses events number conn → AllMoments events → IsHeldRightly buses events number conn
@@ -25,16 +25,16 @@ held_rightly buses layout events number conn session moments = record {
 }
 
 pub told_rightly : (buses : List Bus) → ToldRightly buses
-told_rightly buses = record {
-  listed = λ layout events number conn session. record {
+told_rightly buses layout events number conn session = (
+  record {
     still = lists_still buses layout events number conn session;
     never_twice = lists_none_twice buses layout events number conn session;
     rising = lists_rising buses layout events number conn session;
     held = lists_held buses layout events number conn session;
     passed = holds_passed buses layout events number conn session;
-  };
-  held = held_rightly buses;
-}
+  },
+  held_rightly buses layout events number conn session,
+)
 
 module _ (buses : List Bus) (events : List Event) (number : ℕ) (conn : Connection)
     (there : numbered number (course buses events).connections ≡ Some conn) where
@@ -66,7 +66,6 @@ module _ (buses : List Bus) (events : List Event) (number : ℕ) (conn : Connect
 pub served_rightly : (buses : List Bus) → ServedRightly buses
 served_rightly buses = record {
   whole = keeps_whole buses;
-  keys = keeps_keys buses;
   served = λ layout events number conn there. connection_served buses events number conn there layout;
   no_more = sent_no_more buses;
 }

@@ -4,20 +4,19 @@ use Rattle.srcp_core.proofs.Names.{sym, ◌∙◌, subst, arith, take_all, take-
 use Rattle.srcp_core.proofs.Names.{AllByRecursion, is_eq, Less, Equal, ◌||◌, Option, None, IsRisingBy, key_cmp, owns, Change, Cursor, Start}
 use Rattle.srcp_core.proofs.Names.{After, Done, Shown, Device, Key, Bus, opening, shown_rows, beyond, Listed, key_cmp_total, key_at}
 use Rattle.srcp_core.proofs.Names.{lists_one, IsLayout, Event, Connection, History, is_settled, World, start, happens, course, rows}
-use Rattle.srcp_core.proofs.Names.{history, OfSessions, listed, has_key, rows_at, listed_row, IsSession, AllMoments, Item}
+use Rattle.srcp_core.proofs.Names.{history, listed, has_key, rows_at, listed_row, IsSession, AllMoments, Item}
 use Rattle.std.specs.Ordering.{eq_by_cmp}
 use Rattle.std.specs.declared.cmp.Ordering.{Ordering}
 use Rattle.std.specs.declared.cmp.Ordering.TheVariants.{Greater}
 use Rattle.srcp_feed.specs.Cursor.{has_reached}
-use Rattle.srcp_core.specs.Laws.{KeepsKeys, IsThereFrom}
-use Rattle.srcp_core.specs.Laws.{ListsNoneTwice, times_listed}
+use Rattle.srcp_core.specs.Laws.{IsThereFrom, times_listed}
 use Rattle.srcp_core.proofs.CourseLaws.ItemsOnlyGrow.{Grows, grown_at, grown_since}
 use Rattle.srcp_core.proofs.CourseLaws.Histories.{rows_after, cursor_by, cursor_later}
 use Rattle.srcp_core.proofs.CourseLaws.ListedInOrder.{listed_told, listed_more, rows_of_course, lists_rising}
 use Rattle.srcp_core.proofs.CourseLaws.ShownRegistry.{shown_after, length_history}
-use Rattle.srcp_core.proofs.CourseLaws.SessionsOfACourse.{stands, settled_facts, settled_both, fits_open}
+use Rattle.srcp_core.proofs.CourseLaws.SessionsOfACourse.{OfSessions, stands, settled_facts, settled_both, fits_open}
 use Rattle.srcp_core.proofs.CourseLaws.ClientHoldsPassedRows.{Fits, Law, cursor_item, cursor_told}
-use Rattle.srcp_core.proofs.CourseLaws.RegistryStaysWhole.{keeps_keys}
+use Rattle.srcp_core.proofs.CourseLaws.RegistryStaysWhole.{KeepsKeys, keeps_keys}
 
 -- ---- at most once
 
@@ -66,7 +65,7 @@ at_least_one key (row ∷ rows) h =
     one_more : (n : ℕ) → 1 ≤ suc n
     one_more n = omega arith
 
-pub lists_none_twice : (buses : List Bus) → OfSessions buses (ListsNoneTwice buses)
+pub lists_none_twice : (buses : List Bus) → OfSessions buses (λ w conn. (key : Key) → times_listed key conn.items ≤ 1)
 lists_none_twice buses layout events number conn s key =
     at_most_one key (listed conn.items) (lists_rising buses layout events number conn s)
 

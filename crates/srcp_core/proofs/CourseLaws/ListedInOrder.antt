@@ -7,7 +7,7 @@ use Rattle.srcp_core.proofs.Names.{if◌then◌else◌, IsRisingBy, key_cmp, is_
 use Rattle.srcp_core.proofs.Names.{all_filter, all_weaker, key_at, Bus, IsLayout, State, opening, shown_rows, concerns, passed, beyond}
 use Rattle.srcp_core.proofs.Names.{said, changed_all, Next, Told, Listed, Settled, key_cmp_total, lists_one, passed_all, passed_done}
 use Rattle.srcp_core.proofs.Names.{passed_start, Step, Connection, History, heard, tells, sent, unsent, text, World, course, rows, history}
-use Rattle.srcp_core.proofs.Names.{history_from, OfSessions, listed_row, listed, rows_at, Item}
+use Rattle.srcp_core.proofs.Names.{history_from, listed_row, listed, rows_at, Item}
 use Rattle.std.proofs.Common.{not, get_or}
 use Rattle.std.proofs.Common.{length-take}
 use Rattle.std.proofs.lemmas.Cmp.{tied_itself}
@@ -20,12 +20,13 @@ use Rattle.srcp_info.proofs.ClientLaws.{after_one_way, less_from_after}
 use Rattle.srcp_info.proofs.ListingLaws.{reached_split}
 use Rattle.srcp_feed.specs.Cursor.{has_reached}
 use Rattle.srcp_feed.proofs.Steps.{passed_below}
-use Rattle.srcp_core.specs.Laws.{shown_at, ListsRising, IsHeld, ListsHeld, IsStill, IsPrefixOf}
-use Rattle.srcp_core.specs.Laws.{ListsStill}
+use Rattle.srcp_core.specs.Laws.{shown_at, IsHeld, IsStill, IsPrefixOf, IsSentListing}
+use Rattle.std.specs.Prelude.{IfSome}
 use Rattle.srcp_core.proofs.CourseLaws.Histories.{rows_after, part, cursor_by, cursor_later, cursor_done}
 use Rattle.srcp_core.proofs.CourseLaws.ShownRegistry.{shown_after}
 use Rattle.srcp_core.proofs.CourseLaws.RoomGivesWhatIsOwed.{Stands}
-use Rattle.srcp_core.proofs.CourseLaws.SessionsOfACourse.{stands, settled_facts, settled_both, text_tells, sent_whole, opening_in_order}
+use Rattle.srcp_core.proofs.CourseLaws.SessionsOfACourse.{OfSessions, stands, settled_facts, settled_both}
+use Rattle.srcp_core.proofs.CourseLaws.SessionsOfACourse.{text_tells, sent_whole, opening_in_order}
 use Rattle.srcp_core.proofs.CourseLaws.ClientHoldsPassedRows.{Fits, Law, untold_by, item_of, cursor_item, cursor_told, rows_push}
 use Rattle.srcp_core.proofs.CourseLaws.SessionsAreKept.{in_order_after, all_push}
 
@@ -89,7 +90,7 @@ rising_law start = record {
         let up : length history ≤ length (history ++ changes ∷ []) = omega arith in
         cursor_later _ _ done items up f.finished f.numbers
 
-pub lists_rising : (buses : List Bus) → OfSessions buses (ListsRising buses)
+pub lists_rising : (buses : List Bus) → OfSessions buses (λ w conn. IsRisingBy key_at (listed conn.items))
 lists_rising buses layout events number conn s =
     (stands buses layout Rising (rising_law (shown_rows (opening buses 0))) events number conn s).fits.1.0
 
@@ -167,7 +168,7 @@ heard_prefix (Some n) history k h =
     let low : k ≤ n = omega arith in
     take-take k n history low
 
-pub lists_held : (buses : List Bus) → OfSessions buses (ListsHeld buses)
+pub lists_held : (buses : List Bus) → OfSessions buses (λ w conn. AllByRecursion (IsHeld buses w) conn.items)
 lists_held buses layout events number conn s =
     let w = course buses events in
     let both =
@@ -176,7 +177,7 @@ lists_held buses layout events number conn s =
   where
     at : (what : Next) (item : Item) → item.steps ≤ length (heard conn.shut (history buses (course buses events)))
         → HeldIn (rows_after (shown_rows (opening buses 0)) (take item.steps (heard conn.shut (history buses (course buses events))))) what
-        → IsHeld buses (course buses events) item what
+        → IfSome (listed_row what) (λ row. shown_at row.key (rows_at buses (course buses events) item.steps) ≡ Some row)
     at (Told change) item n k = tt
     at (Listed row) item n k =
         cc (rows_of_course buses (course buses events) item.steps, heard_prefix _ _ _ n)
@@ -328,7 +329,7 @@ still_whole : (conn : Connection) (heard_now : History) (held : List Shown) → 
 still_whole conn heard_now held facts u b =
     cc (sent_whole conn u, text_tells conn.items, facts.text_is, passed_all _ held b)
 
-pub lists_still : (buses : List Bus) → OfSessions buses (ListsStill buses)
+pub lists_still : (buses : List Bus) → OfSessions buses (λ w conn. IsStill buses w conn → IsSentListing buses w conn)
 lists_still buses layout events number conn s still =
     let w = course buses events in
     let law = stands buses layout (Still (shown_rows (opening buses 0))) (still_law (shown_rows (opening buses 0))) events number conn s in

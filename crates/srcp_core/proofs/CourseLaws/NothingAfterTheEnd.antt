@@ -6,16 +6,19 @@ use Rattle.srcp_core.proofs.Names.{Bus, concerns, Event, Open, Bytes, Room, At, 
 use Rattle.srcp_core.proofs.Names.{heard, told_change, cursor_at, overran, is_nil, unsent, given_room, World, fresh, start, numbered}
 use Rattle.srcp_core.proofs.Names.{with_numbered, at_connection, open_connection, did, counted, rows, history, entered, fault, absent_fault}
 use Rattle.srcp_core.proofs.Names.{shut_as, accepted, or_refused, happens, course, CoreFault, NoSuch, Busy, PieceTooLong, Closing}
-use Rattle.srcp_core.proofs.Names.{cond_both}
+use Rattle.srcp_core.proofs.Names.{cond_both, is_open, sent}
 use Rattle.std.proofs.Common.{not}
 use Rattle.std.proofs.Common.{eqb-true}
 use Rattle.srcp_core.specs.Connection.{concerning}
 use Rattle.srcp_core.specs.Course.{bytes_fault}
-use Rattle.srcp_core.specs.Laws.{is_over, IsSentNoMore}
 use Rattle.srcp_core.proofs.CourseLaws.Histories.{enumerate_push}
 use Rattle.srcp_core.proofs.CourseLaws.ShownRegistry.{history_push}
 use Rattle.srcp_core.proofs.Agreement.NumbersAndKeys.{numbered_with}
 use Rattle.srcp_core.proofs.CourseLaws.EventsKeep.{IsAnswered, kept_fed, kept_shut}
+
+-- it overran, or it was shut
+abbrev pub is_over : Connection → History → Bool
+is_over conn history = not (is_open conn) || overran conn history
 
 -- ---- the connection of another number
 
@@ -237,7 +240,8 @@ module _ (buses : List Bus) (n : ℕ) (x : Connection) where
 pub sends_no_more : (buses : List Bus) → (events more : List Event) (number : ℕ) (conn later : Connection)
     → numbered number (course buses events).connections ≡ Some conn
     → numbered number (course buses (events ++ more)).connections ≡ Some later
-    → is_over conn (history buses (course buses events)) ≡ true → IsSentNoMore buses (course buses (events ++ more)) conn later
+    → is_over conn (history buses (course buses events)) ≡ true
+    → (later.items ≡ conn.items) × (sent later ≡ sent conn) × (is_over later (history buses (course buses (events ++ more))) ≡ true)
 sends_no_more buses events more number conn later there after over =
     let w = course buses events in
     let next : course buses (events ++ more) ≡ fold (happens buses) w more = fold-append _ start events more in
@@ -247,10 +251,4 @@ sends_no_more buses events more number conn later there after over =
     let e : numbered number (fold (happens buses) w more).connections ≡ Some later =
     cc in
     let same : s.y ≡ later = cc in
-    record {
-      items = cc s.items;
-      sent_bytes =
-          cc (s.out, s.items, s.taken);
-      over =
-          cc s.over;
-    }
+    (cc s.items, cc (s.out, s.items, s.taken), cc s.over)

@@ -103,11 +103,8 @@ meets_overruns buses layout events number conn s up fine changes =
     ltb-false 256 _ (cc (overran_open h conn shut)) in
     record {
       waits = cc (untold_open _ conn shut);
-      finds =
-          λ o.
-          finds_full 256 p _ changes low
-          (ltb-true 256 _ (cc));
-      found =
-          λ r. after
-          ∙ lt-ltb 256 _ (found_full 256 p (length (waiting conn h)) changes r);
+      full = (
+        λ o. finds_full 256 p _ changes low (ltb-true 256 _ (cc)),
+        λ r. after ∙ lt-ltb 256 _ (found_full 256 p (length (waiting conn h)) changes r),
+      );
     }

@@ -10,7 +10,7 @@ use Rattle.srcp_core.proofs.Names.{owed, took, given_room, World, updates_of, st
 use Rattle.srcp_core.proofs.Names.{at_connection, open_connection, did, replied, counted, is_info, state, rows, history, entered, goes}
 use Rattle.srcp_core.proofs.Names.{greeted, ended, obeyed, commanded, answered_as, answered, command_of, order_of, fault, new_lines, fed_to}
 use Rattle.srcp_core.proofs.Names.{shut_as, accepted, or_refused, happens, course, Greeting, Speaks, Chooses, Goes, Refuses, AllMoments}
-use Rattle.srcp_core.proofs.Names.{HasMoment, CoreFault}
+use Rattle.srcp_core.proofs.Names.{HasMoment, CoreFault, Device, Key, owns}
 use Rattle.std.proofs.lemmas.Bool.{true≢false}
 use Rattle.std.specs.Prelude.{option_map}
 use Rattle.srcp_info.specs.declared.change.Reply.TheVariants.{Mode as ModeReply}
@@ -20,7 +20,7 @@ use Rattle.srcp_rules.proofs.SessionLaws.{AreElsewhere}
 use Rattle.srcp_rules.proofs.StateLaws.{has_row-put_row}
 use Rattle.srcp_core.specs.Under.{effect}
 use Rattle.srcp_core.specs.Course.{stepped}
-use Rattle.srcp_core.specs.Laws.{IsLive, KeepsWhole, AlwaysKeepsKeys}
+use Rattle.srcp_core.specs.Laws.{IsLive, IsWholeWorld, has_key, is_there, rows_at}
 use Rattle.srcp_core.proofs.Agreement.MemoryAnswers.{effect_law, ordered_law}
 use Rattle.srcp_core.proofs.CourseLaws.StepsKeepWhole.{IsStepOf, AreSteps, are_steps_push, steps_whole, prefix_whole, history_told}
 use Rattle.srcp_core.proofs.CourseLaws.StepsKeepWhole.{keys_kept, whole_opening}
@@ -424,8 +424,21 @@ module _ (buses : List Bus) (layout : IsLayout buses) where
       zero_id : 0 < 2 ^ 32
       zero_id = omega arith
 
+-- no step gives a device that is there a key that it had not
+abbrev pub KeepsKeys : List Bus → World → Type 0
+KeepsKeys buses w = (k : ℕ) (device : Device) (key : Key) → k < length w.steps → is_there device (rows_at buses w k) ≡ true
+    → owns device key ≡ true → has_key key (rows_at buses w (k + 1)) ≡ true → has_key key (rows_at buses w k) ≡ true
+
+-- so it is of every list of events
+pub keeps_keys : (buses : List Bus) → IsLayout buses → (events : List Event) → AllMoments events → KeepsKeys buses (course buses events)
+keeps_keys buses layout events moments k device key low there own e =
+    let w = course buses events in
+    keys_kept buses k (opening buses 0) w.steps (whole_opening buses layout)
+    (kept_course buses layout events moments).steps_fit low device key there own
+    (rw (← (add-one k)) e)
+
 -- every course keeps the registry whole
-pub keeps_whole : (buses : List Bus) → KeepsWhole buses
+pub keeps_whole : (buses : List Bus) → IsLayout buses → (events : List Event) → AllMoments events → IsWholeWorld buses (course buses events)
 keeps_whole buses layout events moments =
     let k = kept_course buses layout events moments in
     let first = whole_opening buses layout in
@@ -434,15 +447,7 @@ keeps_whole buses layout events moments =
       changes = history_told buses (opening buses 0) (course buses events).steps first k.steps_fit;
       moment = k.now;
       last_id = k.few;
-      ids = k.ids;
+      sessions = λ n c e. (k.ids n c e, k.there n c e);
       apart = k.apart;
-      there = k.there;
+      keys = keeps_keys buses layout events moments;
     }
-
--- and gives a device that is there no key that it had not
-pub keeps_keys : (buses : List Bus) → AlwaysKeepsKeys buses
-keeps_keys buses layout events moments k device key low there own e =
-    let w = course buses events in
-    keys_kept buses k (opening buses 0) w.steps (whole_opening buses layout)
-    (kept_course buses layout events moments).steps_fit low device key there own
-    (rw (← (add-one k)) e)

@@ -3,7 +3,7 @@ use Rattle.srcp_core.proofs.Names.{◌≡◌, ℕ, zero, suc, ◌+◌, ◌-◌, 
 use Rattle.srcp_core.proofs.Names.{append-nil, append_assoc, map-append, drop-append-le, flat_map-append, false≢true, le-ltb, lt-ltb}
 use Rattle.srcp_core.proofs.Names.{flat_map, nat_lt, ◌||◌, Option, ◌&&◌, Next, Connection, line_of, prefix, fitting, is_nil, items_of}
 use Rattle.srcp_core.proofs.Names.{available, exhausts, given, unsent, took}
-use Rattle.srcp_core.proofs.CourseLaws.RoomInTwoParts.{took_adds, done_rule, no_bytes}
+use Rattle.srcp_core.proofs.CourseLaws.RoomInTwoParts.{parts_same, took_adds, done_rule, no_bytes}
 use Rattle.srcp_core.proofs.CourseLaws.RoomGivesWhatIsOwed.{text_items, pos-eqb}
 
 fitting_some : (a : ℕ) (left : List ℕ) (nexts : List Next) → 0 < a → fitting a left nexts ≡ prefix (a - length left) nexts
@@ -49,24 +49,7 @@ left_after n nexts conn within =
 took_first : (a n : ℕ) (nexts rest : List Next) (conn : Connection) → 0 < a → conn.taken ≤ length (given conn)
     → nexts ≡ fitting 0 (unsent conn) nexts ++ rest → took a n rest (took 0 n nexts conn) ≡ took a n nexts conn
 took_first a n nexts rest conn pa within e =
-    ap (λ items.
-    record conn {
-      items = items;
-      taken =
-          conn.taken + min 0 (length (available (unsent conn) nexts))
-          + min a (length (available (unsent (took 0 n nexts conn)) rest));
-      done = done_after;
-    })
-    items_same
-    ∙ ap (λ taken. record conn { items = conn.items ++ items_of n (fitting a (unsent conn) nexts); taken = taken; done = done_after })
-    taken_same
-    ∙ ap (λ done.
-    record conn {
-      items = conn.items ++ items_of n (fitting a (unsent conn) nexts);
-      taken = conn.taken + min a (length (available (unsent conn) nexts));
-      done = done;
-    })
-    done_same
+    parts_same conn items_same taken_same done_same
   where
     done_after : Option ℕ
     done_after = (took a n rest (took 0 n nexts conn)).done

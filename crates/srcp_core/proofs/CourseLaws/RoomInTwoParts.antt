@@ -5,6 +5,7 @@ use Rattle.srcp_core.proofs.Names.{leb-true, lt-ltb, ltb-true, ltb-false, map-ap
 use Rattle.srcp_core.proofs.Names.{flat_map, option_or, nat_le, nat_lt, ◌||◌, Option, Some, None, ◌==◌, ◌&&◌, if◌then◌else◌, Next}
 use Rattle.srcp_core.proofs.Names.{Connection, line_of, prefix, fitting, items_of, available, exhausts, given, unsent, text, took}
 use Rattle.std.proofs.Math.Bool.{or-false}
+use Rattle.srcp_core.proofs.Names.{Item}
 use Rattle.srcp_core.proofs.CourseLaws.RoomGivesWhatIsOwed.{text_items, prefix_short, prefix_none, pos-eqb}
 
 -- the bytes that a prefix has beyond those asked for
@@ -143,28 +144,16 @@ done_rule true true second both end n f g h = rw (f refl, g refl) (twice end)
     twice (Some m) = refl
 done_rule true false second both end n f g h = rw (h refl) refl
 
+-- what room changes of a connection is the same part by part
+pub parts_same : (conn : Connection) {a b : List Item} {c d : ℕ} {e f : Option ℕ} → a ≡ b → c ≡ d → e ≡ f
+    → record conn { items = a; taken = c; done = e } ≡ record conn { items = b; taken = d; done = f }
+parts_same conn items taken done = λ i. record conn { items = items i; taken = taken i; done = done i }
+
 -- room for a and then for b is room for both
 pub took_adds : (a b n : ℕ) (nexts rest : List Next) (conn : Connection) → 0 < a → 0 < b → conn.taken ≤ length (given conn)
     → nexts ≡ fitting a (unsent conn) nexts ++ rest → took b n rest (took a n nexts conn) ≡ took (a + b) n nexts conn
 took_adds a b n nexts rest conn pa pb within e =
-    ap (λ items.
-    record conn {
-      items = items;
-      taken =
-          conn.taken + min a (length (available (unsent conn) nexts))
-          + min b (length (available (unsent (took a n nexts conn)) rest));
-      done = done_after;
-    })
-    items_same
-    ∙ ap (λ taken. record conn { items = conn.items ++ items_of n (fitting (a + b) (unsent conn) nexts); taken = taken; done = done_after })
-    taken_same
-    ∙ ap (λ done.
-    record conn {
-      items = conn.items ++ items_of n (fitting (a + b) (unsent conn) nexts);
-      taken = conn.taken + min (a + b) (length (available (unsent conn) nexts));
-      done = done;
-    })
-    done_same
+    parts_same conn items_same taken_same done_same
   where
     done_after : Option ℕ
     done_after = (took b n rest (took a n nexts conn)).done

@@ -5,9 +5,9 @@ use Rattle.srcp_core.proofs.Names.{length-map, fold-append, flat_map, option_or,
 use Rattle.srcp_core.proofs.Names.{Bus, IsLayout, opening, shown_rows, Next, Told, Listed, key_at, IsRisingBy, Event, Room, Connection}
 use Rattle.srcp_core.proofs.Names.{History, is_nil, is_open, line_of, text, unsent, owed, fitting, available, exhausts, items_of, took}
 use Rattle.srcp_core.proofs.Names.{given_room, overran, World, start, happens, counted, course, numbered, open_connection, accepted, rows}
-use Rattle.srcp_core.proofs.Names.{history, IsSession, Item}
+use Rattle.srcp_core.proofs.Names.{history, IsSession, Item, sent}
 use Rattle.std.specs.Prelude.{option_map}
-use Rattle.srcp_core.specs.Laws.{IsSentReplies, GivesOwed}
+use Rattle.srcp_core.specs.Laws.{IsPrefixOf, GivesOwed}
 use Rattle.srcp_core.proofs.CourseLaws.LinesHaveBytes.{fitting_full, none_after, owed_full}
 use Rattle.srcp_core.proofs.CourseLaws.Histories.{rows_after}
 use Rattle.srcp_core.proofs.CourseLaws.ShownRegistry.{shown_after, length_history}
@@ -19,16 +19,12 @@ use Rattle.srcp_core.proofs.CourseLaws.SessionsAreKept.{sound, owed_open, in_ord
 
 pub sends_replies : (buses : List Bus) → IsLayout buses → (events : List Event) (number : ℕ) (conn : Connection)
     → numbered number (course buses events).connections ≡ Some conn
-    → conn.info ≡ false → IsSentReplies buses conn
+    → conn.info ≡ false → (conn.items ≡ []) × IsPrefixOf (sent conn) conn.out
 sends_replies buses layout events number conn e plain =
     let s =
     at_number _ number (course buses events).connections conn
     (sound buses (opening_in_order buses layout) _ (anything (shown_rows (opening buses 0))) events) e in
-    let p = s.plain plain in
-    record {
-      no_items = p.0;
-      prefix = (unsent conn, cc (take-append-drop _ _, p.0, append-nil conn.out));
-    }
+    let p = s.plain plain in (p.0, (unsent conn, cc (take-append-drop _ _, p.0, append-nil conn.out)))
 
 -- what is owed after room
 record OwesRest (history : History) (go : ℕ) (items : List Item) (done : Option ℕ) (bytes : ℕ) (left : List ℕ) (nexts : List Next)
@@ -218,13 +214,8 @@ gives_owed buses layout w bytes conn shut info fits =
               (conn.out ++ text (conn.items ++ items_of (length (history buses w)) ns)))
               all
               ∙ none_left bytes _ _ conn.out conn.items
-              (owed conn (history buses w) (rows buses w)) h in (
-                o,
-                four _ _
-                    _
-                    _
-                    (cc) info (ap is_nil u) (cc),
-              );
+              (owed conn (history buses w) (rows buses w)) h in
+              four _ _ _ _ (cc) info (ap is_nil u) (cc);
         }
 
 pub settles_after_owed : (buses : List Bus) → IsLayout buses → (events : List Event) (number bytes : ℕ) (conn later : Connection)

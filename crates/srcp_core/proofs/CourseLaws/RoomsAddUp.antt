@@ -17,6 +17,7 @@ use Rattle.srcp_core.proofs.CourseLaws.ClientHoldsPassedRows.{Fits, tolds}
 use Rattle.srcp_core.proofs.CourseLaws.RoomSettles.{after_room, owes_after, OwesAfter}
 use Rattle.srcp_core.proofs.Agreement.NumbersAndKeys.{numbered_with}
 use Rattle.srcp_core.proofs.CourseLaws.SessionsAreKept.{sound, concerning_start}
+use Rattle.srcp_core.proofs.CourseLaws.RoomInTwoParts.{parts_same}
 use Rattle.srcp_core.proofs.CourseLaws.RoomAfterRoom.{left_after, took_both}
 
 -- ---- a room and overruns
@@ -98,15 +99,8 @@ took_nothing : (b n : ℕ) (nexts : List Next) (conn : Connection) → unsent co
   done = if conn.info then option_or conn.done (Some n) else conn.done;
 }
 took_nothing b n nexts conn u e =
-    ap (λ items.
-    record conn {
-      items = items;
-      taken = conn.taken + min b (length (available (unsent conn) nexts));
-      done = (took b n nexts conn).done;
-    })
-    (ap (λ ns. conn.items ++ items_of n ns) (ap (fitting b (unsent conn)) e ∙ fitting_none b _) ∙ append-nil _)
-    ∙ ap (λ taken. record conn { items = conn.items; taken = taken; done = (took b n nexts conn).done }) same_taken
-    ∙ ap (λ done. record conn { items = conn.items; taken = conn.taken; done = done })
+    parts_same conn
+    (ap (λ ns. conn.items ++ items_of n ns) (ap (fitting b (unsent conn)) e ∙ fitting_none b _) ∙ append-nil _) same_taken
     (ap (λ t. if conn.info && t then option_or conn.done (Some n) else conn.done) exhausted_now
     ∙ ap (λ t. if t then option_or conn.done (Some n) else conn.done) (and_true _))
   where
@@ -209,13 +203,15 @@ module _ (buses : List Bus) (layout : IsLayout buses) (w : World) (conn : Connec
   pub adds_up : AddsUp buses w conn
   adds_up = record {
     adds = λ a b pb. adds a b pb _ refl;
-    first = λ b pb. cc (adds 0 b pb _ refl, zero_plus b);
     none = λ u b pb. none_found b _ refl u;
     overruns = λ a. overruns a _ refl;
   }
-    where
-      zero_plus : (b : ℕ) → 0 + b ≡ b
-      zero_plus b = omega arith
+
+-- the line that a room for none puts in is the first of any other
+pub adds_none : (buses : List Bus) (w : World) (conn : Connection) → AddsUp buses w conn → (b : ℕ) → 0 < b
+    → given_room b (history buses w) (rows buses w) (given_room 0 (history buses w) (rows buses w) conn)
+    ≡ given_room b (history buses w) (rows buses w) conn
+adds_none buses w conn up b pb = let zero_plus : 0 + b ≡ b = omega arith in cc (up.adds 0 b pb)
 
 pub rooms_add_up : (buses : List Bus) → IsLayout buses → (events : List Event) (number : ℕ) (conn : Connection)
     → numbered number (course buses events).connections ≡ Some conn

@@ -4,14 +4,20 @@ use Rattle.srcp_core.proofs.Names.{take-append-drop, flat_map-append, and_parts,
 use Rattle.srcp_core.proofs.Names.{if◌then◌else◌, is_none, client, IsRisingBy, line, Shown, Bus, IsLayout, State, opening, shown_rows}
 use Rattle.srcp_core.proofs.Names.{IsRising, passed, beyond, said, Next, Told, Listed, Settled, key_at, passed_all, Event, Connection}
 use Rattle.srcp_core.proofs.Names.{History, heard, is_nil, line_of, text, tells, sent, unsent, waiting, owed, is_settled, World, numbered}
-use Rattle.srcp_core.proofs.Names.{course, rows, history, IsSession, OfSessions, Item}
-use Rattle.srcp_core.specs.Laws.{HoldsPassed}
+use Rattle.srcp_core.proofs.Names.{course, rows, history, IsSession, Item}
+use Rattle.srcp_core.proofs.Names.{cursor_at, is_open}
 use Rattle.srcp_core.proofs.CourseLaws.Histories.{rows_after, cursor_by}
 use Rattle.srcp_core.proofs.CourseLaws.ShownRegistry.{shown_after, length_history, all_shown}
 use Rattle.srcp_core.proofs.CourseLaws.RoomGivesWhatIsOwed.{Stands, nothing_owed}
 use Rattle.srcp_core.proofs.CourseLaws.ClientHoldsPassedRows.{Fits, Law, owed_by, untold_by}
 use Rattle.srcp_core.proofs.CourseLaws.SessionsAreKept.{sound, owed_open}
 use Rattle.srcp_core.proofs.CourseLaws.StepsKeepWhole.{whole_opening}
+
+-- a law of every information session after every list of events, over any layout
+abbrev pub OfSessions : List Bus → (World → Connection → Type 0) → Type 0
+OfSessions buses Law =
+    IsLayout buses → (events : List Event) (number : ℕ) (conn : Connection) → IsSession buses events number conn
+    → Law (course buses events) conn
 
 pub rising_shown : (state : State) → IsRising state → IsRisingBy (λ row. row.key) (shown_rows state)
 rising_shown [] r = tt
@@ -61,7 +67,9 @@ pub untold_open : (history : History) (conn : Connection) → conn.shut ≡ None
 untold_open history conn e =
     rw e refl
 
-pub holds_passed : (buses : List Bus) → OfSessions buses (HoldsPassed buses)
+pub holds_passed : (buses : List Bus) → OfSessions buses (λ w conn.
+    is_open conn ≡ true → client (tells conn.items ++ waiting conn (history buses w))
+    ≡ passed (cursor_at conn (length w.steps)) (rows buses w))
 holds_passed buses layout events number conn s is_up =
     let w = course buses events in
     let shut = open_shut _ is_up in

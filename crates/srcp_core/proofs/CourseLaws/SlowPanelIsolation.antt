@@ -2,13 +2,13 @@
 use Rattle.srcp_core.proofs.Names.{◌≡◌, ℕ, ◌+◌, Bool, true, false, List, [], ◌∷◌, ◌++◌, refl, ap, sym, ◌∙◌, subst, inl, inr, and_parts}
 use Rattle.srcp_core.proofs.Names.{eqb-true, eqb-false, fold, ◌==◌, Option, Some, None, if◌then◌else◌, is_none, Bus, Event, Open, Bytes}
 use Rattle.srcp_core.proofs.Names.{Room, At, Shut, Piece, Connection, is_open, World, fresh, start, numbered, open_connection, counted}
-use Rattle.srcp_core.proofs.Names.{shut_as, or_refused, happens, course, is_info_session, Full, NoSuch, Refusal}
+use Rattle.srcp_core.proofs.Names.{shut_as, or_refused, happens, course, Full, NoSuch, Refusal}
 use Rattle.srcp_core.specs.Laws.{is_room_of, without_room, IsSameForOthers, RoomHarmsNobody, SlowPanelHarmsNobody}
 use Rattle.srcp_core.specs.declared.record.CoreFault.TheVariants.{Memory as MemoryFault}
 use Rattle.srcp_core.proofs.CourseLaws.TwinConnections.{Alike, Both, IsSimilar, Neither, Pair, alike_length, alike_open, alike_other}
 use Rattle.srcp_core.proofs.CourseLaws.TwinConnections.{alike_pair, alike_push}
 use Rattle.srcp_core.proofs.CourseLaws.TwinWorlds.{Linked, Twin, forget, twin, twin_bytes, twin_room, twin_shuts}
-use Rattle.srcp_core.proofs.CourseLaws.EventsOfThePanel.{apart_shut, one_bytes, one_itself, one_room, twin_sides}
+use Rattle.srcp_core.proofs.CourseLaws.EventsOfThePanel.{is_info_session, apart_shut, one_bytes, one_itself, one_room, twin_sides}
 
 module _ (buses : List Bus) (number : ℕ) where
   data Meets (m : ℕ) (xs ys : List Connection) : Type 0 where

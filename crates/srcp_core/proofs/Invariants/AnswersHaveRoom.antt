@@ -10,7 +10,7 @@ use Rattle.srcp_info.specs.WellFormed.{IsWellFormedReply}
 use Rattle.srcp_info.specs.declared.change.Reply.TheVariants.{Mode as ModeReply}
 use Rattle.srcp_info.proofs.LineLaws.{length-reply_line-le, length-reply_line-most}
 use Rattle.srcp_rules.proofs.ToldLaws.{reply_told}
-use Rattle.srcp_core.specs.Machine.{line_begun_of}
+use Rattle.srcp_core.proofs.Names.{option_map_or}
 use Rattle.srcp_core.specs.Machine.{replied}
 use Rattle.srcp_core.specs.Machine.{goes, greeted, finished, obeyed, answered}
 use Rattle.srcp_core.proofs.Invariants.EveryPlaceIsTold.{told_all_at}
@@ -18,6 +18,10 @@ use Rattle.srcp_core.proofs.Invariants.ChangesOneByOne.{change_in}
 use Rattle.srcp_core.proofs.Invariants.PlacesCover.{place_set_here}
 use Rattle.srcp_core.proofs.Invariants.RepliesStayUnsent.{told_shorter, longest_most}
 use Rattle.srcp_core.proofs.Invariants.LinesAsk.{asked_by}
+
+-- what is known of the line that has begun
+abbrev line_begun_of : Option Place → Option (List ℕ)
+line_begun_of place = option_map_or (λ p. p.reader.begun) place (Some [])
 
 -- at most so many bytes come to the unsent, and the line that has begun stays
 pub record Gains (n : ℕ) (old new : Option Place) : Type 0 where

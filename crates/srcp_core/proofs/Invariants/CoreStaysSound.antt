@@ -16,6 +16,10 @@ use Rattle.srcp_core.proofs.Invariants.PlacesCover.{covers_told_each, told_each_
 use Rattle.srcp_core.proofs.Invariants.PlacesCover.{place_set_here, where_is, Where, Here, Away, no_place}
 use Rattle.srcp_core.proofs.Invariants.SessionRows.{no_session-opening}
 
+-- what an equation begins with
+abbrev pub left_of : {X : Type 0} {a b : X} → a ≡ b → X
+left_of {a = a} e = a
+
 pub sound_opening : (buses : List Bus) → IsLayout buses → (moment : ℕ) → IsMoment moment → (last_id : ℕ) (state : State)
     → state ≡ opening buses moment → (places : List (Option Place)) → places ≡ []
     → IsSound (record { buses = buses; rows = state; moment = moment; last_id = last_id; places = places; denied = 0 })

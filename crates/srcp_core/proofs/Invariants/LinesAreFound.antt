@@ -13,7 +13,8 @@ use Rattle.srcp_text.proofs.ScanLaws.{position_some}
 use Rattle.std.proofs.lemmas.Bool.{cases_lt}
 use Rattle.std.proofs.lemmas.List.{length-drop}
 use Rattle.srcp_core.specs.Handshake.{greets}
-use Rattle.srcp_core.specs.Machine.{heard, heard_in}
+use Rattle.srcp_core.specs.Machine.{heard}
+use Rattle.srcp_core.proofs.Names.{option_map_or}
 use Rattle.srcp_core.specs.Machine.{line_begun_at, answered}
 use Rattle.srcp_core.specs.Machine.{IsAsked, IsLineAnswered}
 use Rattle.srcp_core.proofs.Invariants.PlacesCover.{IsMild, place_set_here, where_is, Here, Away}
@@ -148,6 +149,16 @@ heard_mild buses piece start p = by _
 -- and the core is as sound as before
 
 -- ---- in a piece
+
+-- what reading on finds, by the connection that is there
+abbrev heard_in : ℕ → List ℕ → ℕ → Held → Option Place → Option (ℕ × Asked) × Held
+heard_in key piece start held place =
+    option_map_or
+    (λ p. (
+      (heard held.buses piece start p).0,
+      record held { places = slice_set held.places key (Some (heard held.buses piece start p).1) },
+    ))
+    place (None, held)
 
 -- a line of a connection was found
 pub record IsLineFound (key : ℕ) (piece : List ℕ) (start stop : ℕ) (asked : Asked) (old new : Held) : Type 0 where

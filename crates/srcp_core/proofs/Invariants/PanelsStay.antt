@@ -5,7 +5,8 @@ use Rattle.srcp_core.proofs.Names.{panel_keys, slack_in, slack_at, told_all, tol
 use Rattle.srcp_core.proofs.Names.{Listening, Overran}
 use Rattle.std.specs.Prelude.{Bool, true, false}
 use Rattle.slab.specs.Slab.{get, Updates}
-use Rattle.srcp_core.specs.Machine.{fresh_place, has_panel}
+use Rattle.srcp_core.specs.Machine.{fresh_place}
+use Rattle.srcp_core.proofs.Names.{option_map_or}
 use Rattle.srcp_core.proofs.Invariants.EveryPlaceIsTold.{count_by_cons}
 use Rattle.srcp_core.proofs.Invariants.PlacesCover.{told_mild, Here, Away, where_is}
 
@@ -83,6 +84,10 @@ pub panels_set : (places : List (Option Place)) (key : ℕ) (p q : Place) → pl
 panels_set [] key p q there same = refl
 panels_set (slot ∷ places) zero p q there same = cc
 panels_set (slot ∷ places) (suc key) p q there same = cc (panels_set places key p q there same)
+
+-- the connection of a slot has an information session
+abbrev has_panel : Option Place → Bool
+has_panel place = option_map_or (λ p. is_panel p.panel) place false
 
 same_panels : (some others : List (Option Place)) → ((key : ℕ) → has_panel (place_at some key) ≡ has_panel (place_at others key))
     → panel_keys some ≡ panel_keys others

@@ -1,7 +1,14 @@
 -- What an information session is given next can be told.
 use Rattle.srcp_core.proofs.Names.{◌≡◌, Bool, true, false, List, [], ◌∷◌, refl, AllByRecursion, has_reached, IsWellFormed}
-use Rattle.srcp_core.proofs.Names.{IsWellFormedShown, Change, Cursor, Shown, Feed, next_of, IsTellable}
+use Rattle.srcp_core.proofs.Names.{IsWellFormedShown, Change, Cursor, Shown, Feed, next_of, Next, Put, Told, Listed, Settled}
+use Rattle.std.specs.Prelude.{⊤}
 use Rattle.std.proofs.Common.{not}
+
+-- what is given can be told
+abbrev pub IsTellable : Next → Type 0
+IsTellable (Told change) = IsWellFormed change
+IsTellable (Listed row) = IsWellFormed (Put row)
+IsTellable Settled = ⊤
 
 listed_tellable : (cursor : Cursor) (rows : List Shown) → AllByRecursion IsWellFormedShown rows
     → IsTellable (next_of rows (record { cursor = cursor; queue = [] }))

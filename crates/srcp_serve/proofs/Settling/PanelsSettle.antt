@@ -1,6 +1,6 @@
 -- A panel that takes what it is handed is settled: its visits, turn after turn, and the two laws.
-use Rattle.std.proofs.Common.{◌≡◌, ◌∙◌, ℕ, zero, suc, Bool, true, false, List, [], ◌∷◌, ◌++◌, map, if◌then◌else◌, Some, None, refl, ap, sym}
-use Rattle.std.proofs.Common.{subst, arith, append-nil, append_assoc, ◌==◌, ◌+◌, ◌*◌, ◌≤◌, length, ◌⊎◌, inl, inr, length-append}
+use Rattle.std.proofs.Common.{◌≡◌, ◌∙◌, ℕ, zero, suc, Bool, true, false, List, [], ◌∷◌, ◌++◌, map, if◌then◌else◌, Some, None, refl, ap}
+use Rattle.std.proofs.Common.{sym, subst, arith, append-nil, append_assoc, ◌==◌, ◌+◌, ◌*◌, ◌≤◌, length, ◌⊎◌, inl, inr, length-append}
 use Rattle.std.specs.Prelude.{filter_map, flat_map, fold, slice_get, ◌&&◌}
 use Rattle.std.specs.List.{list_any, AllByRecursion}
 use Rattle.std.proofs.lemmas.Bool.Decides.{nat_tests}
@@ -8,9 +8,9 @@ use Rattle.srcp_info.proofs.ClientLaws.{all_append, all_filter}
 use Rattle.srcp_grammar.specs.declared.layout.Bus.{Bus}
 use Rattle.srcp_core.specs.Under.{Event, Open, Bytes, Room, Shut}
 use Rattle.srcp_serve.specs.Given.{Accepted, Call}
-use Rattle.srcp_serve.specs.Serving.{OfEachVisit, Client, Stand, begun, exchange, is_close, connects, with_connection, moment_of, accept_of}
-use Rattle.srcp_serve.specs.Serving.{piece_of, rooms, with_client, clients, timed, visit, visit_events, with_accept, with_moment, Slots}
-use Rattle.srcp_serve.specs.Serving.{IsFair, OfEachTurn, question, turned, visit_asks, is_about, empty_stand}
+use Rattle.srcp_serve.specs.Serving.{OfEachVisit, Client, Stand, begun, exchange, is_close, connects, with_connection, moment_of}
+use Rattle.srcp_serve.specs.Serving.{accept_of, piece_of, rooms, with_client, clients, timed, visit, visit_events, with_accept}
+use Rattle.srcp_serve.specs.Serving.{with_moment, Slots, IsFair, OfEachTurn, question, turned, visit_asks, is_about, empty_stand}
 use Rattle.srcp_serve.proofs.PeersAreSentTheirVisits.{ArePeersOf, IsPeerOf, turned_round}
 use Rattle.srcp_serve.proofs.CallsByTurnAndPeer.{IsNoneOf, PeersApart, AreAsked}
 use Rattle.srcp_serve.proofs.PacedTurnsSparePanels.{opening_events, opens, begun_events, turn_events, turned_events}
@@ -18,11 +18,12 @@ use Rattle.srcp_serve.proofs.OnlyRoomSends.{AreOfOthers, is_of}
 use Rattle.srcp_serve.proofs.SlotsAreTakenAndFreed.{all_here}
 use Rattle.std.proofs.lemmas.List.Concat.{flat_map-append}
 use Rattle.std.proofs.lemmas.Option.{slice_get-map}
-use Rattle.srcp_feed.specs.declared.answers.Next.{Next}
+use Rattle.srcp_feed.specs.declared.feed.Next.{Next}
 use Rattle.srcp_grammar.specs.Layout.{IsLayout}
 use Rattle.srcp_core.specs.Course.{course, history, numbered, rows}
 use Rattle.srcp_core.specs.Waits.{brought}
-use Rattle.srcp_serve.specs.Settling.{IsStill, SettlesSoon, TakesWaits, WaitsAreGoneAfterAVisit}
+use Rattle.srcp_serve.specs.Pacing.{brought_in}
+use Rattle.srcp_serve.specs.Settling.{SettlesSoon, TakesAll, TakesWaits, WaitsAreGoneAfterAVisit}
 use Rattle.srcp_serve.proofs.SentIsTakenAfterAllTurns.{IsTurnOfPeers, turns_of_peers}
 use Rattle.srcp_serve.proofs.Settling.PanelsTakeTheirLines.{Panel, panel_others, brought_adds, no_map}
 use Rattle.srcp_serve.proofs.Settling.VisitsWriteUntilNothingIsLeft.{one_unless_nil, visited_whole}
@@ -31,7 +32,7 @@ use Rattle.std.proofs.lemmas.List.Sums.{fold-append}
 use Rattle.srcp_info.specs.declared.change.Change.{Change}
 use Rattle.srcp_info.specs.declared.change.Shown.{Shown}
 use Rattle.srcp_feed.specs.Cursor.{beyond}
-use Rattle.srcp_feed.specs.declared.answers.Next.TheVariants.{Told, Listed}
+use Rattle.srcp_feed.specs.declared.feed.Next.TheVariants.{Told, Listed}
 use Rattle.srcp_core.specs.Connection.{Connection, History, cursor_at, is_nil, is_open, is_settled, owed, unsent, untold, waiting}
 use Rattle.srcp_core.proofs.CourseLaws.RoomGivesWhatIsOwed.{no_lists}
 
@@ -180,6 +181,10 @@ neither : (a b : ℕ) → a + b ≡ 0 → (a ≡ 0) × (b ≡ 0)
 neither a b e = (omega arith, omega arith)
 
 module _ (buses : List Bus) (layout : IsLayout buses) (slot : ℕ) (client : Client) where
+  -- the turn brought no change, and the peer took all
+  abbrev pub IsStill : Stand → List Call → Type 0
+  IsStill stand calls = (brought_in buses stand calls ≡ 0) × TakesAll calls client
+
   -- after a turn it has its slot still, nothing of it is unsent, and these lines are left to it: none, or it was handed 300
   pub record IsTurnedWhole (stand : Stand) (calls : List Call) (bytes : List ℕ) (nexts : List Next) : Type 0 where
     pub lines : List Next
@@ -190,7 +195,7 @@ module _ (buses : List Bus) (layout : IsLayout buses) (slot : ℕ) (client : Cli
     pub stays : HasSlot slot client (turned buses stand calls).slots
 
   turned_whole : (stand : Stand) (calls : List Call) (bytes : List ℕ) (nexts : List Next) → IsTurnOfPeers buses stand calls
-      → IsStill buses client stand calls → HasSlot slot client stand.slots → Panel buses client.conn stand.events bytes nexts
+      → IsStill stand calls → HasSlot slot client stand.slots → Panel buses client.conn stand.events bytes nexts
       → IsTurnedWhole stand calls bytes nexts
   turned_whole stand calls bytes nexts t still has p =
       let n : ℕ = client.conn in
@@ -209,7 +214,7 @@ module _ (buses : List Bus) (layout : IsLayout buses) (slot : ℕ) (client : Cli
       let all : turn_events buses stand calls ≡ first ++ (before ++ (own ++ rest)) =
       cc (flat_map-append (visit_events calls) among.before (client ∷ among.rest)) in
       let nothing : brought buses stand.events (first ++ (before ++ (own ++ rest))) ≡ 0 =
-      cc (turned_events buses stand calls) in
+      cc (turned_events buses stand calls, still.0) in
       let x = neither (brought buses stand.events first) (brought buses a (before ++ (own ++ rest)))
       (sym (brought_adds buses stand.events first (before ++ (own ++ rest))) ∙ nothing) in
       let y = neither (brought buses a before) (brought buses b (own ++ rest)) (sym (brought_adds buses a before (own ++ rest)) ∙ x.1) in
@@ -222,7 +227,7 @@ module _ (buses : List Bus) (layout : IsLayout buses) (slot : ℕ) (client : Cli
       rw (ap (λ (es : List Event). es ++ before) (begun_events buses stand calls)) at
       (visit_in buses _ now.events calls among.before client among.rest asked_all) in
       let v = visited_whole buses layout client b (visit calls client) bytes nexts at_b asked
-      (all_filter IsFair (is_about client.peer) calls t.fair) still.takes.keeps still.takes.whole in
+      (all_filter IsFair (is_about client.peer) calls t.fair) still.1.keeps still.1.whole in
       let at_c =
       subst (λ (es : List Event). Panel buses n (b ++ es) [] v.rest) (sym (stays_exchange calls client v.stays)) v.panel in
       let at_end =
@@ -245,7 +250,7 @@ module _ (buses : List Bus) (layout : IsLayout buses) (slot : ℕ) (client : Cli
 
   -- so often that nothing is left
   pub turns_settle : (all : List (List Call)) (stand : Stand) (bytes : List ℕ) (nexts : List Next)
-      → OfEachTurn buses (IsTurnOfPeers buses) stand all → OfEachTurn buses (IsStill buses client) stand all
+      → OfEachTurn buses (IsTurnOfPeers buses) stand all → OfEachTurn buses (IsStill) stand all
       → HasSlot slot client stand.slots
       → Panel buses client.conn stand.events bytes nexts → length nexts + one_unless_nil bytes ≤ 300 * length all
       → Panel buses client.conn (fold (turned buses) stand all).events [] []

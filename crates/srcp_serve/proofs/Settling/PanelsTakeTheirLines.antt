@@ -23,7 +23,7 @@ use Rattle.srcp_info.specs.declared.change.Shown.{Shown}
 use Rattle.srcp_feed.specs.Cursor.{concerns}
 use Rattle.srcp_core.proofs.CourseLaws.Histories.{AreBy, IsDoneBy, cursor_later, enumerate_push}
 use Rattle.std.proofs.Math.Nat.{le_refl}
-use Rattle.srcp_feed.specs.declared.answers.Next.{Next}
+use Rattle.srcp_feed.specs.declared.feed.Next.{Next}
 use Rattle.srcp_grammar.specs.Layout.{IsLayout}
 use Rattle.srcp_core.specs.declared.record.CoreFault.{CoreFault}
 use Rattle.srcp_core.proofs.Agreement.NumbersAndKeys.{numbered_with}

@@ -9,7 +9,7 @@ use Rattle.std.proofs.lemmas.Bool.{ltb-false, ltb-true}
 use Rattle.std.proofs.lemmas.Bool.Decides.{nat_tests}
 use Rattle.std.proofs.lemmas.List.{map-append}
 use Rattle.std.proofs.lemmas.List.Folds.{list_any-append}
-use Rattle.srcp_feed.specs.declared.answers.Next.{Next}
+use Rattle.srcp_feed.specs.declared.feed.Next.{Next}
 use Rattle.srcp_grammar.specs.declared.layout.Bus.{Bus}
 use Rattle.srcp_grammar.specs.Layout.{IsLayout}
 use Rattle.srcp_core.specs.Connection.{line_of}
@@ -17,8 +17,8 @@ use Rattle.srcp_core.specs.Course.{course}
 use Rattle.srcp_core.specs.Under.{Event, Bytes, Room, Piece}
 use Rattle.srcp_serve.specs.Given.{Call, ExpectCall, NowCall, AcceptCall, ReadCall, WriteCall, CloseCall}
 use Rattle.srcp_serve.specs.Serving.{Question, Expects, Moments, Accepts, Reads, Writes, Closes, Client, IsFair, question, piece_of}
-use Rattle.srcp_serve.specs.Serving.{count_of, is_close, is_write, loses, loses_reading, falls_short, lent_none_last, exchange, is_closing}
-use Rattle.srcp_serve.specs.Serving.{lent, handed, closes_of, visit_asks, asks_close}
+use Rattle.srcp_serve.specs.Serving.{count_of, is_close, is_write, loses, loses_reading, falls_short, lent_none_last, exchange}
+use Rattle.srcp_serve.specs.Serving.{is_closing, lent, handed, closes_of, visit_asks}
 use Rattle.srcp_serve.proofs.VisitsSendWhatIsTaken.{first_of_writes, has_writes, no_write}
 use Rattle.srcp_serve.proofs.Settling.PanelsTakeTheirLines.{Panel, first_text, owed_then, panel_bytes, panel_full, panel_goes_on}
 use Rattle.srcp_serve.proofs.Settling.PanelsTakeTheirLines.{panel_lends, panel_open, panel_room}
@@ -201,11 +201,11 @@ each_whole (call ∷ calls) f l s = ((f.0, l.0, s.0), each_whole calls f.1 l.1 s
 each_read : (calls : List Call) → AllByRecursion (λ call. loses call ≡ false) calls
     → AllByRecursion (λ call. loses_reading call ≡ false) calls
 each_read [] l = tt
-each_read (call ∷ calls) l = (first _ _ l.0, each_read calls l.1)
+each_read (call ∷ calls) l = (first call l.0, each_read calls l.1)
   where
-    first : (a b : Bool) → a || b ≡ false → a ≡ false
-    first true b e = cc
-    first false b e = refl
+    first : (call : Call) → loses call ≡ false → loses_reading call ≡ false
+    first (WriteCall who bytes answer) e = refl
+    first other e = e
 
 -- as many counts as writes
 writes_counted : (calls : List Call) → length (filter is_write calls) ≡ length (filter_map count_of calls)
@@ -221,9 +221,22 @@ writes_counted (CloseCall who answer ∷ calls) = writes_counted calls
 counts_many : (calls : List Call) → count_by is_write calls ≡ length (filter_map count_of calls)
 counts_many calls = sym (length-filter is_write calls) ∙ writes_counted calls
 
+-- the question is to close a peer
+abbrev asks_close : Question → Bool
+asks_close (Closes peer) = true
+asks_close other = false
+
+same_close : (call : Call) → is_close call ≡ asks_close (question call)
+same_close (ExpectCall due slack) = refl
+same_close (NowCall answer) = refl
+same_close (AcceptCall answer granted) = refl
+same_close (ReadCall who answer buffer grants) = refl
+same_close (WriteCall who bytes answer) = refl
+same_close (CloseCall who answer) = refl
+
 closes_asked : (calls : List Call) → list_any is_close calls ≡ list_any asks_close (map question calls)
 closes_asked [] = refl
-closes_asked (call ∷ calls) = ap (λ b. asks_close (question call) || b) (closes_asked calls)
+closes_asked (call ∷ calls) = cc (same_close call, closes_asked calls)
 
 writes_close : (peer : ℕ) (texts : List (List ℕ)) → list_any asks_close (map (Writes peer) texts) ≡ false
 writes_close peer [] = refl

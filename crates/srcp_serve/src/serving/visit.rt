@@ -2,7 +2,7 @@
 
 ghost use Rattle.std.specs.Prelude.{◌≡◌, ◌<◌, ◌≤◌, ◌+◌};
 ghost use Rattle.srcp_serve.specs.Tally.{CallsDoor};
-ghost use Rattle.srcp_serve.specs.Turns.{AsksPeers};
+ghost use Rattle.srcp_serve.specs.Turns.{AreAboutPeers};
 ghost use Rattle.srcp_serve.specs.Visits.{Closes, Disconnects, ReadsIn, Visits, WritesOnce, WritesOut};
 
 use super::Server;
@@ -37,7 +37,7 @@ impl<'d, D: Door> Server<'d, D> {
     pub(super) fn visit<R: Rows>(&mut self, core: &mut Core<'_, R>, client: Client) -> bool
         requires { self.old.tally.faults ≤ D.faults self.old.door.now }
         ensures slots { self.new.slots ≡ self.old.slots }
-        ensures calls { CallsDoor D.faults D.trace AsksPeers self.old self.new }
+        ensures calls { CallsDoor D.faults D.trace AreAboutPeers self.old self.new }
         ensures course { Visits client.peer client.key core.old (D.trace self.old.door.now)
             core.new (D.trace self.new.door.now) result }
     {
@@ -52,7 +52,7 @@ impl<'d, D: Door> Server<'d, D> {
     pub(super) fn disconnect<R: Rows>(&mut self, core: &mut Core<'_, R>, client: Client)
         requires { self.old.tally.faults ≤ D.faults self.old.door.now }
         ensures slots { self.new.slots ≡ self.old.slots }
-        ensures calls { CallsDoor D.faults D.trace AsksPeers self.old self.new }
+        ensures calls { CallsDoor D.faults D.trace AreAboutPeers self.old self.new }
         ensures denied { core.new.denied ≡ core.old.denied }
         ensures course { Disconnects client.peer client.key core.old (D.trace self.old.door.now)
             core.new (D.trace self.new.door.now) }
@@ -65,7 +65,7 @@ impl<'d, D: Door> Server<'d, D> {
     pub(super) fn close(&mut self, peer: u32)
         requires { self.old.tally.faults ≤ D.faults self.old.door.now }
         ensures slots { self.new.slots ≡ self.old.slots }
-        ensures calls { CallsDoor D.faults D.trace AsksPeers self.old self.new }
+        ensures calls { CallsDoor D.faults D.trace AreAboutPeers self.old self.new }
         ensures course { Closes peer (D.trace self.old.door.now) (D.trace self.new.door.now) }
     {
         match self.door.close(peer) {
@@ -78,7 +78,7 @@ impl<'d, D: Door> Server<'d, D> {
     fn read_in<R: Rows>(&mut self, core: &mut Core<'_, R>, client: Client) -> bool
         requires { self.old.tally.faults ≤ D.faults self.old.door.now }
         ensures slots { self.new.slots ≡ self.old.slots }
-        ensures calls { CallsDoor D.faults D.trace AsksPeers self.old self.new }
+        ensures calls { CallsDoor D.faults D.trace AreAboutPeers self.old self.new }
         ensures course { ReadsIn client.peer client.key core.old (D.trace self.old.door.now)
             core.new (D.trace self.new.door.now) result }
     {
@@ -100,7 +100,7 @@ impl<'d, D: Door> Server<'d, D> {
     fn write_out<R: Rows>(&mut self, core: &mut Core<'_, R>, client: Client) -> bool
         requires { self.old.tally.faults ≤ D.faults self.old.door.now }
         ensures slots { self.new.slots ≡ self.old.slots }
-        ensures calls { CallsDoor D.faults D.trace AsksPeers self.old self.new }
+        ensures calls { CallsDoor D.faults D.trace AreAboutPeers self.old self.new }
         ensures denied { core.new.denied ≡ core.old.denied }
         ensures course { WritesOut client.peer client.key core.old (D.trace self.old.door.now)
             core.new (D.trace self.new.door.now) result }
@@ -119,7 +119,7 @@ impl<'d, D: Door> Server<'d, D> {
     fn write_once<R: Rows>(&mut self, core: &mut Core<'_, R>, client: Client) -> Wrote
         requires { self.old.tally.faults ≤ D.faults self.old.door.now }
         ensures slots { self.new.slots ≡ self.old.slots }
-        ensures calls { CallsDoor D.faults D.trace AsksPeers self.old self.new }
+        ensures calls { CallsDoor D.faults D.trace AreAboutPeers self.old self.new }
         ensures denied { core.new.denied ≡ core.old.denied }
         ensures course { WritesOnce client.peer client.key core.old (D.trace self.old.door.now)
             core.new (D.trace self.new.door.now) result }

@@ -1,6 +1,6 @@
-use Rattle.srcp_core.proofs.Names.{sym, subst, shown_rows, IsTellable}
+use Rattle.srcp_core.proofs.Names.{sym, subst, shown_rows}
 use Rattle.srcp_feed.proofs.FeedLaws.{empty_of}
-use Rattle.srcp_core.proofs.Invariants.PlaceLaws.{next_tellable}
+use Rattle.srcp_core.proofs.Invariants.PlaceLaws.{IsTellable, next_tellable}
 use Rattle.srcp_core.proofs.connection.give.Goals as goal
 
 pub list-requires : goal.list-requires

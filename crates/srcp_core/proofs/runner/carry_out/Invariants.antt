@@ -1,4 +1,5 @@
-use Rattle.srcp_core.proofs.Names.{◌≡◌, take, AllByRecursion, Recording, kept, RunsUnder, HasPlainMoment}
+use Rattle.srcp_core.proofs.Names.{◌≡◌, take, AllByRecursion, Recording, kept, HasPlainMoment}
+use Rattle.srcp_core.proofs.Agreement.RecordIsOfTheCourse.{RunsUnder}
 use Rattle.srcp_core.proofs.runner.carry_out.Given as goal
 
 abbrev pub invariant-loop-index : goal.invariant-loop-index

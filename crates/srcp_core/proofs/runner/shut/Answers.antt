@@ -1,5 +1,5 @@
 use Rattle.srcp_core.proofs.Names.{sym, ◌∙◌, refl, ap, [], ◌∷◌, live_session, Recording, key_of, shut, stepped}
-use Rattle.std.proofs.Common.{None}
+use Rattle.std.proofs.Common.{None, Some}
 use Rattle.srcp_core.specs.declared.event.Event.TheVariants.{Shut}
 use Rattle.srcp_core.specs.declared.record.Step.TheVariants.{Ended}
 use Rattle.srcp_core.proofs.Agreement.OutlinesAreKept.{keeps_changed, keeps_same, keeps_then}
@@ -14,7 +14,7 @@ returns-in_default g c =
 pub returns-in-Err : goal.returns-in-Err
 returns-in-Err g c =
     keeps_same _
-    (λ r e. gone_happens _ _ _ _ r _ r _ (ap
+    (λ r e. gone_happens _ (Some c.in-Err.fault) _ _ r _ r _ (ap
     (key_of c.args.conn) (sym e) ∙ sym c.key.ensures ∙ c.in-Some.is)
     c.in-Err.ensures.absent.1 (shut_count c.in-Some.key c.args.core.now c.hangup.new.self c.hangup.ensures.core))
 

@@ -1,7 +1,7 @@
 use Rattle.srcp_rules.proofs.Names
-use Names.{first_key, [], ◌∷◌, ◌+◌, refl, subst, Effect, refusals, Took, device_in, is_there}
+use Names.{first_key, [], ◌∷◌, ◌+◌, refl, subst, Effect, refusals, Took, device_in, is_there, put_of}
 use Names.devices
-use Rattle.srcp_rules.specs.Effect.{ga_put}
+use Rattle.srcp_rules.specs.Effect.{row_of_port}
 use Rattle.srcp_rules.proofs.ObeyLaws.{ga_row, is_not, none_applies, refused_done}
 use Rattle.srcp_rules.proofs.drive.set_ga.Goals as goal
 
@@ -28,5 +28,6 @@ returns-in-Some-clause-took g c =
     let first = c.in-Some.ensures in
     let refused = refusals state c.args.sender.session devices.Ga c.args.switch.now.bus c.args.switch.now.address in
     subst (λ (did : Effect). Took did state state c.refuse.new.self)
-    (refused_done refused (ga_put c.args.sender.moment c.args.switch.now ∷ []) c.in-Some.code (rw (c.ga-target.ensures) at first))
+    (refused_done refused (put_of (row_of_port c.args.sender.moment c.args.switch.now) ∷ []) c.in-Some.code
+    (rw (c.ga-target.ensures) at first))
     (record { told = c.refuse.ensures; rows = refl })

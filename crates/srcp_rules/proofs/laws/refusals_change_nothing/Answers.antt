@@ -1,5 +1,5 @@
-use Rattle.srcp_rules.proofs.CheckLaws.{refusal_keeps}
+use Rattle.srcp_rules.proofs.CheckLaws.{refusal_alone}
 use Rattle.srcp_rules.proofs.laws.refusals_change_nothing.Goals as goal
 
 pub returns : goal.returns
-returns c = λ state session moment command. refusal_keeps state session moment command
+returns c = λ state session moment command. refusal_alone state session moment command

@@ -1,7 +1,7 @@
 use Rattle.srcp_rules.proofs.Names
-use Names.{◌≡◌, false, [], ◌∷◌, refl, sym, ap, subst, inl, ◌∙◌, Device, Effect, lock_end, refusals, Took, lock_at, is_there}
+use Names.{◌≡◌, false, [], ◌∷◌, refl, sym, ap, subst, inl, ◌∙◌, Device, Effect, lock_end, refusals, Took, lock_at, is_there, put_of}
 use Names.value
-use Rattle.srcp_rules.specs.Effect.{lock_put}
+use Rattle.srcp_rules.specs.Effect.{row_of_lock}
 use Rattle.srcp_rules.proofs.AddingLaws.{single_added}
 use Rattle.srcp_rules.proofs.AddsNoRowLaws.{one_lock}
 use Rattle.srcp_rules.proofs.ObeyLaws.{lock_row, refused_done}
@@ -33,6 +33,6 @@ returns-in-Some-clause-obeyed g c =
     let state = g.R.Rows.state c.args.rows.now in
     let lock = c.args.lock in
     let refused = refusals state c.args.sender.session lock.target.group lock.target.bus lock.target.address in
-    let put = lock_put c.args.sender.session c.args.sender.moment lock in
+    let put = put_of (row_of_lock c.args.sender.moment c.args.sender.session lock) in
     inl (subst (λ (did : Effect). Took did state state c.refuse.new.self)
     (refused_done refused (put ∷ []) c.in-Some.code c.in-Some.ensures) (record { told = c.refuse.ensures; rows = refl }))

@@ -1,5 +1,5 @@
 use Rattle.srcp_rules.proofs.Names
-use Names.{◌≡◌, ℕ, ◌+◌, ◌≤◌, List, map, not, take, sym, ap, subst, ◌∙◌, Device, Row, device_in, device_at, Update, is_there, put_of, done}
+use Names.{◌≡◌, ℕ, ◌+◌, ◌≤◌, List, map, not, take, sym, ap, subst, ◌∙◌, Device, Row, device_in, device_at, Update, is_there, put_of}
 use Names.{AreRowsOf}
 use Names.value
 use Names.devices
@@ -45,10 +45,9 @@ returns-clause-obeyed g c =
     let took = c.init_device.ensures.took in
     subst
     (λ (updates : List Update).
-    TookUnless (not (is_there device state))
-    (done
+    TookUnless
     (init_device state c.args.sender.session c.args.sender.moment devices.Ga ga.bus ga.address
-    (value.GaInit ga.letter) updates)) state
-    (g.R.Rows.state c.init_device.new.rows) c.init_device.new.obeyed)
+    (value.GaInit ga.letter) updates) state
+    (g.R.Rows.state c.init_device.new.rows) c.init_device.new.obeyed (not (is_there device state)))
     (ap (map put_of) rows ∙ ga_puts c.args.sender.moment ga)
     (rw (c.ga-target.ensures) at took)

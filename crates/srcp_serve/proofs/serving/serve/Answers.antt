@@ -2,7 +2,7 @@ use Rattle.std.proofs.Common.{rules, ◌≡◌, ◌∙◌, arith, refl, ℕ}
 use Rattle.srcp_core.specs.Held.{Held}
 use Rattle.srcp_serve.specs.Calls.{Trace}
 use Rattle.srcp_serve.specs.Slots.{ServesCourse}
-use Rattle.srcp_serve.specs.Turns.{AsksTurns}
+use Rattle.srcp_serve.specs.Turns.{AreTurns, Asks}
 use Rattle.srcp_serve.proofs.ServingFollows.{fewer, serves_all, serves_first, serves_on}
 use Rattle.srcp_serve.proofs.DoorIsCalled.{counts_then, none_failed, asks_then, one_more_turn, turns_none}
 use Rattle.srcp_serve.proofs.serving.serve.Goals as goal
@@ -40,7 +40,7 @@ returns-clause-turns g c = refl
 
 -- what is told to one value is told to the same value under another name
 same_trace : {D : Type 0} (trace_of : D → Trace) (turns : ℕ) (old : Trace) {x y : D} → y ≡ x
-    → AsksTurns turns old (trace_of x) → AsksTurns turns old (trace_of y)
+    → Asks (AreTurns turns) old (trace_of x) → Asks (AreTurns turns) old (trace_of y)
 same_trace trace_of turns old e h = rw e h
 
 same_served : {D : Type 0} (trace_of : D → Trace) (turns opened : ℕ) (core new : Held) (old : Trace)

@@ -1,6 +1,6 @@
 use Rattle.std.specs.Prelude.{◌≡◌, ◌≤◌}
 use Rattle.srcp_serve.specs.Tally.{CountsFaults}
-use Rattle.srcp_serve.specs.Turns.{AsksTurns}
+use Rattle.srcp_serve.specs.Turns.{AreTurns, Asks}
 use Rattle.srcp_serve.proofs.ServingFollows.{ServesSoFar}
 use Rattle.srcp_serve.proofs.serving.serve.Given as goal
 
@@ -12,5 +12,5 @@ invariant-loop g l =
       faults : CountsFaults 0 (g.D.Door.faults l.fn.door) l.server.tally.faults (g.D.Door.faults l.server.door.now);
       course : ServesSoFar l.counter l.opened l.fn.core (g.D.Door.trace l.fn.door) l.core trace l.server.slots;
       few : l.opened ≤ l.counter;
-      trace : AsksTurns l.counter (g.D.Door.trace l.fn.door) trace;
+      trace : Asks (AreTurns l.counter) (g.D.Door.trace l.fn.door) trace;
     }

@@ -1,19 +1,11 @@
-use Rattle.srcp_core.proofs.Names.{◌<◌, ◌^◌, ◌∙◌, due, Held}
-use Rattle.srcp_core.proofs.Invariants.CoreStaysSound.{sound_due, sound_moment, sound_carried_as}
+use Rattle.srcp_core.proofs.Names.{◌<◌, ◌^◌, ◌∙◌, due}
+use Rattle.srcp_core.proofs.Invariants.CoreStaysSound.{left_of, sound_due, sound_moment, sound_carried_as}
 use Rattle.srcp_core.proofs.Invariants.PanelsStay.{panels_told_each}
 use Rattle.srcp_core.proofs.server_core.Core.advance.Goals as goal
 
 pub invariant_of-self : goal.invariant_of-self
 invariant_of-self g c =
-    let held : Held =
-    record {
-      buses = c.self.inside.layout.now;
-      rows = g.R.Rows.state c.self.inside.rows;
-      moment = c.self.inside.moment;
-      last_id = c.self.inside.last_id;
-      places = c.self.inside.connections.slots;
-      denied = c.self.inside.denied;
-    } in
+    let held = left_of c.self.view_is in
     let now : c.max-self-inside.result < 2 ^ 64 = c.max-self-inside.type_inv in (
       sound_carried_as (record held { moment = c.max-self-inside.result })
           (due held.rows c.max-self-inside.result) _ _ c.carry_out_due.ensures.rows c.carry_out_due.ensures.slots

@@ -1,5 +1,5 @@
 use Rattle.srcp_core.proofs.Names.{◌≡◌, ◌+◌, sym, ap, ◌∙◌, subst, arith, count_by, is_some, option_copied_mut, Held, IsSound, session_begun}
-use Rattle.srcp_core.proofs.Invariants.CoreStaysSound.{begun_is, sound_begun}
+use Rattle.srcp_core.proofs.Invariants.CoreStaysSound.{left_of, begun_is, sound_begun}
 use Rattle.srcp_core.proofs.Invariants.EveryPlaceIsTold.{told_all_count}
 use Rattle.srcp_core.proofs.Invariants.PlacesCover.{set_as, none_as, set_count}
 use Rattle.srcp_core.proofs.Invariants.PanelsStay.{panels_told}
@@ -15,15 +15,7 @@ panel_keys-self-inside-requires g c =
 
 pub returns-clause-ok : goal.returns-clause-ok
 returns-clause-ok g c =
-    let held : Held =
-    record {
-      buses = c.self.inside.layout.now;
-      rows = g.R.Rows.state _;
-      moment = c.self.inside.moment;
-      last_id = c.self.inside.last_id;
-      places = c.self.inside.connections.slots;
-      denied = c.self.inside.denied;
-    } in
+    let held = left_of c.self.view_is in
     let there = sym c.get_mut.ensures.value ∙ ap option_copied_mut c.in-Some.is in
     begun_is held _ _ _ _ _ _ _ _ c.in_ok-panel.ensures c.in_ok-change.ensures.rows
     c.in_ok-change.ensures.change c.tell_all.ensures.slots
@@ -32,15 +24,7 @@ returns-clause-ok g c =
 
 pub returns-in_default-clause-ok : goal.returns-in_default-clause-ok
 returns-in_default-clause-ok g c =
-    let held : Held =
-    record {
-      buses = c.self.inside.layout.now;
-      rows = g.R.Rows.state _;
-      moment = c.self.inside.moment;
-      last_id = c.self.inside.last_id;
-      places = c.self.inside.connections.slots;
-      denied = c.self.inside.denied;
-    } in
+    let held = left_of c.self.view_is in
     let none = sym c.get_mut.ensures.value ∙ ap option_copied_mut c.in_default.is in
     begun_is held _ _ _ _ _ _ _ _ c.in_ok-panel.ensures c.in_ok-change.ensures.rows
     c.in_ok-change.ensures.change c.tell_all.ensures.slots
@@ -49,15 +33,7 @@ returns-in_default-clause-ok g c =
 
 pub invariant_of-self-2 : goal.invariant_of-self-2
 invariant_of-self-2 g c =
-    let held : Held =
-    record {
-      buses = c.self.inside.layout.now;
-      rows = g.R.Rows.state c.self.inside.rows;
-      moment = c.self.inside.moment;
-      last_id = c.self.inside.last_id;
-      places = c.self.inside.connections.slots;
-      denied = c.self.inside.denied;
-    } in
+    let held = left_of c.self.view_is in
     let last = ap (λ (h : Held). h.last_id) c.self.view_is in
     let next : c.args.id ≡ held.last_id + 1 = cc c.requires in
     let there = sym c.get_mut.ensures.value ∙ ap option_copied_mut c.in-Some.is in (
@@ -74,15 +50,7 @@ invariant_of-self-2 g c =
 
 pub invariant_of-self-in_default : goal.invariant_of-self-in_default
 invariant_of-self-in_default g c =
-    let held : Held =
-    record {
-      buses = c.self.inside.layout.now;
-      rows = g.R.Rows.state c.self.inside.rows;
-      moment = c.self.inside.moment;
-      last_id = c.self.inside.last_id;
-      places = c.self.inside.connections.slots;
-      denied = c.self.inside.denied;
-    } in
+    let held = left_of c.self.view_is in
     let last = ap (λ (h : Held). h.last_id) c.self.view_is in
     let next : c.args.id ≡ held.last_id + 1 = cc c.requires in
     let none = sym c.get_mut.ensures.value ∙ ap option_copied_mut c.in_default.is in (

@@ -2,7 +2,7 @@ use Rattle.srcp_core.proofs.Names.{◌≡◌, true, length, List, sym, ap, ◌�
 use Rattle.srcp_core.proofs.Names.{Place, place_at, unsent_at, unsent_of}
 use Rattle.std.proofs.Common.{Option}
 use Rattle.srcp_core.proofs.Invariants.RefusalsChangeNothing.{denied_same, given_took}
-use Rattle.srcp_core.proofs.Invariants.CoreStaysSound.{sound_obeyed, sound_carried_as}
+use Rattle.srcp_core.proofs.Invariants.CoreStaysSound.{left_of, sound_obeyed, sound_carried_as}
 use Rattle.srcp_core.proofs.Invariants.PanelsStay.{panels_told_each}
 use Rattle.srcp_core.proofs.Invariants.RepliesStayUnsent.{longest_most, told_each_shorter}
 use Rattle.srcp_core.proofs.server_core.Core.carry_out.Goals as goal
@@ -18,15 +18,7 @@ reply-requires-clause-room g c =
 
 pub invariant_of-self-2 : goal.invariant_of-self-2
 invariant_of-self-2 g c =
-    let held : Held =
-    record {
-      buses = c.self.inside.layout.now;
-      rows = g.R.Rows.state _;
-      moment = c.self.inside.moment;
-      last_id = c.self.inside.last_id;
-      places = c.self.inside.connections.slots;
-      denied = c.self.inside.denied;
-    } in
+    let held = left_of c.self.view_is in
     let row : is_there (session_device c.args.session) held.rows ≡ true =
     ap (λ (h : Held). is_there (session_device c.args.session) h.rows) c.self.view_is ∙ c.requires.row in
     let of : IsCommandOf held.buses c.args.command.now =
@@ -44,15 +36,7 @@ invariant_of-self-2 g c =
 
 pub invariant_of-self : goal.invariant_of-self
 invariant_of-self g c =
-    let held : Held =
-    record {
-      buses = c.self.inside.layout.now;
-      rows = g.R.Rows.state c.self.inside.rows;
-      moment = c.self.inside.moment;
-      last_id = c.self.inside.last_id;
-      places = c.self.inside.connections.slots;
-      denied = c.self.inside.denied;
-    } in
+    let held = left_of c.self.view_is in
     let same =
     denied_same _ _ c.args.session held.moment c.args.command.now _ c.obey_into.ensures.obeyed
     (c.is_denied.ensures.denied c.if-is_denied.true) in (

@@ -1,5 +1,5 @@
-use Rattle.srcp_core.proofs.Names.{true, sym, ap, ◌∙◌, subst, option_copied_mut, freed, Held, Place, IsSessionAt, is_panel, changed_at}
-use Rattle.srcp_core.proofs.Invariants.CoreStaysSound.{sound_ended, sound_carried_as}
+use Rattle.srcp_core.proofs.Names.{true, sym, ap, ◌∙◌, subst, option_copied_mut, freed, Place, IsSessionAt, is_panel, changed_at}
+use Rattle.srcp_core.proofs.Invariants.CoreStaysSound.{left_of, sound_ended, sound_carried_as}
 use Rattle.srcp_core.proofs.Invariants.PlacesCover.{set_as}
 use Rattle.srcp_core.proofs.Invariants.PanelsStay.{panels_set, panels_told_each}
 use Rattle.srcp_core.proofs.server_core.Core.end.Goals as goal
@@ -12,15 +12,7 @@ free_all-requires-clause-panels g c =
 
 pub invariant_of-self-2 : goal.invariant_of-self-2
 invariant_of-self-2 g c =
-    let held : Held =
-    record {
-      buses = c.self.inside.layout.now;
-      rows = g.R.Rows.state _;
-      moment = c.self.inside.moment;
-      last_id = c.self.inside.last_id;
-      places = c.self.inside.connections.slots;
-      denied = c.self.inside.denied;
-    } in
+    let held = left_of c.self.view_is in
     let here : IsSessionAt c.args.session c.args.conn held =
     subst (IsSessionAt c.args.session c.args.conn) (sym c.self.view_is) c.requires in
     let there = sym c.get_mut.ensures.value ∙ ap option_copied_mut c.in-Some.is in (

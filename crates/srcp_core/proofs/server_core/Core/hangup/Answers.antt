@@ -1,22 +1,14 @@
-use Rattle.srcp_core.proofs.Names.{◌≡◌, ◌≤◌, sym, ap, ◌∙◌, arith, is_some, count_by, Option, freed, Held, Place, at, open_count}
+use Rattle.srcp_core.proofs.Names.{◌≡◌, ◌≤◌, sym, ap, ◌∙◌, arith, is_some, count_by, Option, freed, Place, at, open_count}
 use Rattle.srcp_core.proofs.Names.{freed_place}
 use Rattle.std.proofs.Common.{Some}
 use Rattle.std.specs.Prelude.{List}
-use Rattle.srcp_core.proofs.Invariants.CoreStaysSound.{live_session_is, sound_hung_up, sound_carried_as}
+use Rattle.srcp_core.proofs.Invariants.CoreStaysSound.{left_of, live_session_is, sound_hung_up, sound_carried_as}
 use Rattle.srcp_core.proofs.Invariants.PanelsStay.{panels_told_each}
 use Rattle.srcp_core.proofs.server_core.Core.hangup.Goals as goal
 
 pub invariant_of-self-in-Some-live_session : goal.invariant_of-self-in-Some-live_session
 invariant_of-self-in-Some-live_session g c =
-    let held : Held =
-    record {
-      buses = c.self.inside.layout.now;
-      rows = g.R.Rows.state _;
-      moment = c.self.inside.moment;
-      last_id = c.self.inside.last_id;
-      places = c.self.inside.connections.slots;
-      denied = c.self.inside.denied;
-    } in
+    let held = left_of c.self.view_is in
     let there : at held c.args.conn ≡ Some c.in-Some.connection = sym c.in-Some.ensures.value in
     let count : open_count (freed_place c.args.conn held) ≤ open_count held =
     let n = ap (λ (ps : List (Option Place)). count_by is_some ps) c.in-Some.ensures.slots in omega (arith, n, c.in-Some.ensures.len) in

@@ -2,7 +2,7 @@ use Rattle.std.proofs.Common.{◌≡◌, sym, ap, ◌∙◌, Some, None}
 use Rattle.std.specs.Option.{option_copied}
 use Rattle.srcp_rules.specs.State.{shown_rows, row_after}
 use Rattle.srcp_feed.specs.Feed.{Feed}
-use Rattle.srcp_feed.specs.declared.answers.Next.TheVariants as next
+use Rattle.srcp_feed.specs.declared.feed.Next.TheVariants as next
 use Rattle.srcp_feed.proofs.FeedLaws.{empty_of, next_of_listed, next_of_settled, next_of_told}
 use Rattle.srcp_feed.proofs.feed.InfoFeed.peek.Goals as goal
 

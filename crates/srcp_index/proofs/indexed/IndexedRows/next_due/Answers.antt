@@ -1,4 +1,4 @@
-use Rattle.srcp_rules.proofs.Names.{ap, ◌∙◌, Some, None, first_due}
+use Rattle.srcp_rules.proofs.Names.{ap, ◌∙◌, Some, None, first_beyond, is_due}
 use Rattle.srcp_index.proofs.IndexedLaws.{settled}
 use Rattle.srcp_index.proofs.PairsOfRows.{due_row}
 use Rattle.srcp_index.proofs.indexed.IndexedRows.next_due.Goals as goal
@@ -19,8 +19,8 @@ returns-in_err-pair-clause-row g c =
     let kept = settled state c.self.inside.indexes c.self.inside.count c.args.moment c.sort_for.new.self c.self.invariant
     c.sort_for.ensures.pairs c.sort_for.ensures.since c.sort_for.ensures.room in
     c.from_residual.ensures ∙ due_row state c.sort_for.new.self c.args.cursor None kept.rising kept.due.pairs c.in_err-pair.ensures
-    ∙ ap (λ m. first_due m c.args.cursor state) c.sort_for.ensures.since
-    ∙ ap (λ rows. first_due c.args.moment c.args.cursor (g.R.Rows.state rows)) c.self.view_is
+    ∙ ap (λ m. first_beyond c.args.cursor (is_due m) state) c.sort_for.ensures.since
+    ∙ ap (λ rows. first_beyond c.args.cursor (is_due c.args.moment) (g.R.Rows.state rows)) c.self.view_is
 
 pub returns-clause-row : goal.returns-clause-row
 returns-clause-row g c =
@@ -29,5 +29,5 @@ returns-clause-row g c =
     c.sort_for.ensures.pairs c.sort_for.ensures.since c.sort_for.ensures.room in
     c.copied.ensures ∙ c.row.ensures
     ∙ due_row state c.sort_for.new.self c.args.cursor (Some c.in_ok-pair.pair) kept.rising kept.due.pairs c.in_ok-pair.ensures
-    ∙ ap (λ m. first_due m c.args.cursor state) c.sort_for.ensures.since
-    ∙ ap (λ rows. first_due c.args.moment c.args.cursor (g.R.Rows.state rows)) c.self.view_is
+    ∙ ap (λ m. first_beyond c.args.cursor (is_due m) state) c.sort_for.ensures.since
+    ∙ ap (λ rows. first_beyond c.args.cursor (is_due c.args.moment) (g.R.Rows.state rows)) c.self.view_is

@@ -1,6 +1,7 @@
 use Rattle.srcp_rules.proofs.Names.{IsSome, IsTrue, sym, ap, subst, ◌∙◌, option_copied, has_row, holder_of, put_row}
 use Rattle.srcp_index.specs.declared.indexes.Indexes.{Indexes}
-use Rattle.srcp_index.specs.Indexed.{IsIndexed, HasRoom, due_of, with_row}
+use Rattle.srcp_index.specs.Indexed.{IsIndexed, HasRoom, due_of, row_edited}
+use Rattle.srcp_index.specs.Ordered.{insert_by}
 use Rattle.srcp_index.proofs.SetRowLaws.{room_for_due, room_for_held, passed_by, set_indexed}
 use Rattle.srcp_index.proofs.indexed.IndexedRows.set.Goals as goal
 
@@ -33,4 +34,4 @@ invariant_of-self-2 g c =
     c.self.inside.count c.self.invariant c.in-Some.old.now c.args.row there c.requires.fits in
     subst (λ state. IsIndexed state c.insert.new.self c.self.inside.count) (sym c.set-2.ensures.rows)
     (subst (λ both. IsIndexed (put_row c.args.row (g.R.Rows.state c.self.inside.rows)) both c.self.inside.count)
-    (sym (c.insert.ensures ∙ ap (with_row c.args.row) c.remove.ensures)) indexed)
+    (sym (c.insert.ensures ∙ ap (row_edited insert_by c.args.row) c.remove.ensures)) indexed)

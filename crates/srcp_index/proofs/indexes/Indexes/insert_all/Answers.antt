@@ -1,7 +1,8 @@
 use Rattle.srcp_rules.proofs.Names.{sym, ap, ◌∙◌, length, arith, holder_of}
 use Rattle.std.proofs.lemmas.List.Sums.{fold_more}
 use Rattle.srcp_index.specs.declared.indexes.Indexes.{Indexes}
-use Rattle.srcp_index.specs.Indexed.{due_of, with_row}
+use Rattle.srcp_index.specs.Indexed.{due_of, row_edited}
+use Rattle.srcp_index.specs.Ordered.{insert_by}
 use Rattle.srcp_index.proofs.RankLaws.{longer}
 use Rattle.srcp_index.proofs.indexes.Indexes.insert_all.Goals as goal
 
@@ -11,8 +12,8 @@ loop-row-preserved c =
     let before = c.loop-row.self in
     let inv = c.loop-row.invariant in
     record {
-      both = c.insert.ensures ∙ (λ i. with_row (c.row-item.is i) (inv.both i))
-          ∙ sym (fold_more (λ both other. with_row other both) c.args.self.now c.args.rows.now c.loop-row.row-index row
+      both = c.insert.ensures ∙ (λ i. row_edited insert_by (c.row-item.is i) (inv.both i))
+          ∙ sym (fold_more (λ both other. row_edited insert_by other both) c.args.self.now c.args.rows.now c.loop-row.row-index row
           c.loop-row-test.true);
       moments = (let e = ap (λ (b : Indexes). length b.moments.pairs) c.insert.ensures in
           let r = ap (λ (b : Indexes). b.moments.room) c.insert.ensures in

@@ -1,6 +1,6 @@
 use Rattle.std.proofs.Common.{false, true, inl, inr, sym, ◌∙◌}
 use Rattle.srcp_serve.specs.Tally.{CallsDoor}
-use Rattle.srcp_serve.specs.Turns.{AsksPeers}
+use Rattle.srcp_serve.specs.Turns.{AreAboutPeers}
 use Rattle.srcp_serve.proofs.DoorIsCalled.{calls_on}
 use Rattle.srcp_serve.proofs.VisitsFollow.{Ends, exchanges_lost, exchanges_on, visit_ends, visit_stays}
 use Rattle.srcp_serve.proofs.serving.Server.visit.Goals.{else-read_in-via-then-read_in+then-write_out+else-not-closing}
@@ -19,13 +19,13 @@ returns-then-not-closing-clause-course g c =
     let trace_w = g.D.Door.trace _ in
     visit_stays peer key _ _ trace trace_w c.closing.result
     (exchanges_on peer key c.args.core.now c.read_in.new.core trace trace_r c.write_out.new.core trace_w
-    c.write_out.ensures.denied c.write_out.ensures.calls.asks true c.if-read_in.ensures.course c.if-write_out.ensures.course)
+    c.write_out.ensures.calls.asks true c.if-read_in.ensures.course c.if-write_out.ensures.course)
     c.closing.ensures c.if-not-closing.true
 
 pub returns-clause-calls : goal.returns-clause-calls
 returns-clause-calls g c =
     let old = c.args.self.now in
-    let first : CallsDoor g.D.Door.faults g.D.Door.trace AsksPeers old c.else-read_in.self =
+    let first : CallsDoor g.D.Door.faults g.D.Door.trace AreAboutPeers old c.else-read_in.self =
     elim c.else-read_in.branch [
       | else-read_in-via-then-read_in+then-write_out+else-not-closing w ↦
           rw w.self-is (calls_on _ _ _ _ _ c.read_in.ensures.calls w.write_out.ensures.calls)
@@ -51,16 +51,16 @@ returns-clause-course g c =
           let trace_w = g.D.Door.trace w.write_out.new.self.door.now in
           rw w.self-is (rw w.core-is (inr (
             exchanges_on peer key old c.read_in.new.core trace trace_r w.write_out.new.core trace_w
-                w.write_out.ensures.denied w.write_out.ensures.calls.asks true w.if-read_in.ensures.course w.if-write_out.ensures.course,
+                w.write_out.ensures.calls.asks true w.if-read_in.ensures.course w.if-write_out.ensures.course,
             sym w.closing.ensures ∙ w.if-not-closing.false,
           )))
       | else-read_in-via-then-read_in+else-write_out w ↦
           let trace_w = g.D.Door.trace w.write_out.new.self.door.now in
           rw w.self-is (rw w.core-is (inl (exchanges_on peer key old c.read_in.new.core trace trace_r w.write_out.new.core trace_w
-          w.write_out.ensures.denied w.write_out.ensures.calls.asks false w.if-read_in.ensures.course w.if-write_out.ensures.course)))
+          w.write_out.ensures.calls.asks false w.if-read_in.ensures.course w.if-write_out.ensures.course)))
       | else-read_in-via-else-read_in w ↦
           rw w.self-is (rw w.core-is (inl (exchanges_lost peer key old c.read_in.new.core trace trace_r w.if-read_in.ensures.course)))
     ] in
     visit_ends peer key old mid trace trace_mid
-    c.disconnect.new.core (g.D.Door.trace c.disconnect.new.self.door.now) c.disconnect.ensures.denied
+    c.disconnect.new.core (g.D.Door.trace c.disconnect.new.self.door.now)
     c.disconnect.ensures.calls.asks c.disconnect.ensures.course first

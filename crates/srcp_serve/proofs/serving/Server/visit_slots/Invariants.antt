@@ -1,7 +1,7 @@
 use Rattle.std.specs.Prelude.{◌≡◌, ◌≤◌, length}
 use Rattle.srcp_serve.specs.Slots.{AreFreeFrom}
 use Rattle.srcp_serve.specs.Tally.{CallsDoor}
-use Rattle.srcp_serve.specs.Turns.{AsksPeers}
+use Rattle.srcp_serve.specs.Turns.{AreAboutPeers}
 use Rattle.srcp_serve.proofs.SlotsFollow.{VisitsSoFar}
 use Rattle.srcp_serve.proofs.serving.Server.visit_slots.Given as goal
 
@@ -10,7 +10,7 @@ invariant-loop-slot g l = record {
   long : length l.self.slots ≡ 64;
   free : AreFreeFrom l.end l.self.slots;
   most : l.end ≤ 64;
-  calls : CallsDoor g.D.Door.faults g.D.Door.trace AsksPeers l.fn.self l.self;
+  calls : CallsDoor g.D.Door.faults g.D.Door.trace AreAboutPeers l.fn.self l.self;
   course : VisitsSoFar l.slot l.fn.core (g.D.Door.trace l.fn.self.door.now) l.fn.self.slots l.core
       (g.D.Door.trace l.self.door.now) l.self.slots;
 }

@@ -32,7 +32,8 @@ returns-in-Less-clause-course g c =
     ends_less _ _ _ c.loop.core _ _
     (g.D.Door.trace c.loop.self.door.now)
     _ c.loop.counter c.loop.invariant.course
-    c.write_once.ensures.calls.asks c.loop-test.true c.in-Less.ensures.course
+    c.write_once.ensures.calls.asks c.loop-test.true
+    (c.write_once.ensures.denied ∙ c.loop.invariant.denied) c.in-Less.ensures.course
 
 pub returns-in-Failed-clause-calls : goal.returns-in-Failed-clause-calls
 returns-in-Failed-clause-calls g c = calls_on _ _ _ _ _ c.loop.invariant.calls c.write_once.ensures.calls
@@ -42,7 +43,8 @@ returns-in-Failed-clause-course g c =
     ends_failed _ _ _ c.loop.core _ _
     (g.D.Door.trace c.loop.self.door.now)
     _ c.loop.counter c.loop.invariant.course
-    c.write_once.ensures.calls.asks c.loop-test.true c.in-Failed.ensures.course
+    c.write_once.ensures.calls.asks c.loop-test.true
+    (c.write_once.ensures.denied ∙ c.loop.invariant.denied) c.in-Failed.ensures.course
 
 pub returns-clause-calls : goal.returns-clause-calls
 returns-clause-calls g c = c.loop.invariant.calls
@@ -51,7 +53,7 @@ pub returns-clause-course : goal.returns-clause-course
 returns-clause-course g c =
     let most : c.loop.counter ≡ 300 = omega (arith, c.loop-test.false, c.loop.auto.counter-end) in
     ends_full _ _ _ _ _
-    _ _ most c.loop.invariant.course
+    _ _ most c.loop.invariant.denied c.loop.invariant.course
 
 pub returns-in-Less-clause-slots : goal.returns-in-Less-clause-slots
 returns-in-Less-clause-slots g c = c.write_once.ensures.slots ∙ c.loop.invariant.slots

@@ -4,11 +4,11 @@ use Rattle.std.proofs.Common.{◌≡◌, ◌∙◌, ◌∷◌, ◌++◌, [], ap,
 use Rattle.srcp_serve.specs.Calls.{AcceptCall, peer_of}
 use Rattle.srcp_peers.specs.declared.system.Refusal.{Refusal}
 use Rattle.srcp_peers.specs.declared.system.Refusal.TheVariants.{Later, Again, Fault}
-use Rattle.srcp_peers.specs.declared.waiting.Listening.{Listening}
+use Rattle.srcp_peers.specs.declared.turn.Listening.{Listening}
 use Rattle.srcp_sockets.specs.Doors.{Stands}
 use Rattle.srcp_peers.specs.Listeners.{refused_listening}
 use Rattle.srcp_peers.specs.Steps.{Accepts}
-use Rattle.srcp_peers.specs.Times.{is_as_heard, refused_newcomer}
+use Rattle.srcp_peers.specs.Times.{is_as_heard, refused_accept}
 use Rattle.srcp_peers.proofs.Keeping.{own}
 use Rattle.srcp_peers.proofs.Saying.{says_after, says_call, says_step}
 use Rattle.srcp_sockets.proofs.Naming.{named_call, named_come, named_silent, nobody_named}
@@ -48,7 +48,7 @@ returns-in-Ok-clause-trace g c =
     (says_call mid new call c.note_accept.ensures)
 
 -- what is answered is what the system said
-answered_so : (said : Refusal) → is_as_heard (Some (refused_newcomer said)) (refused_newcomer said) ≡ true
+answered_so : (said : Refusal) → is_as_heard (Some (refused_accept said)) (refused_accept said) ≡ true
 answered_so Later = refl
 answered_so Again = refl
 answered_so Fault = refl
@@ -63,7 +63,7 @@ invariant_of-self-in-Err g c =
     let said : Result Unit ErrorKind = Err c.in-Err.fault in
     let answer = c.nobody-answer.result in
     let call = AcceptCall answer in
-    let is : answer ≡ refused_newcomer c.refusal_of-said.result = c.nobody-answer.ensures.answer in
+    let is : answer ≡ refused_accept c.refusal_of-said.result = c.nobody-answer.ensures.answer in
     record {
       stands = stands_answered mid new self.peers.items c.refused-self.result self.last call (λ s a. refl) c.note_accept-in-Err.ensures
           (subst (λ (l : Listening). Stands mid self.peers.items l self.last)
@@ -73,8 +73,8 @@ invariant_of-self-in-Err g c =
           (ap (λ a. filter_map peer_of (AcceptCall a ∷ [])) is ∙ nobody_named c.refusal_of-said.result)
           (named_silent old mid self.last (says_step old mid (Accepts number said) c.in-Err.ensures refl) self.named);
       timed = timed_asked old mid new self.turn c.note_accept-in-Err-2.new.self number said answer c.note_accept-in-Err-2.ensures
-          (ap (λ a. is_as_heard (Some a) answer) (ap refused_newcomer (sym c.refusal_of-said.ensures))
-          ∙ ap (is_as_heard (Some (refused_newcomer c.refusal_of-said.result))) is ∙ answered_so c.refusal_of-said.result)
+          (ap (λ a. is_as_heard (Some a) answer) (ap refused_accept (sym c.refusal_of-said.ensures))
+          ∙ ap (is_as_heard (Some (refused_accept c.refusal_of-said.result))) is ∙ answered_so c.refusal_of-said.result)
           c.in-Err.ensures c.note_accept-in-Err.ensures self.timed;
     }
 

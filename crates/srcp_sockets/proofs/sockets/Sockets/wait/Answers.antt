@@ -3,8 +3,8 @@ use Rattle.std.specs.Prelude.{All}
 use Rattle.std.proofs.lemmas.List.{with_items_is}
 use Rattle.srcp_peers.specs.declared.peer.Peer.{Peer}
 use Rattle.srcp_peers.specs.declared.turn.Turn.{Turn}
-use Rattle.srcp_peers.specs.declared.waiting.Listening.{Listening}
-use Rattle.srcp_peers.specs.Accounts.{is_short}
+use Rattle.srcp_peers.specs.declared.turn.Listening.{Listening}
+use Rattle.srcp_peers.specs.Accounts.{is_short_wait}
 use Rattle.srcp_sockets.specs.Doors.{Stands}
 use Rattle.srcp_peers.specs.Peers.{is_resting}
 use Rattle.srcp_peers.specs.Steps.{Waits}
@@ -31,9 +31,9 @@ invariant_of-self g c =
           (sym (with_items_is c.args.self.now.peers c.wake.new.peers (c.wake.auto.peers ∙ search rules)))
           (subst (λ (l : Listening). Stands new c.wake.new.peers l last) (sym c.listen-self.ensures)
           (stands_waited old new before c.wake.new.peers most count ready listening last
-          (subst (λ (ps : List Peer). is_short most ≡ false → All (λ peer. is_resting peer ≡ true) ps) same
+          (subst (λ (ps : List Peer). is_short_wait most ≡ false → All (λ peer. is_resting peer ≡ true) ps) same
           c.longest_wait-most.ensures.rest)
-          c.longest_wait-most.ensures.newcomers c.wait-count.ensures.trace c.wake.auto.peers c.wake.ensures
+          c.longest_wait-most.ensures.accepts c.wait-count.ensures.trace c.wake.auto.peers c.wake.ensures
           (subst (λ (ps : List Peer). Stands old ps listening last) same c.args.self.now.stands)));
       named = named_silent old new last (says_step old new (Waits most count ready) c.wait-count.ensures.trace refl) c.args.self.now.named;
       timed = subst (λ (t : Turn). IsTimed new t) (sym c.wait.ensures)

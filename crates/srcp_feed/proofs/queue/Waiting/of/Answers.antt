@@ -1,6 +1,6 @@
 use Rattle.srcp_feed.specs.Feed.{IsLineOrNone}
 use Rattle.srcp_feed.proofs.WaitingLaws.{held_is, held_has_line}
-use Rattle.srcp_feed.proofs.waiting.Waiting.of.Goals as goal
+use Rattle.srcp_feed.proofs.queue.Waiting.of.Goals as goal
 
 pub invariant_of-result : goal.invariant_of-result
 invariant_of-result c =

@@ -3,7 +3,7 @@
 ghost use Rattle.std.specs.Prelude.{false, true, ◌≡◌, ◌<◌, ◌+◌, ◌⊎◌, None, Ok, Err, IfErr, length, vec_capacity};
 ghost use Rattle.std.specs.Prelude.{◌||◌, filter, nat_le, not};
 ghost use Rattle.srcp_peers.specs.Peers.{is_here};
-ghost use Rattle.srcp_peers.specs.Times.{refused_newcomer};
+ghost use Rattle.srcp_peers.specs.Times.{refused_accept};
 ghost use Rattle.srcp_serve.specs.Calls.{AcceptCall};
 ghost use Rattle.srcp_peers.specs.Steps.{SaysNothing, SaysOne};
 
@@ -126,7 +126,7 @@ fn spare_or_new(spare: &mut Option<Queues>, alloc: Global) -> Result<Queues, All
 
 /// Answers for an accept that failed.
 fn nobody(said: Refusal) -> Result<Option<u32>, DoorFault>
-    ensures answer { result ≡ refused_newcomer said }
+    ensures answer { result ≡ refused_accept said }
     ensures fault { IfErr result (λ fault. fault ≡ DoorFault.Accept) }
 {
     match said {

@@ -1,6 +1,6 @@
 use Rattle.srcp_grammar.proofs.BitLaws.{IsReadUpTo}
 use Rattle.std.proofs.Common.{length}
-use Rattle.srcp_grammar.proofs.functions.parse_functions.Given as goal
+use Rattle.srcp_grammar.proofs.arguments.parse_functions.Given as goal
 
 abbrev pub invariant-loop-words : goal.invariant-loop-words
 invariant-loop-words l = IsReadUpTo l.fn.words l.functions l.words

@@ -1,7 +1,7 @@
 use Rattle.srcp_core.proofs.Names.{ap, sym, ◌∙◌, ◌++◌, State, fewer_beyond, Start}
 use Rattle.srcp_rules.proofs.CursorLaws.{beyond}
 use Rattle.srcp_core.proofs.Invariants.RowLists.{beyond_start, one_listed, all_listed}
-use Rattle.srcp_core.proofs.server_core.status.all_rows.Goals as goal
+use Rattle.srcp_core.proofs.server_core.all_rows.Goals as goal
 
 pub loop-row-init : goal.loop-row-init
 loop-row-init g c =

@@ -1,6 +1,6 @@
 use Rattle.std.proofs.Common.{◌∙◌, arith}
 use Rattle.srcp_serve.proofs.SlotsFollow.{free_behind, length_set}
-use Rattle.srcp_serve.proofs.serving.slots.Slots.give.Goals as goal
+use Rattle.srcp_serve.proofs.serving.Slots.give.Goals as goal
 
 pub invariant_of-self : goal.invariant_of-self
 invariant_of-self c =

@@ -2,7 +2,7 @@ use Rattle.std.specs.Prelude.{◌==◌, false}
 use Rattle.std.proofs.Common.{sym, ◌∙◌, ◌≡◌, length}
 use Rattle.srcp_feed.specs.Feed.{IsLineOrNone}
 use Rattle.srcp_feed.proofs.WaitingLaws.{held_is, held_has_line}
-use Rattle.srcp_feed.proofs.waiting.Waiting.copy_from.Goals as goal
+use Rattle.srcp_feed.proofs.queue.Waiting.copy_from.Goals as goal
 
 pub invariant_of-self-else-is_empty : goal.invariant_of-self-else-is_empty
 invariant_of-self-else-is_empty c =

@@ -1,6 +1,6 @@
 use Rattle.std.proofs.Common.{sym, ◌∙◌, ◌≡◌, length}
 use Rattle.srcp_feed.proofs.WaitingLaws.{held_kept, read_is}
-use Rattle.srcp_feed.proofs.waiting.Waiting.change.Goals as goal
+use Rattle.srcp_feed.proofs.queue.Waiting.change.Goals as goal
 
 pub returns-then-len-eq0 : goal.returns-then-len-eq0
 returns-then-len-eq0 c =
