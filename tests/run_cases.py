@@ -253,14 +253,16 @@ def cases_by_name():
 
 
 def fault_of(case, program):
-    """Returns why a case fails, or None. One that stops, as when nothing comes for too long, fails at its current line."""
+    """Returns why a case fails, or None. One that stops, as when nothing comes for too long, fails at its current lines."""
     try:
         return case(program)
     except TriedNothing as missing:
         return missing
     except Exception as stop:
-        stood = [frame for frame in traceback.extract_tb(stop.__traceback__) if frame.filename.startswith(str(TESTS))][-1]
-        return f"{stop!r} at {Path(stood.filename).name}:{stood.lineno}: {stood.line}"
+        stood = [frame for frame in traceback.extract_tb(stop.__traceback__) if frame.filename.startswith(str(TESTS))]
+        lines = " > ".join(f"{Path(frame.filename).name}:{frame.lineno}" for frame in stood[1:])
+        notes = "".join(f"; {note}" for note in getattr(stop, "__notes__", []))
+        return f"{stop!r:.600} at {lines}: {stood[-1].line}{notes}"
 
 
 def main():

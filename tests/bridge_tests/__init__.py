@@ -10,15 +10,34 @@ from serving import TriedNothing
 from . import common
 
 
+class Result(unittest.TestResult):
+    """The result of one test: `stop` is what it stopped at, with a note if its server had ended by then."""
+    stop = None
+
+    def addError(self, test, fault):
+        super().addError(test, fault)
+        self.take(test, fault[1])
+
+    def addFailure(self, test, fault):
+        super().addFailure(test, fault)
+        self.take(test, fault[1])
+
+    def take(self, test, stop):
+        server = getattr(test, "server", None)
+        if server and (status := server.process.process.poll()) is not None:
+            stop.add_note(f"its server ended with status {status}: {server.process.told()!r}")
+        self.stop = self.stop or stop
+
+
 def case_of(kind, method):
-    """The case that a test is: a function of the built server that returns why it fails, or None."""
+    """The case that a test is: a function of the built server that stops at what the test finds wrong."""
     def case(program):
-        common.SERVER, result = program, unittest.TestResult()
+        common.SERVER, result = program, Result()
         kind(method).run(result)
         if result.skipped:
             raise TriedNothing(result.skipped[0][1])
-        faults = result.failures + result.errors
-        return " | ".join(faults[0][1].strip().splitlines()[-3:]) if faults else None
+        if result.stop:
+            raise result.stop
 
     case.__name__ = f"bridge_{kind.program}_{method.removeprefix('test_')}"
     return case
