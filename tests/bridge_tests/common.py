@@ -38,11 +38,14 @@ sys.path.append(PACKAGES)
 
 
 def free_port():
-    """A port that nobody listens at, and that no other test is given."""
+    """A port at which nobody listens, and that no other test is given. It is bound and not listened at: a program that
+    another test is starting has the socket too for a moment, and a server that comes to the port would be refused."""
     with choosing:
         for port in ports:
             try:
-                socket.create_server(("127.0.0.1", port)).close()
+                with socket.socket() as one:
+                    one.setsockopt(socket.SOL_SOCKET, socket.SO_REUSEADDR, 1)
+                    one.bind(("127.0.0.1", port))
                 return port
             except OSError:
                 pass
