@@ -14,6 +14,7 @@ from program import arguments, run, say
 from srcp import Mirror, Refused
 
 TOGETHER = 0.002  # seconds between two ports of an accessory, so that their stamps tell which was put last
+SOON = 0.01  # seconds until it is looked again whether the panel has told what was made
 GROUPS = ["POWER", "GL", "GA"]
 
 
@@ -75,17 +76,21 @@ class Keeper:
             await asyncio.sleep(self.rest)
 
     async def restore(self, session):
-        """Has the server make what FILE holds and it does not have."""
-        self.written, absent = self.held(), set()
+        """Has the server make what FILE holds and it does not have, and waits until the panel has told all of it."""
+        self.written, absent, ordered = self.held(), set(), set()
         for command in self.written:
             device = device_of(command)
             if device and makes(command) and not await self.mirror.has(device):
                 absent.add(device)
             if device in absent or self.power and device and device[1] == "POWER":
                 await self.order(session, command)
+                ordered.add(device)
             elif not device:
                 self.refused(command, "names no device")
         say(f"made {len(absent)} devices")
+        for device in ordered:
+            while not await self.mirror.shows(device):
+                await asyncio.sleep(SOON)
 
     async def order(self, session, command):
         try:

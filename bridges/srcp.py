@@ -188,14 +188,26 @@ class Mirror:
         finally:
             panel.transport.abort()
 
+    async def get(self, key):
+        """Returns the row that the server has at this moment, or None. It tells no row whose part is `is`."""
+        bus, group, address, part = key
+        words = f"LOCK {group} {address}" if part == "lock" else "POWER" if group == "POWER" else f"{group} {address}"
+        try:
+            return await self.session.ask(f"GET {bus} {words}" + f" {part}" * (group == "GA" and part != "lock"))
+        except Refused:
+            return None
+
     async def has(self, device):
         """Returns whether the server has a device, or a lock, at this moment."""
-        bus, group, address, lock = device
-        words = f"LOCK {group} {address}" if lock else "POWER" if group == "POWER" else f"{group} {address}"
-        try:
-            return bool(await self.session.ask(f"GET {bus} {words}{' 0' * (group == 'GA' and not lock)}"))
-        except Refused:
-            return False
+        return bool(await self.get((*device[:3], "lock" if device[3] else 0)))
+
+    async def shows(self, device):
+        """Returns whether the panel has told all that a device does at this moment."""
+        for part in range(8) if device[1] == "GA" else ["does"]:
+            key = (*device[:3], part)
+            if await self.get(key) != self.rows.get(key):
+                return False
+        return True
 
     def take(self, line):
         """Takes in what a line of the panel tells."""

@@ -45,6 +45,8 @@ BREAKS = [  # the file, whose cases, what is wrong, the text, what stands in its
     ("keep", "keep", "nothing is made after a restart",
      "if self.session is not self.mirror.session:  #", "if self.session is None:  #"),
     ("keep", "keep", "ports are not in the order of their stamps", "in sorted(ports)", "in ports"),
+    ("keep", "keep", "FILE is written before all that was made is told",
+     "while not await self.mirror.shows(device):", "while False:"),
     ("keep", "keep", "what a throttle made first is made anew",
      "and makes(command) and not await self.mirror.has(device):", "and makes(command):"),
     ("keep", "keep", "FILE is written in place",

@@ -189,12 +189,13 @@ class Way:
     """A way to the server that loses panels as an overrun does.
 
     `cut` closes them in the middle of a line and holds new ones back until `free`. Command sessions are passed on as
-    they are. `listed`: that number of bytes of a listing passes, and half a second later it is cut.
+    they are. `listed`: that number of bytes of a listing passes, and half a second later it is cut. `late`: what a
+    panel is sent from this text on passes only after `free`.
     """
 
     def __init__(self, server):
         self.server, self.door, self.panels, self.open = server, listener(), [], threading.Event()
-        self.port, self.listed, self.cuts = self.door.getsockname()[1], None, 0
+        self.port, self.listed, self.late, self.cuts = self.door.getsockname()[1], None, None, 0
         self.open.set()
         threading.Thread(target=self.accept, daemon=True).start()
 
@@ -217,6 +218,12 @@ class Way:
             while more := upstream.recv(65536):
                 cuts = client in self.panels and self.listed is not None
                 more = more[:self.listed - passed] if cuts else more
+                if client in self.panels and self.late and self.late in more:
+                    begin = more.index(self.late)
+                    client.sendall(more[:begin])
+                    self.open.clear()
+                    self.open.wait()
+                    more = more[begin:]
                 client.sendall(more)
                 passed += len(more)
                 if cuts and passed >= self.listed:

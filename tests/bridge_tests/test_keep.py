@@ -65,6 +65,18 @@ class Keep(Case):
             until(lambda: len(self.devices()) == 15, "all are there")
             self.assertEqual(len(self.text()), len(KEPT))
 
+    def test_a_panel_that_is_late(self):
+        """FILE loses nothing, though the panel tells late of the last devices that were made again."""
+        self.start_with_all()
+        self.way.late = b" 100 INFO 2 GA 7 3 1"
+        self.restart()
+        until(lambda: "made 5 devices" in self.keep.told(), "all are made")
+        self.stays_kept(KEPT)
+        self.way.late = None
+        self.way.free()
+        self.throttle.order("TERM 1 GA 6")
+        self.stays_kept([command for command in KEPT if command != "INIT 1 GA 6 M"])
+
     def test_a_locomotive_that_a_throttle_made_first_drives_on(self):
         self.start_with_all()
         self.keep.send(signal.SIGSTOP)  # the keeper comes later
