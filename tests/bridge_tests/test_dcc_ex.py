@@ -99,8 +99,9 @@ class DccEx(Case):
         self.station.boot = 0.5
         self.station.open()
         self.track(self.whole, "plugged in again, deaf at first")
+        opened = self.driver.told().count("is open")
         self.station.stalled, self.station.boot = True, 0
-        until(lambda: self.driver.told().count("is open") == 3, "its line is opened anew")
+        until(lambda: self.driver.told().count("is open") > opened, "its line is opened anew")
         self.station.reset()
         self.station.stalled = False
         self.track(self.whole, "a station that hung, and lost all")
@@ -115,10 +116,10 @@ class DccEx(Case):
         self.has("100 INFO 1 FB 7 1")
         self.throttle.order("SET 1 GL 3 1 28 28")
         self.track(lambda s: s.cabs[3] == (126, 1), "it goes on")
-        begun = len(self.station.log)
+        begun, opened = len(self.station.log), self.driver.told().count("is open")
         for _ in range(100):  # 70,000 bytes without an end: its line is opened anew
             os.write(self.station.master, b"x" * 700)
-        until(lambda: self.driver.told().count("is open") == 2, "its line is opened anew")
+        until(lambda: self.driver.told().count("is open") > opened, "its line is opened anew")
         self.track(lambda s: s.cabs[3] == (126, 1) and len(s.log) > begun + 2, "and it goes on")
         self.assertIsNone(self.driver.process.poll())
 
