@@ -1,53 +1,38 @@
 -- Laws of the rows with both indexes: rows that are added.
 use Rattle.srcp_rules.proofs.Names
-use Names.{◌≡◌, ℕ, ◌+◌, ◌≤◌, Bool, true, false, not, cond, is_some, List, [], ◌∷◌, Option, Some, None, AllByRecursion, is_eq, Less, refl}
-use Names.{sym, ap, subst, ◌∙◌, arith, true≢false, sum_by-cons, Key, Device, Row, key_cmp, all_put, rising_put, Bus, row_count, key_at}
-use Names.{State, IsRising, IsRowOf, row_at, put_row, holder_of, AreNewRowsOf, put_rows, weaken, none-some}
+use Names.{◌≡◌, ℕ, ◌+◌, ◌≤◌, Bool, false, not, find, filter, is_some, List, [], ◌∷◌, Option, None, AllByRecursion, Less, refl}
+use Names.{sym, ap, subst, ◌∙◌, arith, sum_by-cons, Key, Device, Row, key_cmp, all_put, rising_put, Bus, row_count, key_at}
+use Names.{State, IsRising, IsRowOf, row_at, put_row, holder_of, AreNewRowsOf, put_rows, weaken}
 use Rattle.srcp_rules.proofs.KeyLaws.{same_key}
 use Rattle.srcp_rules.proofs.StateLaws.{row_key, row_at-put_other}
 use Rattle.srcp_rules.proofs.NewDeviceLaws.{ports_from, ports_rise}
 use Rattle.srcp_index.specs.declared.indexes.Indexes.{Indexes}
-use Rattle.srcp_index.specs.Pairs.{IndexModel}
 use Rattle.srcp_index.specs.Indexed.{IsIndexed, HasPairs, IsRankedRow, due_of, removable_rows, row_edited, with_rows}
 use Rattle.srcp_index.specs.Ordered.{insert_by}
 use Rattle.srcp_index.proofs.RowSums.{but_at, removable_count, sum-put_row}
-use Rattle.srcp_index.proofs.RankLaws.{with_pairs, ranked_row}
+use Rattle.srcp_index.proofs.RankLaws.{with_pairs, with_room, ranked_row}
 
 -- ---- rows that are added
 
-module _ where
-  pub but_at_none : (key : Key) (state : State) → row_at key state ≡ None → but_at key state ≡ state
-  but_at_none key [] e = refl
-  but_at_none key (row ∷ state) e = by (same_key row.shown.key key) refl (but_at_none key state)
-    where
-      by : (b : Bool) → same_key row.shown.key key ≡ b → (row_at key state ≡ None → but_at key state ≡ state) → but_at key (row ∷ state)
-          ≡ row ∷ state
-      by true f later = absurd (none-some row (sym e ∙ ap (λ c. cond c (Some row) (row_at key state)) f))
-      by false f later =
-          ap (λ c. cond (not c) (row ∷ but_at key state) (but_at key state)) f
-          ∙ ap (λ rest. row ∷ rest) (later (sym (ap (λ c. cond c (Some row) (row_at key state)) f) ∙ e))
+none_left_out : (p : Row → Bool) (state : State) → find p state ≡ None → filter (λ row. not (p row)) state ≡ state
+none_left_out p [] e = refl
+none_left_out p (row ∷ state) e = grind (arith, none_left_out p state)
 
-  no_row : (o : Option Row) → is_some o ≡ false → o ≡ None
-  no_row None e = refl
-  no_row (Some row) e = absurd (true≢false e)
+pub but_at_none : (key : Key) (state : State) → row_at key state ≡ None → but_at key state ≡ state
+but_at_none key state e = none_left_out (λ row. same_key row.shown.key key) state e
 
-  abbrev pub IsFresh : State → Row → Type 0
-  IsFresh state row = row_at row.shown.key state ≡ None
+no_row : (o : Option Row) → is_some o ≡ false → o ≡ None
+no_row o e = grind arith
 
-  still_fresh : (row : Row) (state : State) (rows : List Row)
-      → AllByRecursion (λ other. key_cmp row.shown.key other.shown.key ≡ Less) rows → AllByRecursion (IsFresh state) rows
-      → AllByRecursion (IsFresh (put_row row state)) rows
-  still_fresh row state [] above fresh = tt
-  still_fresh row state (other ∷ rows) above fresh = (
-    row_at-put_other other.shown.key row state (ap is_eq above.0)
-        ∙ fresh.0,
-    still_fresh row state rows above.1 fresh.1,
-  )
+abbrev pub IsFresh : State → Row → Type 0
+IsFresh state row = row_at row.shown.key state ≡ None
 
--- the index has room for more rows
-with_more : (rank : Row → Option ℕ) (state : State) (index : IndexModel) (count more : ℕ) → more ≤ index.room
-    → HasPairs rank state index count → HasPairs rank state index more
-with_more rank state index count more room h = record { pairs = h.pairs; room = room }
+still_fresh : (row : Row) (state : State) (rows : List Row)
+    → AllByRecursion (λ other. key_cmp row.shown.key other.shown.key ≡ Less) rows → AllByRecursion (IsFresh state) rows
+    → AllByRecursion (IsFresh (put_row row state)) rows
+still_fresh row state [] above fresh = tt
+still_fresh row state (other ∷ rows) above fresh =
+    grind (arith, row_at-put_other other.shown.key row state, still_fresh row state rows above.1 fresh.1)
 
 module _ (buses : List Bus) where
   one_added : (row : Row) (state : State) (both : Indexes) (count : ℕ) → IsFresh state row → IsRowOf buses row
@@ -59,15 +44,12 @@ module _ (buses : List Bus) where
       record {
         rising = rising_put row_key row state h.rising;
         due = with_pairs due_of row state both.moments more
-            (subst (λ rows. HasPairs due_of rows both.moments more) same (with_more due_of state both.moments count more due_room h.due));
+            (subst (λ rows. HasPairs due_of rows both.moments more) same (with_room due_of state both.moments count more due_room h.due));
         held = with_pairs holder_of row state both.sessions more
             (subst (λ rows. HasPairs holder_of rows both.sessions more) same
-            (with_more holder_of state both.sessions count more held_room h.held));
+            (with_room holder_of state both.sessions count more held_room h.held));
         since = h.since;
-        counted = (let a = sum-put_row removable_count row state in
-            let b = ap removable_rows (but_at_none row.shown.key state fresh) in
-            let c = h.counted in
-            omega arith);
+        counted = omega (arith, sum-put_row removable_count row state, ap removable_rows same, h.counted);
         rows = all_put row_key IsRankedRow row state (ranked_row buses row of) h.rows;
       }
 
@@ -91,6 +73,5 @@ module _ (buses : List Bus) where
       let n = row_count buses device in
       all_added rows state both count (ports_rise device rows 0 n fresh.all.keys)
       (weaken rows (ports_from device rows 0 n fresh.all.keys)
-      (λ row from. ap (λ k. row_at k state) from.2 ∙ no_row (row_at (key_at device from.0) state)
-      (fresh.free from.0)))
+      (λ row from. ap (λ k. row_at k state) from.2 ∙ no_row (row_at (key_at device from.0) state) (fresh.free from.0)))
       fresh.all.each due_room held_room h

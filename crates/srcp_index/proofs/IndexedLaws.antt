@@ -1,6 +1,6 @@
 -- Laws of the rows with both indexes: the opening, a moment, and more room.
 use Rattle.srcp_rules.proofs.Names
-use Names.{◌≡◌, ℕ, ◌≤◌, Bool, true, false, List, [], ◌∷◌, length, map, Option, None, if◌then◌else◌, AllByRecursion, range_with_len, refl}
+use Names.{◌≡◌, ℕ, ◌≤◌, Bool, false, List, [], ◌∷◌, length, map, Option, None, if◌then◌else◌, AllByRecursion, range_with_len, refl}
 use Names.{sym, ap, ◌∙◌, arith, sum_by-cons, Row, all_append, Bus, IsLayout, power_device, fb_device, State, opening, opening_on, first_row}
 use Names.{holder_of, weaken}
 use Names.value
@@ -14,45 +14,36 @@ use Rattle.srcp_index.proofs.RowSums.{removable_count}
 use Rattle.srcp_index.specs.Indexed.{IsIndexed, due_of, removable_rows, is_removable, pairs_of}
 use Rattle.srcp_index.proofs.Pairs.{before_weak, before_tie}
 use Rattle.srcp_index.proofs.Ordered.{order_by-order_by}
-use Rattle.srcp_index.proofs.RankLaws.{ranked_row, due_all, held_all, counted_none, few}
+use Rattle.srcp_index.proofs.RankLaws.{ranked_row, few}
 
 -- ---- the opening
 
-module _ where
-  -- a row with no rank
-  abbrev IsPlain : Row → Type 0
-  IsPlain row = (due_of row ≡ None) × (holder_of row ≡ None) × (is_removable row ≡ false)
+-- a row with no rank
+abbrev IsPlain : Row → Type 0
+IsPlain row = (due_of row ≡ None) × (holder_of row ≡ None) × (is_removable row ≡ false)
 
-  plain_ports : (bus : ℕ) (ports : List ℕ)
-      → AllByRecursion IsPlain (map (λ port. first_row 0 (fb_device bus port) (value.Fb false)) ports)
-  plain_ports bus [] = tt
-  plain_ports bus (port ∷ ports) = ((refl, refl, refl), plain_ports bus ports)
+plain_ports : (bus : ℕ) (ports : List ℕ) → AllByRecursion IsPlain (map (λ port. first_row 0 (fb_device bus port) (value.Fb false)) ports)
+plain_ports bus [] = tt
+plain_ports bus (port ∷ ports) = ((refl, refl, refl), plain_ports bus ports)
 
-  plain_power : (b : Bool) (bus : ℕ)
-      → AllByRecursion IsPlain (if b then first_row 0 (power_device bus) (value.Power false []) ∷ [] else [])
-  plain_power true bus = ((refl, refl, refl), tt)
-  plain_power false bus = tt
+plain_power : (b : Bool) (bus : ℕ)
+    → AllByRecursion IsPlain (if b then first_row 0 (power_device bus) (value.Power false []) ∷ [] else [])
+plain_power b bus = grind arith
 
-  plain_opening : (buses : List Bus) → AllByRecursion IsPlain (opening buses 0)
-  plain_opening [] = tt
-  plain_opening (bus ∷ buses) =
-      all_append IsPlain (opening_on 0 bus) (opening buses 0)
-      (all_append IsPlain (if bus.power then first_row 0 (power_device bus.number) (value.Power false []) ∷ [] else [])
-      (map (λ port. first_row 0 (fb_device bus.number port) (value.Fb false)) (range_with_len 1 bus.fb_ports))
-      (plain_power bus.power bus.number) (plain_ports bus.number (range_with_len 1 bus.fb_ports)))
-      (plain_opening buses)
+plain_opening : (buses : List Bus) → AllByRecursion IsPlain (opening buses 0)
+plain_opening [] = tt
+plain_opening (bus ∷ buses) =
+    all_append IsPlain (opening_on 0 bus) (opening buses 0)
+    (all_append IsPlain _ _ (plain_power bus.power bus.number) (plain_ports bus.number (range_with_len 1 bus.fb_ports)))
+    (plain_opening buses)
 
-  no_pairs : (rank : Row → Option ℕ) (state : State) → AllByRecursion (λ row. rank row ≡ None) state → pairs_of rank state ≡ []
-  no_pairs rank [] h = refl
-  no_pairs rank (row ∷ state) h = rw h.0 (no_pairs rank state h.1)
+no_pairs : (rank : Row → Option ℕ) (state : State) → AllByRecursion (λ row. rank row ≡ None) state → pairs_of rank state ≡ []
+no_pairs rank [] h = refl
+no_pairs rank (row ∷ state) h = rw h.0 (no_pairs rank state h.1)
 
-  no_goers : (state : State) → AllByRecursion (λ row. is_removable row ≡ false) state → removable_rows state ≡ 0
-  no_goers [] h = refl
-  no_goers (row ∷ state) h =
-      let a = sum_by-cons removable_count row state in
-      let b = counted_none (is_removable row) h.0 in
-      let c = no_goers state h.1 in
-      omega arith
+no_goers : (state : State) → AllByRecursion (λ row. is_removable row ≡ false) state → removable_rows state ≡ 0
+no_goers [] h = refl
+no_goers (row ∷ state) h = grind (arith, sum_by-cons removable_count row state, no_goers state h.1)
 
 pub opening_indexed : (buses : List Bus) → IsLayout buses → (both : Indexes) → both.moments.pairs ≡ [] → both.sessions.pairs ≡ []
     → both.sessions.since ≡ 0 → IsIndexed (opening buses 0) both 0
@@ -89,7 +80,7 @@ settled state both count moment index h pairs since room =
         pairs = pairs ∙ ap (order_by (before moment)) h.due.pairs
             ∙ order_by-order_by (before moment) (before_weak moment) (before_tie moment) (before both.moments.since) (pairs_of due_of state)
             ∙ ap (λ m. order_by (before m) (pairs_of due_of state)) (sym since);
-        room = let r = h.due.room in omega (arith, room);
+        room = omega (arith, h.due.room);
       };
       held = h.held;
       since = h.since;
@@ -108,8 +99,7 @@ roomier state both other count h pairs since held held_since room held_room =
       rising = h.rising;
       due = record { pairs = pairs ∙ h.due.pairs ∙ ap (λ m. order_by (before m) (pairs_of due_of state)) (sym since); room = room };
       held = record {
-        pairs = held ∙ h.held.pairs ∙ ap (λ m. order_by (before m) (pairs_of holder_of state))
-            (sym held_since);
+        pairs = held ∙ h.held.pairs ∙ ap (λ m. order_by (before m) (pairs_of holder_of state)) (sym held_since);
         room = held_room;
       };
       since = held_since ∙ h.since;
@@ -118,8 +108,7 @@ roomier state both other count h pairs since held held_since room held_room =
     }
 
 pub few_due : (state : State) (both : Indexes) (count : ℕ) → IsIndexed state both count → length both.moments.pairs ≤ count
-few_due state both count h = let a = few due_of state both.moments count (due_all state h.rows) h.due in let b = h.counted in omega arith
+few_due state both count h = omega (arith, few due_of (λ row r. r.due) state both.moments count h.rows h.due, h.counted)
 
 pub few_held : (state : State) (both : Indexes) (count : ℕ) → IsIndexed state both count → length both.sessions.pairs ≤ count
-few_held state both count h = let a = few holder_of state both.sessions count (held_all state h.rows) h.held in let b = h.counted in
-    omega arith
+few_held state both count h = omega (arith, few holder_of (λ row r. r.held) state both.sessions count h.rows h.held, h.counted)

@@ -7,7 +7,7 @@ returns-in_err-pair g c =
     let state = g.R.Rows.state c.self.inside.rows in
     let kept = c.self.invariant in
     c.from_residual.ensures
-    ∙ held_row state c.self.inside.indexes.sessions c.from.result None kept.rising kept.since kept.held.pairs c.in_err-pair.ensures
+    ∙ held_row state c.self.inside.indexes.sessions c.from.result None kept.rising kept.held.pairs c.in_err-pair.ensures
     ∙ ap (λ session. find (is_held_by session) state) c.from.ensures
     ∙ ap (λ rows. find (is_held_by c.args.session) (g.R.Rows.state rows)) c.self.view_is
 
@@ -16,7 +16,7 @@ returns g c =
     let state = g.R.Rows.state c.self.inside.rows in
     let kept = c.self.invariant in
     c.copied.ensures ∙ c.row.ensures
-    ∙ held_row state c.self.inside.indexes.sessions c.from.result (Some c.in_ok-pair.pair) kept.rising kept.since kept.held.pairs
+    ∙ held_row state c.self.inside.indexes.sessions c.from.result (Some c.in_ok-pair.pair) kept.rising kept.held.pairs
     c.in_ok-pair.ensures
     ∙ ap (λ session. find (is_held_by session) state) c.from.ensures
     ∙ ap (λ rows. find (is_held_by c.args.session) (g.R.Rows.state rows)) c.self.view_is

@@ -2,22 +2,22 @@ use Rattle.srcp_rules.proofs.Names.{IsSome, IsTrue, sym, ap, subst, ◌∙◌, o
 use Rattle.srcp_index.specs.declared.indexes.Indexes.{Indexes}
 use Rattle.srcp_index.specs.Indexed.{IsIndexed, HasRoom, due_of, row_edited}
 use Rattle.srcp_index.specs.Ordered.{insert_by}
-use Rattle.srcp_index.proofs.SetRowLaws.{room_for_due, room_for_held, passed_by, set_indexed}
+use Rattle.srcp_index.proofs.SetRowLaws.{room_for, passed_by, set_indexed}
 use Rattle.srcp_index.proofs.indexed.IndexedRows.set.Goals as goal
 
 pub insert-requires-clause-moments : goal.insert-requires-clause-moments
 insert-requires-clause-moments g c =
     let there = sym c.row.ensures ∙ ap option_copied c.in-Some.is in
     subst (λ (both : Indexes). IsSome (due_of c.args.row) → HasRoom both.moments) (sym c.remove.ensures)
-    (room_for_due (g.R.Rows.buses c.args.self.now) (g.R.Rows.state c.self.inside.rows) c.self.inside.indexes c.self.inside.count
-    c.self.invariant c.in-Some.old.now c.args.row there c.requires.fits)
+    (room_for (g.R.Rows.buses c.args.self.now) (g.R.Rows.state c.self.inside.rows) c.self.inside.indexes c.self.inside.count
+    c.self.invariant c.in-Some.old.now c.args.row there c.requires.fits due_of _ (λ row r. r.due) c.self.invariant.due)
 
 pub insert-requires-clause-sessions : goal.insert-requires-clause-sessions
 insert-requires-clause-sessions g c =
     let there = sym c.row.ensures ∙ ap option_copied c.in-Some.is in
     subst (λ (both : Indexes). IsSome (holder_of c.args.row) → HasRoom both.sessions) (sym c.remove.ensures)
-    (room_for_held (g.R.Rows.buses c.args.self.now) (g.R.Rows.state c.self.inside.rows) c.self.inside.indexes c.self.inside.count
-    c.self.invariant c.in-Some.old.now c.args.row there c.requires.fits)
+    (room_for (g.R.Rows.buses c.args.self.now) (g.R.Rows.state c.self.inside.rows) c.self.inside.indexes c.self.inside.count
+    c.self.invariant c.in-Some.old.now c.args.row there c.requires.fits holder_of _ (λ row r. r.held) c.self.invariant.held)
 
 pub invariant_of-self : goal.invariant_of-self
 invariant_of-self g c =
