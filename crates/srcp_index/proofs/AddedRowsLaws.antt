@@ -10,7 +10,8 @@ use Rattle.srcp_index.specs.declared.indexes.Indexes.{Indexes}
 use Rattle.srcp_index.specs.Indexed.{IsIndexed, HasPairs, IsRankedRow, due_of, removable_rows, row_edited, with_rows}
 use Rattle.srcp_index.specs.Ordered.{insert_by}
 use Rattle.srcp_index.proofs.RowSums.{but_at, removable_count, sum-put_row}
-use Rattle.srcp_index.proofs.RankLaws.{with_pairs, with_room, ranked_row}
+use Rattle.srcp_index.proofs.PairsOfRows.{with_pairs}
+use Rattle.srcp_index.proofs.RankLaws.{with_room, ranked_row}
 
 -- ---- rows that are added
 
@@ -44,10 +45,10 @@ module _ (buses : List Bus) where
       record {
         rising = rising_put row_key row state h.rising;
         due = with_pairs due_of row state both.moments more
-            (subst (λ rows. HasPairs due_of rows both.moments more) same (with_room due_of state both.moments count more due_room h.due));
+            (subst (λ rows. HasPairs due_of rows both.moments more) same (with_room due_of state _ both.moments count more refl refl due_room h.due));
         held = with_pairs holder_of row state both.sessions more
             (subst (λ rows. HasPairs holder_of rows both.sessions more) same
-            (with_room holder_of state both.sessions count more held_room h.held));
+            (with_room holder_of state _ both.sessions count more refl refl held_room h.held));
         since = h.since;
         counted = omega (arith, sum-put_row removable_count row state, ap removable_rows same, h.counted);
         rows = all_put row_key IsRankedRow row state (ranked_row buses row of) h.rows;

@@ -1,17 +1,16 @@
 -- Laws of the rows with both indexes: a device that is dropped.
 use Rattle.srcp_rules.proofs.Names
-use Names.{◌≡◌, ℕ, ◌+◌, ◌-◌, ◌<◌, ◌≤◌, Bool, true, not, ◌&&◌, cond, nat_lt, [], ◌∷◌, filter, Some, None, AllByRecursion, refl, sym}
-use Names.{ap, subst, ◌∙◌, arith, ltb-true, false_from_ne_true, Key, Device, Row, owns, can_go}
+use Names.{◌≡◌, ℕ, ◌+◌, ◌-◌, ◌<◌, ◌≤◌, Bool, true, not, ◌&&◌, cond, nat_lt, [], ◌∷◌, filter, Option, Some, None, AllByRecursion, refl, sym}
+use Names.{ap, subst, ◌∙◌, arith, Key, Device, Row, owns, can_go}
 use Names.{all_filter, rising_filter, owns-device_of, device_from_owns, key_at, State, row_at, without, holder_of, most_rows}
-use Names.{weaken}
-use Rattle.std.proofs.Math.Bool.{and-false}
 use Rattle.srcp_rules.proofs.KeyLaws.{same_key, same_key-itself, same_key-true}
 use Rattle.srcp_rules.proofs.StateLaws.{at-filter, row_key, row_at_key}
 use Rattle.srcp_index.specs.declared.indexes.Indexes.{Indexes}
 use Rattle.srcp_index.specs.Indexed.{IsIndexed, IsRankedRow, due_of, is_removable, row_edited}
 use Rattle.srcp_index.specs.Ordered.{remove_by}
 use Rattle.srcp_index.proofs.RowSums.{but_at, removable_count, sum-there}
-use Rattle.srcp_index.proofs.RankLaws.{without_pairs, with_room}
+use Rattle.srcp_index.proofs.PairsOfRows.{without_pairs}
+use Rattle.srcp_index.proofs.RankLaws.{with_room}
 use Rattle.srcp_index.proofs.AddedRowsLaws.{but_at_none}
 
 -- ---- a device that is dropped
@@ -23,10 +22,6 @@ but_below device port state = filter (λ row. not (owns device row.shown.key && 
 filter_both : (p q r : Row → Bool) → ((row : Row) → r row ≡ (p row && q row)) → (state : State) → filter p (filter q state) ≡ filter r state
 filter_both p q r same [] = refl
 filter_both p q r same (row ∷ state) = grind (arith, same row, filter_both p q r same state)
-
-filter_alike : (p q : Row → Bool) (state : State) → AllByRecursion (λ row. p row ≡ q row) state → filter p state ≡ filter q state
-filter_alike p q [] h = refl
-filter_alike p q (row ∷ state) h = (λ i. cond (h.0 i) (row ∷ filter_alike p q state h.1 i) (filter_alike p q state h.1 i))
 
 module _ (device : Device) where
   own_port : (k : Key) (port : ℕ) → owns device k ≡ true → k.port ≡ port → k ≡ key_at device port
@@ -63,9 +58,8 @@ module _ (device : Device) where
 
   pub but_below-all : (state : State) → AllByRecursion IsRankedRow state
       → but_below device (most_rows device.group) state ≡ without device state
-  but_below-all state h =
-      filter_alike (λ row. not (owns device row.shown.key && nat_lt row.shown.key.port (most_rows device.group)))
-      (λ row. not (owns device row.shown.key)) state (weaken state h (λ row r. own_below row.shown.key r.port))
+  but_below-all [] h = refl
+  but_below-all (row ∷ state) h = grind (arith, own_below row.shown.key, but_below-all state h.1)
 
 -- a row of the device that is taken out
 module _ (state : State) (both : Indexes) (count : ℕ) (h : IsIndexed state both count) (row : Row)
@@ -79,8 +73,8 @@ module _ (state : State) (both : Indexes) (count : ℕ) (h : IsIndexed state bot
   dropped_one goes =
       let test = (λ (other : Row). not (same_key other.shown.key row.shown.key)) in
       let one : removable_count row ≡ 1 = rw goes refl in
-      let fewer_due = with_room due_of state both.moments count (count - 1) (omega (arith, h.due.room)) h.due in
-      let fewer_held = with_room holder_of state both.sessions count (count - 1) (omega (arith, h.held.room)) h.held in
+      let fewer_due = with_room due_of state _ both.moments count (count - 1) refl refl (omega (arith, h.due.room)) h.due in
+      let fewer_held = with_room holder_of state _ both.sessions count (count - 1) refl refl (omega (arith, h.held.room)) h.held in
       record {
         rising = rising_filter row_key test state h.rising;
         due = without_pairs due_of row state both.moments (count - 1) h.rising there fewer_due;
@@ -90,15 +84,15 @@ module _ (state : State) (both : Indexes) (count : ℕ) (h : IsIndexed state bot
         rows = all_filter IsRankedRow test state h.rows;
       }
 
+left_in : (own : Bool) (port : ℕ) (o : Option Row) → cond (not (own && nat_lt port port)) o None ≡ o
+left_in own port o = grind arith
+
 module _ (device : Device) (port : ℕ) (state : State) where
   -- the row at the port is among those that are left
   at_next : row_at (key_at device port) (but_below device port state) ≡ row_at (key_at device port) state
   at_next =
       let here = key_at device port in
-      at-filter row_key (λ k. not (owns device k && nat_lt k.port port)) here state
-      ∙ ap (λ b. cond (not b) (row_at here state) None)
-      (ap (λ b. owns device here && b) (false_from_ne_true (nat_lt port port) (λ s. let m = ltb-true port port s in absurd
-      (omega arith))) ∙ and-false (owns device here))
+      at-filter row_key (λ k. not (owns device k && nat_lt k.port port)) here state ∙ left_in (owns device here) port (row_at here state)
 
   module _ (both : Indexes) (count : ℕ) (h : IsIndexed (but_below device port state) both count) where
     pub none_next : row_at (key_at device port) state ≡ None → IsIndexed (but_below device (port + 1) state) both count

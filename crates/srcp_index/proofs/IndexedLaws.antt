@@ -14,7 +14,7 @@ use Rattle.srcp_index.proofs.RowSums.{removable_count}
 use Rattle.srcp_index.specs.Indexed.{IsIndexed, due_of, removable_rows, is_removable, pairs_of}
 use Rattle.srcp_index.proofs.Pairs.{before_weak, before_tie}
 use Rattle.srcp_index.proofs.Ordered.{order_by-order_by}
-use Rattle.srcp_index.proofs.RankLaws.{ranked_row, few}
+use Rattle.srcp_index.proofs.RankLaws.{ranked_row, few, with_room}
 
 -- ---- the opening
 
@@ -97,11 +97,8 @@ pub roomier : (state : State) (both other : Indexes) (count : ℕ) → IsIndexed
 roomier state both other count h pairs since held held_since room held_room =
     record {
       rising = h.rising;
-      due = record { pairs = pairs ∙ h.due.pairs ∙ ap (λ m. order_by (before m) (pairs_of due_of state)) (sym since); room = room };
-      held = record {
-        pairs = held ∙ h.held.pairs ∙ ap (λ m. order_by (before m) (pairs_of holder_of state)) (sym held_since);
-        room = held_room;
-      };
+      due = with_room due_of state both.moments other.moments count count pairs since room h.due;
+      held = with_room holder_of state both.sessions other.sessions count count held held_since held_room h.held;
       since = held_since ∙ h.since;
       counted = h.counted;
       rows = h.rows;

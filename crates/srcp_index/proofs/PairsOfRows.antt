@@ -1,7 +1,7 @@
 -- Laws of an index that has the pairs of rows: a row is put, looked at or taken out, and the first that is sought is found.
 use Rattle.srcp_rules.proofs.Names
-use Names.{◌≡◌, ℕ, ◌≤◌, Bool, true, false, ◌==◌, IsTrue, IsSome, List, [], ◌∷◌, ◌++◌, length, find, Option}
-use Names.{Some, option_map, AllByRecursion, sum_by, option_map_or, Less, refl, ap, ◌∙◌, arith}
+use Names.{◌≡◌, ℕ, ◌≤◌, Bool, true, false, ◌==◌, IsTrue, IsSome, [], ◌∷◌, ◌++◌, length, find, Option}
+use Names.{Some, option_map, AllByRecursion, sum_by, option_map_or, Less, refl, sym, ap, ◌∙◌, arith}
 use Names.{sum_by-cons, sum_by-append, Cursor, Key, Row, key_cmp}
 use Names.{State, IsRising, row_at, put_row, holder_of, is_due, is_held_by, first_beyond}
 use Rattle.std.specs.Prelude.{option_and_then}
@@ -10,17 +10,12 @@ use Rattle.srcp_grammar.proofs.PlaceLaws.{Follows}
 use Rattle.srcp_index.specs.declared.index.Pair.{Pair}
 use Rattle.srcp_index.specs.Pairs.{IndexModel, before, is_due_beyond}
 use Rattle.srcp_index.specs.Ordered.{insert_by, remove_by, order_by}
-use Rattle.srcp_index.specs.Indexed.{Edit, at_rank, due_of, pair_of, pairs_of, is_removable}
+use Rattle.srcp_index.specs.Indexed.{HasPairs, pair_edited, at_rank, due_of, pair_of, pairs_of, is_removable}
 use Rattle.srcp_index.specs.Indexed.{removable_rows}
 use Rattle.srcp_index.proofs.Pairs.{before_weak, is_order, alike_after}
-use Rattle.srcp_index.proofs.Ordered.{find-order_by, ranked_is, remove_by-insert_by}
-use Rattle.srcp_index.proofs.Ordered as law
+use Rattle.srcp_index.proofs.Ordered.{find-order_by, ranked_is, order_by-permutes, remove_by-insert_by}
 use Rattle.srcp_index.proofs.RowSums.{but_at, removable_count, put_there, sum-put_row}
 use Rattle.std.proofs.lemmas.List.Sorted.{sum_by-IsPermutation}
-
--- the pairs so edited
-abbrev pub edited : Edit → (since : ℕ) → (rank : Option ℕ) → Key → List Pair → List Pair
-edited edit since rank k pairs = option_map_or (λ r. edit (before since) (record { rank = r; key = k }) pairs) rank pairs
 
 module _ (rank : Row → Option ℕ) where
   -- what the pair of a row adds to a sum
@@ -32,33 +27,37 @@ module _ (rank : Row → Option ℕ) where
   sum-pairs f (row ∷ state) =
       omega (arith, sum_by-append f (pair_of rank row) (pairs_of rank state), sum-pairs f state, sum_by-cons (weight f) row state)
 
-  module _ (since : ℕ) (row : Row) (state : State) where
-    abbrev others : List Pair
-    others = pairs_of rank (but_at row.shown.key state)
+  -- the pair of a row and those of the others are those of the rows with it
+  put_pairs : (since : ℕ) (row : Row) (state : State)
+      → order_by (before since) (pair_of rank row ++ pairs_of rank (but_at row.shown.key state))
+      ≡ order_by (before since) (pairs_of rank (put_row row state))
+  put_pairs since row state =
+      let lt = before since in
+      let others = but_at row.shown.key state in
+      let all = pair_of rank row ++ pairs_of rank others in
+      is_order since (order_by lt all) (pairs_of rank (put_row row state)) (ranked_is lt (before_weak since) all) (λ f.
+      omega (
+        arith,
+        sum_by-IsPermutation f all (order_by lt all) (order_by-permutes lt all),
+        sum_by-append f (pair_of rank row) (pairs_of rank others),
+        sum-pairs f others,
+        sum-pairs f (put_row row state),
+        sum-put_row (weight f) row state,
+      ))
 
-    -- with the pair of a row the pairs of the others are those of the rows with it
-    pub inserted-pairs : edited insert_by since (rank row) row.shown.key (order_by (before since) others)
-        ≡ order_by (before since) (pairs_of rank (put_row row state))
-    inserted-pairs =
-        let lt = before since in
-        let all = pair_of rank row ++ others in
-        let whole = is_order since (order_by lt all) (pairs_of rank (put_row row state)) (ranked_is lt (before_weak since) all) (λ f.
-        omega (
-          arith,
-          sum_by-IsPermutation f all (order_by lt all) (law.order_by-permutes lt all),
-          sum_by-append f (pair_of rank row) others,
-          sum-pairs f (but_at row.shown.key state),
-          sum-pairs f (put_row row state),
-          sum-put_row (weight f) row state,
-        )) in
-        grind (arith, whole)
+  pub with_pairs : (row : Row) (state : State) (index : IndexModel) (count : ℕ) → HasPairs rank (but_at row.shown.key state) index count
+      → HasPairs rank (put_row row state) (pair_edited insert_by (rank row) row.shown.key index) count
+  with_pairs row state index count h =
+      let whole = put_pairs index.since row state in record { pairs = grind (arith, whole, h.pairs); room = h.room }
 
-    -- and without it they are those of the others
-    pub removed-pairs : IsRising state → row_at row.shown.key state ≡ Some row
-        → edited remove_by since (rank row) row.shown.key (order_by (before since) (pairs_of rank state)) ≡ order_by (before since) others
-    removed-pairs rising there =
-        let whole = inserted-pairs ∙ ap (λ rows. order_by (before since) (pairs_of rank rows)) (put_there row state rising there) in
-        grind (arith, whole, remove_by-insert_by (before since) (before_weak since))
+  pub without_pairs : (row : Row) (state : State) (index : IndexModel) (count : ℕ) → IsRising state → row_at row.shown.key state ≡ Some row
+      → HasPairs rank state index count
+      → HasPairs rank (but_at row.shown.key state) (pair_edited remove_by (rank row) row.shown.key index) count
+  without_pairs row state index count rising there h =
+      let lt = before index.since in
+      let whole =
+      put_pairs index.since row state ∙ ap (λ rows. order_by lt (pairs_of rank rows)) (put_there row state rising there) ∙ sym h.pairs in
+      record { pairs = grind (arith, whole, remove_by-insert_by lt (before_weak index.since)); room = h.room }
 
   -- no more rows have a pair than come and go
   pub fewer_pairs : (state : State) → AllByRecursion (λ row. IsSome (rank row) → IsTrue (is_removable row)) state

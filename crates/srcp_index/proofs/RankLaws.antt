@@ -1,16 +1,15 @@
 -- Which rows have a rank, and what an index has of them.
 use Rattle.srcp_rules.proofs.Names
 use Names.{◌≡◌, ℕ, ◌+◌, ◌<◌, ◌≤◌, true, IsTrue, IsSome, IfSome, List, length, Option, Some, None, AllByRecursion}
-use Names.{ap, ◌∙◌, arith, Key, Group, Value, Row, IsMoment, IsValueAt, can_go, Bus, State, IsRising, IsRowOf}
-use Names.{MayFall, row_at, put_row, holder_in, most_rows, weaken}
+use Names.{ap, sym, ◌∙◌, arith, Key, Group, Value, Row, IsMoment, IsValueAt, can_go, Bus, State, IsRowOf}
+use Names.{MayFall, holder_in, most_rows, weaken}
 use Rattle.std.proofs.lemmas.List.Sorted.{length_permutation}
 use Rattle.srcp_index.specs.Pairs.{IndexModel, before}
 use Rattle.srcp_index.specs.Indexed.{HasPairs, IsRankedRow, removable_rows, may_rank, pairs_of}
 use Rattle.srcp_index.specs.Indexed.{pair_edited}
-use Rattle.srcp_index.specs.Ordered.{insert_by, remove_by}
+use Rattle.srcp_index.specs.Ordered.{insert_by, order_by}
 use Rattle.srcp_index.proofs.Ordered.{insert_by-permutes, order_by-permutes}
-use Rattle.srcp_index.proofs.RowSums.{but_at}
-use Rattle.srcp_index.proofs.PairsOfRows.{edited, inserted-pairs, removed-pairs, fewer_pairs}
+use Rattle.srcp_index.proofs.PairsOfRows.{fewer_pairs}
 
 -- ---- rows with a rank
 
@@ -40,28 +39,11 @@ ranked_row buses row of =
 -- ---- one index
 
 module _ (rank : Row → Option ℕ) where
-  pub with_pairs : (row : Row) (state : State) (index : IndexModel) (count : ℕ) → HasPairs rank (but_at row.shown.key state) index count
-      → HasPairs rank (put_row row state) (pair_edited insert_by (rank row) row.shown.key index) count
-  with_pairs row state index count h = record {
-    pairs = ap (edited insert_by index.since (rank row) row.shown.key) h.pairs
-        ∙ inserted-pairs rank index.since row state;
-    room = h.room;
-  }
-
-  pub without_pairs : (row : Row) (state : State) (index : IndexModel) (count : ℕ) → IsRising state → row_at row.shown.key state ≡ Some row
-      → HasPairs rank state index count
-      → HasPairs rank (but_at row.shown.key state) (pair_edited remove_by (rank row) row.shown.key index) count
-  without_pairs row state index count rising there h =
-      record {
-        pairs = ap (edited remove_by index.since (rank row) row.shown.key) h.pairs ∙ removed-pairs rank index.since row state rising
-            there;
-        room = h.room;
-      }
-
-  -- the index has room for more rows, or for fewer
-  pub with_room : (state : State) (index : IndexModel) (m n : ℕ) → n ≤ index.room → HasPairs rank state index m
-      → HasPairs rank state index n
-  with_room state index m n room h = record { pairs = h.pairs; room = room }
+  -- an index with the same pairs has room for more rows, or for fewer
+  pub with_room : (state : State) (index other : IndexModel) (m n : ℕ) → other.pairs ≡ index.pairs → other.since ≡ index.since
+      → n ≤ other.room → HasPairs rank state index m → HasPairs rank state other n
+  with_room state index other m n pairs since room h =
+      record { pairs = pairs ∙ h.pairs ∙ ap (λ s. order_by (before s) (pairs_of rank state)) (sym since); room = room }
 
   -- there are no more pairs than rows that come and go
   pub few : ((row : Row) → IsRankedRow row → IsSome (rank row) → IsTrue (may_rank row.shown.key.group)) → (state : State)

@@ -10,7 +10,8 @@ use Rattle.srcp_index.specs.Indexed.{IsIndexed, HasPairs, HasRoom, IsRankedRow, 
 use Rattle.srcp_index.specs.Indexed.{Edit, pair_edited, row_edited}
 use Rattle.srcp_index.specs.Ordered.{insert_by, remove_by}
 use Rattle.srcp_index.proofs.RowSums.{but_at, removable_count, sum-put_row, sum-there}
-use Rattle.srcp_index.proofs.RankLaws.{with_pairs, without_pairs, few, ranked_goes, ranked_row}
+use Rattle.srcp_index.proofs.PairsOfRows.{with_pairs, without_pairs}
+use Rattle.srcp_index.proofs.RankLaws.{few, ranked_goes, ranked_row}
 
 -- ---- a row that is set
 

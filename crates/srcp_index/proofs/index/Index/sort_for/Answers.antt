@@ -1,5 +1,5 @@
 use Rattle.std.proofs.Common.{◌≡◌, rules, refl, sym, ap, ◌∙◌, subst}
-use Rattle.srcp_index.specs.Ordered.{IsInOrder, order_by}
+use Rattle.srcp_index.specs.Ordered.{order_by}
 use Rattle.srcp_index.specs.Pairs.{IndexModel, before}
 use Rattle.srcp_index.proofs.Ordered.{ranked_is}
 use Rattle.srcp_index.proofs.Pairs.{before_weak, is_order}
@@ -7,10 +7,7 @@ use Rattle.srcp_index.proofs.index.Index.sort_for.Goals as goal
 
 pub invariant_of-self : goal.invariant_of-self
 invariant_of-self c =
-    let lt = before c.args.moment in (
-      subst (IsInOrder lt) (sym c.reorder_in.ensures.pairs) (ranked_is lt (before_weak c.args.moment) c.self.inside.pairs.items),
-      search rules,
-    )
+    (rw c.reorder_in.ensures.pairs (ranked_is _ (before_weak c.args.moment) c.self.inside.pairs.items), search rules)
 
 pub returns-else-moment-self-clause-pairs : goal.returns-else-moment-self-clause-pairs
 returns-else-moment-self-clause-pairs c =

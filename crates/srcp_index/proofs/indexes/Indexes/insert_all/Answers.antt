@@ -1,6 +1,5 @@
-use Rattle.srcp_rules.proofs.Names.{sym, ap, ◌∙◌, length, arith, holder_of}
+use Rattle.srcp_rules.proofs.Names.{sym, ◌∙◌, arith, holder_of}
 use Rattle.std.proofs.lemmas.List.Sums.{fold_more}
-use Rattle.srcp_index.specs.declared.indexes.Indexes.{Indexes}
 use Rattle.srcp_index.specs.Indexed.{due_of, row_edited}
 use Rattle.srcp_index.specs.Ordered.{insert_by}
 use Rattle.srcp_index.proofs.RankLaws.{longer}
@@ -15,14 +14,6 @@ loop-row-preserved c =
       both = c.insert.ensures ∙ (λ i. row_edited insert_by (c.row-item.is i) (inv.both i))
           ∙ sym (fold_more (λ both other. row_edited insert_by other both) c.args.self.now c.args.rows.now c.loop-row.row-index row
           c.loop-row-test.true);
-      moments = (let e = ap (λ (b : Indexes). length b.moments.pairs) c.insert.ensures in
-          let r = ap (λ (b : Indexes). b.moments.room) c.insert.ensures in
-          let l = longer (due_of row) row.shown.key before.moments in
-          let h = inv.moments in
-          omega arith);
-      sessions = (let e = ap (λ (b : Indexes). length b.sessions.pairs) c.insert.ensures in
-          let r = ap (λ (b : Indexes). b.sessions.room) c.insert.ensures in
-          let l = longer (holder_of row) row.shown.key before.sessions in
-          let h = inv.sessions in
-          omega arith);
+      moments = grind (arith, longer (due_of row) row.shown.key before.moments);
+      sessions = grind (arith, longer (holder_of row) row.shown.key before.sessions);
     }
