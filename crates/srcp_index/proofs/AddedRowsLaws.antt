@@ -1,13 +1,13 @@
 -- Laws of the rows with both indexes: rows that are added.
 use Rattle.srcp_rules.proofs.Names
 use Names.{◌≡◌, ℕ, ◌+◌, ◌≤◌, Bool, false, not, find, filter, is_some, List, [], ◌∷◌, Option, None, AllByRecursion, Less, refl}
-use Names.{sym, ap, subst, ◌∙◌, arith, sum_by-cons, Key, Device, Row, key_cmp, all_put, rising_put, Bus, row_count, key_at}
+use Names.{ap, subst, ◌∙◌, arith, sum_by-cons, Key, Device, Row, key_cmp, all_put, rising_put, Bus, row_count, key_at}
 use Names.{State, IsRising, IsRowOf, row_at, put_row, holder_of, AreNewRowsOf, put_rows, weaken}
 use Rattle.srcp_rules.proofs.KeyLaws.{same_key}
 use Rattle.srcp_rules.proofs.StateLaws.{row_key, row_at-put_other}
 use Rattle.srcp_rules.proofs.NewDeviceLaws.{ports_from, ports_rise}
 use Rattle.srcp_index.specs.declared.indexes.Indexes.{Indexes}
-use Rattle.srcp_index.specs.Indexed.{IsIndexed, HasPairs, IsRankedRow, due_of, removable_rows, row_edited, with_rows}
+use Rattle.srcp_index.specs.Indexed.{IsIndexed, IsRankedRow, due_of, removable_rows, row_edited, with_rows}
 use Rattle.srcp_index.specs.Ordered.{insert_by}
 use Rattle.srcp_index.proofs.RowSums.{but_at, removable_count, sum-put_row}
 use Rattle.srcp_index.proofs.PairsOfRows.{with_pairs}
@@ -41,14 +41,11 @@ module _ (buses : List Bus) where
       → IsIndexed (put_row row state) (row_edited insert_by row both) (count + removable_count row)
   one_added row state both count fresh of due_room held_room h =
       let more = count + removable_count row in
-      let same = sym (but_at_none row.shown.key state fresh) in
+      let same = but_at_none row.shown.key state fresh in
       record {
         rising = rising_put row_key row state h.rising;
-        due = with_pairs due_of row state both.moments more
-            (subst (λ rows. HasPairs due_of rows both.moments more) same (with_room due_of state _ both.moments count more refl refl due_room h.due));
-        held = with_pairs holder_of row state both.sessions more
-            (subst (λ rows. HasPairs holder_of rows both.sessions more) same
-            (with_room holder_of state _ both.sessions count more refl refl held_room h.held));
+        due = with_pairs due_of row state _ more (rw same (with_room due_of state _ _ count more refl refl due_room h.due));
+        held = with_pairs holder_of row state _ more (rw same (with_room holder_of state _ _ count more refl refl held_room h.held));
         since = h.since;
         counted = omega (arith, sum-put_row removable_count row state, ap removable_rows same, h.counted);
         rows = all_put row_key IsRankedRow row state (ranked_row buses row of) h.rows;

@@ -4,7 +4,8 @@ use Rattle.srcp_index.proofs.indexed.IndexedRows.drop_device.Goals.{in-Some, in_
 use Rattle.srcp_index.proofs.indexed.IndexedRows.drop_device.Goals as goal
 
 pub loop-port-init : goal.loop-port-init
-loop-port-init g c = record { rows = refl; indexed = rw (but_below-none c.args.device (g.R.Rows.state c.self.inside.rows)) c.self.invariant }
+loop-port-init g c =
+    record { rows = refl; indexed = rw (but_below-none c.args.device (g.R.Rows.state c.self.inside.rows)) c.self.invariant }
 
 pub overflow_sub-self : goal.overflow_sub-self
 overflow_sub-self g c =
