@@ -1,26 +1,19 @@
-use Rattle.std.proofs.Common.{ℕ, arith, length-append}
+use Rattle.std.proofs.Common.{arith, length-append}
 use Rattle.srcp_text.proofs.StampLaws.{length-stamp-le}
 use Rattle.srcp_info.proofs.LineLaws.{id_most}
 use Rattle.srcp_info.proofs.write.write_go.Goals as goal
 
 pub put_stamp-requires : goal.put_stamp-requires
-put_stamp-requires g c = rw c.requires.empty (omega (arith, c.requires.fits, length-stamp-le c.args.stamp (omega arith)))
+put_stamp-requires g c = grind (arith, length-stamp-le c.args.stamp)
 
 pub put_word-requires : goal.put_word-requires
-put_word-requires g c =
-    rw (c.put_stamp.ensures, c.requires.empty) (omega (arith, c.requires.fits, length-stamp-le c.args.stamp (omega arith)))
+put_word-requires g c = grind (arith, length-append, length-stamp-le c.args.stamp)
 
 pub put_numeral-requires : goal.put_numeral-requires
-put_numeral-requires g c =
-    rw (c.put_word.ensures, c.put_stamp.ensures, c.requires.empty)
-    (omega (arith, c.requires.fits, length-append {A = ℕ}, length-stamp-le c.args.stamp (omega arith), id_most c.args.id (omega arith)))
+put_numeral-requires g c = grind (arith, length-append, length-stamp-le c.args.stamp, id_most c.args.id)
 
 pub push-requires : goal.push-requires
-push-requires g c =
-    rw (c.put_numeral.ensures, c.put_word.ensures, c.put_stamp.ensures, c.requires.empty)
-    (omega (arith, c.requires.fits, length-append {A = ℕ}, length-stamp-le c.args.stamp (omega arith), id_most c.args.id (omega arith)))
+push-requires g c = grind (arith, length-append, length-stamp-le c.args.stamp, id_most c.args.id)
 
 pub returns-clause-most : goal.returns-clause-most
-returns-clause-most g c =
-    rw (c.push.ensures.items, c.put_numeral.ensures, c.put_word.ensures, c.put_stamp.ensures, c.requires.empty)
-    (omega (arith, c.requires.fits, length-append {A = ℕ}, length-stamp-le c.args.stamp (omega arith), id_most c.args.id (omega arith)))
+returns-clause-most g c = grind (arith, length-append, length-stamp-le c.args.stamp, id_most c.args.id)

@@ -1,21 +1,15 @@
-use Rattle.std.proofs.Common.{ℕ, arith, length-append}
+use Rattle.std.proofs.Common.{arith, length-append}
 use Rattle.srcp_text.proofs.StampLaws.{length-stamp-le}
 use Rattle.srcp_info.proofs.write.write_text.Goals as goal
 
 pub put_stamp-requires : goal.put_stamp-requires
-put_stamp-requires g c = rw c.requires.empty (omega (arith, c.requires.fits, length-stamp-le c.args.stamp (omega arith)))
+put_stamp-requires g c = grind (arith, length-stamp-le c.args.stamp)
 
 pub put_word-requires : goal.put_word-requires
-put_word-requires g c =
-    rw (c.put_stamp.ensures, c.requires.empty)
-    (omega (arith, c.requires.fits, c.requires.short, length-stamp-le c.args.stamp (omega arith)))
+put_word-requires g c = grind (arith, length-append, length-stamp-le c.args.stamp)
 
 pub push-requires : goal.push-requires
-push-requires g c =
-    rw (c.put_word.ensures, c.put_stamp.ensures, c.requires.empty)
-    (omega (arith, c.requires.fits, length-append {A = ℕ}, c.requires.short, length-stamp-le c.args.stamp (omega arith)))
+push-requires g c = grind (arith, length-append, length-stamp-le c.args.stamp)
 
 pub returns-clause-most : goal.returns-clause-most
-returns-clause-most g c =
-    rw (c.push.ensures.items, c.put_word.ensures, c.put_stamp.ensures, c.requires.empty)
-    (omega (arith, c.requires.fits, length-append {A = ℕ}, c.requires.short, length-stamp-le c.args.stamp (omega arith)))
+returns-clause-most g c = grind (arith, length-append, length-stamp-le c.args.stamp)
