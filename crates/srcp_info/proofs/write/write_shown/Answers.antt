@@ -1,6 +1,4 @@
-use Rattle.std.proofs.Common.{ℕ, ◌++◌, ap, sym, arith, rules, length-append, append_assoc}
-use lib.Chars.{codes}
-use Rattle.srcp_info.specs.Line.{value_words, value_code}
+use Rattle.std.proofs.Common.{arith, length-append, append_assoc}
 use Rattle.srcp_info.proofs.LineLaws.{room_row, info_more, length-line-le}
 use Rattle.srcp_info.specs.declared.change.Change.TheVariants.{Put}
 use Rattle.srcp_info.proofs.write.write_shown.Goals as goal
