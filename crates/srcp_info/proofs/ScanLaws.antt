@@ -42,29 +42,20 @@ position_or_len-append p [] y ys e h = grind arith
 position_or_len-append p (x ∷ w) y ys e h = grind (arith, position_or_len-append p w y ys)
 
 -- what stands before the first and what stands after it
-pub before_first-append : (p : ℕ → Bool) (w : List ℕ) (y : ℕ) (ys : List ℕ) → list_any p w ≡ false → p y ≡ true
-    → before_first p (w ++ y ∷ ys) ≡ w
-before_first-append p w y ys e h = grind (arith, position_or_len-append, take-append_seam)
-
-pub after_first-append : (p : ℕ → Bool) (w : List ℕ) (y : ℕ) (ys : List ℕ) → list_any p w ≡ false → p y ≡ true
-    → after_first p (w ++ y ∷ ys) ≡ ys
-after_first-append p w y ys e h = grind (arith, position_or_len-append, drop-append-add)
+pub cut_at : (p : ℕ → Bool) (w : List ℕ) (y : ℕ) (ys : List ℕ) → list_any p w ≡ false → p y ≡ true
+    → (before_first p (w ++ y ∷ ys) ≡ w) × (after_first p (w ++ y ∷ ys) ≡ ys)
+cut_at p w y ys e h = grind (arith, position_or_len-append, take-append_seam, drop-append-add)
 
 -- and if none passes, all of it and nothing
-pub before_first-none : (p : ℕ → Bool) (w : List ℕ) → list_any p w ≡ false → before_first p w ≡ w
-before_first-none p w e = grind (arith, take_all, position_or_len-none)
-
-pub after_first-none : (p : ℕ → Bool) (w : List ℕ) → list_any p w ≡ false → after_first p w ≡ []
-after_first-none p w e = grind (arith, drop_all, position_or_len-none)
+pub cut_nowhere : (p : ℕ → Bool) (w : List ℕ) → list_any p w ≡ false → (before_first p w ≡ w) × (after_first p w ≡ [])
+cut_nowhere p w e = grind (arith, take_all, drop_all, position_or_len-none)
 
 -- so a word is cut off the words that spaces join
-pub before_first-join : (w : List ℕ) (ws : List (List ℕ)) → list_any is_space w ≡ false
-    → before_first is_space (join_with_byte 32 (w ∷ ws)) ≡ w
-before_first-join w ws e = grind (arith, before_first-none, before_first-append)
-
-pub after_first-join : (w : List ℕ) (ws : List (List ℕ)) → list_any is_space w ≡ false
-    → after_first is_space (join_with_byte 32 (w ∷ ws)) ≡ join_with_byte 32 ws
-after_first-join w ws e = grind (arith, after_first-none, after_first-append)
+pub cut_join : (w : List ℕ) (ws : List (List ℕ)) → list_any is_space w ≡ false
+    → (before_first is_space (join_with_byte 32 (w ∷ ws)) ≡ w)
+    × (after_first is_space (join_with_byte 32 (w ∷ ws)) ≡ join_with_byte 32 ws)
+cut_join w [] e = cut_nowhere is_space w e
+cut_join w (v ∷ ws) e = cut_at is_space w 32 (join_with_byte 32 (v ∷ ws)) e refl
 
 -- ---- words without a space
 
@@ -89,19 +80,13 @@ kind_no_space kind = grind arith
 pub number_of-decimal : (max n : ℕ) → n ≤ max → n < 2 ^ 64 → number_of max (decimal n) ≡ Some n
 number_of-decimal max n le h = rw (has_leading_zero-decimal n h) at (plain_number_of-decimal max n le h)
 
--- the seconds of a stamp stand before its point
-pub before_first-stamp : (moment : ℕ) → moment < 2 ^ 64 → before_first (λ byte. byte == 46) (stamp moment) ≡ decimal (moment / 1000)
-before_first-stamp moment h =
-    let small : moment / 1000 < 2 ^ 64 = omega arith in
-    before_first-append (λ byte. byte == 46) (decimal (moment / 1000)) 46 (three_digits (moment % 1000))
-    (digits_free (λ byte. byte == 46) digit_no_point (decimal (moment / 1000)) (digits_decimal own (moment / 1000) small)) refl
-
--- and its thousandths after it
-pub after_first-stamp : (moment : ℕ) → moment < 2 ^ 64 → after_first (λ byte. byte == 46) (stamp moment) ≡ three_digits (moment % 1000)
-after_first-stamp moment h =
-    let small : moment / 1000 < 2 ^ 64 = omega arith in
-    after_first-append (λ byte. byte == 46) (decimal (moment / 1000)) 46 (three_digits (moment % 1000))
-    (digits_free (λ byte. byte == 46) digit_no_point (decimal (moment / 1000)) (digits_decimal own (moment / 1000) small)) refl
+-- the seconds of a stamp stand before its point, and its thousandths after it
+pub cut_stamp : (moment : ℕ) → moment < 2 ^ 64 → (before_first (λ byte. byte == 46) (stamp moment) ≡ decimal (moment / 1000))
+    × (after_first (λ byte. byte == 46) (stamp moment) ≡ three_digits (moment % 1000))
+cut_stamp moment h =
+    let digits = digits_decimal own (moment / 1000) (omega arith) in
+    cut_at (λ byte. byte == 46) (decimal (moment / 1000)) 46 (three_digits (moment % 1000))
+    (digits_free (λ byte. byte == 46) digit_no_point (decimal (moment / 1000)) digits) refl
 
 -- and they are read as such
 pub seconds_again : (moment : ℕ) → moment < 2 ^ 64 → plain_number_of 18446744073709551 (decimal (moment / 1000)) ≡ Some (moment / 1000)
