@@ -14,7 +14,10 @@ use Rattle.srcp_info.specs.declared.value.Value.TheVariants.{Session, Power, GlI
 use Rattle.srcp_info.specs.declared.scan.InfoKind.{InfoKind}
 use Rattle.srcp_info.specs.declared.scan.InfoKind.TheVariants.{State, Init, Term}
 use Rattle.srcp_info.specs.declared.change.Change.{Change}
-use Rattle.srcp_info.specs.Line.{line, change_words, value_code, value_words, switch_word}
+use Rattle.srcp_info.specs.declared.change.Change.TheVariants.{Put, Gone}
+use Rattle.srcp_info.specs.declared.key.Device.{Device}
+use Rattle.srcp_info.specs.declared.change.Shown.{Shown}
+use Rattle.srcp_info.specs.Line.{line, change_words, info_words, value_code, value_words, switch_word}
 use Rattle.srcp_info.specs.Read.{kind_code, IsLineOf}
 use Rattle.srcp_info.specs.WellFormed.{IsWellFormed, IsAddress}
 
@@ -43,6 +46,12 @@ value_kind value = grind arith
 pub value_not_term : (value : Value) → kind_of_value value ≡ Term → ⊥
 value_not_term value e = grind arith
 
+-- a change puts a row, or tells that a device is gone
+pub by_change : (P : Change → Type 0) → ((shown : Shown) → P (Put shown)) → ((moment : ℕ) (device : Device) → P (Gone moment device))
+    → (change : Change) → P change
+by_change P put gone (Put shown) = put shown
+by_change P put gone (Gone moment device) = gone moment device
+
 -- a bus fits a byte, and an address 32 bits
 pub device_fits : (g : Group) (bus address : ℕ) → IsAddress g bus address → (bus < 2 ^ 8) × (address < 2 ^ 32)
 device_fits g bus address h = grind arith
@@ -50,6 +59,12 @@ device_fits g bus address h = grind arith
 -- the words of a text's change, with spaces between them, are the text
 pub text_of_line : (text : List ℕ) (change : Change) → IsLineOf text change → text ≡ join_with_byte 32 (change_words change)
 text_of_line text change is = grind (arith, same_from_push)
+
+-- so is that of a row, with the number that tells what it is about
+pub text_of_row : (text : List ℕ) (shown : Shown) → IsLineOf text (Put shown)
+    → text ≡ join_with_byte 32 (info_words shown.stamp (kind_code (kind_of_value shown.value)) shown.key.bus shown.key.group
+    (value_words shown.key.address shown.key.port shown.value))
+text_of_row text shown is = rw (← value_kind shown.value) (text_of_line text (Put shown) is)
 
 -- what follows ON or OFF in the line of a power row is its text
 pub power_text : (on : Bool) (text whole : List ℕ) → whole ≡ join_with_byte 32 (value_words 0 0 (Power on text))
