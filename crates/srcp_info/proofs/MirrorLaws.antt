@@ -10,7 +10,7 @@ use Rattle.std.specs.Ordering.{nat_cmp, ordering_then, is_gt}
 use Rattle.std.specs.declared.cmp.Ordering.{Ordering}
 use Rattle.std.specs.declared.cmp.Ordering.TheVariants.{Less, Equal, Greater}
 use Rattle.std.specs.declared.ops.Bound.TheVariants.{Included, Unbounded}
-use Rattle.std.proofs.Common.{refl, ap, sym, subst, ◌∙◌, arith}
+use Rattle.std.proofs.Common.{refl, ap, sym, subst, arith}
 use Rattle.std.proofs.lemmas.Bool.{both_ways, false_from_ne_true}
 use Rattle.std.proofs.lemmas.Map.Keys.{sorted_head, sorted_tail}
 use Rattle.srcp_info.specs.declared.key.Key.{Key}
@@ -59,25 +59,17 @@ at_keys-insert x (e ∷ es) h = grind (arith, common_steps, key_tie, at_keys-ins
 pub values-insert : (x : Shown) (es : Entries) → AreAtKeys es → IsRisingBy key_at (values_of es)
     → values_of (insert_entry key_cmp es x.key x) ≡ put x (values_of es)
 values-insert x [] h r = refl
-values-insert x (e ∷ es) h r = by_order (values-insert x es h.1 r.1) (key_cmp x.key e.0) refl
+values-insert x (e ∷ es) h r = rw h.0 (by (values-insert x es h.1 r.1) (key_cmp x.key e.1.key) refl)
   where
-    high : (k : Key) → key_cmp k e.1.key ≡ Less → AreAbove k (values_of es)
-    high k less =
-        all_weaker (λ row. key_cmp e.1.key row.key ≡ Less) (λ row. key_cmp k row.key ≡ Less)
-        (λ row more. key_cmp_total.trans k e.1.key row.key less more) (values_of es) r.0
-
-    by_order : values_of (insert_entry key_cmp es x.key x) ≡ put x (values_of es) → (o : Ordering) → key_cmp x.key e.0 ≡ o
-        → values_of (insert_entry key_cmp (e ∷ es) x.key x) ≡ put x (values_of (e ∷ es))
-    by_order more Less lt =
-        let less = subst (λ (k : Key). key_cmp x.key k ≡ Less) h.0 lt in
-        rw lt (sym (put_between key_at x [] (values_of (e ∷ es)) tt (less, high x.key less)))
-    by_order more Equal eq =
-        let same : e.1.key ≡ x.key = sym h.0 ∙ sym (key_tie x.key e.0 eq) in
-        rw eq (sym (put_over key_at x [] e.1 (values_of es) same tt (subst (λ (k : Key). AreAbove k (values_of es)) same r.0)))
-    by_order more Greater gt =
-        let after : is_after x.key e.1.key ≡ true = ap is_gt (subst (λ (k : Key). key_cmp x.key k ≡ Greater) h.0 gt) in
-        let before : is_after e.1.key x.key ≡ false = after_one_way x.key e.1.key after in
-        rw (gt, after, before) (ap (λ (rows : List Shown). e.1 ∷ rows) more)
+    by : values_of (insert_entry key_cmp es x.key x) ≡ put x (values_of es) → (o : Ordering) → key_cmp x.key e.1.key ≡ o
+        → values_of (insert_entry key_cmp ((e.1.key, e.1) ∷ es) x.key x) ≡ put x (values_of (e ∷ es))
+    by more Less lt =
+        let high = all_weaker _ _ (λ row above. key_cmp_total.trans x.key e.1.key row.key lt above) (values_of es) r.0 in
+        rw lt (sym (rw lt at (put_between key_at x [] (values_of (e ∷ es)) tt (lt, high))))
+    by more Equal eq =
+        let same = sym (key_tie x.key e.1.key eq) in
+        rw eq (sym (rw eq at (put_over key_at x [] e.1 (values_of es) same tt (subst (λ (k : Key). AreAbove k (values_of es)) same r.0))))
+    by more Greater gt = rw (gt, after_one_way x.key e.1.key (ap is_gt gt)) (ap (λ (rows : List Shown). e.1 ∷ rows) more)
 
 -- it is one more if its key is not there
 pub length-insert : (k : Key) (v : Shown) (es : Entries) → lookup (is_at (key_cmp k)) es ≡ None

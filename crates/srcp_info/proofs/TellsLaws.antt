@@ -1,9 +1,7 @@
 -- Laws of what the words of a line tell.
 use Rattle.std.proofs.lemmas.Grind.{common_steps}
-use Rattle.std.specs.Prelude.{◌≡◌, ℕ, ◌^◌, ◌<◌, ◌-◌, Bool, List, ◌∷◌, length, take, Option, Result}
+use Rattle.std.specs.Prelude.{◌≡◌, ℕ, ◌^◌, ◌<◌, ◌-◌, Bool, List, ◌∷◌, length, take}
 use Rattle.std.specs.List.{join_with_byte}
-use Rattle.std.specs.Option.{SomeIff, unwrap_or}
-use Rattle.std.specs.Result.{OkIff, result_unwrap_or}
 use Rattle.std.proofs.Common.{arith}
 use Rattle.std.proofs.lemmas.Bool.{cases_Bool, eqb-true}
 use Rattle.std.proofs.lemmas.List.{nil_from_length, same_from_push, length-append}
@@ -20,13 +18,6 @@ use Rattle.srcp_info.specs.declared.change.Shown.{Shown}
 use Rattle.srcp_info.specs.Line.{line, change_words, info_words, value_code, value_words, switch_word}
 use Rattle.srcp_info.specs.Read.{kind_code, IsLineOf}
 use Rattle.srcp_info.specs.WellFormed.{IsWellFormed, IsAddress}
-
--- what was taken if it fits, or another value, is it if it fits
-pub taken_fits : {E : Type 0} (r : Result ℕ E) (P : Type 0) (v d : ℕ) → OkIff r P v → P → result_unwrap_or r d ≡ v
-taken_fits k P v d h p = grind arith
-
-pub some_fits : {X : Type 0} (o : Option X) (P : Type 0) (v d : X) → SomeIff o P v → P → unwrap_or o d ≡ v
-some_fits k P v d h p = grind arith
 
 -- what the line of a row with this value is about
 abbrev pub kind_of_value : Value → InfoKind

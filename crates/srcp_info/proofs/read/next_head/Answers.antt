@@ -1,11 +1,10 @@
-use Rattle.std.proofs.Common.{◌<◌, ◌∷◌, ◌++◌, ◌∙◌, refl, arith}
+use Rattle.std.proofs.Common.{◌≡◌, ◌∷◌, ◌++◌, refl, arith}
 use Rattle.std.specs.Fmt.{decimal}
 use lib.Chars.{codes}
 use Rattle.srcp_text.specs.Stamp.{stamp}
 use Rattle.srcp_info.specs.Line.{group_words}
 use Rattle.srcp_info.specs.Read.{kind_code}
 use Rattle.srcp_info.proofs.ScanLaws.{stamp_no_space, kind_no_space}
-use Rattle.srcp_info.proofs.TellsLaws.{taken_fits}
 use Rattle.srcp_info.proofs.read.next_head.Goals as goal
 
 pub returns : goal.returns
@@ -20,9 +19,5 @@ returns c = λ moment kind bus group more small byte is.
     let five = c.next_group-group.ensures group more four.1 in
     let six = c.moment_of.ensures moment small one.0 in
     let seven = c.kind_of.ensures kind two.0 in
-    let eight =
-    c.unwrap_or.ensures
-    ∙ taken_fits c.try_from.result (c.next_number-bus.result.0 < 256) c.next_number-bus.result.0 0 c.try_from.ensures
-    (omega (arith, four.0))
-    ∙ four.0 in
+    let eight : c.unwrap_or.result ≡ bus = grind arith in
     (λ i. record { moment = six i; kind = seven i; bus = eight i; group = five.0 i }, five.1)

@@ -1,7 +1,6 @@
-use Rattle.std.proofs.Common.{◌≡◌, ◌-◌, ◌<◌, [], ◌∷◌, arith, ◌∙◌}
+use Rattle.std.proofs.Common.{◌-◌, [], ◌∷◌, arith}
 use Rattle.std.specs.Fmt.{decimal}
 use Rattle.srcp_info.specs.Line.{bit_word}
-use Rattle.srcp_info.proofs.TellsLaws.{taken_fits}
 use Rattle.srcp_info.proofs.read.read_ga_port.Goals as goal
 
 pub returns : goal.returns
@@ -9,9 +8,4 @@ returns c = λ address port on small least most is.
     let one = c.next_number-address.ensures address (decimal (port - 1) ∷ bit_word on ∷ []) small is in
     let two = c.next_number-port.ensures (port - 1) (bit_word on ∷ []) (omega arith) one.1 in
     let three = c.next_bit-on.ensures on [] two.1 in
-    let byte =
-    c.unwrap_or.ensures
-    ∙ taken_fits c.try_from.result (c.next_number-port.result.0 < 256) c.next_number-port.result.0 255 c.try_from.ensures
-    (omega (arith, two.0)) in
-    let same : c.saturating_add-port.result ≡ port = omega (arith, c.saturating_add-port.ensures, byte, two.0) in
-    cc
+    grind (arith, one.0, two.0, three.0)

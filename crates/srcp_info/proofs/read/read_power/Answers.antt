@@ -1,5 +1,5 @@
-use Rattle.std.proofs.Common.{◌≤◌, length, ◌∙◌}
-use Rattle.srcp_info.proofs.TellsLaws.{power_text, some_fits}
+use Rattle.std.proofs.Common.{arith, ◌∙◌}
+use Rattle.srcp_info.proofs.TellsLaws.{power_text}
 use Rattle.srcp_info.proofs.read.read_power.Goals as goal
 
 pub returns : goal.returns
@@ -7,9 +7,4 @@ returns c = λ on shown short is.
     let words = power_text on shown c.args.text.now is in
     let one = c.next_switch-on.ensures on words.0 words.1 in
     let same = one.1 ∙ words.2 in
-    let text =
-    c.unwrap_or-text.ensures
-    ∙ some_fits c.from_bytes.result
-    (length c.next_switch-on.result.1.now ≤ 80) c.next_switch-on.result.1.now c.new.result c.from_bytes.ensures (rw same short)
-    ∙ same in
-    cc
+    grind (arith, one.0, same)
