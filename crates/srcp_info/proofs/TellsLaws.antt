@@ -8,7 +8,7 @@ use Rattle.std.proofs.lemmas.List.{nil_from_length, same_from_push, length-appen
 use Rattle.std.proofs.Math.Seq.{take-append_seam}
 use Rattle.srcp_info.specs.declared.key.Group.{Group}
 use Rattle.srcp_info.specs.declared.value.Value.{Value}
-use Rattle.srcp_info.specs.declared.value.Value.TheVariants.{Session, Power, GlInit, GlState, GaInit, GaPort, Fb, Lock}
+use Rattle.srcp_info.specs.declared.value.Value.TheVariants.{Session, Power, GlInit, GaInit}
 use Rattle.srcp_info.specs.declared.scan.InfoKind.{InfoKind}
 use Rattle.srcp_info.specs.declared.scan.InfoKind.TheVariants.{State, Init, Term}
 use Rattle.srcp_info.specs.declared.change.Change.{Change}
@@ -22,13 +22,9 @@ use Rattle.srcp_info.specs.WellFormed.{IsWellFormed, IsAddress}
 -- what the line of a row with this value is about
 abbrev pub kind_of_value : Value → InfoKind
 kind_of_value (Session mode) = Init
-kind_of_value (Power on text) = State
 kind_of_value (GlInit letter version steps functions) = Init
-kind_of_value (GlState mode v vmax functions) = State
 kind_of_value (GaInit letter) = Init
-kind_of_value (GaPort on) = State
-kind_of_value (Fb on) = State
-kind_of_value (Lock seconds session) = State
+kind_of_value other = State
 
 pub value_kind : (value : Value) → value_code value ≡ kind_code (kind_of_value value)
 value_kind value = grind arith

@@ -1,4 +1,4 @@
-use Rattle.std.proofs.Common.{◌∙◌, sym, ap, ◌++◌, Bool, List}
+use Rattle.std.proofs.Common.{arith, ◌∙◌, sym}
 use Rattle.std.proofs.lemmas.List.{append-nil}
 use Rattle.srcp_info.proofs.ScanLaws.{bits_none, bits_step}
 use Rattle.srcp_info.proofs.scan.functions_of.Goals as goal
@@ -14,4 +14,4 @@ pub returns-after-loop-functions : goal.returns-after-loop-functions
 returns-after-loop-functions c = λ functions few is.
     let so_far = c.loop-functions.invariant functions few is in
     let none = bits_none so_far.0 c.loop-functions.rest.now so_far.2 (sym c.is_empty.ensures ∙ c.loop-functions-test.false) in
-    sym (so_far.1 ∙ ap (λ (ys : List Bool). c.loop-functions.functions ++ ys) none ∙ append-nil c.loop-functions.functions)
+    grind (arith, so_far.1, none, append-nil)

@@ -46,49 +46,31 @@ device_gone device old new is h =
 
 pub returns-in_default-clause-memory : goal.returns-in_default-clause-memory
 returns-in_default-clause-memory c same =
-    let shown = c.in-Some-Put.shown in
-    let more = one_more shown c.self.inside.by_key.entries c.insert.ensures.was_ordered c.self.invariant.0 c.in_default.ensures.absent in (
-      shown,
-      rw c.in-Some-Put.field-0-is at c.in-Some-Put.ensures,
-      rw (← c.self.view_is) more,
-    )
+    let more = one_more c.in-Some-Put.shown _ c.insert.ensures.was_ordered c.self.invariant.0 c.in_default.ensures.absent in
+    (c.in-Some-Put.shown, rw c.in-Some-Put.field-0-is at c.in-Some-Put.ensures, rw (← c.self.view_is) more)
 
 pub invariant_of-self-in-Some-Put : goal.invariant_of-self-in-Some-Put
 invariant_of-self-in-Some-Put c =
     let shown = c.in-Some-Put.shown in
-    let old = c.self.inside.by_key.entries in
-    let new = c.insert.new.self.entries in
-    let now = row_put shown old new c.insert.ensures.was_ordered c.in-Ok.ensures.entries c.self.invariant.0 in
+    let now = row_put shown _ _ c.insert.ensures.was_ordered c.in-Ok.ensures.entries c.self.invariant.0 in
     let told = rw c.in-Some-Put.field-0-is at c.in-Some-Put.ensures in
-    rows_after (Put shown) old new told.well_formed now.0 now.1 c.self.invariant
+    rows_after (Put shown) _ _ told.well_formed now.0 now.1 c.self.invariant
 
 pub returns-in-Ok-clause-ok : goal.returns-in-Ok-clause-ok
 returns-in-Ok-clause-ok c =
     let shown = c.in-Some-Put.shown in
-    let old = c.self.inside.by_key.entries in
-    let new = c.insert.new.self.entries in
-    let now = row_put shown old new c.insert.ensures.was_ordered c.in-Ok.ensures.entries c.self.invariant.0 in (
-      Put shown,
-      rw c.in-Some-Put.field-0-is at c.in-Some-Put.ensures,
-      now.1 ∙ ap (put shown) c.self.view_is,
-    )
+    let now = row_put shown _ _ c.insert.ensures.was_ordered c.in-Ok.ensures.entries c.self.invariant.0 in
+    (Put shown, rw c.in-Some-Put.field-0-is at c.in-Some-Put.ensures, now.1 ∙ ap (put shown) c.self.view_is)
 
 pub invariant_of-self-in-Some-Gone : goal.invariant_of-self-in-Some-Gone
 invariant_of-self-in-Some-Gone c =
-    let device = c.in-Some-Gone.device in
-    let gone = Gone c.in-Some-Gone.field-0-0 device in
-    let old = c.self.inside.by_key.entries in
-    let new = c.drop_device.new.by_key.entries in
-    let now = device_gone device old new c.drop_device.ensures c.self.invariant.0 in
+    let gone = Gone c.in-Some-Gone.field-0-0 c.in-Some-Gone.device in
+    let now = device_gone c.in-Some-Gone.device _ _ c.drop_device.ensures c.self.invariant.0 in
     let told = rw c.in-Some-Gone.field-0-is at c.in-Some-Gone.ensures in
-    rows_after gone old new told.well_formed now.0 now.1 c.self.invariant
+    rows_after gone _ _ told.well_formed now.0 now.1 c.self.invariant
 
 pub returns-in-Some-Gone-clause-ok : goal.returns-in-Some-Gone-clause-ok
 returns-in-Some-Gone-clause-ok c =
-    let device = c.in-Some-Gone.device in
-    let gone = Gone c.in-Some-Gone.field-0-0 device in
-    let now = device_gone device c.self.inside.by_key.entries c.drop_device.new.by_key.entries c.drop_device.ensures c.self.invariant.0 in (
-      gone,
-      rw c.in-Some-Gone.field-0-is at c.in-Some-Gone.ensures,
-      now.1 ∙ ap (changed gone) c.self.view_is,
-    )
+    let gone = Gone c.in-Some-Gone.field-0-0 c.in-Some-Gone.device in
+    let now = device_gone c.in-Some-Gone.device _ _ c.drop_device.ensures c.self.invariant.0 in
+    (gone, rw c.in-Some-Gone.field-0-is at c.in-Some-Gone.ensures, now.1 ∙ ap (changed gone) c.self.view_is)
