@@ -52,8 +52,7 @@ module _ (device : Device) where
   but_below-none (row ∷ state) = grind (arith, but_below-none state)
 
   -- a key of the device has a port that its group may have
-  own_below : (k : Key) → k.port < most_rows k.group
-      → not (owns device k && nat_lt k.port (most_rows device.group)) ≡ not (owns device k)
+  own_below : (k : Key) → k.port < most_rows k.group → not (owns device k && nat_lt k.port (most_rows device.group)) ≡ not (owns device k)
   own_below k within = grind (arith, device_from_owns device k)
 
   pub but_below-all : (state : State) → AllByRecursion IsRankedRow state
@@ -64,12 +63,7 @@ module _ (device : Device) where
 -- a row of the device that is taken out
 module _ (state : State) (both : Indexes) (count : ℕ) (h : IsIndexed state both count) (row : Row)
     (there : row_at row.shown.key state ≡ Some row) where
-  pub one_goes : is_removable row ≡ true → 1 ≤ count
-  one_goes goes =
-      let one : removable_count row ≡ 1 = rw goes refl in
-      omega (arith, sum-there removable_count row state h.rising there, h.counted)
-
-  pub dropped_one : is_removable row ≡ true → IsIndexed (but_at row.shown.key state) (row_edited remove_by row both) (count - 1)
+  dropped_one : is_removable row ≡ true → IsIndexed (but_at row.shown.key state) (row_edited remove_by row both) (count - 1)
   dropped_one goes =
       let test = (λ (other : Row). not (same_key other.shown.key row.shown.key)) in
       let one : removable_count row ≡ 1 = rw goes refl in
@@ -111,7 +105,9 @@ module _ (device : Device) (port : ℕ) (state : State) where
       row_goes = ap (λ (k : Key). can_go k.group) same_key_there ∙ goes
 
       pub next_goes : 1 ≤ count
-      next_goes = one_goes (but_below device port state) both count h row left_there row_goes
+      next_goes =
+          let one : removable_count row ≡ 1 = rw row_goes refl in
+          omega (arith, sum-there removable_count row (but_below device port state) h.rising left_there, h.counted)
 
       pub dropped_next : IsIndexed (but_below device (port + 1) state) (row_edited remove_by row both) (count - 1)
       dropped_next =

@@ -1,6 +1,6 @@
 -- Laws of the rows with both indexes: the opening, a moment, and more room.
 use Rattle.srcp_rules.proofs.Names
-use Names.{◌≡◌, ℕ, ◌≤◌, Bool, false, List, [], ◌∷◌, length, map, Option, None, if◌then◌else◌, AllByRecursion, range_with_len, refl}
+use Names.{◌≡◌, ℕ, ◌≤◌, Bool, false, List, [], ◌∷◌, map, Option, None, if◌then◌else◌, AllByRecursion, range_with_len, refl}
 use Names.{sym, ap, ◌∙◌, arith, sum_by-cons, Row, all_append, Bus, IsLayout, power_device, fb_device, State, opening, opening_on, first_row}
 use Names.{holder_of, weaken}
 use Names.value
@@ -14,7 +14,7 @@ use Rattle.srcp_index.proofs.RowSums.{removable_count}
 use Rattle.srcp_index.specs.Indexed.{IsIndexed, due_of, removable_rows, is_removable, pairs_of}
 use Rattle.srcp_index.proofs.Pairs.{before_weak, before_tie}
 use Rattle.srcp_index.proofs.Ordered.{order_by-order_by}
-use Rattle.srcp_index.proofs.RankLaws.{ranked_row, few, with_room}
+use Rattle.srcp_index.proofs.RankLaws.{ranked_row, with_room}
 
 -- ---- the opening
 
@@ -103,9 +103,3 @@ roomier state both other count h pairs since held held_since room held_room =
       counted = h.counted;
       rows = h.rows;
     }
-
-pub few_due : (state : State) (both : Indexes) (count : ℕ) → IsIndexed state both count → length both.moments.pairs ≤ count
-few_due state both count h = omega (arith, few due_of (λ row r. r.due) state both.moments count h.rows h.due, h.counted)
-
-pub few_held : (state : State) (both : Indexes) (count : ℕ) → IsIndexed state both count → length both.sessions.pairs ≤ count
-few_held state both count h = omega (arith, few holder_of (λ row r. r.held) state both.sessions count h.rows h.held, h.counted)

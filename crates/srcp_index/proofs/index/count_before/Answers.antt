@@ -10,10 +10,8 @@ pub returns : goal.returns
 returns c =
     let lt = before c.args.since in
     let p = λ (x : Pair). lt x c.args.pair.now in
-    let pairs = c.args.pairs.now.items in
-    let count = c.partition_point.result in
     let ends = parted lt p
     (λ x y e f. true_from_ne_false (p x) (λ g. true≢false (sym f ∙ (before_weak c.args.since).chain y x c.args.pair.now e g)))
-    pairs c.requires count (search rules)
-    (λ split. IsPartitionPoint-from_clause p pairs count c.partition_point.ensures.partitioned split (λ a r f' called. search rules)) in
+    _ c.requires _ (search rules)
+    (λ split. IsPartitionPoint-from_clause p _ _ c.partition_point.ensures.partitioned split (λ a r f' called. search rules)) in
     record { bound = search rules; prefix = ends.0; back = ends.1 }

@@ -9,10 +9,8 @@ pub returns-in_err-pair : goal.returns-in_err-pair
 returns-in_err-pair c =
     let since = c.args.since in
     let p = is_passed since c.args.cursor in
-    let pairs = c.args.pairs.now.items in
-    let index = c.partition_point-index.result in
-    let first = found (before since) p (passed_first since c.args.cursor) pairs c.requires index (search rules)
-    (λ split. IsPartitionPoint-from_clause p pairs index c.partition_point-index.ensures.partitioned split (λ a r f' called. search rules))
+    let first = found (before since) p (passed_first since c.args.cursor) _ c.requires _ (search rules)
+    (λ split. IsPartitionPoint-from_clause p _ _ c.partition_point-index.ensures.partitioned split (λ a r f' called. search rules))
     (is_due_beyond since c.args.cursor) (passed_not_due since c.args.cursor) (λ x y. due_stops y.rank x.rank _ since _ _) in
     c.from_residual.ensures ∙ first.0 (search rules)
 
@@ -20,10 +18,8 @@ pub returns : goal.returns
 returns c =
     let since = c.args.since in
     let p = is_passed since c.args.cursor in
-    let pairs = c.args.pairs.now.items in
-    let index = c.partition_point-index.result in
     let pair = c.in_ok-pair.field-0.now in
-    let first = found (before since) p (passed_first since c.args.cursor) pairs c.requires index (search rules)
-    (λ split. IsPartitionPoint-from_clause p pairs index c.partition_point-index.ensures.partitioned split (λ a r f' called. search rules))
+    let first = found (before since) p (passed_first since c.args.cursor) _ c.requires _ (search rules)
+    (λ split. IsPartitionPoint-from_clause p _ _ c.partition_point-index.ensures.partitioned split (λ a r f' called. search rules))
     (is_due_beyond since c.args.cursor) (passed_not_due since c.args.cursor) (λ x y. due_stops y.rank x.rank _ since _ _) in
     c.then_some.ensures ∙ ap (λ b. then_some b pair) c.is_due_beyond.ensures ∙ first.1 pair (search rules) c.in_ok-pair.ensures.lookup

@@ -9,10 +9,8 @@ pub returns-in_err-pair : goal.returns-in_err-pair
 returns-in_err-pair c =
     let rank = c.args.rank in
     let p = λ (x : Pair). nat_lt x.rank rank in
-    let pairs = c.args.pairs.now.items in
-    let index = c.partition_point-index.result in
-    let first = found (before 0) p (λ x y. lower_first y.rank x.rank _ rank) pairs c.requires index (search rules)
-    (λ split. IsPartitionPoint-from_clause p pairs index c.partition_point-index.ensures.partitioned split (λ a r f' called. search rules))
+    let first = found (before 0) p (λ x y. lower_first y.rank x.rank _ rank) _ c.requires _ (search rules)
+    (λ split. IsPartitionPoint-from_clause p _ _ c.partition_point-index.ensures.partitioned split (λ a r f' called. search rules))
     (λ x. x.rank == rank) (λ x e. grind arith) (λ x y. rank_stops y.rank x.rank _ rank) in
     c.from_residual.ensures ∙ first.0 (search rules)
 
@@ -20,9 +18,7 @@ pub returns : goal.returns
 returns c =
     let rank = c.args.rank in
     let p = λ (x : Pair). nat_lt x.rank rank in
-    let pairs = c.args.pairs.now.items in
-    let index = c.partition_point-index.result in
-    let first = found (before 0) p (λ x y. lower_first y.rank x.rank _ rank) pairs c.requires index (search rules)
-    (λ split. IsPartitionPoint-from_clause p pairs index c.partition_point-index.ensures.partitioned split (λ a r f' called. search rules))
+    let first = found (before 0) p (λ x y. lower_first y.rank x.rank _ rank) _ c.requires _ (search rules)
+    (λ split. IsPartitionPoint-from_clause p _ _ c.partition_point-index.ensures.partitioned split (λ a r f' called. search rules))
     (λ x. x.rank == rank) (λ x e. grind arith) (λ x y. rank_stops y.rank x.rank _ rank) in
     c.then_some.ensures ∙ first.1 c.in_ok-pair.field-0.now (search rules) c.in_ok-pair.ensures.lookup

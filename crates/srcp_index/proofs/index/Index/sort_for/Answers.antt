@@ -1,6 +1,4 @@
-use Rattle.std.proofs.Common.{◌≡◌, rules, refl, sym, ap, ◌∙◌, subst}
-use Rattle.srcp_index.specs.Ordered.{order_by}
-use Rattle.srcp_index.specs.Pairs.{IndexModel, before}
+use Rattle.std.proofs.Common.{rules, refl}
 use Rattle.srcp_index.proofs.Ordered.{ranked_is}
 use Rattle.srcp_index.proofs.Pairs.{before_weak, is_order}
 use Rattle.srcp_index.proofs.index.Index.sort_for.Goals as goal
@@ -11,7 +9,4 @@ invariant_of-self c =
 
 pub returns-else-moment-self-clause-pairs : goal.returns-else-moment-self-clause-pairs
 returns-else-moment-self-clause-pairs c =
-    let since = c.self.inside.since in
-    let items = c.self.inside.pairs.items in
-    subst (λ (held : IndexModel). held.pairs ≡ order_by (before c.args.moment) held.pairs) c.self.view_is
-    (is_order since items items c.self.invariant.0 (λ f. refl) ∙ ap (λ moment. order_by (before moment) items) (sym c.if-moment-self.false))
+    rw (← c.self.view_is, c.if-moment-self.false) (is_order c.self.inside.since _ c.self.inside.pairs.items c.self.invariant.0 (λ f. refl))

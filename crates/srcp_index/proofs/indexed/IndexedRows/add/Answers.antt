@@ -1,19 +1,20 @@
-use Rattle.srcp_rules.proofs.Names.{length, sym, ap, subst, arith, AreNewRowsOf}
+use Rattle.srcp_rules.proofs.Names.{holder_of, length, sym, ap, subst, arith, AreNewRowsOf}
 use Rattle.std.proofs.lemmas.List.Sums.{count_by-le-length}
-use Rattle.srcp_index.specs.Indexed.{is_removable}
+use Rattle.srcp_index.specs.Indexed.{due_of, is_removable}
 use Rattle.srcp_index.proofs.AddedRowsLaws.{added_indexed}
-use Rattle.srcp_index.proofs.IndexedLaws.{few_due, few_held, roomier}
+use Rattle.srcp_index.proofs.IndexedLaws.{roomier}
+use Rattle.srcp_index.proofs.RankLaws.{few}
 use Rattle.srcp_index.proofs.indexed.IndexedRows.add.Goals as goal
 
 pub insert_all-requires-clause-moments : goal.insert_all-requires-clause-moments
 insert_all-requires-clause-moments g c =
-    let few = few_due _ _ _ c.self.invariant in
-    omega (arith, few, ap length c.reserve.ensures.moments, c.in-Some.ensures, c.in_ok-reserve.ensures.moments_room)
+    let most = few due_of (λ row r. r.due) _ _ _ c.self.invariant.rows c.self.invariant.due in
+    omega (arith, most, c.self.invariant.counted, ap length c.reserve.ensures.moments, c.in-Some.ensures, c.in_ok-reserve.ensures)
 
 pub insert_all-requires-clause-sessions : goal.insert_all-requires-clause-sessions
 insert_all-requires-clause-sessions g c =
-    let few = few_held _ _ _ c.self.invariant in
-    omega (arith, few, ap length c.reserve.ensures.sessions, c.in-Some.ensures, c.in_ok-reserve.ensures.sessions_room)
+    let most = few holder_of (λ row r. r.held) _ _ _ c.self.invariant.rows c.self.invariant.held in
+    omega (arith, most, c.self.invariant.counted, ap length c.reserve.ensures.sessions, c.in-Some.ensures, c.in_ok-reserve.ensures)
 
 -- rows that come and go are no more than there are rows
 pub overflow_add-self : goal.overflow_add-self
