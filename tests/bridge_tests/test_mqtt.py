@@ -318,11 +318,11 @@ class Mqtt(MqttCase):
     def test_many_topics(self):
         """More than a broker's queue takes."""
         self.throttle.flood([f"INIT 1 GA {n} N" for n in range(100, 900)])
-        self.equal("2,400 topics more")
+        self.equal("2,400 topics more", 4 * WAIT)
         self.bridge.end(signal.SIGKILL)
         self.throttle.flood([f"TERM 1 GA {n}" for n in range(100, 900, 2)])
         self.start()
-        self.equal("half of them gone while the bridge was away")
+        self.equal("half of them gone while the bridge was away", 4 * WAIT)
 
 
 class MqttWithPersistence(MqttCase):
