@@ -1,27 +1,11 @@
 -- A peer that is accepted gets a connection and the first free slot, or is closed.
-use Rattle.std.proofs.Common.{◌≡◌, ◌∙◌, ℕ, suc, ◌+◌, ◌<◌, Bool, true, false, List, [], ◌∷◌, ◌++◌, length, if◌then◌else◌, Some, None, Ok}
-use Rattle.std.proofs.Common.{refl, ap, sym, arith, length-append}
-use Rattle.std.specs.List.{filter, slice_set}
-use Rattle.std.specs.Prelude.{is_none, not, position, nat_lt}
-use Rattle.std.proofs.lemmas.List.Sums.{fold-append}
-use Rattle.srcp_grammar.specs.declared.layout.Bus.{Bus}
-use Rattle.srcp_core.specs.Connection.{is_open}
-use Rattle.srcp_core.specs.Course.{World, counted, course, denied_in, fault}
-use Rattle.srcp_core.specs.Held.{Held, open_count}
-use Rattle.srcp_core.specs.Machine.{IsAdmitted, IsNotAdmitted}
-use Rattle.srcp_core.specs.Recording.{key_of}
-use Rattle.srcp_core.specs.Under.{Event, Open, denied_by}
-use Rattle.srcp_core.specs.Stands.{StandsFor}
-use Rattle.srcp_core.specs.declared.record.CoreFault.{CoreFault}
-use Rattle.srcp_core.specs.declared.record.CoreFault.TheVariants.{Full, Memory as MemoryFault}
-use Rattle.srcp_core.proofs.Agreement.CallLaws.{calls_agree, calls_lead}
-use Rattle.srcp_core.proofs.Agreement.NumbersAndKeys.{key_push_last}
-use Rattle.srcp_serve.specs.Calls.{Call as DoorCall, Trace}
-use Rattle.srcp_serve.specs.Given.{Accepted, AcceptCall, CloseCall}
-use Rattle.srcp_serve.specs.Serving.{Client, Stand, Closes as ClosesQuestion, with_client, with_connection}
-use Rattle.srcp_serve.specs.Slots.{IsSettled, Connects, Owns}
+use Rattle.srcp_serve.proofs.Names.{◌≡◌, ◌∙◌, ℕ, suc, ◌+◌, ◌<◌, Bool, true, false, List, [], ◌∷◌, ◌++◌, length, if◌then◌else◌, Some, None}
+use Rattle.srcp_serve.proofs.Names.{Ok, refl, ap, sym, arith, length-append, filter, slice_set, is_none, not, position, nat_lt, fold-append}
+use Rattle.srcp_serve.proofs.Names.{Bus, is_open, World, counted, course, denied_in, fault, Held, open_count, IsAdmitted, IsNotAdmitted}
+use Rattle.srcp_serve.proofs.Names.{key_of, Event, Open, denied_by, StandsFor, CoreFault, Full, MemoryFault, calls_agree, calls_lead}
+use Rattle.srcp_serve.proofs.Names.{key_push_last, DoorCall, Trace, Accepted, AcceptCall, CloseCall, Client, Stand, ClosesQuestion}
+use Rattle.srcp_serve.proofs.Names.{with_client, with_connection, IsSettled, Connects, Owns, Own}
 use Rattle.srcp_serve.specs.Visits.{Closes}
-use Rattle.srcp_serve.specs.declared.serving.visit.Client.{Client as Own}
 use Rattle.srcp_serve.proofs.SlotsAreTakenAndFreed.{clients_differ, slots_differ, few_slots, differ_connected, in_state_on, free_is}
 use Rattle.srcp_serve.proofs.SlotsAreTakenAndFreed.{new_apart, none_free, owns_pushed, owns_connected}
 use Rattle.srcp_serve.proofs.CallsAreAdded.{adds_none, asked_one}

@@ -1,21 +1,12 @@
 -- What a door told and what the core counted, call after call.
-use Rattle.std.proofs.Common.{◌≡◌, ◌∙◌, List, [], ◌∷◌, ◌++◌, map, Some, None, Result, refl, sym, append_assoc, append-nil, ℕ, ◌+◌}
-use Rattle.std.proofs.Common.{if◌then◌else◌, Ok, Err}
-use Rattle.std.proofs.lemmas.List.{append_cancel_left, map-append}
-use Rattle.std.proofs.lemmas.Grind.{flat_map-append}
-use Rattle.std.proofs.lemmas.List.Sums.{fold-append}
-use Rattle.std.specs.Prelude.{min}
-use Rattle.srcp_core.specs.Held.{Held}
-use Rattle.srcp_core.specs.Under.{At, Event, Room}
-use Rattle.srcp_core.proofs.Agreement.MemoryAnswers.{none_denied}
-use Rattle.srcp_serve.specs.Calls.{Call as DoorCall, Tells, CloseCall, Adds, Trace}
-use Rattle.srcp_serve.specs.Given.{Call, CountsRefusals, GivesUnlessCounted, answers_in, answers_of, NowCall}
-use Rattle.srcp_serve.specs.Visits.{AddsGiven, Closes, CountsAsked, Makes}
-use Rattle.srcp_serve.specs.declared.door.DoorFault.{DoorFault}
-use Rattle.srcp_grammar.specs.declared.layout.Bus.{Bus}
-use Rattle.srcp_core.specs.Course.{counted, course, denied_in, start}
+use Rattle.srcp_serve.proofs.Names.{◌≡◌, ◌∙◌, List, [], ◌∷◌, ◌++◌, map, Some, None, Result, refl, sym, append_assoc, append-nil, ℕ, ◌+◌}
+use Rattle.srcp_serve.proofs.Names.{if◌then◌else◌, Ok, Err, append_cancel_left, map-append, flat_map-append, fold-append, min, Held, At}
+use Rattle.srcp_serve.proofs.Names.{Event, Room, none_denied, DoorCall, Tells, Adds, Trace, Call, CountsRefusals, GivesUnlessCounted}
+use Rattle.srcp_serve.proofs.Names.{answers_in, answers_of, NowCall, AddsGiven, CountsAsked, Makes, DoorFault, Bus, counted, course}
+use Rattle.srcp_serve.proofs.Names.{denied_in, start, Stand, timed}
+use Rattle.srcp_serve.specs.Calls.{CloseCall}
+use Rattle.srcp_serve.specs.Visits.{Closes}
 use Rattle.srcp_core.proofs.Agreement.RefusalsAreCounted.{denied_over_push}
-use Rattle.srcp_serve.specs.Serving.{Stand, timed}
 
 -- one call more
 pub adds_one : (call : DoorCall) (old new : Trace) (trace : List DoorCall) → Tells old call new → new ≡ Some trace

@@ -1,22 +1,14 @@
 -- The calls of some turns are parted by what they ask: turn by turn, and in a turn peer by peer.
-use Rattle.std.proofs.Common.{◌≡◌, ◌∙◌, Bool, true, false, not, cond, List, [], ◌∷◌, ◌++◌, if◌then◌else◌, ap, sym, refl, ℕ, map, take}
-use Rattle.std.proofs.Common.{filter, arith, append-nil, append_assoc, ◌==◌, ◌+◌, fold, length-append}
-use Rattle.std.specs.List.{take_while, list_all, list_any, AllByRecursion}
-use Rattle.std.specs.Prelude.{◌&&◌, ◌||◌, filter_map, flat_map}
-use Rattle.std.proofs.lemmas.List.Sums.{take_while-cons, fold-append}
-use Rattle.srcp_serve.specs.Calls.{parts}
-use Rattle.std.proofs.lemmas.Bool.Decides.{nat_tests}
-use Rattle.std.proofs.lemmas.List.Elements.{filter-append}
-use Rattle.srcp_core.specs.Under.{Event, Bytes}
-use Rattle.srcp_info.proofs.ClientLaws.{all_append, all_weaker, filter_every, filter_no_one, filter-map}
-use Rattle.srcp_grammar.specs.declared.layout.Bus.{Bus}
-use Rattle.srcp_serve.specs.Given.{Accepted, Call, ExpectCall, NowCall, AcceptCall, ReadCall, WriteCall, CloseCall}
-use Rattle.srcp_serve.specs.Serving.{Question, Expects, Moments, expects, Accepts, Reads, Writes, Closes, Client, Stand, OfEachTurn}
-use Rattle.srcp_serve.specs.Serving.{OfEachVisit, question, asks_of, is_expect, visit, accept_of, piece_of, count_of, loses, loses_reading}
-use Rattle.srcp_serve.specs.Serving.{turns, exchange, connects, is_ready, is_closing, handed, reads_of, writes_of, closes_of, visit_asks}
-use Rattle.srcp_serve.specs.Serving.{visits_ask, visit_events, refuses, turn_asks, turns_ask, turned, timed, begun, clients, empty_stand}
-use Rattle.srcp_serve.specs.Serving.{stand_after, IsServed}
-use Rattle.std.proofs.lemmas.List.{map-append}
+use Rattle.srcp_serve.proofs.Names.{and_parts, cond_both, not-true, or_parts, Open, with_accept, with_connection, ◌≡◌, ◌∙◌, Bool, true}
+use Rattle.srcp_serve.proofs.Names.{false, not, cond, List, [], ◌∷◌, ◌++◌, if◌then◌else◌, ap, sym, refl, ℕ, map, take, filter, arith}
+use Rattle.srcp_serve.proofs.Names.{append-nil, append_assoc, ◌==◌, ◌+◌, fold, length-append, take_while, list_all, list_any}
+use Rattle.srcp_serve.proofs.Names.{AllByRecursion, filter_map, flat_map, take_while-cons, fold-append, parts, nat_tests, filter-append}
+use Rattle.srcp_serve.proofs.Names.{Event, Bytes, all_append, all_weaker, filter_every, filter_no_one, filter-map, Bus, Accepted, Call}
+use Rattle.srcp_serve.proofs.Names.{ExpectCall, Question, Expects, Moments, expects, Accepts, Reads, Writes, Closes, Client, Stand}
+use Rattle.srcp_serve.proofs.Names.{OfEachTurn, OfEachVisit, question, asks_of, is_expect, visit, accept_of, piece_of, count_of}
+use Rattle.srcp_serve.proofs.Names.{loses_reading, turns, connects, handed, reads_of, writes_of, closes_of, visit_asks, visits_ask}
+use Rattle.srcp_serve.proofs.Names.{visit_events, refuses, turn_asks, turns_ask, turned, timed, begun, clients, empty_stand, stand_after}
+use Rattle.srcp_serve.proofs.Names.{IsServed, map-append, is_ready}
 
 module _ {X : Type 0} (begins : X → Bool) where
   -- what comes before the next part
@@ -50,28 +42,51 @@ module _ {X : Type 0} (begins : X → Bool) where
   pub one_part : (xs : List X) → list_all (λ x. not (begins x)) xs ≡ true → (before xs ≡ xs) × (parts begins xs ≡ [])
   one_part [] h = (refl, refl)
   one_part (x ∷ xs) h =
-      let b = split _ (list_all (λ x. not (begins x)) xs) h in
-      let more = one_part xs b.1 in (
-        cc (take_while-cons (λ next. not (begins next)) x xs),
-        cc,
-      )
-    where
-      split : (a b : Bool) → not a && b ≡ true → (a ≡ false) × (b ≡ true)
-      split true b h = cc
-      split false b h = (refl, h)
+      let b = and_parts (not (begins x)) _ h in
+      let none = not-true (begins x) b.0 in
+      let more = one_part xs b.1 in (cc (take_while-cons (λ next. not (begins next)) x xs), cc)
 
--- ---- the calls of some turns are parted by what they ask: turn by turn, and in a turn peer by peer
+pub turned_round : (a b : ℕ) → (a == b) ≡ false → (b == a) ≡ false
+turned_round a b e = grind (arith, nat_tests)
+
+pub no_calls : (calls : List Call) → map question calls ≡ [] → calls ≡ []
+no_calls [] e = refl
+no_calls (call ∷ calls) e = cc
+
+-- none is so, by the test and one by one
+pub not_any : {X : Type 0} (p : X → Bool) (xs : List X) → list_any p xs ≡ false → AllByRecursion (λ x. p x ≡ false) xs
+not_any p [] e = tt
+not_any p (x ∷ xs) e = let b = or_parts (p x) _ e in (b.0, not_any p xs b.1)
+
+pub any_not : {X : Type 0} (p : X → Bool) (xs : List X) → AllByRecursion (λ x. p x ≡ false) xs → list_any p xs ≡ false
+any_not p [] a = refl
+any_not p (x ∷ xs) a = cc (any_not p xs a.1)
+
+-- what holds of each of both lists holds of each of the one that is chosen
+pub all_if : {X : Type 0} (P : X → Type 0) (b : Bool) (xs ys : List X) → AllByRecursion P xs → AllByRecursion P ys
+    → AllByRecursion P (if b then xs else ys)
+all_if P true xs ys h k = h
+all_if P false xs ys h k = k
+
+-- what holds whether the peer of an accept is connected or not
+pub refuses_as : (buses : List Bus) (P : List Question → Type 0) (events : List Event) (accept : Accepted)
+    → P [] → P (Closes accept.peer ∷ []) → P (refuses buses events accept)
+refuses_as buses P events accept first second =
+    cond_both (connects buses events accept.granted) [] (Closes accept.peer ∷ []) P (λ e. first) (λ e. second)
+
+pub accept_as : (buses : List Bus) (P : Stand → Type 0) (stand : Stand) (accept : Accepted) → P (with_connection buses stand accept)
+    → P (record stand { events = stand.events ++ Open accept.granted ∷ [] }) → P (with_accept buses stand accept)
+accept_as buses P stand accept first second = cond_both (connects buses stand.events accept.granted) (with_connection buses stand accept)
+    (record stand { events = stand.events ++ Open accept.granted ∷ [] }) P (λ e. first) (λ e. second)
 
 -- ---- questions by whom they are about
 
 -- about some peer
 abbrev pub asks_peer : Question → Bool
-asks_peer (Expects due slack) = false
-asks_peer Moments = false
-asks_peer Accepts = false
 asks_peer (Reads who most) = true
 asks_peer (Writes who bytes) = true
 asks_peer (Closes who) = true
+asks_peer other = false
 
 abbrev pub AreOf : ℕ → List Question → Type 0
 AreOf peer questions = AllByRecursion (λ q. asks_of peer q ≡ true) questions
@@ -80,29 +95,18 @@ abbrev pub AreOfPeers : List Question → Type 0
 AreOfPeers questions = AllByRecursion (λ q. asks_peer q ≡ true) questions
 
 pub other_question : (p q : ℕ) (asked : Question) → (p == q) ≡ false → asks_of p asked ≡ true → asks_of q asked ≡ false
-other_question p q (Expects due slack) e h = refl
 other_question p q Moments e h = refl
-other_question p q Accepts e h = refl
-other_question p q (Reads who most) e h = grind (arith, nat_tests)
-other_question p q (Writes who bytes) e h = grind (arith, nat_tests)
-other_question p q (Closes who) e h = grind (arith, nat_tests)
+other_question p q other e h = grind (arith, nat_tests)
 
 pub other_questions : (p q : ℕ) (questions : List Question) → (p == q) ≡ false → AreOf p questions → filter (asks_of q) questions ≡ []
 other_questions p q questions e h =
     filter_no_one _ _ (all_weaker _ _ (λ asked own. other_question p q asked e own) _ h)
 
 peer_question : (peer : ℕ) (q : Question) → asks_of peer q ≡ true → asks_peer q ≡ true
-peer_question peer (Expects due slack) h = h
 peer_question peer Moments h = h
-peer_question peer Accepts h = h
-peer_question peer (Reads who most) h = refl
-peer_question peer (Writes who bytes) h = refl
-peer_question peer (Closes who) h = refl
+peer_question peer other h = cc
 
-of_peers : (peer : ℕ) (questions : List Question) → AreOf peer questions → AreOfPeers questions
-of_peers peer = all_weaker _ _ (peer_question peer)
-
-same_peer : (peer : ℕ) → (peer == peer) ≡ true
+pub same_peer : (peer : ℕ) → (peer == peer) ≡ true
 same_peer peer = grind (arith, nat_tests)
 
 pub writes_own : (peer : ℕ) (texts : List (List ℕ)) → AreOf peer (map (Writes peer) texts)
@@ -124,33 +128,21 @@ module _ (buses : List Bus) where
   visit_own events calls client =
       let own = same_peer client.peer in
       let Own : Question → Type 0 = λ q. asks_of client.peer q ≡ true in
+      let reads = all_if Own (is_ready buses client.conn events) (Reads client.peer 256 ∷ []) [] (own, tt) tt in
+      let read_events = events ++ map (Bytes client.conn) (filter_map piece_of calls) in
+      let texts = take 300 (handed buses client.conn read_events (filter_map count_of calls)) in
+      let writes = all_if Own (list_any loses_reading calls) [] (map (Writes client.peer) texts) tt (writes_own client.peer texts) in
       all_append Own (reads_of buses events client ++ writes_of buses events calls client) (closes_of buses events calls client)
-      (all_append Own (reads_of buses events client) (writes_of buses events calls client)
-      (elim (is_ready buses client.conn events)
-      as (λ b. AreOf client.peer (if b then Reads client.peer 256 ∷ [] else [])) [ true ↦ (own, tt) | false ↦ tt ])
-      (written (list_any loses_reading calls)))
-      (closed (list_any loses calls || is_closing buses client.conn (events ++ exchange client.conn calls)))
-    where
-      written : (b : Bool)
-          → AreOf client.peer
-          (if b then []
-          else map (Writes client.peer)
-          (take 300
-          (handed buses client.conn (events ++ map (Bytes client.conn) (filter_map piece_of calls))
-          (filter_map count_of calls))))
-      written true = tt
-      written false = writes_own client.peer _
-
-      closed : (b : Bool) → AreOf client.peer (if b then Closes client.peer ∷ [] else [])
-      closed true = (same_peer _, tt)
-      closed false = tt
+      (all_append Own (reads_of buses events client) (writes_of buses events calls client) reads writes)
+      (all_if Own _ (Closes client.peer ∷ []) [] (own, tt) tt)
 
   pub visits_peers : (events : List Event) (calls : List Call) (all : List Client) → AreOfPeers (visits_ask buses events calls all)
   visits_peers events calls [] = tt
   visits_peers events calls (client ∷ all) =
       all_append (λ q. asks_peer q ≡ true) (visit_asks buses events (visit calls client) client)
       (visits_ask buses (events ++ visit_events calls client) calls all)
-      (of_peers client.peer _ (visit_own events (visit calls client) client)) (visits_peers (events ++ visit_events calls client) calls all)
+      (all_weaker _ _ (peer_question client.peer) _ (visit_own events (visit calls client) client))
+      (visits_peers (events ++ visit_events calls client) calls all)
 
   -- what the visits ask of a peer that has no slot among theirs
   pub none_asked : (peer : ℕ) (events : List Event) (calls : List Call) (all : List Client) → IsNoneOf peer all
@@ -220,33 +212,19 @@ module _ (buses : List Bus) where
 
   abbrev pub asks_moment : Question → Bool
   asks_moment (Expects due slack) = true
-  asks_moment Moments = false
-  asks_moment Accepts = false
-  asks_moment (Reads who most) = false
-  asks_moment (Writes who bytes) = false
-  asks_moment (Closes who) = false
+  asks_moment other = false
 
   abbrev pub NoMoments : List Question → Type 0
   NoMoments questions = AllByRecursion (λ q. asks_moment q ≡ false) questions
 
   no_moment : (q : Question) → asks_peer q ≡ true → asks_moment q ≡ false
   no_moment (Expects due slack) h = cc
-  no_moment Moments h = refl
-  no_moment Accepts h = refl
-  no_moment (Reads who most) h = refl
-  no_moment (Writes who bytes) h = refl
-  no_moment (Closes who) h = refl
-
-  no_moments : (questions : List Question) → AreOfPeers questions → NoMoments questions
-  no_moments = all_weaker _ _ no_moment
+  no_moment other h = refl
 
   pub refused_peers : (events : List Event) (peers : List Accepted) → AreOfPeers (flat_map (refuses buses events) peers)
   refused_peers events [] = tt
   refused_peers events (peer ∷ peers) =
-      all_append (λ q. asks_peer q ≡ true) _ _
-      (elim (connects buses events peer.granted)
-      as (λ b. AreOfPeers (if b then [] else Closes peer.peer ∷ [])) [ true ↦ tt | false ↦ (refl, tt) ])
-      (refused_peers events peers)
+      all_append (λ q. asks_peer q ≡ true) _ _ (refuses_as buses AreOfPeers events peer tt (refl, tt)) (refused_peers events peers)
 
   -- what a turn asks after the moment
   abbrev pub rest_asks : Stand → List Call → List Question
@@ -258,32 +236,19 @@ module _ (buses : List Bus) where
   pub rest_moments : (stand : Stand) (calls : List Call) → NoMoments (rest_asks stand calls)
   rest_moments stand calls =
       let refused = flat_map (refuses buses (timed buses stand calls).events) (filter_map accept_of calls) in
-      let visits = visits_ask buses (begun buses stand calls).events calls (clients (begun buses stand calls).slots) in (
-        refl,
-        (
-          refl,
-          no_moments (refused ++ visits)
-              (all_append (λ q. asks_peer q ≡ true) refused visits
-              (refused_peers (timed buses stand calls).events (filter_map accept_of calls))
-              (visits_peers (begun buses stand calls).events calls (clients (begun buses stand calls).slots))),
-        ),
-      )
+      let visits = visits_ask buses (begun buses stand calls).events calls (clients (begun buses stand calls).slots) in
+      let peers = all_append (λ q. asks_peer q ≡ true) refused visits (refused_peers (timed buses stand calls).events _)
+      (visits_peers (begun buses stand calls).events calls _) in
+      (refl, (refl, all_weaker _ _ no_moment (refused ++ visits) peers))
 
   pub is_moment : (call : Call) → is_expect call ≡ asks_moment (question call)
   is_moment (ExpectCall due slack) = refl
-  is_moment (NowCall answer) = refl
-  is_moment (AcceptCall answer granted) = refl
-  is_moment (ReadCall peer answer buffer grants) = refl
-  is_moment (WriteCall peer bytes answer) = refl
-  is_moment (CloseCall peer answer) = refl
+  is_moment other = refl
 
   not_first : (stand : Stand) (call : Call) (questions : List Question) (all : List (List Call)) → asks_moment (question call) ≡ false
       → question call ∷ questions ≡ turns_ask buses stand all → ⊥
   not_first stand call questions [] h e = cc
-  not_first stand call questions (calls ∷ all) h e =
-      let same : question call ≡ expects buses stand.events = cc in
-      let t = ap asks_moment same in
-      cc
+  not_first stand call questions (calls ∷ all) h e = let same : question call ≡ expects buses stand.events = cc in cc (ap asks_moment same)
 
   -- what is asked before the next moment, and then the turns
   pub turns_parted : (stand : Stand) (trace : List Call) (first : List Question) → NoMoments first
@@ -304,11 +269,7 @@ module _ (buses : List Bus) where
           → (b : Bool) → is_expect call ≡ b → (first : List Question) → NoMoments first
           → map question (call ∷ trace) ≡ first ++ turns_ask buses stand (turns (call ∷ trace))
           → (map question (in_turn (call ∷ trace)) ≡ first) × AreTurnsAsked stand (turns (call ∷ trace))
-      by ih true t (q ∷ first) h e =
-          let same : question call ≡ q = cc in
-          let yes = sym (is_moment call) ∙ t in
-          let no : asks_moment (question call) ≡ false = cc in
-          cc
+      by ih true t (q ∷ first) h e = let same : question call ≡ q = cc in cc (is_moment call, ap asks_moment same, h.0)
       by ih true t [] h e =
           let calls = call ∷ in_turn trace in
           let whole : question call ∷ map question trace
@@ -316,22 +277,16 @@ module _ (buses : List Bus) where
           cc (e, turns_are true t) in
           let head : question call ≡ expects buses stand.events = cc in
           let tail : map question trace ≡ rest_asks stand calls ++ turns_ask buses (turned buses stand calls) (turns trace) = cc in
-          let more = ih (turned buses stand calls) (rest_asks stand calls) (rest_moments stand calls) tail in (
-            ap (map question) (other true t),
-            rw (turns_are true t) (cc, more.1),
-          )
+          let more = ih (turned buses stand calls) (rest_asks stand calls) (rest_moments stand calls) tail in
+          (ap (map question) (other true t), rw (turns_are true t) (cc, more.1))
       by ih false t [] h e =
-          let no = sym (is_moment call) ∙ t in
-          absurd (not_first stand call (map question trace) (turns trace) no (cc (e, turns_are false t)))
+          absurd (not_first stand call (map question trace) (turns trace) (sym (is_moment call) ∙ t) (cc (e, turns_are false t)))
       by ih false t (q ∷ first) h e =
           let whole : question call ∷ map question trace ≡ q ∷ (first ++ turns_ask buses stand (turns trace)) =
           cc (e, turns_are false t) in
           let head : question call ≡ q = cc in
           let tail : map question trace ≡ first ++ turns_ask buses stand (turns trace) = cc in
-          let more = ih stand first h.1 tail in (
-            cc (other false t),
-            rw (turns_are false t) more.1,
-          )
+          let more = ih stand first h.1 tail in (cc (other false t), rw (turns_are false t) more.1)
 
 -- ---- laws of what a door tells: of some turns, and then some more
 

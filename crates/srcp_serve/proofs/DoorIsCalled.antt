@@ -1,19 +1,11 @@
 -- What the methods of a server ask of its door, call after call, and how failed calls are counted.
-use Rattle.std.proofs.Common.{◌≡◌, ◌∙◌, ℕ, ◌+◌, true, not, List, [], ◌∷◌, ◌++◌, Option, Result, refl, append-nil, length-append, ◌<◌, ◌≤◌}
-use Rattle.std.proofs.Common.{length, Ok, Err, arith}
-use Rattle.std.proofs.lemmas.Grind.{flat_map-append}
-use Rattle.std.proofs.lemmas.List.Folds.{list_all-append}
-use Rattle.srcp_info.proofs.ClientLaws.{all_append}
-use Rattle.std.specs.List.{list_all, AllByRecursion}
-use Rattle.std.specs.Prelude.{IfOk, flat_map}
-use Rattle.srcp_serve.specs.Calls.{Call, Tells, ExpectCall, NowCall, AcceptCall, ReadCall, WriteCall, CloseCall, IsFair, is_expect, turns}
-use Rattle.srcp_serve.specs.Calls.{Trace, one_more}
-use Rattle.srcp_serve.specs.Turns.{AreAboutPeers, AreTurns, AreMoment, Asks, AreAccept, IsTurn, is_of_peer}
-use Rattle.srcp_serve.specs.Turns.{AreMoment, Asks}
-use Rattle.srcp_serve.specs.declared.door.DoorFault.{DoorFault}
+use Rattle.srcp_serve.proofs.Names.{◌≡◌, ◌∙◌, ℕ, ◌+◌, true, not, List, [], ◌∷◌, ◌++◌, Option, Result, refl, append-nil, length-append, ◌<◌}
+use Rattle.srcp_serve.proofs.Names.{◌≤◌, length, Ok, Err, arith, flat_map-append, list_all-append, all_append, list_all, AllByRecursion}
+use Rattle.srcp_serve.proofs.Names.{IfOk, flat_map, Tells, Trace, one_more, AreAboutPeers, AreTurns, AreMoment, Asks, AreAccept, IsTurn}
+use Rattle.srcp_serve.proofs.Names.{is_of_peer, DoorFault, Got}
+use Rattle.srcp_serve.specs.Calls.{Call, ExpectCall, NowCall, AcceptCall, ReadCall, WriteCall, CloseCall, IsFair, is_expect, turns}
 use Rattle.srcp_serve.proofs.CallsByTurnAndPeer.{one_part, parts-append}
 use Rattle.srcp_serve.proofs.CallsAreAdded.{adds_none, adds_one, adds_then}
-use Rattle.srcp_serve.specs.declared.door.Got.{Got}
 use Rattle.srcp_serve.specs.Tally.{CountsFaults, CallsDoor}
 use Rattle.srcp_serve.specs.declared.serving.Server.{Server}
 use Rattle.srcp_serve.specs.declared.door.Got.TheVariants as got

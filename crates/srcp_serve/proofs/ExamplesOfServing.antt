@@ -1,12 +1,8 @@
 -- Told calls of three turns, and what they make happen.
-use Rattle.std.proofs.Common.{◌≡◌, ℕ, true, false, List, [], ◌∷◌, ◌++◌, drop, length, ◌-◌, replicate, map, Some, None, Ok, Err, codes, refl}
+use Rattle.srcp_serve.proofs.Names.{◌≡◌, ℕ, true, false, List, [], ◌∷◌, ◌++◌, drop, length, ◌-◌, replicate, map, Some, None, Ok, Err, codes}
+use Rattle.srcp_serve.proofs.Names.{refl, Bus, sent, course, welcome, Open, Bytes, Room, At, Shut, giving, Call, ExpectCall, NowCall}
+use Rattle.srcp_serve.proofs.Names.{AcceptCall, ReadCall, WriteCall, CloseCall, IsServed, SendsWhatIsTaken, events_of}
 use Rattle.std.specs.Fmt.{digits}
-use Rattle.srcp_grammar.specs.declared.layout.Bus.{Bus}
-use Rattle.srcp_core.specs.Connection.{sent}
-use Rattle.srcp_core.specs.Course.{course, welcome}
-use Rattle.srcp_core.specs.Under.{Open, Bytes, Room, At, Shut, giving}
-use Rattle.srcp_serve.specs.Given.{Call, ExpectCall, NowCall, AcceptCall, ReadCall, WriteCall, CloseCall}
-use Rattle.srcp_serve.specs.Serving.{IsServed, SendsWhatIsTaken, events_of}
 use Rattle.srcp_serve.specs.declared.door.DoorFault.TheVariants as fault
 use Rattle.srcp_serve.specs.declared.door.Got.TheVariants as got
 

@@ -1,3 +1,4 @@
+pub mod Names
 mod ExamplesOfServing
 mod OnlyRoomSends
 mod RoomSendsWhatIsLent

@@ -1,81 +1,57 @@
 -- One call of the door follows the course: the time, the read of a visit, and one write.
-use Rattle.std.proofs.Common.{◌≡◌, ◌∙◌, ℕ, List, [], ◌∷◌, map, Option, Some, Ok, Err, Result, ap, ◌≤◌, Bool, true, false, not, take}
-use Rattle.std.proofs.Common.{length, None, refl, sym, arith, append-nil, length-take, suc, ◌<◌, ◌==◌, IsSome, inl, inr}
-use Rattle.srcp_grammar.specs.declared.layout.Bus.{Bus}
-use Rattle.srcp_core.specs.Course.{course, fault}
-use Rattle.srcp_core.specs.Held.{Held, Place, at}
-use Rattle.srcp_core.specs.Machine.{advanced, slack_at, IsReceived, bytes_fault, let_out, unsent_at, changed_at, without_sent}
-use Rattle.srcp_core.specs.Waits.{least}
+use Rattle.srcp_serve.proofs.Names.{◌≡◌, ◌∙◌, ℕ, List, [], ◌∷◌, map, Option, Some, Ok, Err, Result, ap, ◌≤◌, Bool, true, false, not, take}
+use Rattle.srcp_serve.proofs.Names.{length, None, refl, sym, arith, append-nil, length-take, ◌<◌, ◌==◌, inl, inr, Bus, course, fault, Held}
+use Rattle.srcp_serve.proofs.Names.{at, advanced, slack_at, IsReceived, bytes_fault, let_out, unsent_at, changed_at, without_sent, least}
+use Rattle.srcp_serve.proofs.Names.{Event, Bytes, giving, Room, StandsFor, calls_agree, calls_lead, Tells, Trace, Reads, is_ready, question}
+use Rattle.srcp_serve.proofs.Names.{piece_of, loses_reading, lent, TakesMoment, DoorFault, FromEveryCourse, ReadsIn, Took, WritesOnce}
+use Rattle.srcp_serve.proofs.Names.{is_none, if◌then◌else◌, MatchResult, OnOk, CoreFault, ReadCall, Got, All, Less, Failed, or-false}
+use Rattle.srcp_serve.proofs.Names.{eqb-true, nil_from_length, timed, Wrote}
 use Rattle.srcp_index.specs.Earliest.{IsEarliestDue}
-use Rattle.srcp_grammar.specs.Layout.{IsLayout}
-use Rattle.srcp_core.specs.Under.{Event, Bytes, giving, Room}
-use Rattle.srcp_core.specs.Stands.{StandsFor}
-use Rattle.srcp_core.proofs.Agreement.CallLaws.{calls_agree, calls_lead}
-use Rattle.srcp_serve.specs.Calls.{Call as DoorCall, Tells, Adds, Trace, WriteCall}
-use Rattle.srcp_serve.specs.Serving.{Expects, expects, Reads, is_ready, question, piece_of, loses_reading, lent}
-use Rattle.srcp_serve.specs.Slots.{TakesMoment}
-use Rattle.srcp_serve.specs.declared.door.DoorFault.{DoorFault}
+use Rattle.srcp_serve.specs.Calls.{WriteCall}
 use Rattle.srcp_serve.proofs.CallsAreAdded.{adds_one, adds_then, asked_none, asked_one, makes_none, adds_none}
-use Rattle.srcp_serve.specs.Visits.{FromEveryCourse, Keys, ReadsIn, Took, WritesOnce}
-use Rattle.std.specs.Prelude.{is_none, if◌then◌else◌, ◌||◌, MatchResult, OnOk}
 use Rattle.std.specs.Result.{is_ok}
 use Rattle.srcp_core.specs.Agrees.{OfConnection}
 use Rattle.srcp_core.specs.Run.{LeadsAt}
-use Rattle.srcp_core.specs.declared.record.CoreFault.{CoreFault}
-use Rattle.srcp_serve.specs.Given.{ReadCall}
-use Rattle.srcp_serve.specs.declared.door.Got.{Got}
-use Rattle.std.proofs.lemmas.Bool.Decides.{nat_tests}
-use Rattle.srcp_serve.specs.declared.serving.visit.Wrote.{Wrote}
-use Rattle.srcp_serve.specs.declared.serving.visit.Wrote.TheVariants.{All, Less, Failed}
 use Rattle.srcp_serve.specs.Calls as door
 use Rattle.srcp_serve.specs.Given as given
 use Rattle.srcp_serve.specs.declared.door.Got.TheVariants as got
 
--- what the door is told of a core is what the course says
-expected : (due slack : Option ℕ) (old : Held) → IsEarliestDue due old.rows → slack ≡ least (map slack_at old.places)
-    → (buses : List Bus) (events : List Event) (keys : Keys) → IsLayout buses
-    → StandsFor buses keys old (course buses events) → Expects due slack ≡ expects buses events
-expected due slack old first is buses events keys layout stands =
-    cc (calls_agree.due due old first buses events keys layout stands, calls_agree.slack old buses events keys layout stands)
+-- what the core is after the answer
+abbrev pub IsTold : Held → Result ℕ DoorFault → Held → Type 0
+IsTold old (Ok moment) new = new ≡ advanced moment old
+IsTold old (Err failed) new = new ≡ old
 
+-- what the door is told of a core is what the course says
 module _ (due slack : Option ℕ) (old : Held) (first : IsEarliestDue due old.rows) (least_is : slack ≡ least (map slack_at old.places))
     (trace_old trace_mid trace_new : Trace) (expects_it : Tells trace_old (door.ExpectCall due slack) trace_mid) where
-  adds_both : (answer : Result ℕ DoorFault) (trace : List DoorCall) → Tells trace_mid (door.NowCall answer) trace_new
-      → trace_new ≡ Some trace
-      → Adds trace_old trace (door.ExpectCall due slack ∷ door.NowCall answer ∷ [])
-  adds_both answer trace h is =
-      let y = adds_one (door.NowCall answer) trace_mid trace_new trace h is in
-      adds_then y.was
-      (adds_one (door.ExpectCall due slack) trace_old trace_mid y.before expects_it y.was) y
-
-  pub takes_moment : (moment : ℕ) (new : Held) → Tells trace_mid (door.NowCall (Ok moment)) trace_new → new ≡ advanced moment old
+  pub takes_moment : (answer : Result ℕ DoorFault) (new : Held) → Tells trace_mid (door.NowCall answer) trace_new → IsTold old answer new
       → TakesMoment old trace_old new trace_new
-  takes_moment moment new h is_advanced owns buses stand keys trace in_state is = record {
-    due = due;
-    slack = slack;
-    answer = Ok moment;
-    adds = adds_both (Ok moment) trace h is;
-    asked = expected due slack old first least_is buses stand.events keys in_state.layout in_state.stands;
-    stands = calls_lead.moment moment old new is_advanced buses stand.events keys in_state.layout in_state.stands;
-  }
-
-  pub keeps_moment : (failed : DoorFault) → Tells trace_mid (door.NowCall (Err failed)) trace_new → TakesMoment old trace_old old trace_new
-  keeps_moment failed h owns buses stand keys trace in_state is = record {
-    due = due;
-    slack = slack;
-    answer = Err failed;
-    adds = adds_both (Err failed) trace h is;
-    asked = expected due slack old first least_is buses stand.events keys in_state.layout in_state.stands;
-    stands = in_state.stands;
-  }
+  takes_moment answer new h told owns buses stand keys trace in_state is =
+      let y = adds_one (door.NowCall answer) trace_mid trace_new trace h is in
+      record {
+        due = due;
+        slack = slack;
+        answer = answer;
+        adds = adds_then y.was (adds_one (door.ExpectCall due slack) trace_old trace_mid y.before expects_it y.was) y;
+        asked =
+            cc (
+              calls_agree.due due old first buses stand.events keys in_state.layout in_state.stands,
+              calls_agree.slack old buses stand.events keys in_state.layout in_state.stands,
+            );
+        stands = by answer told;
+      }
+    where
+      by : (answer : Result ℕ DoorFault) → IsTold old answer new
+          → StandsFor buses keys new (course buses (timed buses stand (given.NowCall answer ∷ [])).events)
+      by (Ok moment) e = calls_lead.moment moment old new e buses stand.events keys in_state.layout in_state.stands
+      by (Err failed) e = rw e in_state.stands
 
 -- ---- the read of a visit
 
 module _ (peer key : ℕ) (old : Held) (trace_old : Trace) (ready : Bool)
     (ready_is : ready ≡ is_none (bytes_fault key [] old)) where
   course_says : OfConnection key old (λ buses events n. ready ≡ is_none (fault buses (course buses events) (Bytes n (giving []))))
-  course_says buses events keys n layout named s =
-      cc (calls_agree.bytes key (giving []) old buses events keys n layout named s)
+  course_says buses events keys n layout named s = cc (calls_agree.bytes key (giving []) old buses events keys n layout named s)
 
   pub read_not : ready ≡ false → ReadsIn peer key old trace_old old trace_old true
   read_not e buses events keys n trace s is =
@@ -106,13 +82,9 @@ module _ (peer key : ℕ) (old : Held) (trace_old : Trace) (ready : Bool)
             asked_for = rw none (asked_none buses events old);
           };
           asked = asks buses events n [] (course_says buses events keys n s.layout s.named s.stands);
-          stays_is = cc (or_no stays);
+          stays_is = cc (or-false (not stays));
           stands = rw none (rw append-nil s.stands);
         }
-      where
-        or_no : (b : Bool) → not b || false ≡ not b
-        or_no true = refl
-        or_no false = refl
 
   pub read_bytes : (count : ℕ) (buffer : List ℕ) (trace_new : Trace) (new : Held) (result : Result Unit CoreFault)
       (stays : Bool)
@@ -153,15 +125,8 @@ module _ (peer key : ℕ) (old : Held) (trace_old : Trace) (ready : Bool)
 
 -- ---- one write of a visit: what is lent, and what is taken of it
 
-nil_of : (xs : List ℕ) → (length xs == 0) ≡ true → xs ≡ []
-nil_of [] e = refl
-nil_of (x ∷ xs) e = absurd (by _ e)
-  where
-    by : (k : ℕ) → (suc k == 0) ≡ true → ⊥
-    by k e = grind (arith, nat_tests)
-
 some_of : (xs : List ℕ) → (length xs == 0) ≡ false → 0 < length xs
-some_of [] e = absurd (let bad = e in cc)
+some_of [] e = cc
 some_of (x ∷ xs) e = omega arith
 
 -- this many bytes of what was lent are sent
@@ -183,11 +148,7 @@ module _ (peer key : ℕ) (old : Held) (trace_old : Trace) where
   pub wrote_absent : (new : Held) (trace_new : Trace) (wrote : Wrote) → at old key ≡ None
       → WritesOnce peer key old trace_old new trace_new wrote
   wrote_absent new _ wrote gone buses events keys n trace s is =
-      absurd (none_there
-      (rw gone at (calls_agree.there key old buses events keys n s.layout s.named s.stands)))
-    where
-      none_there : IsSome {T = Place} None → ⊥
-      none_there e = cc
+      let none = rw gone at (calls_agree.there key old buses events keys n s.layout s.named s.stands) in cc
 
   module _ (mid : Held) (out : mid ≡ let_out key old) where
     asked : LeadsAt key (λ n. Room n 0) old mid
@@ -196,7 +157,7 @@ module _ (peer key : ℕ) (old : Held) (trace_old : Trace) where
     pub wrote_none : (bytes : List ℕ) → Lends bytes → (length bytes == 0) ≡ true → WritesOnce peer key old trace_old mid trace_old Less
     wrote_none bytes lends none buses events keys n trace s is =
         inl (
-          sym (lent_is bytes lends buses events keys n s.layout s.named s.stands) ∙ nil_of bytes none,
+          sym (lent_is bytes lends buses events keys n s.layout s.named s.stands) ∙ nil_from_length bytes (eqb-true _ 0 none),
           record { adds = adds_none is; stands = asked buses events keys n s.layout s.named s.stands },
         )
 

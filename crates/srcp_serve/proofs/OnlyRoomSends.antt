@@ -1,28 +1,19 @@
 -- What the events but room leave of a connection, and what events of others leave of it.
-use Rattle.std.proofs.Common.{◌≡◌, ◌∙◌, ℕ, zero, suc, ◌≤◌, Bool, true, false, List, [], ◌∷◌, ◌++◌, map, length, if◌then◌else◌, Option, Some}
-use Rattle.std.proofs.Common.{None, option_map, Result, Ok, Err, refl, ap, sym, subst, arith, append-nil, length-append, ◌+◌}
-use Rattle.std.specs.Prelude.{◌||◌, ◌==◌, fold, nat_lt}
-use Rattle.std.specs.List.{AllByRecursion}
-use Rattle.std.proofs.lemmas.List.{take-append-le}
-use Rattle.std.proofs.lemmas.Option.{same_Some}
-use Rattle.srcp_core.specs.Under.{Piece, Order, effect, Heard, greets, Open, Bytes, At, Shut, Obeyed, Began, Ended, Event, Room}
+use Rattle.srcp_serve.proofs.Names.{◌≡◌, ◌∙◌, ℕ, zero, suc, ◌≤◌, Bool, true, false, List, [], ◌∷◌, ◌++◌, map, length, if◌then◌else◌, Option}
+use Rattle.srcp_serve.proofs.Names.{Some, None, option_map, Result, Ok, Err, refl, ap, sym, subst, arith, append-nil, length-append, ◌+◌}
+use Rattle.srcp_serve.proofs.Names.{◌||◌, ◌==◌, fold, nat_lt, AllByRecursion, take-append-le, same_Some, Piece, Order, effect, Heard}
+use Rattle.srcp_serve.proofs.Names.{greets, Open, Bytes, At, Shut, Obeyed, Began, Ended, Event, Room, Bus, Connection, given, sent}
+use Rattle.srcp_serve.proofs.Names.{given_room, World, fresh, numbered, with_numbered, open_connection, at_connection, did, replied}
+use Rattle.srcp_serve.proofs.Names.{counted, is_info, state, entered, goes, greeted, ended, obeyed, commanded, answered_as, answered}
+use Rattle.srcp_serve.proofs.Names.{order_of, fault, new_lines, fed_to, shut_as, or_refused, happens, rows, history, line_law, CoreFault}
+use Rattle.srcp_serve.proofs.Names.{numbered_with, all_numbered, all_push, opened, eqb-false, map-append}
 use Rattle.srcp_info.specs.Line.{reply_line}
 use Rattle.srcp_info.specs.declared.change.Code.{Code}
 use Rattle.srcp_info.specs.declared.change.Code.TheVariants.{C500}
 use Rattle.srcp_info.specs.declared.change.Reply.{Reply}
 use Rattle.srcp_info.specs.declared.change.Reply.TheVariants.{Protocol, Mode as ModeReply, Go, Refused}
 use Rattle.srcp_info.specs.declared.value.Mode.{Mode}
-use Rattle.srcp_grammar.specs.declared.layout.Bus.{Bus}
 use Rattle.srcp_rules.specs.Effect.{Effect}
-use Rattle.srcp_core.specs.Connection.{Connection, given, sent, given_room}
-use Rattle.srcp_core.specs.Course.{World, fresh, numbered, with_numbered, open_connection, at_connection, did, replied, counted, is_info}
-use Rattle.srcp_core.specs.Course.{state, entered, goes, greeted, ended, obeyed, commanded, answered_as, answered, order_of, fault}
-use Rattle.srcp_core.specs.Course.{new_lines, fed_to, shut_as, or_refused, happens, rows, history}
-use Rattle.srcp_core.proofs.Agreement.MemoryAnswers.{line_law}
-use Rattle.srcp_core.specs.declared.record.CoreFault.{CoreFault}
-use Rattle.srcp_core.proofs.Agreement.NumbersAndKeys.{numbered_with}
-use Rattle.srcp_core.proofs.CourseLaws.SessionsAreKept.{all_numbered, all_push, opened}
-use Rattle.std.proofs.lemmas.Bool.{eqb-false}
 use Rattle.srcp_core.proofs.CourseLaws.NothingAfterTheEnd.{numbered_other, numbered_push}
 
 -- it was given no line unless it is an information session, which no command of its own ends, and no more was taken of it
@@ -167,11 +158,9 @@ module _ (buses : List Bus) (n : ℕ) (Law Quiet : List Connection → Type 0) (
       by : (o : Option Connection) → numbered n w.connections ≡ o → (conn : Connection)
           → option_map (λ (c : Connection). record c { out = c.out ++ reply_line w.moment result.reply }) (numbered n w.connections)
           ≡ Some conn → conn.info ≡ false
-      by None t conn e = let no : None ≡ Some conn =
-          cc in cc
+      by None t conn e = let no : None ≡ Some conn = cc in cc
       by (Some c) t conn e =
-          let is : Some (record c { out = c.out ++ reply_line w.moment result.reply }) ≡ Some conn =
-          cc in
+          let is : Some (record c { out = c.out ++ reply_line w.moment result.reply }) ≡ Some conn = cc in
           cc (same_Some (record c { out = c.out ++ reply_line w.moment result.reply }) conn is, plain c t)
 
   kept_commanded : (session : ℕ) (command : Result Order Code) (w : World) → IsPlain w → IsQuietNow w
@@ -202,9 +191,7 @@ module _ (buses : List Bus) (n : ℕ) (Law Quiet : List Connection → Type 0) (
 
   kept_lines : (lines : List Heard) (w : World) → Holds w → Holds (fold (answered buses n) w lines)
   kept_lines [] w a = a
-  kept_lines (line ∷ lines) w a =
-      kept_lines lines _
-      (kept_answered _ line w (λ conn e. (opened _ conn e).0 ∙ sym e) a)
+  kept_lines (line ∷ lines) w a = kept_lines lines _ (kept_answered _ line w (λ conn e. (opened _ conn e).0 ∙ sym e) a)
 
   kept_fed : (piece : Piece) (o : Option Connection) (w : World) → Holds w → Holds (fed_to buses n piece o w)
   kept_fed piece None w a = a
@@ -264,29 +251,18 @@ pub sending_shut : (buses : List Bus) (n : ℕ) (texts : List (List ℕ)) (w : W
     → IsSending texts (happens buses w (Shut n)).connections
 sending_shut buses n texts = kept_shut buses n _ (IsQuiet n texts) (sending_kept n texts)
 
-sent_push : (conns : List Connection) (conn : Connection) → map sent (conns ++ conn ∷ []) ≡ map sent conns ++ sent conn ∷ []
-sent_push [] conn = refl
-sent_push (c ∷ conns) conn = ap (λ ts. sent c ∷ ts) (sent_push conns conn)
-
 module _ (buses : List Bus) (texts : List (List ℕ)) where
-  pub sending_moment : (moment : ℕ) (w : World) → IsSending texts w.connections → IsSending texts (happens buses w (At moment)).connections
-  sending_moment moment w a = a
-
   -- a connection more was sent nothing
   pub sending_opened : (granted : Bool) (w : World) → IsSending texts w.connections → fault buses w (Open granted) ≡ None
       → IsSending (texts ++ [] ∷ []) (happens buses w (Open granted)).connections
   sending_opened granted w a e =
-      let more =
-      all_push IsSteady _ fresh a.steady (record { plain = λ h. refl; goes_on = λ h. refl; within = omega arith }) in
-      let one : IsSending (texts ++ [] ∷ []) (w.connections ++ fresh ∷ []) =
-      record { steady = more; sends = cc (sent_push w.connections fresh) } in
-      rw e one
+      let more = all_push IsSteady _ fresh a.steady (record { plain = λ h. refl; goes_on = λ h. refl; within = omega arith }) in
+      rw e (record { steady = more; sends = cc (map-append sent w.connections (fresh ∷ []), a.sends) })
 
   -- one that is not accepted changes nothing
   pub sending_refused : (granted : Bool) (w : World) (cause : CoreFault) → IsSending texts w.connections
       → fault buses w (Open granted) ≡ Some cause → IsSending texts (happens buses w (Open granted)).connections
-  sending_refused granted w cause a e =
-      rw e a
+  sending_refused granted w cause a e = rw e a
 
 -- ---- what happens to others leaves a connection as it is
 

@@ -1,21 +1,13 @@
 -- A turn that brings no more changes than the door was told makes no panel overrun.
-use Rattle.std.proofs.Common.{drop, ◌≡◌, ◌∙◌, ℕ, true, false, List, [], ◌∷◌, ◌++◌, map, if◌then◌else◌, refl, ap, sym, append-nil}
-use Rattle.std.proofs.Common.{append_assoc, zero, suc, ◌≤◌, length}
-use Rattle.std.specs.Prelude.{filter_map, flat_map, fold}
-use Rattle.srcp_grammar.specs.declared.layout.Bus.{Bus}
-use Rattle.srcp_core.specs.Under.{Event, At, Open}
-use Rattle.srcp_serve.specs.Given.{Accepted, Call, ExpectCall, NowCall, AcceptCall, ReadCall, WriteCall, CloseCall}
-use Rattle.srcp_serve.specs.Serving.{Stand, begun, connects, with_connection, moment_of, accept_of, clients, timed, turned, visit_events}
-use Rattle.srcp_serve.specs.Serving.{with_accept, with_moment, Expects, OfEachTurn, empty_stand, expects, question, turn_asks, turns}
-use Rattle.srcp_core.specs.Connection.{Connection}
-use Rattle.srcp_core.specs.Course.{course}
-use Rattle.srcp_grammar.specs.Layout.{IsLayout}
-use Rattle.std.proofs.lemmas.List.{drop_at}
-use Rattle.srcp_core.specs.Waits.{IsOverrun, option_or_256, slack, room}
+use Rattle.srcp_serve.proofs.Names.{drop, ◌≡◌, ◌∙◌, ℕ, true, false, List, [], ◌∷◌, ◌++◌, map, if◌then◌else◌, refl, ap, sym, append-nil}
+use Rattle.srcp_serve.proofs.Names.{append_assoc, zero, suc, ◌≤◌, length, filter_map, flat_map, fold, Bus, Event, At, Open, Accepted, Call}
+use Rattle.srcp_serve.proofs.Names.{ExpectCall, NowCall, AcceptCall, ReadCall, WriteCall, CloseCall, Stand, begun, connects}
+use Rattle.srcp_serve.proofs.Names.{with_connection, moment_of, accept_of, clients, timed, turned, visit_events, with_accept, with_moment}
+use Rattle.srcp_serve.proofs.Names.{Expects, OfEachTurn, empty_stand, expects, question, turn_asks, turns, Connection, course, IsLayout}
+use Rattle.srcp_serve.proofs.Names.{drop_at, IsOverrun, option_or_256, slack, room, IsLight, IsPaced, ServingSparesAll, TurnsSpare}
+use Rattle.srcp_serve.proofs.Names.{SparesPanels, trace_room}
 use Rattle.srcp_core.proofs.CourseLaws.WaitsGrow.{few_close_none}
 use Rattle.srcp_core.proofs.CourseLaws.LinesBringTheirWeight.{light_lines}
-use Rattle.srcp_serve.specs.Pacing.{IsLight, IsPaced, ServingSparesAll, TurnsSpare}
-use Rattle.srcp_serve.specs.Pacing.{SparesPanels, trace_room}
 use Rattle.srcp_serve.proofs.CallsByTurnAndPeer.{AreTurnsAsked, turns_parted}
 
 -- a peer that was accepted

@@ -1,27 +1,16 @@
 -- What was sent of each connection, by its peer: the visits of a turn add what their peers took.
-use Rattle.std.proofs.Common.{◌≡◌, ◌∙◌, ℕ, zero, suc, Bool, true, false, List, [], ◌∷◌, ◌++◌, map, filter, take, Result, Ok, Err}
-use Rattle.std.proofs.Common.{if◌then◌else◌, refl, ap, sym, subst, arith, append-nil, append_assoc, ◌==◌, ◌+◌, length, Option, Some, None}
-use Rattle.std.proofs.Common.{not, cond}
-use Rattle.std.specs.Prelude.{◌||◌, flat_map, is_none, ◌&&◌}
-use Rattle.std.specs.List.{list_any, AllByRecursion}
-use Rattle.std.proofs.lemmas.Bool.Decides.{nat_tests}
-use Rattle.srcp_core.specs.Under.{Event, Open}
-use Rattle.srcp_info.proofs.ClientLaws.{all_filter, filter-map}
-use Rattle.srcp_grammar.specs.declared.layout.Bus.{Bus}
-use Rattle.srcp_core.specs.Course.{course, World, start, happens, fault}
-use Rattle.srcp_serve.specs.Given.{Call, ExpectCall, NowCall, AcceptCall, ReadCall, WriteCall, CloseCall, Accepted}
-use Rattle.srcp_serve.specs.Serving.{Client, IsFair, is_about, visit, visit_events, taken, taken_in, Stand, clients, with_client, kept}
-use Rattle.srcp_serve.specs.Serving.{is_close, with_moment, with_accept, with_connection, Slots, Question, question, visited, visits_ask}
-use Rattle.srcp_serve.specs.Serving.{asks_of}
-use Rattle.srcp_serve.specs.declared.door.DoorFault.{DoorFault}
-use Rattle.srcp_serve.proofs.OnlyRoomSends.{IsSending, sending_moment, sending_opened, sending_refused}
+use Rattle.srcp_serve.proofs.Names.{◌≡◌, ◌∙◌, ℕ, zero, suc, Bool, true, false, List, [], ◌∷◌, ◌++◌, map, filter, take, Ok, if◌then◌else◌}
+use Rattle.srcp_serve.proofs.Names.{refl, ap, sym, subst, arith, append-nil, append_assoc, ◌==◌, ◌+◌, length, Option, Some, None, not, ◌||◌}
+use Rattle.srcp_serve.proofs.Names.{flat_map, list_any, AllByRecursion, nat_tests, Event, Open, all_filter, filter-map, Bus, course, start}
+use Rattle.srcp_serve.proofs.Names.{happens, fault, Call, WriteCall, Accepted, Client, IsFair, is_about, visit, visit_events, taken}
+use Rattle.srcp_serve.proofs.Names.{taken_in, Stand, clients, with_client, kept, is_close, with_moment, with_accept, Slots, Question}
+use Rattle.srcp_serve.proofs.Names.{question, visited, visits_ask, asks_of, map-append, fold-append, CoreFault, filter-append, and_from}
+use Rattle.srcp_serve.proofs.Names.{and_parts, cond_both, add-one}
+use Rattle.srcp_serve.proofs.OnlyRoomSends.{IsSending, sending_opened, sending_refused}
 use Rattle.srcp_serve.proofs.RoomSendsWhatIsLent.{put}
 use Rattle.srcp_serve.proofs.VisitsSendWhatIsTaken.{sending_visit, asks_write, no_writes, none_taken}
-use Rattle.srcp_serve.proofs.CallsByTurnAndPeer.{IsNoneOf, PeersApart, AreAsked, IsOfNone, none_asked, visits_parted}
-use Rattle.std.proofs.lemmas.List.{map-append}
-use Rattle.std.proofs.lemmas.List.Sums.{fold-append}
-use Rattle.srcp_core.specs.declared.record.CoreFault.{CoreFault}
-use Rattle.std.proofs.lemmas.List.Elements.{filter-append}
+use Rattle.srcp_serve.proofs.CallsByTurnAndPeer.{IsNoneOf, PeersApart, AreAsked, IsOfNone, any_not, none_asked, not_any, turned_round}
+use Rattle.srcp_serve.proofs.CallsByTurnAndPeer.{visits_parted}
 
 -- that connection is the peer's, and no other is
 abbrev pub IsPeerOf : ℕ → ℕ → List ℕ → Type 0
@@ -46,39 +35,18 @@ put_peer f g more (suc zero) peer (who ∷ connected) i h e =
 put_peer f g more (suc (suc n)) peer (who ∷ connected) i h e =
     cc (h who i.0, put_peer f g more (suc n) peer connected i.1 h e)
 
-none_of : (peer who : ℕ) (bytes : List ℕ) (answer : Result ℕ DoorFault) → (who == peer) ≡ false
-    → taken_in peer (WriteCall who bytes answer) ≡ []
-none_of peer who bytes (Ok count) e = ap (λ b. if b then take count bytes else []) e
-none_of peer who bytes (Err failed) e = refl
+none_of : (peer : ℕ) (call : Call) → is_about peer call ≡ false → taken_in peer call ≡ []
+none_of peer (WriteCall who bytes (Ok count)) e = ap (λ b. if b then take count bytes else []) e
+none_of peer other e = refl
 
 -- what is taken of a peer, its own calls say
 pub taken_visit : (peer : ℕ) (calls : List Call) → taken peer (filter (is_about peer) calls) ≡ taken peer calls
 taken_visit peer [] = refl
-taken_visit peer (ExpectCall due slack ∷ calls) = taken_visit peer calls
-taken_visit peer (NowCall answer ∷ calls) = taken_visit peer calls
-taken_visit peer (AcceptCall answer granted ∷ calls) = taken_visit peer calls
-taken_visit peer (ReadCall who answer buffer grants ∷ calls) = by (who == peer) ∙ taken_visit peer calls
-  where
-    by : (b : Bool)
-        → taken peer (if b then ReadCall who answer buffer grants ∷ filter (is_about peer) calls else filter (is_about peer) calls)
-        ≡ taken peer (filter (is_about peer) calls)
-    by true = refl
-    by false = refl
-taken_visit peer (CloseCall who answer ∷ calls) = by (who == peer) ∙ taken_visit peer calls
-  where
-    by : (b : Bool)
-        → taken peer (if b then CloseCall who answer ∷ filter (is_about peer) calls else filter (is_about peer) calls)
-        ≡ taken peer (filter (is_about peer) calls)
-    by true = refl
-    by false = refl
-taken_visit peer (WriteCall who bytes answer ∷ calls) =
-    cc (by (who == peer) refl, taken_visit peer calls)
-  where
-    by : (b : Bool) → (who == peer) ≡ b
-        → taken peer (if b then WriteCall who bytes answer ∷ filter (is_about peer) calls else filter (is_about peer) calls)
-        ≡ taken_in peer (WriteCall who bytes answer) ++ taken peer (filter (is_about peer) calls)
-    by true e = refl
-    by false e = ap (λ t. t ++ taken peer (filter (is_about peer) calls)) (sym (none_of peer who bytes answer e))
+taken_visit peer (call ∷ calls) =
+    let own = filter (is_about peer) calls in
+    cond_both _ _ _ (λ (cs : List Call). taken peer cs ≡ taken_in peer call ++ taken peer own) (λ e. refl)
+    (λ e. ap (λ t. t ++ taken peer own) (sym (none_of peer call e)))
+    ∙ ap (λ t. taken_in peer call ++ t) (taken_visit peer calls)
 
 -- who is still to be visited took nothing yet
 abbrev pub so_far : (ℕ → List ℕ) → List Call → List Client → ℕ → List ℕ
@@ -86,13 +54,6 @@ so_far before calls all peer = before peer ++ (if list_any (λ client. client.pe
 
 abbrev pub ArePeersOf : List ℕ → List Client → Type 0
 ArePeersOf connected all = AllByRecursion (λ client. IsPeerOf client.conn client.peer connected) all
-
-none_any : (peer : ℕ) (all : List Client) → IsNoneOf peer all → list_any (λ client. client.peer == peer) all ≡ false
-none_any peer [] h = refl
-none_any peer (client ∷ all) h = cc (none_any peer all h.1)
-
-pub turned_round : (a b : ℕ) → (a == b) ≡ false → (b == a) ≡ false
-turned_round a b e = grind (arith, nat_tests)
 
 module _ (buses : List Bus) (connected : List ℕ) (before : ℕ → List ℕ) (calls : List Call) (fair : AllByRecursion IsFair calls) where
   -- the visits of a turn
@@ -110,7 +71,7 @@ module _ (buses : List Bus) (connected : List ℕ) (before : ℕ → List ℕ) (
       (all_filter IsFair (is_about client.peer) calls fair) a in
       let self : (client.peer == client.peer) ≡ true = grind (arith, nat_tests) in
       let own : so_far before calls (client ∷ all) client.peer ++ more ≡ so_far before calls all client.peer =
-      cc (append_assoc (before client.peer) [] more, taken_visit client.peer calls, none_any client.peer all apart.0) in
+      cc (append_assoc (before client.peer) [] more, taken_visit client.peer calls, any_not (λ x. x.peer == client.peer) all apart.0) in
       let others : (other : ℕ) → (other == client.peer) ≡ false → so_far before calls (client ∷ all) other ≡ so_far before calls all other =
       λ other e.
       ap (λ b. before other ++ (if b || list_any (λ x. x.peer == other) all then [] else taken other calls))
@@ -122,31 +83,28 @@ module _ (buses : List Bus) (connected : List ℕ) (before : ℕ → List ℕ) (
       rw now at one in
       rw append_assoc at (sending_visits next all known.1 apart.1 asked.1 here)
 
--- ---- who has which slot: a peer that is connected takes one, and a peer that is closed frees one
-
 -- ---- slots
+
+-- what holds whether its peer keeps the slot or not
+kept_as : (calls : List Call) (client : Client) (P : Option Client → Type 0) → P None → P (Some client) → P (kept calls (Some client))
+kept_as calls client P none some = cond_both (list_any is_close (visit calls client)) None (Some client) P (λ e. none) (λ e. some)
 
 pub kept_all : (P : Client → Type 0) (calls : List Call) (slots : Slots) → AllByRecursion P (clients slots)
     → AllByRecursion P (clients (map (kept calls) slots))
 kept_all P calls [] h = tt
 kept_all P calls (None ∷ slots) h = kept_all P calls slots h
-kept_all P calls (Some client ∷ slots) h = by (list_any is_close (visit calls client)) (kept_all P calls slots h.1)
-  where
-    by : (b : Bool) → AllByRecursion P (clients (map (kept calls) slots))
-        → AllByRecursion P (clients ((if b then None else Some client) ∷ map (kept calls) slots))
-    by true more = more
-    by false more = (h.0, more)
+kept_all P calls (Some client ∷ slots) h =
+    let more = kept_all P calls slots h.1 in
+    kept_as calls client (λ (s : Option Client). AllByRecursion P (clients (s ∷ map (kept calls) slots))) more (h.0, more)
 
 pub kept_apart : (calls : List Call) (slots : Slots) → PeersApart (clients slots)
     → PeersApart (clients (map (kept calls) slots))
 kept_apart calls [] h = tt
 kept_apart calls (None ∷ slots) h = kept_apart calls slots h
-kept_apart calls (Some client ∷ slots) h = by (list_any is_close (visit calls client)) (kept_apart calls slots h.1)
-  where
-    by : (b : Bool) → PeersApart (clients (map (kept calls) slots))
-        → PeersApart (clients ((if b then None else Some client) ∷ map (kept calls) slots))
-    by true more = more
-    by false more = (kept_all (λ other. (other.peer == client.peer) ≡ false) calls slots h.0, more)
+kept_apart calls (Some client ∷ slots) h =
+    let more = kept_apart calls slots h.1 in
+    kept_as calls client (λ (s : Option Client). PeersApart (clients (s ∷ map (kept calls) slots))) more
+    (kept_all (λ other. (other.peer == client.peer) ≡ false) calls slots h.0, more)
 
 pub connected_all : (P : Client → Type 0) (client : Client) (slots : Slots) → P client → AllByRecursion P (clients slots)
     → AllByRecursion P (clients (with_client client slots))
@@ -185,9 +143,7 @@ peer_next peer [] h = (refl, tt)
 peer_next peer (who ∷ connected) h = (h.0, peer_next peer connected h.1)
 
 pub peer_last : (peer : ℕ) (connected : List ℕ) → IsNew peer connected → IsPeerOf (length connected + 1) peer (connected ++ peer ∷ [])
-peer_last peer connected h =
-    let same : suc (length connected) ≡ length connected + 1 = omega arith in
-    rw same at (peer_next peer connected h)
+peer_last peer connected h = rw add-one (peer_next peer connected h)
 
 -- a new peer has no connection
 peer_other : (n peer new : ℕ) (connected : List ℕ) → IsNew new connected → IsPeerOf n peer connected → (peer == new) ≡ false
@@ -221,12 +177,7 @@ module _ (buses : List Bus) (before : ℕ → List ℕ) where
     pub apart : PeersApart (clients stand.slots)
 
   pub sent_after_moment : (stand : Stand) (moment : ℕ) → IsSentAsTaken stand → IsSentAsTaken (with_moment buses stand moment)
-  sent_after_moment stand moment h = record {
-    sending =
-        rw fold-append (sending_moment buses (map before stand.connected) moment (course buses stand.events) h.sending);
-    known = h.known;
-    apart = h.apart;
-  }
+  sent_after_moment stand moment h = record { sending = rw fold-append h.sending; known = h.known; apart = h.apart }
 
   pub sent_after_accept : (stand : Stand) (accept : Accepted) → IsNew accept.peer stand.connected → before accept.peer ≡ []
       → IsSentAsTaken stand
@@ -239,65 +190,34 @@ module _ (buses : List Bus) (before : ℕ → List ℕ) where
       by : (o : Option CoreFault) → fault buses (course buses stand.events) (Open accept.granted) ≡ o
           → IsSentAsTaken (with_accept buses stand accept)
       by None e =
-          let yes =
-          ap (λ o. if is_none o then with_connection buses stand accept
-          else record stand { events = stand.events ++ Open accept.granted ∷ [] })
-          e in
           let texts : map before stand.connected ++ [] ∷ [] ≡ map before (stand.connected ++ accept.peer ∷ []) =
           cc (map-append before stand.connected (accept.peer ∷ [])) in
-          subst IsSentAsTaken (sym yes) (record {
+          let client : Client = record { peer = accept.peer; conn = length stand.connected + 1 } in
+          rw e (record {
             sending =
-                rw texts at (subst (λ (v : World). IsSending (map before stand.connected ++ [] ∷ []) v.connections) (sym next)
-                (sending_opened buses (map before stand.connected) accept.granted (course buses stand.events) h.sending e));
+                rw (next, ← texts)
+                (sending_opened buses (map before stand.connected) accept.granted (course buses stand.events) h.sending e);
             known =
-                connected_all (λ client. IsPeerOf client.conn client.peer (stand.connected ++ accept.peer ∷ []))
-                (record { peer = accept.peer; conn = length stand.connected + 1 }) stand.slots (peer_last accept.peer stand.connected new)
-                (peers_before accept.peer stand.connected (clients stand.slots) new h.known);
+                connected_all (λ client. IsPeerOf client.conn client.peer (stand.connected ++ accept.peer ∷ [])) client stand.slots
+                (peer_last accept.peer stand.connected new) (peers_before accept.peer stand.connected (clients stand.slots) new h.known);
             apart =
-                connected_apart (record { peer = accept.peer; conn = length stand.connected + 1 }) stand.slots
-                (new_unconnected accept.peer stand.connected (clients stand.slots) new h.known) h.apart;
+                connected_apart client stand.slots (new_unconnected accept.peer stand.connected (clients stand.slots) new h.known) h.apart;
           })
-      by (Some cause) e =
-          let no =
-          ap (λ o. if is_none o then with_connection buses stand accept
-          else record stand { events = stand.events ++ Open accept.granted ∷ [] })
-          e in
-          rw no (record {
-            sending =
-                rw next (sending_refused buses (map before stand.connected) accept.granted (course buses stand.events) cause h.sending e);
-            known = h.known;
-            apart = h.apart;
-          })
+      by (Some cause) e = rw e (record {
+        sending = rw next (sending_refused buses (map before stand.connected) accept.granted (course buses stand.events) cause h.sending e);
+        known = h.known;
+        apart = h.apart;
+      })
 
 -- ---- after the visits of a turn
-
-both : (a b : Bool) → a && b ≡ true → (a ≡ true) × (b ≡ true)
-both true b e = (refl, e)
-both false b e = cc
 
 no_writes_kept : (g : Question → Bool) (questions : List Question) → no_writes questions ≡ true → no_writes (filter g questions) ≡ true
 no_writes_kept g [] h = refl
 no_writes_kept g (q ∷ questions) h =
-    let parts = both (not (asks_write q)) (no_writes questions) h in
-    by (g q) parts.0 (no_writes_kept g questions parts.1)
-  where
-    by : (b : Bool) → not (asks_write q) ≡ true → no_writes (filter g questions) ≡ true
-        → no_writes (cond b (q ∷ filter g questions) (filter g questions)) ≡ true
-    by true p more = ap (λ t. t && no_writes (filter g questions)) p ∙ more
-    by false p more = more
-
-any_none : (peer : ℕ) (all : List Client) → list_any (λ client. client.peer == peer) all ≡ false → IsNoneOf peer all
-any_none peer [] h = tt
-any_none peer (client ∷ all) h =
-    let parts = neither _ (list_any (λ other. other.peer == peer) all) h in (parts.0, any_none peer all parts.1)
-  where
-    neither : (a b : Bool) → a || b ≡ false → (a ≡ false) × (b ≡ false)
-    neither true b e = cc
-    neither false b e = (refl, e)
-
-pub same_each : (f g : ℕ → List ℕ) (connected : List ℕ) → ((peer : ℕ) → f peer ≡ g peer) → map f connected ≡ map g connected
-same_each f g [] h = refl
-same_each f g (who ∷ connected) h = cc (h who, same_each f g connected h)
+    let parts = and_parts (not (asks_write q)) (no_writes questions) h in
+    let more = no_writes_kept g questions parts.1 in
+    cond_both (g q) (q ∷ filter g questions) (filter g questions) (λ (qs : List Question). no_writes qs ≡ true)
+    (λ e. and_from (not (asks_write q)) (no_writes (filter g questions)) parts.0 more) (λ e. more)
 
 module _ (buses : List Bus) (before : ℕ → List ℕ) (stand : Stand) (calls : List Call) (first : List Question)
     (still : no_writes first ≡ true) (asked : map question calls ≡ first ++ visits_ask buses stand.events calls (clients stand.slots)) where
@@ -316,20 +236,17 @@ module _ (buses : List Bus) (before : ℕ → List ℕ) (stand : Stand) (calls :
       ∙ (none_taken peer (filter (is_about peer) calls) (cc (no_writes_kept (asks_of peer) first still))).1
 
   at_first : (peer : ℕ) → before peer ≡ so_far before calls (clients stand.slots) peer
-  at_first peer = by (list_any (λ client. client.peer == peer) (clients stand.slots)) refl
-    where
-      by : (b : Bool) → list_any (λ client. client.peer == peer) (clients stand.slots) ≡ b
-          → before peer ≡ so_far before calls (clients stand.slots) peer
-      by true e = sym (append-nil _) ∙ ap (λ b. before peer ++ (if b then [] else taken peer calls)) (sym e)
-      by false e =
-          cc (append-nil (before peer), nothing_taken peer (any_none peer (clients stand.slots) e), e)
+  at_first peer =
+      cond_both (list_any (λ client. client.peer == peer) (clients stand.slots)) [] (taken peer calls)
+      (λ (more : List ℕ). before peer ≡ before peer ++ more) (λ e. sym (append-nil _))
+      (λ e. cc (append-nil (before peer), nothing_taken peer (not_any _ (clients stand.slots) e)))
 
   pub sent_after_visits : AllByRecursion IsFair calls → IsOfNone buses first (clients stand.slots) → IsSentAsTaken buses before stand
       → IsSentAsTaken buses (λ peer. before peer ++ taken peer calls) (visited buses stand calls)
   sent_after_visits fair none h =
       let parted = visits_parted buses first stand.events calls (clients stand.slots) h.apart none asked in
-      let begun =
-      rw (same_each before (so_far before calls (clients stand.slots)) stand.connected at_first) at h.sending in
+      let same : before ≡ so_far before calls (clients stand.slots) = λ i peer. at_first peer i in
+      let begun = rw same at h.sending in
       record {
         sending = sending_visits buses stand.connected before calls fair stand.events (clients stand.slots) h.known h.apart parted begun;
         known = kept_all (λ client. IsPeerOf client.conn client.peer stand.connected) calls stand.slots h.known;

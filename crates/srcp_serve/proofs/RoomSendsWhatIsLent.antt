@@ -1,30 +1,13 @@
 -- What a connection lends and its peer then takes is what the course says was sent.
-use Rattle.std.proofs.Common.{◌≡◌, ◌∙◌, ℕ, zero, suc, ◌+◌, ◌-◌, ◌≤◌, min, Bool, true, false, ◌==◌, List, [], ◌∷◌, ◌++◌, take, drop, length}
-use Rattle.std.proofs.Common.{refl, ap, sym, subst, arith, length-append, length-drop, take-add, append-nil, append_assoc, add-zero}
-use Rattle.std.proofs.Common.{if◌then◌else◌, Option, Some, None, map}
-use Rattle.std.specs.Prelude.{◌<◌, ◌&&◌, flat_map, fold}
-use Rattle.std.proofs.lemmas.Bool.Decides.{nat_tests}
-use Rattle.std.proofs.Math.Nat.{zero-min, min-eq_left}
-use Rattle.std.proofs.lemmas.List.{take-append-le, drop_at}
-use Rattle.std.proofs.lemmas.Grind.{flat_map-append}
-use Rattle.srcp_info.specs.declared.change.Shown.{Shown}
-use Rattle.srcp_feed.specs.declared.feed.Next.{Next}
-use Rattle.srcp_core.specs.Connection.{Connection, History, line_of, text, given, sent, unsent, prefix, fitting, available, items_of, owed}
-use Rattle.srcp_core.specs.Connection.{overran, took, given_room, is_open}
-use Rattle.std.proofs.Math.Seq.{take-nil}
-use Rattle.std.proofs.lemmas.List.Sums.{fold-append}
-use Rattle.std.proofs.lemmas.Option.{same_Some}
-use Rattle.std.specs.List.{AllByRecursion}
-use Rattle.srcp_core.specs.Under.{Event, Open, Bytes, Room, At, Shut}
-use Rattle.srcp_grammar.specs.declared.layout.Bus.{Bus}
-use Rattle.srcp_core.specs.Course.{World, fresh, fault, start, numbered, with_numbered, if_open, open_connection, at_connection, counted}
-use Rattle.srcp_core.specs.Course.{or_refused, happens, course, history, rows}
-use Rattle.srcp_core.specs.declared.record.CoreFault.TheVariants.{NoSuch}
-use Rattle.srcp_core.proofs.CourseLaws.RoomsAddUp.{owed_plain}
-use Rattle.srcp_core.proofs.Agreement.NumbersAndKeys.{numbered_with}
-use Rattle.srcp_core.proofs.CourseLaws.RoomGivesWhatIsOwed.{fitting_none, took_within}
-use Rattle.srcp_core.proofs.CourseLaws.SessionsAreKept.{all_numbered, all_push}
-use Rattle.srcp_serve.specs.Serving.{lent}
+use Rattle.srcp_serve.proofs.Names.{◌≡◌, ◌∙◌, ℕ, zero, suc, ◌+◌, ◌-◌, ◌≤◌, min, Bool, true, false, ◌==◌, List, [], ◌∷◌, ◌++◌, take, drop}
+use Rattle.srcp_serve.proofs.Names.{length, refl, ap, sym, arith, length-append, length-drop, take-add, append-nil, append_assoc, add-zero}
+use Rattle.srcp_serve.proofs.Names.{if◌then◌else◌, Option, Some, None, map, ◌<◌, flat_map, fold, nat_tests, zero-min, min-eq_left}
+use Rattle.srcp_serve.proofs.Names.{take-append-le, drop_at, flat_map-append, Shown, Next, Connection, History, line_of, text, given, sent}
+use Rattle.srcp_serve.proofs.Names.{unsent, prefix, fitting, available, items_of, owed, overran, took, given_room, is_open, take-nil}
+use Rattle.srcp_serve.proofs.Names.{fold-append, same_Some, AllByRecursion, Event, Open, Bytes, Room, At, Shut, Bus, World, fresh, fault}
+use Rattle.srcp_serve.proofs.Names.{start, numbered, with_numbered, open_connection, at_connection, counted, or_refused, happens, course}
+use Rattle.srcp_serve.proofs.Names.{history, rows, NoSuch, owed_plain, numbered_with, fitting_none, took_within, all_numbered, all_push}
+use Rattle.srcp_serve.proofs.Names.{lent, and-false, cond_both, is_none, opened}
 use Rattle.srcp_serve.proofs.OnlyRoomSends.{IsSteady, IsSending, sending_bytes, sending_shut, steady_at}
 
 -- the text that is given after room for this many bytes, and how many bytes of it are taken then
@@ -38,29 +21,21 @@ now_taken left taken nexts bytes = taken + min bytes (length (available left nex
 abbrev lent_text : (left got : List ℕ) (taken : ℕ) → List Next → List ℕ
 lent_text left got taken nexts = drop (now_taken left taken nexts 0) (now_given left got nexts 0)
 
-and_false : (b : Bool) → b && false ≡ false
-and_false true = refl
-and_false false = refl
-
 -- if something is unsent, room for no more than that gives nothing new
 pub fits_left : (bytes byte : ℕ) (left : List ℕ) (nexts : List Next) → bytes ≤ length (byte ∷ left) → fitting bytes (byte ∷ left) nexts ≡ []
 fits_left bytes byte left nexts h =
     let none : bytes - length (byte ∷ left) ≡ 0 = omega arith in
-    rw (and_false, none) refl
+    rw (and-false, none) refl
 
 -- room for no more than the next line gives that line
-first_line : (bytes : ℕ) (what : Next) (nexts : List Next) → suc bytes ≤ length (line_of what)
-    → fitting (suc bytes) [] (what ∷ nexts) ≡ what ∷ []
-first_line bytes what nexts h =
+pub first_some : (bytes : ℕ) (what : Next) (nexts : List Next) → 0 < bytes → bytes ≤ length (line_of what)
+    → fitting bytes [] (what ∷ nexts) ≡ what ∷ []
+first_some zero what nexts some h = absurd (omega arith)
+first_some (suc bytes) what nexts some h =
     let positive : (suc bytes == 0) ≡ false = grind (arith, nat_tests) in
     let whole : suc bytes - 0 ≡ suc bytes = omega arith in
     let none : suc bytes - length (line_of what) ≡ 0 = omega arith in
     rw (positive, whole) (ap (λ n. what ∷ prefix n nexts) none)
-
-pub first_some : (bytes : ℕ) (what : Next) (nexts : List Next) → 0 < bytes → bytes ≤ length (line_of what)
-    → fitting bytes [] (what ∷ nexts) ≡ what ∷ []
-first_some zero what nexts some h = absurd (omega arith)
-first_some (suc bytes) what nexts some h = first_line bytes what nexts h
 
 taken_none : (left : List ℕ) (taken : ℕ) (nexts : List Next) → now_taken left taken nexts 0 ≡ taken
 taken_none left taken nexts = simp (zero-min, add-zero)
@@ -70,6 +45,9 @@ takes_none : (left got : List ℕ) (taken : ℕ) (nexts : List Next) → taken �
 takes_none left got taken nexts within =
     simp (taken_none, take-append-le, append-nil)
 
+no_bytes : (bytes : ℕ) (text : List ℕ) → text ≡ [] → bytes ≤ length text → 0 ≡ bytes
+no_bytes bytes text e h = let none = ap length e in omega (arith, none, h)
+
 takes_by : (left got : List ℕ) (taken : ℕ) (nexts : List Next) (bytes : ℕ) → drop taken got ≡ left → taken ≤ length got
     → bytes ≤ length (lent_text left got taken nexts)
     → take (now_taken left taken nexts bytes) (now_given left got nexts bytes)
@@ -77,37 +55,25 @@ takes_by : (left got : List ℕ) (taken : ℕ) (nexts : List Next) (bytes : ℕ)
 takes_by (byte ∷ left) got taken nexts bytes e within h =
     let all : List ℕ = byte ∷ left in
     let none : fitting 0 all nexts ≡ [] = fits_left 0 byte left nexts (omega arith) in
-    let lent : lent_text all got taken nexts ≡ all =
-    cc (taken_none all taken nexts, append-nil got) in
+    let lent : lent_text all got taken nexts ≡ all = cc (taken_none all taken nexts, append-nil got) in
     let inside : bytes ≤ length all = rw lent at h in
     let size : bytes ≤ length (available all nexts) = omega (arith, inside, length-append all (flat_map line_of nexts)) in
-    ap (λ n. take n (now_given all got nexts bytes)) (ap (λ n. taken + n) (min-eq_left size))
-    ∙ ap (λ ns. take (taken + bytes) (got ++ flat_map line_of ns)) (fits_left bytes byte left nexts inside)
-    ∙ ap (take (taken + bytes)) (append-nil got)
-    ∙ take-add taken bytes got
-    ∙ ap (λ l. take taken got ++ take bytes l) (e ∙ sym lent)
+    cc (min-eq_left size, fits_left bytes byte left nexts inside, append-nil got, take-add taken bytes got)
 takes_by [] got taken [] bytes e within h =
-    let lent : lent_text [] got taken [] ≡ [] =
-    simp (taken_none, append-nil, e) in
-    let nil : List ℕ = [] in
-    let inside : bytes ≤ length nil = rw lent at h in
-    let zero_bytes : 0 ≡ bytes = omega (arith, inside) in
-    subst (λ (n : ℕ). take (now_taken [] taken [] n) (now_given [] got [] n)
-    ≡ take taken got ++ take n (lent_text [] got taken [])) zero_bytes
-    (takes_none [] got taken [] within)
+    let lent : lent_text [] got taken [] ≡ [] = simp (taken_none, append-nil, e) in
+    rw (sym (no_bytes bytes _ lent h)) (takes_none [] got taken [] within)
 takes_by [] got taken (what ∷ nexts) zero e within h = takes_none [] got taken (what ∷ nexts) within
 takes_by [] got taken (what ∷ nexts) (suc bytes) e within h =
     let text : List ℕ = line_of what in
     let full : length got ≡ taken = omega (arith, within, length-drop taken got, ap length e) in
     let joined : got ++ (text ++ []) ≡ got ++ text = ap (λ l. got ++ l) (append-nil text) in
     let behind : drop taken (got ++ (text ++ [])) ≡ text = cc (drop_at got text taken full) in
-    let lent : lent_text [] got taken (what ∷ nexts) ≡ text =
-    cc (taken_none [] taken (what ∷ nexts)) in
+    let lent : lent_text [] got taken (what ∷ nexts) ≡ text = cc (taken_none [] taken (what ∷ nexts)) in
     let inside : suc bytes ≤ length text = rw lent at h in
     let size : suc bytes ≤ length (available [] (what ∷ nexts)) = omega (arith, inside, length-append text (flat_map line_of nexts)) in
     cc (
       min-eq_left size,
-      first_line bytes what nexts inside,
+      first_some (suc bytes) what nexts (omega arith) inside,
       take-add taken (suc bytes) (got ++ (text ++ [])),
       take-append-le taken got (text ++ []) within,
     )
@@ -121,8 +87,7 @@ text_of_items steps (what ∷ nexts) = ap (λ l. line_of what ++ l) (text_of_ite
 -- what was given, and what was given since
 pub given_more : (conn : Connection) (steps bytes : ℕ) (nexts : List Next)
     → given (took bytes steps nexts conn) ≡ now_given (unsent conn) (given conn) nexts bytes
-given_more conn steps bytes nexts =
-    simp (flat_map-append, append_assoc, text_of_items)
+given_more conn steps bytes nexts = simp (flat_map-append, append_assoc, text_of_items)
 
 -- no more was taken than was given
 abbrev pub IsWithin : Connection → Type 0
@@ -143,25 +108,9 @@ sends_lent history rows conn bytes over within h =
 
 -- ---- what a connection lends and its peer then takes is what the course says was sent
 
--- the connection that was changed
-opened : (o : Option Connection) (conn : Connection) → if_open o ≡ Some conn → (o ≡ Some conn) × (is_open conn ≡ true)
-opened None conn e = cc
-opened (Some found) conn e = by _ refl e
-  where
-    by : (b : Bool) → is_open found ≡ b → (if b then Some found else None) ≡ Some conn → (Some found ≡ Some conn) × (is_open conn ≡ true)
-    by true t e = (e, rw (same_Some found conn e) at t)
-    by false t e = cc
-
 open_room : (bytes : ℕ) (past : History) (shown : List Shown) (conn : Connection)
     → is_open (given_room bytes past shown conn) ≡ is_open conn
-open_room bytes past shown conn =
-    elim (overran conn past) as (λ b. is_open (if b then conn else took bytes (length past) (owed conn past shown) conn) ≡ is_open conn) [
-      | true ↦ refl
-      | false ↦ refl
-    ]
-
-no_bytes : (bytes : ℕ) (text : List ℕ) → text ≡ [] → bytes ≤ length text → 0 ≡ bytes
-no_bytes bytes text e h = let none = ap length e in omega (arith, none, h)
+open_room bytes past shown conn = cond_both _ _ _ (λ (c : Connection). is_open c ≡ is_open conn) (λ e. refl) (λ e. refl)
 
 -- what is lent of the connection after room for none
 abbrev pub lends : History → List Shown → Connection → List ℕ
@@ -173,17 +122,12 @@ conn_sends : (past : History) (shown : List Shown) (conn : Connection) (bytes : 
 conn_sends past shown conn bytes true over' e e' within h =
     let same : (k : ℕ) → given_room k past shown conn ≡ conn = λ k. rw e refl in
     let none : lends past shown conn ≡ [] = rw (same 0, e) refl in
-    let zero_bytes = no_bytes bytes _ none h in
-    subst (λ (k : ℕ). sent (given_room k past shown conn) ≡ sent conn ++ take k (lends past shown conn)) zero_bytes
-    (simp (same, append-nil))
+    rw (sym (no_bytes bytes _ none h)) (simp (same, append-nil))
 conn_sends past shown conn bytes false true e e' within h =
     let none = ap (λ b. if b then [] else unsent (given_room 0 past shown conn)) e' in
-    let zero_bytes = no_bytes bytes _ none h in
-    subst (λ (k : ℕ). sent (given_room k past shown conn) ≡ sent conn ++ take k (lends past shown conn)) zero_bytes
-    (sends_lent past shown conn 0 e within (omega arith))
+    rw (sym (no_bytes bytes _ none h)) (sends_lent past shown conn 0 e within (omega arith))
 conn_sends past shown conn bytes false false e e' within h =
-    let all =
-    ap (λ b. if b then [] else unsent (given_room 0 past shown conn)) e' in
+    let all = ap (λ b. if b then [] else unsent (given_room 0 past shown conn)) e' in
     cc (sends_lent past shown conn bytes e within (rw all at h))
 
 -- ---- of all connections
@@ -218,16 +162,11 @@ put_with (suc (suc n)) f more (conn ∷ conns) h = ap (λ ts. sent conn ∷ ts) 
 steady_room : (bytes : ℕ) (past : History) (shown : List Shown) (conn : Connection) → IsSteady conn
     → IsSteady (given_room bytes past shown conn)
 steady_room bytes past shown conn s =
-    elim (overran conn past) as (λ b. IsSteady (if b then conn else took bytes (length past) (owed conn past shown) conn)) [
-      | true ↦ s
-      | false ↦ record {
-        plain =
-            λ h. ap (λ ns. conn.items ++ items_of (length past) (fitting bytes (unsent conn) ns)) (owed_plain conn past shown h)
-            ∙ ap (λ ns. conn.items ++ items_of (length past) ns) (fitting_none bytes _) ∙ append-nil _ ∙ s.plain h;
-        goes_on = s.goes_on;
-        within = took_within bytes _ _ conn s.within;
-      }
-    ]
+    cond_both (overran conn past) conn (took bytes (length past) (owed conn past shown) conn) IsSteady (λ e. s) (λ e. record {
+      plain = λ h. rw (owed_plain conn past shown h) (rw fitting_none (append-nil _ ∙ s.plain h));
+      goes_on = s.goes_on;
+      within = took_within bytes _ _ conn s.within;
+    })
 
 module _ (buses : List Bus) where
   -- room for an open connection
@@ -235,9 +174,7 @@ module _ (buses : List Bus) where
       → course buses (events ++ Room n bytes ∷ [])
       ≡ at_connection n (given_room bytes (history buses (course buses events)) (rows buses (course buses events)))
       (counted (course buses events))
-  after_room events n bytes conn e =
-      let w = course buses events in
-      simp (fold-append, e)
+  after_room events n bytes conn e = simp (fold-append, e)
 
   pub there_after : (events : List Event) (n bytes : ℕ) (conn : Connection) → open_connection (course buses events) n ≡ Some conn
       → numbered n (course buses (events ++ Room n bytes ∷ [])).connections
@@ -253,17 +190,14 @@ module _ (buses : List Bus) where
       let w = course buses events in
       let past = history buses w in
       let shown = rows buses w in
-      let now = given_room 0 past shown conn in
-      let v = course buses (events ++ Room n 0 ∷ []) in
-      let stays = open_room 0 past shown conn ∙ (opened _ conn e).1 in
+      let stays = open_room 0 past shown conn ∙ ap is_none (opened _ conn e).1 in
       let same = ap (history buses) (after_room events n 0 conn e) in
       cc (there_after events n 0 conn e)
 
   closed_lends : (events : List Event) (n : ℕ) → open_connection (course buses events) n ≡ None → lent buses n events ≡ []
   closed_lends events n e =
       let w = course buses events in
-      let next : course buses (events ++ Room n 0 ∷ []) ≡ or_refused buses (Some NoSuch) (Room n 0) (counted w) =
-      simp (fold-append, e) in
+      let next : course buses (events ++ Room n 0 ∷ []) ≡ or_refused buses (Some NoSuch) (Room n 0) (counted w) = simp (fold-append, e) in
       cc
 
   -- a prefix of what is lent is sent, of an open connection
@@ -283,12 +217,10 @@ module _ (buses : List Bus) where
       (rw is at h)) in
       let same : (c : Connection) → numbered n w.connections ≡ Some c
       → sent (given_room bytes past shown c) ≡ sent c ++ take bytes (lent buses n events) =
-      λ c t.
-      rw (same_Some conn c (sym there ∙ t)) at one in
+      λ c t. rw (same_Some conn c (sym there ∙ t)) at one in
       rw (after_room events n bytes conn e) (record {
         steady = all_numbered _ n _ _ (λ c t s. steady_room bytes past shown c s) a.steady;
-        sends =
-            cc (put_with n (given_room bytes past shown) (take bytes (lent buses n events)) w.connections same);
+        sends = cc (put_with n (given_room bytes past shown) (take bytes (lent buses n events)) w.connections same, a.sends);
       })
 
   -- so it is of any connection, for nothing is lent of one that is not open
@@ -305,7 +237,7 @@ module _ (buses : List Bus) where
           let none : take bytes (lent buses n events) ≡ [] = simp (closed_lends, take-nil) in
           let next : course buses (events ++ Room n bytes ∷ []) ≡ or_refused buses (Some NoSuch) (Room n bytes) (counted w) =
           simp (fold-append, e) in
-          rw next (subst (λ (ts : List (List ℕ)). IsSending ts w.connections) (sym (cc (put_none n texts))) a)
+          rw (next, none, put_none n texts) a
 
   -- every connection of a course is steady
   steady_happens : (w : World) (event : Event) → AllByRecursion IsSteady w.connections

@@ -1,30 +1,20 @@
 -- Turn after turn: each connection was sent what was taken of its peer in all the turns so far.
-use Rattle.std.proofs.Common.{◌≡◌, ◌∙◌, ℕ, Bool, true, false, List, [], ◌∷◌, ◌++◌, map, filter, cond, if◌then◌else◌, Option, Some, None}
-use Rattle.std.proofs.Common.{◌⊎◌, inl, inr, refl, ap, sym, subst, arith, ◌==◌, ⊎_elim, not, Ok, Err, append-nil, append_assoc}
-use Rattle.std.specs.Prelude.{filter_map, fold, flat_map}
-use Rattle.std.specs.List.{cons_option, AllByRecursion, IsDistinct}
-use Rattle.std.proofs.lemmas.Bool.Decides.{nat_tests}
-use Rattle.srcp_core.specs.Under.{Event, Open}
-use Rattle.srcp_grammar.specs.declared.layout.Bus.{Bus}
-use Rattle.srcp_serve.specs.Given.{Accepted, Call, ExpectCall, NowCall, AcceptCall, ReadCall, WriteCall, CloseCall, door_call}
-use Rattle.srcp_serve.specs.Serving.{Question, Expects, Moments, Accepts, Closes, Client, Stand, question, accept_of, with_moment, connects}
-use Rattle.srcp_serve.specs.Serving.{refuses, asks_of, expects, IsFair, moment_of, clients, taken, timed, turned, visits_ask, with_accept}
-use Rattle.srcp_serve.specs.Serving.{with_connection, turn_asks, is_expect, taken_in, empty_stand, begun, turns, IsServed, OfEachTurn}
-use Rattle.srcp_serve.specs.Serving.{PeersDiffer, SendsWhatIsTaken, SentIsTaken}
+use Rattle.srcp_serve.proofs.Names.{◌≡◌, ◌∙◌, ℕ, Bool, true, false, List, [], ◌∷◌, ◌++◌, map, filter, cond, if◌then◌else◌, Option, Some}
+use Rattle.srcp_serve.proofs.Names.{None, ◌⊎◌, inl, inr, refl, ap, ◌==◌, ⊎_elim, not, Ok, append-nil, append_assoc, filter_map, fold}
+use Rattle.srcp_serve.proofs.Names.{flat_map, cons_option, AllByRecursion, Event, Open, Bus, Accepted, Call, AcceptCall, door_call}
+use Rattle.srcp_serve.proofs.Names.{Question, Expects, Moments, Accepts, Closes, Client, Stand, question, accept_of, with_moment, connects}
+use Rattle.srcp_serve.proofs.Names.{refuses, asks_of, expects, IsFair, moment_of, clients, taken, timed, turned, visits_ask, with_accept}
+use Rattle.srcp_serve.proofs.Names.{with_connection, turn_asks, is_expect, empty_stand, begun, turns, IsServed, OfEachTurn, SentIsTaken}
+use Rattle.srcp_serve.proofs.Names.{course, due_next, slack, all_append, flat_map-append, filter_map-append, take_while-cons, sent, peer_of}
+use Rattle.std.specs.List.{IsDistinct}
+use Rattle.srcp_serve.specs.Serving.{PeersDiffer}
 use Rattle.srcp_serve.proofs.CallsByTurnAndPeer.{IsNoneOf, IsOfNone, AreOfPeers, asks_peer, refused_peers, visits_peers, AreAsked}
-use Rattle.srcp_serve.proofs.CallsByTurnAndPeer.{AreTurnsAsked, PeersApart, in_turn, turns_parted, visits_parted}
+use Rattle.srcp_serve.proofs.CallsByTurnAndPeer.{AreTurnsAsked, PeersApart, accept_as, in_turn, no_calls, refuses_as, turned_round}
+use Rattle.srcp_serve.proofs.CallsByTurnAndPeer.{turns_parted, visits_parted}
 use Rattle.srcp_serve.proofs.PeersAreSentTheirVisits.{IsSentAsTaken, sent_after_moment, IsNew, sent_after_accept, new_unconnected}
-use Rattle.srcp_serve.proofs.PeersAreSentTheirVisits.{sent_after_visits, ArePeersOf, new_push, nothing_taken, same_each}
-use Rattle.srcp_core.specs.Course.{course}
-use Rattle.srcp_core.specs.Waits.{due_next, slack}
-use Rattle.srcp_info.proofs.ClientLaws.{all_append}
+use Rattle.srcp_serve.proofs.PeersAreSentTheirVisits.{sent_after_visits, ArePeersOf, new_push, nothing_taken}
 use Rattle.srcp_serve.proofs.VisitsSendWhatIsTaken.{no_writes, all_parts}
-use Rattle.std.proofs.lemmas.Grind.{flat_map-append}
-use Rattle.std.proofs.lemmas.List.Elements.{filter_map-append}
-use Rattle.std.proofs.lemmas.List.Sums.{take_while-cons}
 use Rattle.std.proofs.lemmas.Map.Keys.{IsDistinct-head, IsDistinct-tail}
-use Rattle.srcp_core.specs.Connection.{sent}
-use Rattle.srcp_serve.specs.Calls.{peer_of}
 
 -- after the moments of a turn
 pub sent_after_moments : (buses : List Bus) (before : ℕ → List ℕ) (stand : Stand) (moments : List ℕ) → IsSentAsTaken buses before stand
@@ -35,37 +25,22 @@ sent_after_moments buses before stand (moment ∷ moments) h =
     sent_after_moments buses before (with_moment buses stand moment) moments (sent_after_moment buses before stand moment h)
 
 no_accept_first : (due slack : Option ℕ) (call : Call) → question call ≡ Expects due slack → accept_of call ≡ None
-no_accept_first due slack (ExpectCall d s) e = refl
-no_accept_first due slack (NowCall answer) e = refl
 no_accept_first due slack (AcceptCall answer granted) e = cc
-no_accept_first due slack (ReadCall peer answer buffer grants) e = refl
-no_accept_first due slack (WriteCall peer bytes answer) e = refl
-no_accept_first due slack (CloseCall peer answer) e = refl
+no_accept_first due slack other e = refl
 
 no_accept : (call : Call) → question call ≡ Moments → accept_of call ≡ None
-no_accept (ExpectCall due slack) e = refl
-no_accept (NowCall answer) e = refl
 no_accept (AcceptCall answer granted) e = cc
-no_accept (ReadCall peer answer buffer grants) e = refl
-no_accept (WriteCall peer bytes answer) e = refl
-no_accept (CloseCall peer answer) e = refl
+no_accept other e = refl
 
 pub no_accepts : (calls : List Call) → AreOfPeers (map question calls) → filter_map accept_of calls ≡ []
 no_accepts [] h = refl
-no_accepts (ExpectCall due slack ∷ calls) h = cc
-no_accepts (NowCall answer ∷ calls) h = cc
 no_accepts (AcceptCall answer granted ∷ calls) h = let no = h.0 in cc
-no_accepts (ReadCall peer answer buffer grants ∷ calls) h = no_accepts calls h.1
-no_accepts (WriteCall peer bytes answer ∷ calls) h = no_accepts calls h.1
-no_accepts (CloseCall peer answer ∷ calls) h = no_accepts calls h.1
+no_accepts (other ∷ calls) h = no_accepts calls h.1
 
 -- a turn accepts at most one peer
 pub one_accept : (due slack : Option ℕ) (calls : List Call) (questions : List Question)
     → map question calls ≡ Expects due slack ∷ Moments ∷ Accepts ∷ questions → AreOfPeers questions
     → (filter_map accept_of calls ≡ []) ⊎ ((peer : Accepted) × (filter_map accept_of calls ≡ peer ∷ []))
-one_accept due slack [] questions e h = cc
-one_accept due slack (first ∷ []) questions e h = cc
-one_accept due slack (first ∷ timed_now ∷ []) questions e h = cc
 one_accept due slack (first ∷ timed_now ∷ call ∷ calls) questions e h =
     let begin : question first ≡ Expects due slack = cc in
     let second : question timed_now ≡ Moments = cc in
@@ -79,6 +54,7 @@ one_accept due slack (first ∷ timed_now ∷ call ∷ calls) questions e h =
         ⊎ ((peer : Accepted) × (filter_map accept_of (first ∷ timed_now ∷ call ∷ calls) ≡ peer ∷ []))
     by None e = inl e
     by (Some peer) e = inr (peer, e)
+one_accept due slack other questions e h = cc
 
 -- a peer that is accepted and not connected has no slot
 pub refused_of_none : (due slack : Option ℕ) (buses : List Bus) (events : List Event) (peer : Accepted) (all : List Client)
@@ -86,14 +62,10 @@ pub refused_of_none : (due slack : Option ℕ) (buses : List Bus) (events : List
     → IsOfNone buses (Expects due slack ∷ Moments ∷ Accepts ∷ (refuses buses events peer ++ [])) all
 refused_of_none due slack buses events peer [] h = tt
 refused_of_none due slack buses events peer (client ∷ all) h =
-    (by _, refused_of_none due slack buses events peer all h.1)
-  where
-    other : (peer.peer == client.peer) ≡ false
-    other = let e = h.0 in grind (arith, nat_tests)
-
-    by : (b : Bool) → filter (asks_of client.peer) ((if b then [] else Closes peer.peer ∷ []) ++ []) ≡ []
-    by true = refl
-    by false = ap (λ b. cond b (Closes peer.peer ∷ []) []) other
+    let other = turned_round client.peer peer.peer h.0 in (
+      refuses_as buses (λ (qs : List Question). filter (asks_of client.peer) (qs ++ []) ≡ []) events peer refl (rw other refl),
+      refused_of_none due slack buses events peer all h.1,
+    )
 
 -- ---- after a turn
 
@@ -129,35 +101,26 @@ module _ (buses : List Bus) (before : ℕ → List ℕ) (stand : Stand) (calls :
       let here : IsNew peer.peer timed_now.connected = rw t.1 new.0 in
       record {
         first = expects buses stand.events ∷ Moments ∷ Accepts ∷ (refuses buses timed_now.events peer ++ []);
-        still = still (connects buses timed_now.events peer.granted);
+        still = refuses_as buses (λ (qs : List Question). no_writes (qs ++ []) ≡ true) timed_now.events peer refl refl;
         asked = asked;
         none = none here (connects buses timed_now.events peer.granted) refl;
         sent_before_visits = sent_after_accept buses before timed_now peer here (fresh peer.peer new.0) t.0;
       }
     where
-      still : (b : Bool)
-          → no_writes (expects buses stand.events ∷ Moments ∷ Accepts ∷ ((if b then [] else Closes peer.peer ∷ []) ++ [])) ≡ true
-      still true = refl
-      still false = refl
-
       none : IsNew peer.peer timed_now.connected → (b : Bool) → connects buses timed_now.events peer.granted ≡ b
           → IsOfNone buses (expects buses stand.events ∷ Moments ∷ Accepts ∷ (refuses buses timed_now.events peer ++ []))
           (clients (with_accept buses timed_now peer).slots)
       none here true e =
           let nobody = ap (λ b. (if b then [] else Closes peer.peer ∷ []) ++ []) e in
-          subst (λ (qs : List Question).
-          IsOfNone buses (expects buses stand.events ∷ Moments ∷ Accepts ∷ qs) (clients (with_accept buses timed_now peer).slots))
-          (sym nobody) (none_first (clients (with_accept buses timed_now peer).slots))
+          rw nobody (none_first (clients (with_accept buses timed_now peer).slots))
       none here false e =
           let same =
           ap (λ b. if b then with_connection buses timed_now peer
           else record timed_now { events = timed_now.events ++ Open peer.granted ∷ [] })
           e in
           let t = sent_after_moments buses before stand (filter_map moment_of calls) as_taken in
-          rw same
-          (refused_of_none (due_next buses (course buses stand.events))
-          (slack buses (course buses stand.events)) buses timed_now.events peer
-          (clients timed_now.slots) (new_unconnected peer.peer timed_now.connected (clients timed_now.slots) here t.0.known))
+          rw same (refused_of_none (due_next buses (course buses stand.events)) (slack buses (course buses stand.events)) buses
+          timed_now.events peer (clients timed_now.slots) (new_unconnected peer.peer _ (clients timed_now.slots) here t.0.known))
 
   begins : (peers : List Accepted) → (peers ≡ []) ⊎ ((peer : Accepted) × (peers ≡ peer ∷ [])) → Asks peers
       → AllByRecursion (λ peer. IsNew peer.peer stand.connected) peers → Begins peers
@@ -169,8 +132,7 @@ module _ (buses : List Bus) (before : ℕ → List ℕ) (stand : Stand) (calls :
     sent_before_visits = (sent_after_moments buses before stand (filter_map moment_of calls) as_taken).0;
   }
   begins (peer ∷ []) few asked new = begins_one peer asked new
-  begins _ few asked new =
-      absurd (⊎_elim (λ e. let no = e in cc) (λ s. let no = s.1 in cc) few)
+  begins _ few asked new = absurd (⊎_elim (λ e. let no = e in cc) (λ s. let no = s.1 in cc) few)
 
   pub turn_begins : map question calls ≡ turn_asks buses stand calls
       → AllByRecursion (λ peer. IsNew peer.peer stand.connected) (filter_map accept_of calls) → Begins (filter_map accept_of calls)
@@ -188,8 +150,6 @@ module _ (buses : List Bus) (before : ℕ → List ℕ) (stand : Stand) (calls :
       → IsSentAsTaken buses (λ peer. before peer ++ taken peer calls) (turned buses stand calls)
   sent_after_turn b =
       sent_after_visits buses before _ calls b.first b.still b.asked fair b.none b.sent_before_visits
-
--- ---- turn after turn
 
 -- ---- peers that are accepted
 
@@ -215,20 +175,12 @@ module _ (buses : List Bus) where
   -- those that are still to come stay new
   new_accept : (stand : Stand) (peer : Accepted) (more : List Accepted) → AreNew stand.connected (peer ∷ more)
       → AreNew (with_accept buses stand peer).connected more
-  new_accept stand peer more h = by (connects buses stand.events peer.granted)
-    where
-      differ : IsDistinct (λ a b. a.peer == b.peer) more
-      differ = IsDistinct-tail (λ a b. a.peer == b.peer) peer more h.differ
-
-      by : (b : Bool)
-          → AreNew (if b then with_connection buses stand peer
-          else record stand { events = stand.events ++ Open peer.granted ∷ [] }).connected
-          more
-      by true = record {
-        new = all_new_push peer.peer stand.connected more h.new.1 (IsDistinct-head (λ a b. a.peer == b.peer) peer more h.differ);
-        differ = differ;
-      }
-      by false = record { new = h.new.1; differ = differ }
+  new_accept stand peer more h =
+      let differ = IsDistinct-tail (λ a b. a.peer == b.peer) peer more h.differ in
+      let apart = IsDistinct-head (λ a b. a.peer == b.peer) peer more h.differ in
+      accept_as buses (λ (s : Stand). AreNew s.connected more) stand peer
+      (record { new = all_new_push peer.peer stand.connected more h.new.1 apart; differ = differ })
+      (record { new = h.new.1; differ = differ })
 
   new_begun : (peers more : List Accepted) (stand : Stand) → AreNew stand.connected (peers ++ more)
       → AreNew (fold (with_accept buses) stand peers).connected more
@@ -238,14 +190,8 @@ module _ (buses : List Bus) where
   -- the connected peers only grow
   was_new_accept : (peer : ℕ) (other : Accepted) (stand : Stand) → IsNew peer (with_accept buses stand other).connected
       → IsNew peer stand.connected
-  was_new_accept peer other stand = by _
-    where
-      by : (b : Bool)
-          → IsNew peer
-          (if b then with_connection buses stand other else record stand { events = stand.events ++ Open other.granted ∷ [] }).connected
-          → IsNew peer stand.connected
-      by true h = (all_parts (λ accept. (accept == peer) ≡ false) _ _ h).0
-      by false h = h
+  was_new_accept peer other stand = accept_as buses (λ (s : Stand). IsNew peer s.connected → IsNew peer stand.connected) stand other
+      (λ h. (all_parts (λ accept. (accept == peer) ≡ false) stand.connected (other.peer ∷ []) h).0) (λ h. h)
 
   was_new : (peer : ℕ) (peers : List Accepted) (stand : Stand) → IsNew peer (fold (with_accept buses) stand peers).connected
       → IsNew peer stand.connected
@@ -264,12 +210,9 @@ module _ (buses : List Bus) where
   -- those that are not connected are written nothing
   refused_no_writes : (events : List Event) (peers : List Accepted) → no_writes (flat_map (refuses buses events) peers) ≡ true
   refused_no_writes events [] = refl
-  refused_no_writes events (peer ∷ peers) = by _ (refused_no_writes events peers)
-    where
-      by : (b : Bool) → no_writes (flat_map (refuses buses events) peers) ≡ true
-          → no_writes ((if b then [] else Closes peer.peer ∷ []) ++ flat_map (refuses buses events) peers) ≡ true
-      by true h = h
-      by false h = h
+  refused_no_writes events (peer ∷ peers) =
+      let more = refused_no_writes events peers in
+      refuses_as buses (λ (qs : List Question). no_writes (qs ++ flat_map (refuses buses events) peers) ≡ true) events peer more more
 
 -- ---- after a turn
 
@@ -313,14 +256,8 @@ module _ (buses : List Bus) (before : ℕ → List ℕ) (stand : Stand) (calls :
 -- as the door tells it
 pub peers_trace : (calls : List Call) → filter_map peer_of (map door_call calls) ≡ map (λ accept. accept.peer) (filter_map accept_of calls)
 peers_trace [] = refl
-peers_trace (ExpectCall due slack ∷ calls) = peers_trace calls
-peers_trace (NowCall answer ∷ calls) = peers_trace calls
-peers_trace (AcceptCall (Ok None) granted ∷ calls) = peers_trace calls
 peers_trace (AcceptCall (Ok (Some peer)) granted ∷ calls) = ap (λ peers. peer ∷ peers) (peers_trace calls)
-peers_trace (AcceptCall (Err fault) granted ∷ calls) = peers_trace calls
-peers_trace (ReadCall peer answer buffer grants ∷ calls) = peers_trace calls
-peers_trace (WriteCall peer bytes answer ∷ calls) = peers_trace calls
-peers_trace (CloseCall peer answer ∷ calls) = peers_trace calls
+peers_trace (other ∷ calls) = peers_trace calls
 
 apart_accepts : (peer : ℕ) (connected : List Accepted)
     → AllByRecursion (λ other. (peer == other) ≡ false) (map (λ accept. accept.peer) connected)
@@ -357,40 +294,27 @@ module _ (buses : List Bus) where
       → IsSentAsTaken buses before stand
       → OfEachTurn buses IsTurnOfPeers stand all × SentAfter all before stand
   turns_taken [] before stand asked fair new fresh as_taken =
-      (tt, as_taken.sending.sends ∙ same_each before (λ peer. before peer ++ []) stand.connected (λ peer. sym (append-nil (before peer))))
+      (tt, as_taken.sending.sends ∙ simp append-nil)
   turns_taken (calls ∷ all) before stand asked fair new fresh as_taken =
       let parts = all_parts IsFair calls (joined all) fair in
-      let peers = filter_map accept_of calls in
       let more = filter_map accept_of (joined all) in
-      let apart =
-      rw filter_map-append at new in
-      let coming =
-      (all_parts (λ peer. IsNew peer.peer stand.connected) peers more apart.new).0 in
+      let apart = rw filter_map-append at new in
+      let coming = (all_parts (λ peer. IsNew peer.peer stand.connected) (filter_map accept_of calls) more apart.new).0 in
       let b = turn_begins buses before stand calls parts.0 fresh as_taken asked.0 coming in
+      let s = b.sent_before_visits in
       let now = begun buses stand calls in
       let here : IsTurnOfPeers stand calls =
       record {
-        known = b.sent_before_visits.known;
-        apart = b.sent_before_visits.apart;
-        asked =
-            visits_parted buses b.first now.events calls (clients now.slots) b.sent_before_visits.apart b.none b.asked;
+        known = s.known;
+        apart = s.apart;
+        asked = visits_parted buses b.first now.events calls (clients now.slots) s.apart b.none b.asked;
         fair = parts.0;
       } in
       let rest = turns_taken all (λ peer. before peer ++ taken peer calls) (turned buses stand calls) asked.1 parts.1
       (new_turned buses before stand calls more apart fresh as_taken)
       (fresh_turned buses before stand calls more apart fresh as_taken asked.0)
-      (sent_after_turn buses before stand calls parts.0 fresh as_taken b) in (
-        (here, rest.0),
-        rest.1
-            ∙ same_each (λ peer. (before peer ++ taken peer calls) ++ taken peer (joined all))
-            (λ peer. before peer ++ taken peer (joined (calls ∷ all))) (fold (turned buses) (turned buses stand calls) all).connected
-            (regrouped before calls (joined all)),
-      )
-    where
-      regrouped : (before : ℕ → List ℕ) (calls others : List Call) (peer : ℕ)
-          → (before peer ++ taken peer calls) ++ taken peer others ≡ before peer ++ taken peer (calls ++ others)
-      regrouped before calls others peer =
-          cc (append_assoc (before peer) (taken peer calls) (taken peer others), flat_map-append (taken_in peer) calls others)
+      (sent_after_turn buses before stand calls parts.0 fresh as_taken b) in
+      ((here, rest.0), rest.1 ∙ simp (append_assoc, flat_map-append))
 
   -- the calls before the first moment, and then the turns, are all the calls
   turns_joined : (trace : List Call) → in_turn buses trace ++ joined (turns trace) ≡ trace
@@ -404,13 +328,6 @@ module _ (buses : List Bus) where
       by ih true = ap (λ cs. call ∷ cs) ih
       by ih false = ap (λ cs. call ∷ cs) ih
 
-  no_calls : (calls : List Call) → map question calls ≡ [] → calls ≡ []
-  no_calls [] e = refl
-  no_calls (call ∷ calls) e = cc
-
-  sent_at_first : IsSentAsTaken buses (λ peer. []) empty_stand
-  sent_at_first = record { sending = record { steady = tt; sends = refl }; known = tt; apart = tt }
-
   module _ (count : ℕ) (trace : List Call) (served : IsServed buses count trace) (differ : PeersDiffer buses trace)
       (fair : AllByRecursion IsFair trace) where
     whole : joined (turns trace) ≡ trace
@@ -420,20 +337,13 @@ module _ (buses : List Bus) where
     all_turns =
         let connected = filter_map accept_of trace in
         let first : AreNew [] connected =
-        record {
-          new = all_new_first connected;
-          differ =
-              differ_accepts connected (rw peers_trace at differ);
-        } in
-        turns_taken (turns trace) (λ peer. []) empty_stand (turns_parted buses empty_stand trace [] tt served.asked).1
-        (rw whole fair)
-        (rw whole first) (λ peer h. refl) sent_at_first
+        record { new = all_new_first connected; differ = differ_accepts connected (rw peers_trace at differ) } in
+        turns_taken (turns trace) (λ peer. []) empty_stand (turns_parted buses empty_stand trace [] tt served.asked).1 (rw whole fair)
+        (rw whole first) (λ peer h. refl)
+        (record { sending = record { steady = tt; sends = refl }; known = tt; apart = tt })
 
     pub turns_of_peers : OfEachTurn buses IsTurnOfPeers empty_stand (turns trace)
     turns_of_peers = all_turns.0
 
-    pub sends_taken : SendsWhatIsTaken buses trace
-    sends_taken = rw (all_turns.1, whole)
-
   pub sent_taken : SentIsTaken buses
-  sent_taken count trace served differ fair = sends_taken count trace served differ fair
+  sent_taken count trace served differ fair = rw ((all_turns count trace served differ fair).1, whole count trace served differ fair)

@@ -1,19 +1,10 @@
 -- Turn after turn, serving follows the course.
-use Rattle.std.proofs.Common.{◌≡◌, ◌∙◌, ℕ, zero, suc, ◌+◌, ◌≤◌, Bool, true, false, List, [], ◌++◌, map, replicate, length, None, refl, ap}
-use Rattle.std.proofs.Common.{sym, subst, arith, append-nil}
-use Rattle.std.proofs.lemmas.List.{append_cancel_left, map-append}
-use Rattle.std.proofs.lemmas.List.Elements.{filter_map-append}
-use Rattle.std.proofs.lemmas.Option.{same_Some}
-use Rattle.std.specs.List.{filter_map, AllZip, IsDistinct}
-use Rattle.srcp_grammar.specs.declared.layout.Bus.{Bus}
-use Rattle.srcp_core.specs.Course.{denied_over, start}
-use Rattle.srcp_core.specs.Held.{Held}
-use Rattle.srcp_serve.specs.Calls.{Call as DoorCall, peer_of, Trace}
-use Rattle.srcp_serve.specs.Given.{Call, door_call, CountsRefusals}
-use Rattle.srcp_serve.specs.Serving.{Stand, IsServed, stand_after, events_of}
-use Rattle.srcp_serve.specs.Slots.{Begins, IsInState, one_if, MakesTurn, ClientsDiffer, IsSlotOf, ServesCourse, Owns}
-use Rattle.srcp_serve.specs.Turns.{IsTurn, Asks, AreTurns}
-use Rattle.srcp_serve.specs.Visits.{CountsAsked, Keys}
+use Rattle.srcp_serve.proofs.Names.{◌≡◌, ◌∙◌, ℕ, zero, suc, ◌+◌, ◌≤◌, Bool, true, false, List, [], ◌++◌, map, replicate, length, None, refl}
+use Rattle.srcp_serve.proofs.Names.{ap, sym, subst, arith, append-nil, append_cancel_left, map-append, filter_map-append, same_Some}
+use Rattle.srcp_serve.proofs.Names.{filter_map, AllZip, Bus, denied_over, start, Held, DoorCall, peer_of, Trace, Call, door_call}
+use Rattle.srcp_serve.proofs.Names.{CountsRefusals, Stand, IsServed, stand_after, events_of, Begins, IsInState, one_if, MakesTurn}
+use Rattle.srcp_serve.proofs.Names.{ClientsDiffer, IsSlotOf, ServesCourse, Owns, IsTurn, Asks, AreTurns, CountsAsked, Keys}
+use Rattle.std.specs.List.{IsDistinct}
 use Rattle.srcp_serve.proofs.CallsByTurnAndPeer.{served-more}
 use Rattle.srcp_serve.proofs.CallsAreAdded.{adds_then, refusals_then, same_calls}
 use Rattle.srcp_serve.proofs.SentIsTakenAfterAllTurns.{sent_taken}

@@ -1,27 +1,15 @@
 -- Who has which slot: peers take slots and free them, and a round visits those that have one.
-use Rattle.std.proofs.Common.{◌≡◌, ◌∙◌, ℕ, List, [], ◌∷◌, ◌++◌, map, refl, ap, sym, append-nil, append_assoc, zero, suc, ◌+◌, ◌≤◌, Bool}
-use Rattle.std.proofs.Common.{true, false, ◌==◌, cond, length, if◌then◌else◌, Option, Some, None, subst, arith, filter}
-use Rattle.std.specs.Prelude.{flat_map, not, is_some, is_none, position, nat_lt, ◌||◌, IfSome}
-use Rattle.std.proofs.lemmas.List.Elements.{filter-append}
-use Rattle.std.specs.List.{list_any, count_by, slice_index_or, slice_set, prefix_len, AllByRecursion, AllZip, IsDistinct}
-use Rattle.srcp_core.specs.Under.{Event, Shut}
-use Rattle.srcp_info.proofs.ClientLaws.{filter-map}
-use Rattle.srcp_grammar.specs.declared.layout.Bus.{Bus}
-use Rattle.srcp_serve.specs.Given.{Call}
-use Rattle.srcp_serve.specs.Slots.{IsSlotOf, ClientsDiffer, IsInState, Owns}
-use Rattle.srcp_serve.specs.Serving.{is_about, asks_of, visit, visit_asks, visits_ask, visit_events, exchange, is_close, Client, Stand}
-use Rattle.srcp_serve.specs.Serving.{with_client, clients, kept, Slots, question}
-use Rattle.srcp_serve.specs.Visits.{Keys}
+use Rattle.srcp_serve.proofs.Names.{◌≡◌, ◌∙◌, ℕ, List, [], ◌∷◌, ◌++◌, map, refl, ap, sym, append-nil, append_assoc, zero, suc, ◌+◌, ◌≤◌}
+use Rattle.srcp_serve.proofs.Names.{Bool, true, false, ◌==◌, cond, length, if◌then◌else◌, Option, Some, None, subst, arith, filter}
+use Rattle.srcp_serve.proofs.Names.{flat_map, not, is_some, is_none, position, nat_lt, ◌||◌, IfSome, filter-append, list_any, count_by}
+use Rattle.srcp_serve.proofs.Names.{slice_index_or, slice_set, prefix_len, AllByRecursion, AllZip, Event, Shut, filter-map, Bus, Call}
+use Rattle.srcp_serve.proofs.Names.{IsSlotOf, ClientsDiffer, IsInState, Owns, is_about, asks_of, visit, visit_asks, visits_ask}
+use Rattle.srcp_serve.proofs.Names.{visit_events, exchange, is_close, Client, Stand, with_client, clients, kept, Slots, question, Keys}
+use Rattle.srcp_serve.proofs.Names.{sum_by-cons, course, Held, key_of, without_key, StandsFor, key_push, key_within, without_other, Own}
+use Rattle.srcp_serve.proofs.Names.{cond_both, eqb-false, ltb-false, ne_eqb, or_from, or_parts}
+use Rattle.std.specs.List.{IsDistinct}
 use Rattle.srcp_serve.proofs.VisitsFollow.{AreAbout}
-use Rattle.std.proofs.lemmas.Bool.Decides.{nat_tests}
-use Rattle.std.proofs.lemmas.List.Sums.{sum_by-cons}
-use Rattle.srcp_core.specs.Course.{course}
-use Rattle.srcp_core.specs.Held.{Held}
-use Rattle.srcp_core.specs.Recording.{key_of, without_key}
-use Rattle.srcp_core.specs.Stands.{StandsFor}
-use Rattle.srcp_core.proofs.Agreement.NumbersAndKeys.{key_push, key_within, without_other}
-use Rattle.srcp_serve.specs.declared.serving.visit.Client.{Client as Own}
-use Rattle.srcp_serve.proofs.CallsByTurnAndPeer.{AreOf as AskOf, none_asked}
+use Rattle.srcp_serve.proofs.CallsByTurnAndPeer.{AreOf as AskOf, no_calls, none_asked, turned_round}
 
 -- the slots of a server are those of the state, place by place
 abbrev pub AreSlotsOf : Keys → Owns → Slots → Type 0
@@ -37,14 +25,6 @@ SlotsDiffer [] = Unit {0}
 SlotsDiffer (None ∷ slots) = SlotsDiffer slots
 SlotsDiffer (Some client ∷ slots) = AllByRecursion (IsApartFrom client) slots × SlotsDiffer slots
 
-neither : (a b : Bool) → a || b ≡ false → (a ≡ false) × (b ≡ false)
-neither true b e = cc
-neither false b e = (refl, e)
-
-either_no : (a b : Bool) → (a ≡ false) × (b ≡ false) → a || b ≡ false
-either_no true b e = let h = e.0 in cc
-either_no false b e = e.1
-
 abbrev overlap : Client → Client → Bool
 overlap a b = (a.conn == b.conn) || (a.peer == b.peer)
 
@@ -52,13 +32,13 @@ apart_in : (client : Client) (slots : Slots) → AllByRecursion (λ other. overl
     → AllByRecursion (IsApartFrom client) slots
 apart_in client [] h = tt
 apart_in client (None ∷ slots) h = (tt, apart_in client slots h)
-apart_in client (Some other ∷ slots) h = (neither (client.conn == other.conn) (client.peer == other.peer) h.0, apart_in client slots h.1)
+apart_in client (Some other ∷ slots) h = (or_parts (client.conn == other.conn) _ h.0, apart_in client slots h.1)
 
 apart_of : (client : Client) (slots : Slots) → AllByRecursion (IsApartFrom client) slots
     → AllByRecursion (λ other. overlap client other ≡ false) (clients slots)
 apart_of client [] h = tt
 apart_of client (None ∷ slots) h = apart_of client slots h.1
-apart_of client (Some other ∷ slots) h = (either_no (client.conn == other.conn) (client.peer == other.peer) h.0, apart_of client slots h.1)
+apart_of client (Some other ∷ slots) h = (or_from (client.conn == other.conn) _ h.0.0 h.0.1, apart_of client slots h.1)
 
 pub slots_differ : (slots : Slots) → ClientsDiffer slots → SlotsDiffer slots
 unfolding IsDistinct
@@ -120,10 +100,6 @@ same_kept xs ys (Some client ∷ slots) h =
     let left : List Call → Option Client = λ mine. if list_any is_close mine then None else Some client in
     cc (ap left h.0, same_kept xs ys slots h.1)
 
-no_calls : (calls : List Call) → map question calls ≡ [] → calls ≡ []
-no_calls [] e = refl
-no_calls (call ∷ calls) e = cc
-
 no_visit : (calls : List Call) (client : Client) → filter (asks_of client.peer) (map question calls) ≡ [] → visit calls client ≡ []
 no_visit calls client e = no_calls (visit calls client) (rw (← filter-map question (asks_of client.peer) calls) e)
 
@@ -151,19 +127,7 @@ module _ (buses : List Bus) where
 pub in_state_on : (buses : List Bus) (stand : Stand) (events : List Event) (keys : Keys) (old held : Held)
     (owns : Owns) → IsInState buses stand keys old owns → StandsFor buses keys held (course buses events)
     → IsInState buses (record stand { events = events }) keys held owns
-in_state_on buses stand events keys old held owns h stands = record {
-  layout = h.layout;
-  owns_are = h.owns_are;
-  differ = h.differ;
-  long = h.long;
-  stands = stands;
-}
-
-same_no : (a b : ℕ) → (a == b) ≡ false → (b == a) ≡ false
-same_no a b e = grind (arith, nat_tests)
-
-other_no : (a b : ℕ) → (a == b) ≡ false → b ≡ a → ⊥
-other_no a b e same = grind (arith, nat_tests)
+in_state_on buses stand events keys old held owns h stands = assumption
 
 -- ---- how many
 
@@ -173,30 +137,20 @@ count_cons o xs = sum_by-cons (λ x. cond (is_some x) 1 0) o xs
 pub count_without : (n : ℕ) (keys : Keys) (key : ℕ) → key_of n keys ≡ Some key
     → count_by is_some (without_key n keys) + 1 ≡ count_by is_some keys
 count_without zero keys key e = cc
-count_without (suc n) [] key e = absurd (nothing n e)
-  where
-    nothing : (n : ℕ) → slice_index_or [] n None ≡ Some key → ⊥
-    nothing zero e = cc
-    nothing (suc n) e = cc
+count_without (suc zero) [] key e = cc
+count_without (suc (suc n)) [] key e = cc
 count_without (suc zero) (k ∷ keys) key e =
-    let a = count_cons None keys in
-    let b = count_cons k keys in
-    let c = ap {B = ℕ} (λ (o : Option ℕ). cond (is_some o) 1 0) e in
-    omega (arith, a, b, c)
+    omega (arith, count_cons None keys, count_cons k keys, ap {B = ℕ} (λ (o : Option ℕ). cond (is_some o) 1 0) e)
 count_without (suc (suc n)) (k ∷ keys) key e =
-    let h = count_without (suc n) keys key e in
-    let a = count_cons k (without_key (suc n) keys) in
-    let b = count_cons k keys in
-    omega (arith, a, b, h)
+    omega (arith, count_cons k (without_key (suc n) keys), count_cons k keys, count_without (suc n) keys key e)
 
 -- ---- which peer has which slot
 
 pub length-owns : (keys : Keys) (owns : Owns) (slots : Slots) → AreSlotsOf keys owns slots
     → length owns ≡ length slots
 length-owns keys [] [] h = refl
-length-owns keys [] _ h = absurd h
-length-owns keys _ [] h = absurd h
 length-owns keys (own ∷ owns) (slot ∷ slots) h = ap (λ n. suc n) (length-owns keys owns slots h.1)
+length-owns keys owns slots h = absurd h
 
 pub own_here : (keys : Keys) (owns : Owns) (before : Slots) (slot : Option Client)
     (after : Slots) (i : ℕ) (d : Option Own)
@@ -204,10 +158,8 @@ pub own_here : (keys : Keys) (owns : Owns) (before : Slots) (slot : Option Clien
 own_here keys [] [] slot after i d e h = absurd h
 own_here keys [] (p ∷ before) slot after i d e h = absurd h
 own_here keys (own ∷ owns) [] slot after zero d e h = h.0
-own_here keys (own ∷ owns) [] slot after (suc i) d e h = cc
-own_here keys (own ∷ owns) (p ∷ before) slot after zero d e h = cc
-own_here keys (own ∷ owns) (p ∷ before) slot after (suc i) d e h =
-    let less : length before ≡ i = omega (arith, e) in own_here keys owns before slot after i d less h.1
+own_here keys (own ∷ owns) (p ∷ before) slot after (suc i) d e h = own_here keys owns before slot after i d (omega (arith, e)) h.1
+own_here keys (own ∷ owns) before slot after i d e h = cc
 
 owns_cleared : (keys : Keys) (owns : Owns) (before : Slots) (slot : Option Client)
     (after : Slots) (i : ℕ)
@@ -215,10 +167,9 @@ owns_cleared : (keys : Keys) (owns : Owns) (before : Slots) (slot : Option Clien
 owns_cleared keys [] [] slot after i e h = absurd h
 owns_cleared keys [] (p ∷ before) slot after i e h = absurd h
 owns_cleared keys (own ∷ owns) [] slot after zero e h = (tt, h.1)
-owns_cleared keys (own ∷ owns) [] slot after (suc i) e h = cc
-owns_cleared keys (own ∷ owns) (p ∷ before) slot after zero e h = cc
 owns_cleared keys (own ∷ owns) (p ∷ before) slot after (suc i) e h =
-    let less : length before ≡ i = omega (arith, e) in (h.0, owns_cleared keys owns before slot after i less h.1)
+    (h.0, owns_cleared keys owns before slot after i (omega (arith, e)) h.1)
+owns_cleared keys (own ∷ owns) before slot after i e h = cc
 
 -- the number has no slot
 abbrev IsNotNumber : ℕ → Option Client → Type 0
@@ -228,13 +179,12 @@ IsNotNumber n (Some client) = (n == client.conn) ≡ false
 owns_kept : (n : ℕ) (keys : Keys) (owns : Owns) (slots : Slots) → AllByRecursion (IsNotNumber n) slots
     → AreSlotsOf keys owns slots → AreSlotsOf (without_key n keys) owns slots
 owns_kept n keys [] [] free h = tt
-owns_kept n keys [] (slot ∷ slots) free h = absurd h
-owns_kept n keys (own ∷ owns) [] free h = absurd h
 owns_kept n keys (None ∷ owns) (None ∷ slots) free h = (tt, owns_kept n keys owns slots free.1 h.1)
-owns_kept n keys (None ∷ owns) (Some client ∷ slots) free h = absurd h.0
-owns_kept n keys (Some own ∷ owns) (None ∷ slots) free h = absurd h.0
-owns_kept n keys (Some own ∷ owns) (Some client ∷ slots) free h =
-    ((h.0.0, without_other n client.conn keys (other_no n client.conn free.0) ∙ h.0.1), owns_kept n keys owns slots free.1 h.1)
+owns_kept n keys (Some own ∷ owns) (Some client ∷ slots) free h = (
+  (h.0.0, without_other n client.conn keys (λ same. eqb-false n client.conn free.0 (sym same)) ∙ h.0.1),
+  owns_kept n keys owns slots free.1 h.1,
+)
+owns_kept n keys owns slots free h = search
 
 numbers_after : (client : Client) (slots : Slots) → AllByRecursion (IsApartFrom client) slots
     → AllByRecursion (IsNotNumber client.conn) slots
@@ -246,18 +196,12 @@ numbers_after client (Some other ∷ slots) h = (h.0.0, numbers_after client slo
 pub few_slots : (keys : Keys) (owns : Owns) (slots : Slots) → AreSlotsOf keys owns slots → SlotsDiffer slots
     → count_by is_some slots ≤ count_by is_some keys
 few_slots keys [] [] h d = omega arith
-few_slots keys [] (slot ∷ slots) h d = absurd h
-few_slots keys (own ∷ owns) [] h d = absurd h
-few_slots keys (None ∷ owns) (None ∷ slots) h d =
-    let ih = few_slots keys owns slots h.1 d in let a = count_cons None slots in omega (arith, ih, a)
-few_slots keys (None ∷ owns) (Some client ∷ slots) h d = absurd h.0
-few_slots keys (Some own ∷ owns) (None ∷ slots) h d = absurd h.0
+few_slots keys (None ∷ owns) (None ∷ slots) h d = omega (arith, few_slots keys owns slots h.1 d, count_cons None slots)
 few_slots keys (Some own ∷ owns) (Some client ∷ slots) h d =
     let n : ℕ = client.conn in
     let ih = few_slots (without_key n keys) owns slots (owns_kept n keys owns slots (numbers_after client slots d.0) h.1) d.1 in
-    let a = count_cons (Some client) slots in
-    let b = count_without n keys own.key h.0.1 in
-    omega (arith, ih, a, b)
+    omega (arith, ih, count_cons (Some client) slots, count_without n keys own.key h.0.1)
+few_slots keys owns slots h d = search
 
 pub all_here : {X : Type 0} (P : X → Type 0) (before : List X) (x : X) (after : List X) → AllByRecursion P (before ++ x ∷ after) → P x
 all_here P [] x after h = h.0
@@ -273,7 +217,7 @@ numbers_around : (before : Slots) (client : Client) (after : Slots) → SlotsDif
 numbers_around [] client after h = (tt, numbers_after client after h.0)
 numbers_around (None ∷ before) client after h = (tt, numbers_around before client after h)
 numbers_around (Some other ∷ before) client after h =
-    (same_no _ _ (all_here (IsApartFrom other) before (Some client) after h.0).0, numbers_around before client after h.1)
+    (turned_round _ _ (all_here (IsApartFrom other) before (Some client) after h.0).0, numbers_around before client after h.1)
 
 -- the peer that has that slot is disconnected
 pub owns_without : (keys : Keys) (owns : Owns) (before : Slots) (client : Client)
@@ -296,15 +240,12 @@ differ_cleared (Some other ∷ before) client after h =
 pub owns_pushed : (keys : Keys) (key : ℕ) (owns : Owns) (slots : Slots) → AreSlotsOf keys owns slots
     → AreSlotsOf (keys ++ Some key ∷ []) owns slots
 owns_pushed keys key [] [] h = tt
-owns_pushed keys key [] (slot ∷ slots) h = absurd h
-owns_pushed keys key (own ∷ owns) [] h = absurd h
 owns_pushed keys key (None ∷ owns) (None ∷ slots) h = (tt, owns_pushed keys key owns slots h.1)
-owns_pushed keys key (None ∷ owns) (Some client ∷ slots) h = absurd h.0
-owns_pushed keys key (Some own ∷ owns) (None ∷ slots) h = absurd h.0
 owns_pushed keys key (Some own ∷ owns) (Some client ∷ slots) h = (
   (h.0.0, key_push client.conn keys (Some key) (key_within client.conn keys own.key h.0.1).1 ∙ h.0.1),
   owns_pushed keys key owns slots h.1,
 )
+owns_pushed keys key owns slots h = search
 
 -- which slot is free, as the first
 abbrev pub free_in : Owns → ℕ
@@ -314,43 +255,30 @@ pub owns_connected : (keys : Keys) (own : Own) (client : Client) (owns : Owns) (
     → IsSlotOf keys (Some own) (Some client) → AreSlotsOf keys owns slots
     → AreSlotsOf keys (slice_set owns (free_in owns) (Some own)) (with_client client slots)
 owns_connected keys own client [] [] new h = tt
-owns_connected keys own client [] (slot ∷ slots) new h = absurd h
-owns_connected keys own client (o ∷ owns) [] new h = absurd h
 owns_connected keys own client (None ∷ owns) (None ∷ slots) new h = (new, h.1)
-owns_connected keys own client (None ∷ owns) (Some other ∷ slots) new h = absurd h.0
-owns_connected keys own client (Some o ∷ owns) (None ∷ slots) new h = absurd h.0
 owns_connected keys own client (Some o ∷ owns) (Some other ∷ slots) new h =
     let step : suc (free_in owns) ≡ 1 + free_in owns = omega arith in
     subst (λ (i : ℕ). AreSlotsOf keys (slice_set (Some o ∷ owns) i (Some own)) (Some other ∷ with_client client slots)) step
     (h.0, owns_connected keys own client owns slots new h.1)
+owns_connected keys own client owns slots new h = search
 
 pub free_is : (owns : Owns) (free : ℕ) → position is_none owns ≡ Some free → free ≡ free_in owns
-free_is owns free e = by _ e
-  where
-    by : (b : Bool) → cond b (Some (free_in owns)) None ≡ Some free → free ≡ free_in owns
-    by true e = cc
-    by false e = cc
+free_is owns free e = cond_both (nat_lt (free_in owns) (length owns)) (Some (free_in owns)) None
+    (λ (o : Option ℕ). o ≡ Some free → free ≡ free_in owns) (λ t e. cc) (λ t e. cc) e
 
 all_taken : (keys : Keys) (owns : Owns) (slots : Slots) → AreSlotsOf keys owns slots
     → length owns ≤ free_in owns → length owns ≤ count_by is_some slots
 all_taken keys [] slots h e = omega arith
-all_taken keys (own ∷ owns) [] h e = absurd h
 all_taken keys (None ∷ owns) (slot ∷ slots) h e = absurd (omega (arith, e))
-all_taken keys (Some own ∷ owns) (None ∷ slots) h e = absurd h.0
 all_taken keys (Some own ∷ owns) (Some client ∷ slots) h e =
-    let less : length owns ≤ free_in owns = omega (arith, e) in
-    let ih = all_taken keys owns slots h.1 less in
-    let c = count_cons (Some client) slots in
-    omega (arith, ih, c)
+    omega (arith, all_taken keys owns slots h.1 (omega (arith, e)), count_cons (Some client) slots)
+all_taken keys owns slots h e = search
 
 -- if no slot is free, all are taken
 pub none_free : (keys : Keys) (owns : Owns) (slots : Slots) → AreSlotsOf keys owns slots
     → position is_none owns ≡ None → length owns ≤ count_by is_some slots
-none_free keys owns slots h e = all_taken keys owns slots h (by (nat_lt (free_in owns) (length owns)) refl e)
-  where
-    by : (b : Bool) → nat_lt (free_in owns) (length owns) ≡ b → cond b (Some (free_in owns)) None ≡ None → length owns ≤ free_in owns
-    by true t e = cc
-    by false t e = grind (arith, nat_tests)
+none_free keys owns slots h e = all_taken keys owns slots h (cond_both _ _ _ (λ (o : Option ℕ). o ≡ None → length owns ≤ free_in owns)
+    (λ t e. cc) (λ t e. ltb-false _ _ t) e)
 
 pub all_connected : (P : Option Client → Type 0) (client : Client) (slots : Slots) → P (Some client) → AllByRecursion P slots
     → AllByRecursion P (with_client client slots)
@@ -363,25 +291,18 @@ pub differ_connected : (client : Client) (slots : Slots) → AllByRecursion (IsA
 differ_connected client [] new h = tt
 differ_connected client (None ∷ slots) new h = (new.1, h)
 differ_connected client (Some other ∷ slots) new h = (
-  all_connected _ client slots (same_no client.conn other.conn new.0.0, same_no client.peer other.peer new.0.1) h.0,
+  all_connected _ client slots (turned_round client.conn other.conn new.0.0, turned_round client.peer other.peer new.0.1) h.0,
   differ_connected client slots new.1 h.1,
 )
 
 pub new_apart : (keys : Keys) (client : Client) (owns : Owns) (slots : Slots) → AreSlotsOf keys owns slots
     → client.conn ≡ length keys + 1 → HasNone client.peer slots → AllByRecursion (IsApartFrom client) slots
 new_apart keys client [] [] h e new = tt
-new_apart keys client [] (slot ∷ slots) h e new = absurd h
-new_apart keys client (own ∷ owns) [] h e new = absurd h
 new_apart keys client (None ∷ owns) (None ∷ slots) h e new = (tt, new_apart keys client owns slots h.1 e new)
-new_apart keys client (None ∷ owns) (Some other ∷ slots) h e new = absurd h.0
-new_apart keys client (Some own ∷ owns) (None ∷ slots) h e new = absurd h.0
 new_apart keys client (Some own ∷ owns) (Some other ∷ slots) h e new =
     let within = (key_within other.conn keys own.key h.0.1).1 in
-    let no = past client.conn other.conn (length keys) e within in
-    ((no, new.0), new_apart keys client owns slots h.1 e new.1)
-  where
-    past : (a b n : ℕ) → a ≡ n + 1 → b ≤ n → (a == b) ≡ false
-    past a b n e h = grind (arith, nat_tests)
+    ((ne_eqb _ _ (λ same. omega (arith, e, within, same)), new.0), new_apart keys client owns slots h.1 e new.1)
+new_apart keys client owns slots h e new = search
 
 -- ---- visits of some slots, and of the next one
 
@@ -399,7 +320,7 @@ module _ (buses : List Bus) (slot : Option Client) (after : Slots) (events : Lis
       by : (next : Option Client) → IsApartFrom client next
           → filter (asks_of client.peer) (visits_ask buses events calls (clients (next ∷ []))) ≡ []
       by None a = refl
-      by (Some other) a = none_asked buses client.peer events calls (other ∷ []) (same_no client.peer other.peer a.1, tt)
+      by (Some other) a = none_asked buses client.peer events calls (other ∷ []) (turned_round client.peer other.peer a.1, tt)
 
   -- nor is one before it of its client
   pub none_next : (slots : Slots) → SlotsDiffer (slots ++ slot ∷ after) → map question calls ≡ visits_ask buses events calls (clients slots)

@@ -1,33 +1,15 @@
 -- The visits of the slots follow the course, and the slots behind those in use stay free.
-use Rattle.std.proofs.Common.{◌≡◌, ◌∙◌, ℕ, ◌+◌, ◌<◌, Bool, true, false, List, [], ◌∷◌, ◌++◌, map, length, if◌then◌else◌, Option, Some}
-use Rattle.std.proofs.Common.{None, refl, ap, sym, subst, arith, append_assoc, append-nil, length-append, inl, inr, zero, suc, ◌-◌, ◌≤◌}
-use Rattle.std.proofs.Common.{max, add-one}
-use Rattle.std.proofs.lemmas.Grind.{flat_map-append}
-use Rattle.std.proofs.lemmas.List.{map-append, length-map}
-use Rattle.std.specs.List.{list_any, slice_index_or, slice_set}
-use Rattle.std.specs.Prelude.{not}
-use Rattle.srcp_grammar.specs.declared.layout.Bus.{Bus}
-use Rattle.srcp_core.specs.Course.{course}
-use Rattle.srcp_core.specs.Held.{Held}
-use Rattle.srcp_core.specs.Recording.{key_of, without_key}
-use Rattle.srcp_core.specs.Stands.{StandsFor}
-use Rattle.srcp_core.specs.Under.{Event}
-use Rattle.srcp_core.proofs.Agreement.NumbersAndKeys.{length_without}
-use Rattle.srcp_serve.specs.Calls.{Call as DoorCall, Trace}
-use Rattle.srcp_serve.specs.Serving.{Client, clients, Stand, is_about, is_close, kept, question, visit, visit_asks, visit_events, Slots}
-use Rattle.srcp_serve.specs.Slots.{IsInState, HasVisited, VisitsSlot, VisitsSlots, FromEveryState, Owns, AreFreeFrom, MayFree}
-use Rattle.srcp_serve.specs.Turns.{AreAboutPeers, Asks}
-use Rattle.srcp_serve.specs.Given.{Call}
-use Rattle.srcp_serve.specs.Visits.{Keys, Makes, Visits}
-use Rattle.srcp_serve.specs.declared.serving.visit.Client.{Client as Own}
+use Rattle.srcp_serve.proofs.Names.{◌≡◌, ◌∙◌, ℕ, ◌+◌, ◌<◌, Bool, true, false, List, [], ◌∷◌, ◌++◌, map, length, if◌then◌else◌, Option, Some}
+use Rattle.srcp_serve.proofs.Names.{None, refl, ap, sym, subst, arith, append_assoc, append-nil, length-append, inl, inr, zero, suc, ◌-◌}
+use Rattle.srcp_serve.proofs.Names.{◌≤◌, max, add-one, flat_map-append, map-append, length-map, list_any, slice_index_or, slice_set, not}
+use Rattle.srcp_serve.proofs.Names.{Bus, course, Held, key_of, without_key, StandsFor, Event, length_without, DoorCall, Trace, Client}
+use Rattle.srcp_serve.proofs.Names.{clients, Stand, is_about, is_close, kept, question, visit, visit_asks, visit_events, Slots, IsInState}
+use Rattle.srcp_serve.proofs.Names.{HasVisited, VisitsSlot, VisitsSlots, FromEveryState, Owns, AreFreeFrom, MayFree, AreAboutPeers, Asks}
+use Rattle.srcp_serve.proofs.Names.{Call, Keys, Visits, Own, filter_every, filter_map-append, flat_map}
 use Rattle.srcp_serve.proofs.SlotsAreTakenAndFreed.{differ_cleared, in_state_on, length-owns, owns_without, AreSlotsOf, clients_differ}
-use Rattle.srcp_serve.proofs.SlotsAreTakenAndFreed.{slots_differ, own_here, about_asked, first_visits, none_before, none_next}
-use Rattle.srcp_serve.proofs.SlotsAreTakenAndFreed.{same_asked, same_kept, same_made, SameVisits, second_visits, SlotsDiffer}
-use Rattle.srcp_serve.proofs.SlotsAreTakenAndFreed.{visits_ask-append}
-use Rattle.srcp_info.proofs.ClientLaws.{filter_every}
-use Rattle.srcp_serve.proofs.CallsByTurnAndPeer.{AreOf as AskOf, visit_own}
-use Rattle.std.proofs.lemmas.List.Elements.{filter_map-append}
-use Rattle.std.specs.Prelude.{flat_map}
+use Rattle.srcp_serve.proofs.SlotsAreTakenAndFreed.{slots_differ, own_here, about_asked, first_visits, none_before, none_next, same_asked}
+use Rattle.srcp_serve.proofs.SlotsAreTakenAndFreed.{same_kept, same_made, SameVisits, second_visits, SlotsDiffer, visits_ask-append}
+use Rattle.srcp_serve.proofs.CallsByTurnAndPeer.{visit_own}
 use Rattle.srcp_serve.proofs.CallsAreAdded.{makes_none, makes_then}
 use Rattle.srcp_serve.proofs.DoorIsCalled.{asks_none}
 
@@ -38,10 +20,7 @@ slot_free slot d old trace_old owns here buses stand keys trace in_state is befo
   keys = keys;
   made = makes_none buses stand.events trace_old trace old is;
   asked = refl;
-  in_state =
-      rw append-nil (subst (λ (all : Slots).
-      IsInState buses (record { events = stand.events; connected = stand.connected; slots = all }) keys old owns)
-      at in_state);
+  in_state = rw append-nil (subst (λ (all : Slots). IsInState buses (record stand { slots = all }) keys old owns) at in_state);
 }
 slot_free slot d old trace_old owns here buses stand keys trace in_state is before (Some client) after e at =
     absurd (rw here at (own_here keys owns before (Some client) after slot d e
@@ -65,24 +44,17 @@ module _ (slot : ℕ) (d : Option Own) (own : Own) (old new : Held) (trace_old t
     visited_here buses stand keys trace conn before after is e named h =
         let client : Client = record { peer = own.peer; conn = conn } in
         let x = visits buses stand.events keys conn trace (record { layout = h.layout; named = named; stands = h.stands }) is in
-        let keys_after = if not stays then without_key conn keys else keys in
-        let about = about_asked own.peer x.calls (subst (AskOf own.peer) (sym x.asked) (visit_own buses stand.events x.calls client)) in
+        let about = about_asked own.peer x.calls (rw x.asked (visit_own buses stand.events x.calls client)) in
         let mine : visit x.calls client ≡ x.calls = filter_every (is_about own.peer) x.calls about in
-        let kept_as : List Call → Option Client = λ calls. if list_any is_close calls then None else Some client in
-        let left : kept_as (visit x.calls client) ≡ (if not stays then None else Some client) =
-        ap kept_as mine ∙ ap (λ b. if b then None else Some client) x.stays_is in
-        let made = visit_events x.calls client in
-        let all : made ≡ made ++ [] = sym (append-nil made) in
-        let stands = subst (λ (more : List Event). StandsFor buses keys_after new (course buses (stand.events ++ more))) all x.stands in
+        let left : kept x.calls (Some client) ≡ (if not stays then None else Some client) =
+        ap (λ calls. if list_any is_close calls then None else Some client) mine ∙ ap (λ b. if b then None else Some client) x.stays_is in
+        let all = append-nil (visit_events x.calls client) in
         record {
           calls = x.calls;
-          keys = keys_after;
-          made = subst (λ (more : List Event). Makes buses stand.events (stand.events ++ more) x.calls trace_old trace old new) all x.made;
-          asked = x.asked ∙ ap (λ calls. visit_asks buses stand.events calls client) (sym mine)
-              ∙ sym (append-nil (visit_asks buses stand.events (visit x.calls client) client));
-          in_state = subst (λ (left : Option Client). IsInState buses
-              (record { events = stand.events ++ (made ++ []); connected = stand.connected; slots = before ++ left ∷ after }) keys_after new
-              owns_after) (sym left) (in_state_after buses stand (stand.events ++ (made ++ [])) keys before client after e h named stands);
+          keys = if not stays then without_key conn keys else keys;
+          made = rw all x.made;
+          asked = x.asked ∙ sym (append-nil _ ∙ ap (λ calls. visit_asks buses stand.events calls client) mine);
+          in_state = rw (all, left) (in_state_after buses stand _ keys before client after e h named x.stands);
         }
 
     slot_visited : VisitsSlot old trace_old owns new trace_new owns_after slot
@@ -90,10 +62,8 @@ module _ (slot : ℕ) (d : Option Own) (own : Own) (old new : Held) (trace_old t
         absurd (rw here at
         (own_here keys owns before None after slot d e (subst (λ (all : Slots). AreSlotsOf keys owns all) at in_state.owns_are)))
     slot_visited buses stand keys trace in_state is before (Some client) after e at =
-        let h =
-        subst (λ (all : Slots). IsInState buses (record stand { slots = all }) keys old owns) at in_state in
-        let own_is =
-        rw here at (own_here keys owns before (Some client) after slot d e h.owns_are) in
+        let h = subst (λ (all : Slots). IsInState buses (record stand { slots = all }) keys old owns) at in_state in
+        let own_is = rw here at (own_here keys owns before (Some client) after slot d e h.owns_are) in
         let of : ℕ → Client = λ peer. record { peer = peer; conn = client.conn } in
         let same : of own.peer ≡ client = ap of own_is.0 in
         subst (λ (c : Client). HasVisited buses stand trace_old trace new owns_after old before (Some c ∷ []) after) same
@@ -145,8 +115,7 @@ slots_first old trace_old owns buses stand keys trace in_state is = record {
     keys = keys;
     made = makes_none buses stand.events trace_old trace old is;
     asked = refl;
-    in_state =
-        rw append-nil in_state;
+    in_state = rw append-nil in_state;
   };
 }
 
@@ -190,7 +159,7 @@ module _ (buses : List Bus) (stand : Stand) (old : Trace) (core_old : Held) (slo
       record {
         calls = all;
         keys = y.keys;
-        made = subst (λ (es : List Event). Makes buses stand.events es all old trace core_old new) made (makes_then is x.made y.made);
+        made = rw made at (makes_then is x.made y.made);
         asked =
             cc (
               map-append question a b,
@@ -202,11 +171,7 @@ module _ (buses : List Bus) (stand : Stand) (old : Trace) (core_old : Held) (slo
               x.asked,
               y.asked,
             );
-        in_state = subst (λ (es : List Event). IsInState buses
-            (record stand { events = es; slots = map (kept all) (slots ++ slot ∷ []) ++ after }) y.keys new owns_after)
-            made (subst (λ (ss : Slots). IsInState buses
-            (record stand { events = events ++ flat_map (visit_events b) next; slots = ss }) y.keys new owns_after)
-            left y.in_state);
+        in_state = rw made at (rw left at y.in_state);
       }
 
 module _ (slot : ℕ) (old mid new : Held) (trace_old trace_mid trace_new : Trace)
@@ -217,11 +182,8 @@ module _ (slot : ℕ) (old mid new : Held) (trace_old trace_mid trace_new : Trac
       → HasVisited buses stand trace_old trace_then mid owns old [] clients after
       → HasVisitedSoFar buses stand trace_old trace new owns_after old (slot + 1)
   slotd_on buses stand trace trace_then is was differ clients [] are many x =
-      let a = length-owns x.keys owns (map (kept x.calls) clients ++ []) x.in_state.owns_are in
-      let none = [] in
-      let b = length-append (map (kept x.calls) clients) none in
-      let c = length-map clients (kept x.calls) in
-      absurd (omega (arith, a, b, c, many, long, within))
+      let a = simp (append-nil, length-map) at (length-owns x.keys owns _ x.in_state.owns_are) in
+      absurd (omega (arith, a, many, long, within))
   slotd_on buses stand trace trace_then is was differ clients (p ∷ after) are many x =
       let y =
       visits buses _ x.keys trace x.in_state is (map (kept x.calls) clients) p after (length-map clients (kept x.calls) ∙ many) refl in
@@ -254,10 +216,8 @@ slots_all slot old now trace_old trace_now owns_old owns long most so buses stan
     all clients [] are many x =
         subst (λ (ps : Slots). HasVisited buses stand trace_old trace now owns old [] ps []) (sym (are ∙ append-nil clients)) x
     all clients (p ∷ after) are many x =
-        let a = length-owns x.keys owns (map (kept x.calls) clients ++ p ∷ after) x.in_state.owns_are in
-        let b = length-append (map (kept x.calls) clients) (p ∷ after) in
-        let c = length-map clients (kept x.calls) in
-        absurd (omega (arith, a, b, c, many, long, most))
+        let a = simp (length-append, length-map) at (length-owns x.keys owns _ x.in_state.owns_are) in
+        absurd (omega (arith, a, many, long, most))
 
 -- ---- the slots from some slot on stay free in a turn, and no peer is visited there
 
@@ -279,7 +239,7 @@ free_set (suc end) zero (x ∷ owns) free = free
 free_set (suc end) (suc slot) (x ∷ owns) free = free_set end slot owns free
 
 pub still_free : (end slot : ℕ) (old new : Owns) → MayFree slot old new → AreFreeFrom end old → AreFreeFrom end new
-still_free end slot old new (inl e) free = subst (AreFreeFrom end) (sym e) free
+still_free end slot old new (inl e) free = rw e free
 still_free end slot old new (inr e) free = rw e (free_set end slot old free)
 
 -- a slot before those that are free is none of them
@@ -292,11 +252,10 @@ set_before (suc end) (suc slot) own (x ∷ owns) before free = set_before end sl
 
 later_on : (end later : ℕ) (owns : Owns) → end ≤ later → AreFreeFrom end owns → AreFreeFrom later owns
 later_on zero zero owns most free = free
-later_on zero (suc later) [] most free = free
-later_on zero (suc later) (x ∷ owns) most free = later_on zero later owns (omega arith) free.1
 later_on (suc end) zero owns most free = absurd (omega (arith, most))
-later_on (suc end) (suc later) [] most free = free
+later_on zero (suc later) (x ∷ owns) most free = later_on zero later owns (omega arith) free.1
 later_on (suc end) (suc later) (x ∷ owns) most free = later_on end later owns (omega (arith, most)) free
+later_on end (suc later) [] most free = tt
 
 -- all are free behind a slot that is given to a peer and those that may be taken
 pub free_behind : (end slot later : ℕ) (own : Option Own) (owns : Owns) → later ≡ max end (slot + 1) → AreFreeFrom end owns
@@ -311,28 +270,17 @@ free_here (suc slot) [] free = refl
 free_here zero (x ∷ owns) free = free.0
 free_here (suc slot) (x ∷ owns) free = free_here slot owns free
 
-free_on : (slot : ℕ) (owns : Owns) → AreFreeFrom slot owns → AreFreeFrom (suc slot) owns
-free_on zero [] free = free
-free_on (suc slot) [] free = free
-free_on zero (x ∷ owns) free = free.1
-free_on (suc slot) (x ∷ owns) free = free_on slot owns free
+module _ (old now : Held) (trace_old trace_now : Trace) (owns_old owns : Owns) (long : length owns ≡ 64) where
+  rest_of : (left slot : ℕ) → slot + left ≡ 64 → AreFreeFrom slot owns → VisitsSoFar slot old trace_old owns_old now trace_now owns
+      → VisitsSlots old trace_old owns_old now trace_now owns
+  rest_of zero slot many free so = slots_all slot old now trace_old trace_now owns_old owns long (omega (arith, many)) so
+  rest_of (suc left) slot many free so =
+      rest_of left (slot + 1) (omega (arith, many)) (rw add-one (later_on slot (suc slot) owns (omega arith) free))
+      (slots_on slot old now now trace_old trace_now trace_now owns_old owns owns long (omega (arith, many))
+      (slot_free slot None now trace_now owns (free_here slot owns free)) so (asks_none trace_now))
 
-module _ (old now : Held) (trace_old trace_now : Trace) (owns_old owns : Owns) (long : length owns ≡ 64)
-  where
-    rest_of : (left slot : ℕ) → slot + left ≡ 64 → AreFreeFrom slot owns → VisitsSoFar slot old trace_old owns_old now trace_now owns
-        → VisitsSlots old trace_old owns_old now trace_now owns
-    rest_of zero slot many free so =
-        let all : slot ≡ 64 = omega (arith, many) in
-        slots_all slot old now trace_old trace_now owns_old owns long all so
-    rest_of (suc left) slot many free so =
-        let within : slot < 64 = omega (arith, many) in
-        let fewer : (slot + 1) + left ≡ 64 = omega (arith, many) in
-        rest_of left (slot + 1) fewer (rw add-one (free_on slot owns free))
-        (slots_on slot old now now trace_old trace_now trace_now owns_old owns owns long within (slot_free slot None now trace_now owns
-        (free_here slot owns free)) so (asks_none trace_now))
-
-    -- no peer is visited at slots that are free
-    pub slots_rest : (slot : ℕ) → slot ≤ 64 → AreFreeFrom slot owns → VisitsSoFar slot old trace_old owns_old now trace_now owns
-        → VisitsSlots old trace_old owns_old now trace_now owns
-    slots_rest slot most free so =
-        rest_of (64 - slot) slot (omega (arith, most)) free so
+  -- no peer is visited at slots that are free
+  pub slots_rest : (slot : ℕ) → slot ≤ 64 → AreFreeFrom slot owns → VisitsSoFar slot old trace_old owns_old now trace_now owns
+      → VisitsSlots old trace_old owns_old now trace_now owns
+  slots_rest slot most free so =
+      rest_of (64 - slot) slot (omega (arith, most)) free so

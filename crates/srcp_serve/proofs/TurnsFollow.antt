@@ -1,53 +1,33 @@
 -- A turn follows the course: its accept, and its visits.
-use Rattle.std.proofs.Common.{◌≡◌, ◌∙◌, ℕ, ◌+◌, Bool, true, false, ◌==◌, List, [], ◌∷◌, ◌++◌, map, fold, length, if◌then◌else◌, Option}
-use Rattle.std.proofs.Common.{Some, None, Ok, Err, Result, refl, ap, sym, subst, arith, append_assoc, append-nil}
-use Rattle.std.proofs.lemmas.Bool.Decides.{nat_tests}
-use Rattle.std.proofs.lemmas.List.{map-append}
-use Rattle.std.proofs.lemmas.List.Elements.{filter_map-append}
-use Rattle.std.proofs.lemmas.List.Folds.{list_any-append}
-use Rattle.std.specs.List.{list_all, list_any, filter_map, AllByRecursion, IsDistinct}
-use Rattle.std.specs.Prelude.{◌||◌, flat_map}
-use Rattle.srcp_grammar.specs.declared.layout.Bus.{Bus}
-use Rattle.srcp_core.specs.Course.{course}
-use Rattle.srcp_core.specs.Held.{Held}
-use Rattle.srcp_core.specs.Stands.{StandsFor}
-use Rattle.srcp_core.specs.Under.{Open}
-use Rattle.srcp_info.proofs.ClientLaws.{filter_no_one}
+use Rattle.srcp_serve.proofs.Names.{◌≡◌, ◌∙◌, ℕ, ◌+◌, Bool, true, false, ◌==◌, List, [], ◌∷◌, ◌++◌, map, fold, length, if◌then◌else◌}
+use Rattle.srcp_serve.proofs.Names.{Option, Some, None, Ok, Err, Result, refl, ap, sym, subst, arith, append_assoc, append-nil, nat_tests}
+use Rattle.srcp_serve.proofs.Names.{map-append, filter_map-append, list_any-append, list_all, list_any, filter_map, AllByRecursion, ◌||◌}
+use Rattle.srcp_serve.proofs.Names.{flat_map, Bus, course, Held, StandsFor, Open, filter_no_one, DoorCall, Tells, PeersDiffer, peer_of}
+use Rattle.srcp_serve.proofs.Names.{Trace, Accepted, Call, ExpectCall, NowCall, AcceptCall, CloseCall, door_call, Client, Closes, Stand}
+use Rattle.srcp_serve.proofs.Names.{Expects, Moments, expects, Accepts, IsFair, question, moment_of, accept_of, clients, is_about, kept}
+use Rattle.srcp_serve.proofs.Names.{visit_events, visits_ask, connects, with_connection, with_accept, with_moment, timed, begun, turned}
+use Rattle.srcp_serve.proofs.Names.{turn_asks, refuses, Slots, IsInState, one_if, AcceptsOne, MakesTurn, Connects, TakesMoment, VisitsSlots}
+use Rattle.srcp_serve.proofs.Names.{Owns, AreAccept, Asks, AreAboutPeers, IsTurn, is_of_peer, Keys, Makes, DoorFault, or_cases, or_right}
+use Rattle.srcp_serve.proofs.Names.{⊎_elim}
+use Rattle.std.specs.List.{IsDistinct}
 use Rattle.srcp_core.proofs.CourseLaws.SentLinesAreOneList.{all_prefix}
-use Rattle.srcp_serve.specs.Calls.{Call as DoorCall, Tells, PeersDiffer, peer_of, Trace}
-use Rattle.srcp_serve.specs.Given.{Accepted, Call, ExpectCall, NowCall, AcceptCall, ReadCall, WriteCall, CloseCall, door_call}
-use Rattle.srcp_serve.specs.Serving.{Client, Closes, Stand, Expects, Moments, expects, Accepts, IsFair, question, moment_of, accept_of}
-use Rattle.srcp_serve.specs.Serving.{clients, is_about, kept, visit_events, visits_ask, connects, with_connection, with_accept}
-use Rattle.srcp_serve.specs.Serving.{with_moment, timed, begun, turned, turn_asks, refuses, Slots}
-use Rattle.srcp_serve.specs.Slots.{IsInState, one_if, AcceptsOne, MakesTurn, Connects, TakesMoment, VisitsSlots, Owns}
-use Rattle.srcp_serve.specs.Turns.{AreAccept, Asks, AreAboutPeers, IsTurn, is_of_peer}
-use Rattle.srcp_serve.specs.Visits.{Keys, Makes}
-use Rattle.srcp_serve.specs.declared.door.DoorFault.{DoorFault}
 use Rattle.srcp_serve.proofs.PeersAreSentTheirVisits.{connected_all, kept_all}
 use Rattle.srcp_serve.proofs.VisitsFollow.{closing_call}
-use Rattle.srcp_serve.proofs.SlotsAreTakenAndFreed.{all_here, in_state_on, AreOf, HasNone, NoVisits, SameVisits, same_asked, same_kept}
-use Rattle.srcp_serve.proofs.SlotsAreTakenAndFreed.{same_made, second_visits}
+use Rattle.srcp_serve.proofs.CallsByTurnAndPeer.{accept_as, same_peer}
+use Rattle.srcp_serve.proofs.SlotsAreTakenAndFreed.{all_here, AreOf, HasNone, NoVisits, SameVisits, same_asked, same_kept, same_made}
+use Rattle.srcp_serve.proofs.SlotsAreTakenAndFreed.{second_visits}
 use Rattle.srcp_serve.proofs.CallsAreAdded.{adds_one, adds_then, asked_moment, given_then, makes_then, same_calls}
 use Rattle.srcp_serve.proofs.SentIsTakenAfterAllTurns.{peers_trace}
 use Rattle.srcp_serve.specs.Calls as door
 
-no_accepts : (calls : List Call) → list_all is_of_peer (map door_call calls) ≡ true → filter_map accept_of calls ≡ []
-no_accepts [] h = refl
-no_accepts (ExpectCall due slack ∷ calls) h = cc
-no_accepts (NowCall answer ∷ calls) h = cc
-no_accepts (AcceptCall answer granted ∷ calls) h = cc
-no_accepts (ReadCall peer answer buffer grants ∷ calls) h = no_accepts calls h
-no_accepts (WriteCall peer bytes answer ∷ calls) h = no_accepts calls h
-no_accepts (CloseCall peer answer ∷ calls) h = no_accepts calls h
-
-no_moments : (calls : List Call) → list_all is_of_peer (map door_call calls) ≡ true → filter_map moment_of calls ≡ []
-no_moments [] h = refl
-no_moments (ExpectCall due slack ∷ calls) h = cc
-no_moments (NowCall answer ∷ calls) h = cc
-no_moments (AcceptCall answer granted ∷ calls) h = cc
-no_moments (ReadCall peer answer buffer grants ∷ calls) h = no_moments calls h
-no_moments (WriteCall peer bytes answer ∷ calls) h = no_moments calls h
-no_moments (CloseCall peer answer ∷ calls) h = no_moments calls h
+-- calls about peers tell no moment and accept nobody
+no_begin : (calls : List Call) → list_all is_of_peer (map door_call calls) ≡ true
+    → (filter_map accept_of calls ≡ []) × (filter_map moment_of calls ≡ [])
+no_begin [] h = (refl, refl)
+no_begin (ExpectCall due slack ∷ calls) h = cc
+no_begin (NowCall answer ∷ calls) h = cc
+no_begin (AcceptCall answer granted ∷ calls) h = cc
+no_begin (other ∷ calls) h = no_begin calls h
 
 pub fair_given : (calls : List Call) → AllByRecursion door.IsFair (map door_call calls) → AllByRecursion IsFair calls
 fair_given [] h = tt
@@ -76,12 +56,7 @@ no_either x p r a b = grind (arith, nat_tests)
 not_known : (peers : List ℕ) (p r : ℕ) → AllByRecursion (λ x. (x == p) ≡ false) peers → list_any (λ q. q == r) peers ≡ true
     → (p == r) ≡ false
 not_known [] p r h k = cc
-not_known (x ∷ peers) p r h k = by (x == r) refl k (λ e. not_known peers p r h.1 e)
-  where
-    by : (b : Bool) → (x == r) ≡ b → b || list_any (λ q. q == r) peers ≡ true → (list_any (λ q. q == r) peers ≡ true → (p == r) ≡ false)
-        → (p == r) ≡ false
-    by true e k more = no_either x p r h.0 e
-    by false e k more = more k
+not_known (x ∷ peers) p r h k = ⊎_elim (no_either x p r h.0) (not_known peers p r h.1) (or_cases (x == r) _ k)
 
 fresh : (peers : List ℕ) (p : ℕ) (slots : Slots) → AllByRecursion (λ x. (x == p) ≡ false) peers → AreOf peers slots → HasNone p slots
 fresh peers p [] h k = tt
@@ -103,12 +78,8 @@ known_more peers more (Some client ∷ slots) h = (
 )
 
 known_last : (peers : List ℕ) (p : ℕ) → list_any (λ q. q == p) (peers ++ p ∷ []) ≡ true
-known_last [] p = let same : (p == p) ≡ true = grind (arith, nat_tests) in ap (λ t. t || false) same
-known_last (x ∷ peers) p = by (x == p) (known_last peers p)
-  where
-    by : (b : Bool) → list_any (λ q. q == p) (peers ++ p ∷ []) ≡ true → b || list_any (λ q. q == p) (peers ++ p ∷ []) ≡ true
-    by true e = refl
-    by false e = e
+known_last [] p = ap (λ t. t || false) (same_peer p)
+known_last (x ∷ peers) p = or_right (x == p) _ (known_last peers p)
 
 none_seen : (early : List Call) (all : List Client) → map question early ≡ [] → NoVisits early all
 none_seen early [] e = tt
@@ -124,23 +95,17 @@ closed_seen peer answer (client ∷ all) h =
 module _ (buses : List Bus) where
   known_accept : (peers : List ℕ) (stand : Stand) (accept : Accepted) → AreOf peers stand.slots
       → AreOf (peers ++ accept.peer ∷ []) (with_accept buses stand accept).slots
-  known_accept peers stand accept h = by (connects buses stand.events accept.granted)
-    where
-      more : AreOf (peers ++ accept.peer ∷ []) stand.slots
-      more = known_more peers (accept.peer ∷ []) stand.slots h
-
-      by : (b : Bool) → AreOf (peers ++ accept.peer ∷ [])
-          (if b then with_connection buses stand accept else record stand { events = stand.events ++ Open accept.granted ∷ [] }).slots
-      by true =
-          connected_all _ (record { peer = accept.peer; conn = length stand.connected + 1 }) stand.slots (known_last peers accept.peer) more
-      by false = more
+  known_accept peers stand accept h =
+      let more = known_more peers (accept.peer ∷ []) stand.slots h in
+      accept_as buses (λ (s : Stand). AreOf (peers ++ accept.peer ∷ []) s.slots) stand accept
+      (connected_all _ (record { peer = accept.peer; conn = length stand.connected + 1 }) stand.slots (known_last peers accept.peer) more)
+      more
 
   known_accepts : (accepts : List Accepted) (peers : List ℕ) (stand : Stand) → AreOf peers stand.slots
       → AreOf (peers ++ map (λ accept. accept.peer) accepts) (fold (with_accept buses) stand accepts).slots
   known_accepts [] peers stand h = known_more peers [] stand.slots h
   known_accepts (accept ∷ accepts) peers stand h =
-      let slots : Slots = (fold (with_accept buses) stand (accept ∷ accepts)).slots in
-      subst (λ (ps : List ℕ). AreOf ps slots) (append_assoc peers (accept.peer ∷ []) (map (λ a. a.peer) accepts))
+      rw append_assoc at
       (known_accepts accepts (peers ++ accept.peer ∷ []) (with_accept buses stand accept) (known_accept peers stand accept h))
 
   known_moments : (moments : List ℕ) (peers : List ℕ) (stand : Stand) → AreOf peers stand.slots
@@ -154,16 +119,13 @@ module _ (buses : List Bus) where
   known_turned peers stand calls h =
       let timed_known = known_moments (filter_map moment_of calls) peers stand h in
       let begun_known = known_accepts (filter_map accept_of calls) peers (timed buses stand calls) timed_known in
-      kept_all _ calls (begun buses stand calls).slots
-      (subst (λ (ps : List ℕ). AreOf (peers ++ ps) (begun buses stand calls).slots) (sym (peers_trace calls)) begun_known)
+      kept_all _ calls (begun buses stand calls).slots (rw peers_trace begun_known)
 
   -- the calls that follow an accept are about no peer that has a slot then
   early_seen : (stand : Stand) (answer : Result (Option ℕ) DoorFault) (granted : Bool) (early : List Call)
       → ((peer : ℕ) → answer ≡ Ok (Some peer) → HasNone peer stand.slots)
       → map question early ≡ flat_map (refuses buses stand.events) (filter_map accept_of (AcceptCall answer granted ∷ []))
       → NoVisits early (clients (fold (with_accept buses) stand (filter_map accept_of (AcceptCall answer granted ∷ []))).slots)
-  early_seen stand (Ok None) granted early new asked = none_seen early (clients stand.slots) asked
-  early_seen stand (Err failed) granted early new asked = none_seen early (clients stand.slots) asked
   early_seen stand (Ok (Some p)) granted early new asked = by (connects buses stand.events granted) asked
     where
       by : (b : Bool) → map question early ≡ (if b then [] else Closes p ∷ []) ++ []
@@ -171,6 +133,7 @@ module _ (buses : List Bus) where
           else record stand { events = stand.events ++ Open granted ∷ [] }).slots)
       by true e = none_seen early _ e
       by false e = let c = closing_call p early e in rw c.1 (closed_seen p c.0 (clients stand.slots) (new p refl))
+  early_seen stand other granted early new asked = none_seen early (clients stand.slots) asked
 
   connected_timed : (answer : Result ℕ DoorFault) (stand : Stand)
       → length (timed buses stand (NowCall answer ∷ [])).connected ≡ length stand.connected
@@ -180,56 +143,41 @@ module _ (buses : List Bus) where
   in_state_timed : (answer : Result ℕ DoorFault) (stand : Stand) (keys : Keys) (old held : Held) (owns : Owns)
       → IsInState buses stand keys old owns → StandsFor buses keys held (course buses (timed buses stand (NowCall answer ∷ [])).events)
       → IsInState buses (timed buses stand (NowCall answer ∷ [])) keys held owns
-  in_state_timed (Ok moment) stand keys old held owns h stands = in_state_on buses stand _ keys old held owns h stands
-  in_state_timed (Err failed) stand keys old held owns h stands = in_state_on buses stand _ keys old held owns h stands
+  in_state_timed (Ok moment) stand keys old held owns h stands = assumption
+  in_state_timed (Err failed) stand keys old held owns h stands = assumption
 
 -- ---- the accept of a turn
 
-no_more : (n : ℕ) → n ≡ n + 0
-no_more n = omega arith
+-- nobody is accepted, or the accept fails
+abbrev pub AcceptsNone : Result (Option ℕ) DoorFault → Type 0
+AcceptsNone (Ok (Some peer)) = ⊥
+AcceptsNone other = Unit {0}
 
-module _ (old : Held) (trace_old trace_new : Trace) (owns : Owns) where
-  pub accepts_nobody : Tells trace_old (door.AcceptCall (Ok None)) trace_new → AcceptsOne old trace_old owns old trace_new owns false
-  accepts_nobody h buses stand keys trace in_state is peers calls adds differ known = (
-    Ok None,
-    true,
-    record {
-      early = [];
-      keys = keys;
-      adds = adds_one (door.AcceptCall (Ok None)) trace_old trace_new trace h is;
-      counted = refl;
-      asked_for = λ first e. e;
-      asked = refl;
-      in_state = in_state;
-      opened = no_more (length stand.connected);
-    },
-  )
-
-  pub accept_fails : (failed : DoorFault) → Tells trace_old (door.AcceptCall (Err failed)) trace_new
-      → AcceptsOne old trace_old owns old trace_new owns false
-  accept_fails failed h buses stand keys trace in_state is peers calls adds differ known = (
-    Err failed,
-    true,
-    record {
-      early = [];
-      keys = keys;
-      adds = adds_one (door.AcceptCall (Err failed)) trace_old trace_new trace h is;
-      counted = refl;
-      asked_for = λ first e. e;
-      asked = refl;
-      in_state = in_state;
-      opened = no_more (length stand.connected);
-    },
-  )
+pub accepts_nobody : (old : Held) (trace_old trace_new : Trace) (owns : Owns) (answer : Result (Option ℕ) DoorFault)
+    → AcceptsNone answer → Tells trace_old (door.AcceptCall answer) trace_new → AcceptsOne old trace_old owns old trace_new owns false
+accepts_nobody old trace_old trace_new owns (Ok (Some peer)) none h buses stand keys trace in_state is peers calls adds differ known =
+    absurd none
+accepts_nobody old trace_old trace_new owns answer none h buses stand keys trace in_state is peers calls adds differ known = (
+  answer,
+  true,
+  record {
+    early = [];
+    keys = keys;
+    adds = adds_one (door.AcceptCall answer) trace_old trace_new trace h is;
+    counted = refl;
+    asked_for = λ first e. e;
+    asked = refl;
+    in_state = in_state;
+    opened = omega arith;
+  },
+)
 
 pub accepts_peer : (peer : ℕ) (opens : Bool) (old new : Held) (trace_old trace_mid trace_new : Trace)
     (owns owns_new : Owns)
     → Tells trace_old (door.AcceptCall (Ok (Some peer))) trace_mid → Asks AreAboutPeers trace_mid trace_new
     → Connects old trace_mid owns new trace_new owns_new peer opens → AcceptsOne old trace_old owns new trace_new owns_new opens
 accepts_peer peer opens old new trace_old trace_mid trace_new owns owns_new h asks own_is buses stand keys trace in_state is peers calls
-    adds
-    differ
-    known =
+    adds differ known =
     let call = door.AcceptCall (Ok (Some peer)) in
     let later = asks trace is in
     let first = adds_one call trace_old trace_mid later.1.before h later.1.was in
@@ -277,14 +225,15 @@ module _ (buses : List Bus) (stand : Stand) (due slack : Option ℕ) (now : Resu
   module _ (peers : list_all is_of_peer (map door_call tail) ≡ true) where
     accepts_are : filter_map accept_of calls ≡ accepts
     accepts_are =
-        cc (filter_map-append accept_of (AcceptCall answer granted ∷ []) tail, no_accepts tail peers, append-nil accepts)
+        cc (filter_map-append accept_of (AcceptCall answer granted ∷ []) tail, (no_begin tail peers).0, append-nil accepts)
 
     timed_is : timed buses stand calls ≡ first
     timed_is =
-        ap (fold (with_moment buses) stand)
-        (filter_map-append moment_of (NowCall now ∷ []) (AcceptCall answer granted ∷ tail)
-        ∙ ap (λ more. filter_map moment_of (NowCall now ∷ []) ++ more) (no_moments tail peers)
-        ∙ append-nil (filter_map moment_of (NowCall now ∷ [])))
+        cc (
+          filter_map-append moment_of (NowCall now ∷ []) (AcceptCall answer granted ∷ tail),
+          (no_begin tail peers).1,
+          append-nil (filter_map moment_of (NowCall now ∷ [])),
+        )
 
     begun_is : begun buses stand calls ≡ second
     begun_is = rw (timed_is, accepts_are)
@@ -294,13 +243,11 @@ module _ (buses : List Bus) (stand : Stand) (due slack : Option ℕ) (now : Resu
       same = second_visits (ExpectCall due slack ∷ NowCall now ∷ AcceptCall answer granted ∷ early) seen (clients second.slots) others
 
       pub turned_is : turned buses stand calls ≡ third
-      turned_is =
-          cc (
-            begun_is,
-            same_made calls seen (clients second.slots) same,
-            same_kept calls seen second.slots same,
-            append-nil (map (kept seen) second.slots),
-          )
+      turned_is = rw begun_is (cc (
+        same_made calls seen (clients second.slots) same,
+        same_kept calls seen second.slots same,
+        append-nil (map (kept seen) second.slots),
+      ))
 
       pub turn_asked : Expects due slack ≡ expects buses stand.events → map question early ≡ flat_map (refuses buses first.events) accepts
           → map question seen ≡ visits_ask buses second.events seen (clients second.slots)
@@ -331,43 +278,30 @@ makes_turn opens old mid between new trace_old trace_mid trace_between trace_new
     let in_state_then = in_state_timed buses t.answer stand keys old mid owns_old in_state t.stands in
     let in_calls = one.0 in
     let prefix = door.ExpectCall t.due t.slack ∷ door.NowCall t.answer ∷ in_calls in
-    let adds_in =
-    adds_then v.was t.adds v in
-    let whole =
-    same_calls adds
-    (adds_then w.was adds_in w) in
-    let differ_in =
-    peers_prefix peers prefix later.0 (rw whole at differ) in
+    let whole = same_calls adds (adds_then w.was (adds_then v.was t.adds v) w) in
+    let differ_in = peers_prefix peers prefix later.0 (rw whole at differ) in
     let known_first = known_moments buses (filter_map moment_of (NowCall t.answer ∷ [])) peers stand known in
     let b = accepts_one buses first_stand keys w.before in_state_then w.was peers in_calls v differ_in known_first in
-    let accepts_then = filter_map accept_of (AcceptCall b.0 b.1 ∷ []) in
-    let second_stand = fold (with_accept buses) first_stand accepts_then in
+    let second_stand = fold (with_accept buses) first_stand (filter_map accept_of (AcceptCall b.0 b.1 ∷ [])) in
     let x = visits buses second_stand b.2.keys trace b.2.in_state is in
     let others =
     early_seen buses first_stand b.0 b.1 b.2.early
     (new_peer peers b.0 (map door_call b.2.early) first_stand.slots (rw (same_calls v b.2.adds) at differ_in) known_first) b.2.asked in
-    let seen = x.calls in
-    let begins = ExpectCall t.due t.slack ∷ NowCall t.answer ∷ AcceptCall b.0 b.1 ∷ b.2.early in
-    let all = ExpectCall t.due t.slack ∷ NowCall t.answer ∷ AcceptCall b.0 b.1 ∷ (b.2.early ++ seen) in
+    let all = ExpectCall t.due t.slack ∷ NowCall t.answer ∷ AcceptCall b.0 b.1 ∷ (b.2.early ++ x.calls) in
     let first_made : Makes buses stand.events first_stand.events (ExpectCall t.due t.slack ∷ NowCall t.answer ∷ []) trace_old v.before
     old mid =
     record { adds = t.adds; counted = same_count; asked_for = asked_moment buses t.answer stand old mid same_count } in
     let second_made : Makes buses first_stand.events second_stand.events (AcceptCall b.0 b.1 ∷ b.2.early) trace_mid w.before
     mid between = record { adds = b.2.adds; counted = b.2.counted; asked_for = b.2.asked_for } in
-    let begun_then =
-    makes_then v.was first_made second_made in
-    let made =
-    makes_then w.was begun_then x.made in
+    let made = makes_then w.was (makes_then v.was first_made second_made) x.made in
     let turned_then = asks_turn trace is in
     let of_peers = (rw (same_calls turned_then.1 made.adds) at turned_then.2).peers in
-    let ends =
-    turned_is buses stand t.due t.slack t.answer b.0 b.1 b.2.early seen of_peers others in
+    let ends = turned_is buses stand t.due t.slack t.answer b.0 b.1 b.2.early x.calls of_peers others in
     record {
       calls = all;
       keys = x.keys;
       made = subst (λ (s : Stand). Makes buses stand.events s.events all trace_old trace old new) (sym ends) made;
-      asked =
-          turn_asked buses stand t.due t.slack t.answer b.0 b.1 b.2.early seen of_peers others t.asked b.2.asked x.asked;
+      asked = turn_asked buses stand t.due t.slack t.answer b.0 b.1 b.2.early x.calls of_peers others t.asked b.2.asked x.asked;
       in_state = rw ends x.in_state;
       opened =
           ap (λ (s : Stand). length s.connected) ends ∙ b.2.opened

@@ -1,41 +1,21 @@
 -- A visit: one read, the writes, and how it ends.
-use Rattle.std.proofs.Common.{◌⊎◌, ⊎_elim, ◌≡◌, ◌∙◌, ℕ, ◌+◌, Bool, true, false, cond, ◌==◌, not, List, [], ◌∷◌, ◌++◌, map, take, Some}
-use Rattle.std.proofs.Common.{refl, ap, sym, subst, arith, append_assoc, append-nil, Result}
-use Rattle.std.proofs.Math.Bool.{or-false}
-use Rattle.std.proofs.lemmas.Bool.Decides.{nat_tests}
-use Rattle.std.proofs.lemmas.List.{map-append}
-use Rattle.std.proofs.lemmas.List.Elements.{filter_map-append}
-use Rattle.std.proofs.lemmas.List.Folds.{list_any-append}
-use Rattle.std.proofs.lemmas.List.Sums.{sum_by-append}
-use Rattle.std.specs.List.{list_any, filter_map, count_by, AllByRecursion}
-use Rattle.std.specs.Prelude.{◌||◌, if◌then◌else◌}
-use Rattle.srcp_info.proofs.ClientLaws.{all_append, filter_every}
-use Rattle.srcp_grammar.specs.declared.layout.Bus.{Bus}
-use Rattle.srcp_core.specs.Course.{course}
-use Rattle.srcp_core.specs.Held.{Held}
-use Rattle.srcp_core.specs.Connection.{is_last}
-use Rattle.srcp_core.specs.Machine.{hung_up, finish_at}
-use Rattle.srcp_core.specs.Recording.{without_key}
-use Rattle.srcp_core.specs.Stands.{StandsFor}
-use Rattle.srcp_core.specs.Under.{Event, Piece, Bytes, Room, Shut}
-use Rattle.srcp_core.proofs.Agreement.CallLaws.{calls_agree, calls_lead}
+use Rattle.srcp_serve.proofs.Names.{◌⊎◌, ⊎_elim, ◌≡◌, ◌∙◌, ℕ, ◌+◌, Bool, true, false, cond, not, List, [], ◌∷◌, ◌++◌, map, take, Some, refl}
+use Rattle.srcp_serve.proofs.Names.{ap, sym, arith, append_assoc, append-nil, Result, map-append, filter_map-append, list_any-append}
+use Rattle.srcp_serve.proofs.Names.{sum_by-append, list_any, filter_map, count_by, AllByRecursion, ◌||◌, if◌then◌else◌, all_append}
+use Rattle.srcp_serve.proofs.Names.{filter_every, Bus, course, Held, is_last, hung_up, finish_at, without_key, StandsFor, Event, Bytes}
+use Rattle.srcp_serve.proofs.Names.{Room, Shut, calls_agree, calls_lead, DoorCall, Trace, Call, ReadCall, WriteCall, CloseCall, answers_of}
+use Rattle.srcp_serve.proofs.Names.{Client, Reads, Writes, ClosesQuestion, question, visit, visit_asks, exchange, rooms, handed, is_closing}
+use Rattle.srcp_serve.proofs.Names.{reads_of, writes_of, closes_of, visit_events, is_about, is_close, is_write, is_ready, loses}
+use Rattle.srcp_serve.proofs.Names.{loses_reading, falls_short, piece_of, count_of, AreAboutPeers, Asks, FromEveryCourse, HasActed, Makes}
+use Rattle.srcp_serve.proofs.Names.{Disconnects, ReadsIn, Visits, WritesOut, Keys, DoorFault, or-false, inl, inr, or_left, or_right}
 use Rattle.srcp_core.proofs.Agreement.RunsAnEvent.{shut_count}
-use Rattle.srcp_serve.specs.Calls.{Call as DoorCall, Trace}
-use Rattle.srcp_serve.specs.Given.{Call, ReadCall, WriteCall, CloseCall, answers_of}
-use Rattle.srcp_serve.specs.Serving.{Client, Question, Reads, Writes, Closes as ClosesQuestion, question, visit, visit_asks, exchange}
-use Rattle.srcp_serve.specs.Serving.{rooms, handed, is_closing, reads_of, writes_of, closes_of, visit_events, is_about, is_close}
-use Rattle.srcp_serve.specs.Serving.{is_write, is_ready, loses, loses_reading, falls_short, piece_of, count_of}
-use Rattle.srcp_serve.specs.Turns.{AreAboutPeers, Asks}
-use Rattle.srcp_serve.specs.Visits.{Closes, FromEveryCourse, HasActed, Makes, Disconnects, ReadsIn, Visits, WritesOut, Keys}
-use Rattle.srcp_serve.specs.declared.door.DoorFault.{DoorFault}
+use Rattle.srcp_serve.specs.Visits.{Closes}
 use Rattle.srcp_serve.proofs.CallsAreAdded.{asked_one, makes_then}
+use Rattle.srcp_serve.proofs.CallsByTurnAndPeer.{same_peer}
 
 -- all calls are about that peer
 abbrev pub AreAbout : ℕ → List Call → Type 0
 AreAbout peer calls = AllByRecursion (λ call. is_about peer call ≡ true) calls
-
-pub same_peer : (peer : ℕ) → (peer == peer) ≡ true
-same_peer peer = grind (arith, nat_tests)
 
 -- ---- the calls of a read, and those of writes
 
@@ -52,14 +32,7 @@ are_reads peer b [] e = record { counts = refl; short = refl; many = refl; quiet
 are_reads peer false (call ∷ calls) e = cc
 are_reads peer true (ReadCall who answer buffer grants ∷ []) e =
     let same : who ≡ peer = cc in
-    record {
-      counts = refl;
-      short = refl;
-      many = refl;
-      quiet = refl;
-      losing = refl;
-      about = (rw same (same_peer peer), tt);
-    }
+    record { counts = refl; short = refl; many = refl; quiet = refl; losing = refl; about = (rw same (same_peer peer), tt) }
 are_reads peer true other e = cc
 
 pub record AreWrites (peer : ℕ) (calls : List Call) : Type 0 where
@@ -74,15 +47,8 @@ pub are_writes : (peer : ℕ) (texts : List (List ℕ)) (calls : List Call) → 
 are_writes peer texts [] e = record { pieces = refl; reading = refl; quiet = refl; answers = refl; about = tt }
 are_writes peer (text ∷ texts) (WriteCall who bytes answer ∷ calls) e =
     let same : who ≡ peer = cc in
-    let rest : map question calls ≡ map (Writes peer) texts = cc in
-    let w = are_writes peer texts calls rest in
-    record {
-      pieces = w.pieces;
-      reading = w.reading;
-      quiet = w.quiet;
-      answers = w.answers;
-      about = (rw same (same_peer peer), w.about);
-    }
+    let w = are_writes peer texts calls (cc) in
+    record { pieces = w.pieces; reading = w.reading; quiet = w.quiet; answers = w.answers; about = (rw same (same_peer peer), w.about) }
 are_writes peer texts other e = cc
 
 pub closing_call : (peer : ℕ) (calls : List Call) → map question calls ≡ ClosesQuestion peer ∷ []
@@ -101,14 +67,9 @@ any_second p xs ys e = simp (list_any-append, e)
 any_first : (p : Call → Bool) (xs ys : List Call) → list_any p ys ≡ false → list_any p (xs ++ ys) ≡ list_any p xs
 any_first p xs ys e = simp (list_any-append, e, or-false)
 
--- room for nothing, or no more room
-abbrev last_room : Bool → List ℕ
-last_room b = if b then 0 ∷ [] else []
-
 same_rooms : (xs ys : List Call) → filter_map count_of xs ≡ filter_map count_of ys → list_any loses xs ≡ list_any loses ys
     → list_any falls_short xs ≡ list_any falls_short ys → count_by is_write xs ≡ count_by is_write ys → rooms xs ≡ rooms ys
-same_rooms xs ys c l s k =
-    cc
+same_rooms xs ys c l s k = cc
 
 module _ (buses : List Bus) (events : List Event) (keys : Keys) (n peer : ℕ)
     (old : Trace) (trace : List DoorCall) (new core_old : Held) where
@@ -152,20 +113,14 @@ module _ (buses : List Bus) (events : List Event) (keys : Keys) (n peer : ℕ) (
   abbrev client : Client
   client = record { peer = peer; conn = n }
 
-  -- what is written, by whether reading lost the peer, what was read and what was taken
-  abbrev handed_by : Bool → List Piece → List ℕ → List Question
-  handed_by lost pieces counts = if lost then [] else map (Writes peer) (take 300 (handed buses n (events ++ map (Bytes n) pieces) counts))
-
   same_writes : (xs ys : List Call) → list_any loses_reading xs ≡ list_any loses_reading ys
       → filter_map piece_of xs ≡ filter_map piece_of ys → filter_map count_of xs ≡ filter_map count_of ys
       → writes_of buses events xs client ≡ writes_of buses events ys client
-  same_writes xs ys l p c =
-      cc
+  same_writes xs ys l p c = cc
 
   same_exchange : (xs ys : List Call) → filter_map piece_of xs ≡ filter_map piece_of ys → rooms xs ≡ rooms ys
       → exchange n xs ≡ exchange n ys
-  same_exchange xs ys p r =
-      cc
+  same_exchange xs ys p r = cc
 
   -- the peer was lost in reading
   pub exchanged_lost : (old : Trace) (trace : List DoorCall) (new : Held)
@@ -174,8 +129,7 @@ module _ (buses : List Bus) (events : List Event) (keys : Keys) (n peer : ℕ) (
       let calls = r.calls in
       let rd = are_reads peer (is_ready buses n events) calls r.asked in
       let lost = rd.losing ∙ r.stays_is in
-      let no_rooms : rooms calls ≡ [] =
-      cc (rd.counts) in
+      let no_rooms : rooms calls ≡ [] = cc (rd.counts) in
       let same : exchange n calls ≡ map (Bytes n) (filter_map piece_of calls) =
       cc (append-nil (map (Bytes n) (filter_map piece_of calls))) in
       record {
@@ -183,10 +137,7 @@ module _ (buses : List Bus) (events : List Event) (keys : Keys) (n peer : ℕ) (
         made = rw same r.made;
         own = rd.about;
         quiet = rd.quiet;
-        asked =
-            r.asked ∙ sym (append-nil (reads_of buses events client))
-            ∙ ap (λ t. reads_of buses events client ++ handed_by t (filter_map piece_of calls) (filter_map count_of calls))
-            (sym r.stays_is);
+        asked = rw r.stays_is (r.asked ∙ sym (append-nil (reads_of buses events client)));
         loses_is = lost;
         stands = rw same r.stands;
       }
@@ -201,40 +152,27 @@ module _ (buses : List Bus) (events : List Event) (keys : Keys) (n peer : ℕ) (
       let rd = are_reads peer (is_ready buses n events) reads r.asked in
       let wr = are_writes peer _ w.calls w.asked in
       let calls = reads ++ w.calls in
-      let pieces : filter_map piece_of calls ≡ filter_map piece_of reads =
-      cc (filter_map-append piece_of reads w.calls, wr.pieces, append-nil (filter_map piece_of reads)) in
-      let counts : filter_map count_of calls ≡ filter_map count_of w.calls =
-      simp (filter_map-append, rd.counts) in
-      let reading =
-      any_second loses_reading reads w.calls r.stays_is ∙ wr.reading in
+      let pieces : filter_map piece_of calls ≡ filter_map piece_of reads = simp (filter_map-append, wr.pieces, append-nil) in
+      let counts : filter_map count_of calls ≡ filter_map count_of w.calls = simp (filter_map-append, rd.counts) in
+      let reading = any_second loses_reading reads w.calls r.stays_is ∙ wr.reading in
       let losing = any_second loses reads w.calls (rd.losing ∙ r.stays_is) in
-      let short =
-      any_second falls_short reads w.calls rd.short in
-      let many : count_by is_write calls ≡ count_by is_write w.calls =
-      simp (count_append, rd.many, none_more) in
+      let short = any_second falls_short reads w.calls rd.short in
+      let many : count_by is_write calls ≡ count_by is_write w.calls = omega (arith, count_append reads w.calls, rd.many) in
       let rooms_same = same_rooms calls w.calls counts losing short many in
       let read = map (Bytes n) (filter_map piece_of reads) in
-      let more : exchange n calls ≡ read ++ map (Room n) (rooms w.calls) =
-      cc in
+      let more : exchange n calls ≡ read ++ map (Room n) (rooms w.calls) = cc in
+      let all : (events ++ read) ++ map (Room n) (rooms w.calls) ≡ events ++ exchange n calls = rw (more, append_assoc) in
       let asks : writes_of buses events calls client
-      ≡ map (Writes peer) (take 300 (handed buses n (events ++ read) (filter_map count_of w.calls))) =
-      cc in
+      ≡ map (Writes peer) (take 300 (handed buses n (events ++ read) (filter_map count_of w.calls))) = cc in
       record {
         calls = calls;
-        made = subst (λ (all : List Event). Makes buses events all calls old trace core_old new)
-            (append_assoc events read (map (Room n) (rooms w.calls)) ∙ ap (λ all. events ++ all) (sym more))
-            (makes_then is r.made w.made);
+        made = rw all at (makes_then is r.made w.made);
         own = all_append _ reads w.calls rd.about wr.about;
         quiet = any_second is_close reads w.calls rd.quiet ∙ wr.quiet;
-        asked =
-            rw (map-append, r.asked, w.asked, ← asks);
+        asked = rw (map-append, r.asked, w.asked, ← asks);
         loses_is = losing ∙ w.stays_is;
-        stands =
-            rw (append_assoc events read (map (Room n) (rooms w.calls)) ∙ ap (λ all. events ++ all) (sym more)) at w.stands;
+        stands = rw all at w.stands;
       }
-    where
-      none_more : (k : ℕ) → 0 + k ≡ k
-      none_more k = omega arith
 
   -- it keeps its slot
   pub visited_stays : (old : Trace) (trace : List DoorCall) (new : Held)
@@ -242,66 +180,17 @@ module _ (buses : List Bus) (events : List Event) (keys : Keys) (n peer : ℕ) (
       → IsVisited buses events keys n peer old trace new core_old true
   visited_stays old trace new x open_still =
       let mine : visit x.calls client ≡ x.calls = filter_every (is_about peer) x.calls x.own in
-      let more : visit_events x.calls client ≡ exchange n x.calls =
-      cc (append-nil (exchange n x.calls)) in
-      let none : closes_of buses events x.calls client ≡ [] =
-      cc in
+      let more : visit_events x.calls client ≡ exchange n x.calls = cc (append-nil (exchange n x.calls)) in
+      let none : closes_of buses events x.calls client ≡ [] = cc in
       record {
         calls = x.calls;
         made = rw more x.made;
-        asked =
-            x.asked ∙ sym (append-nil (reads_of buses events client ++ writes_of buses events x.calls client))
-            ∙ ap (λ qs. (reads_of buses events client ++ writes_of buses events x.calls client) ++ qs) (sym none);
+        asked = rw none (x.asked ∙ sym (append-nil (reads_of buses events client ++ writes_of buses events x.calls client)));
         stays_is = x.quiet;
         stands = rw more x.stands;
       }
 
   -- it is disconnected
-  visited_closed : (old trace_mid : Trace) (mid trace : List DoorCall) (between new : Held) (value : Bool)
-      → trace_mid ≡ Some mid → (x : IsExchanged buses events keys n peer old mid between core_old value)
-      → list_any loses x.calls || is_closing buses n (events ++ exchange n x.calls) ≡ true → (answer : Result Unit DoorFault)
-      → Makes buses (events ++ exchange n x.calls) ((events ++ exchange n x.calls) ++ Shut n ∷ []) (CloseCall peer answer ∷ [])
-      trace_mid trace between new
-      → StandsFor buses (without_key n keys) new (course buses ((events ++ exchange n x.calls) ++ Shut n ∷ []))
-      → IsVisited buses events keys n peer old trace new core_old false
-  visited_closed old trace_mid mid trace between new value is x ends answer made stands =
-      let last : Call = CloseCall peer answer in
-      let calls : List Call = x.calls ++ last ∷ [] in
-      let pieces : filter_map piece_of calls ≡ filter_map piece_of x.calls =
-      filter_map-append _ x.calls _ ∙ append-nil _ in
-      let counts : filter_map count_of calls ≡ filter_map count_of x.calls =
-      filter_map-append _ x.calls _ ∙ append-nil _ in
-      let reading : list_any loses_reading calls ≡ list_any loses_reading x.calls = any_first _ x.calls _ refl in
-      let losing : list_any loses calls ≡ list_any loses x.calls = any_first loses x.calls _ refl in
-      let short : list_any falls_short calls ≡ list_any falls_short x.calls = any_first _ x.calls _ refl in
-      let many : count_by is_write calls ≡ count_by is_write x.calls =
-      count_append x.calls _ ∙ no_more _ in
-      let swap : exchange n calls ≡ exchange n x.calls =
-      same_exchange calls x.calls pieces (same_rooms calls x.calls counts losing short many) in
-      let writes : writes_of buses events calls client ≡ writes_of buses events x.calls client =
-      same_writes calls x.calls reading pieces counts in
-      let own : AreAbout peer calls = all_append _ x.calls _ x.own (same_peer peer, tt) in
-      let closing : list_any is_close calls ≡ true = any_second _ x.calls _ x.quiet in
-      let mine : visit calls client ≡ calls = filter_every _ calls own in
-      let more : visit_events calls client ≡ exchange n x.calls ++ Shut n ∷ [] =
-      cc in
-      let asks : closes_of buses events calls client ≡ ClosesQuestion peer ∷ [] =
-      cc in
-      record {
-        calls = calls;
-        made = subst (λ (all : List Event). Makes buses events all calls old trace core_old new)
-            (append_assoc events (exchange n x.calls) (Shut n ∷ []) ∙ ap (λ all. events ++ all) (sym more))
-            (makes_then is x.made made);
-        asked =
-            cc (map-append question x.calls (last ∷ []));
-        stays_is = closing;
-        stands =
-            rw (append_assoc events (exchange n x.calls) (Shut n ∷ []) ∙ ap (λ all. events ++ all) (sym more)) at stands;
-      }
-    where
-      no_more : (k : ℕ) → k + 0 ≡ k
-      no_more k = omega arith
-
   pub visited_goes : (old trace_mid : Trace) (mid trace : List DoorCall) (between new : Held) (value : Bool)
       → trace_mid ≡ Some mid → (x : IsExchanged buses events keys n peer old mid between core_old value)
       → list_any loses x.calls || is_closing buses n (events ++ exchange n x.calls) ≡ true
@@ -309,7 +198,31 @@ module _ (buses : List Bus) (events : List Event) (keys : Keys) (n peer : ℕ) (
       → IsVisited buses events keys n peer old trace new core_old false
   visited_goes old trace_mid mid trace between new value is x ends g =
       let c = closing_call peer g.calls g.asked in
-      visited_closed old trace_mid mid trace between new value is x ends c.0 (rw c.1 at g.made) g.stands
+      let last : Call = CloseCall peer c.0 in
+      let calls : List Call = x.calls ++ last ∷ [] in
+      let pieces : filter_map piece_of calls ≡ filter_map piece_of x.calls = filter_map-append _ x.calls _ ∙ append-nil _ in
+      let counts : filter_map count_of calls ≡ filter_map count_of x.calls = filter_map-append _ x.calls _ ∙ append-nil _ in
+      let reading : list_any loses_reading calls ≡ list_any loses_reading x.calls = any_first _ x.calls _ refl in
+      let losing : list_any loses calls ≡ list_any loses x.calls = any_first loses x.calls _ refl in
+      let short : list_any falls_short calls ≡ list_any falls_short x.calls = any_first _ x.calls _ refl in
+      let many : count_by is_write calls ≡ count_by is_write x.calls = omega (arith, count_append x.calls (last ∷ [])) in
+      let swap : exchange n calls ≡ exchange n x.calls =
+      same_exchange calls x.calls pieces (same_rooms calls x.calls counts losing short many) in
+      let writes : writes_of buses events calls client ≡ writes_of buses events x.calls client =
+      same_writes calls x.calls reading pieces counts in
+      let own : AreAbout peer calls = all_append _ x.calls _ x.own (same_peer peer, tt) in
+      let closing : list_any is_close calls ≡ true = any_second _ x.calls _ x.quiet in
+      let mine : visit calls client ≡ calls = filter_every _ calls own in
+      let more : visit_events calls client ≡ exchange n x.calls ++ Shut n ∷ [] = cc in
+      let all : (events ++ exchange n x.calls) ++ Shut n ∷ [] ≡ events ++ visit_events calls client = rw (more, append_assoc) in
+      let asks : closes_of buses events calls client ≡ ClosesQuestion peer ∷ [] = rw (swap, losing, ends) in
+      record {
+        calls = calls;
+        made = rw all at (makes_then is x.made (rw c.1 at g.made));
+        asked = rw (map-append, x.asked, writes, asks);
+        stays_is = closing;
+        stands = rw all at g.stands;
+      }
 
 -- ---- the functions
 
@@ -342,26 +255,22 @@ module _ (peer key : ℕ) (old mid : Held) (trace_old trace_mid : Trace) where
         (record { layout = s.layout; named = s.named; stands = r.stands }) is)
 
     module _ (goes : Disconnects peer key mid trace_mid new trace_new) where
-      pub visit_lost : Exchanges peer key old trace_old mid trace_mid false → Visits peer key old trace_old new trace_new false
-      visit_lost exchanges buses events keys n trace s is =
+      visit_goes : (stays : Bool) → (stays ≡ false) ⊎ (is_last (finish_at key mid) ≡ true)
+          → Exchanges peer key old trace_old mid trace_mid stays → Visits peer key old trace_old new trace_new false
+      visit_goes stays ends exchanges buses events keys n trace s is =
           let w = (asks trace is).1 in
           let x = exchanges buses events keys n w.before s w.was in
-          visited_goes buses events keys n peer old trace_old trace_mid w.before trace mid new false w.was x
-          (ap (λ t. t || is_closing buses n (events ++ exchange n x.calls)) x.loses_is)
-          (goes buses (events ++ exchange n x.calls) keys n trace (record { layout = s.layout; named = s.named; stands = x.stands }) is)
-
-      pub visit_closed : (closing : Bool) → Exchanges peer key old trace_old mid trace_mid true → closing ≡ is_last (finish_at key mid)
-          → closing ≡ true → Visits peer key old trace_old new trace_new false
-      visit_closed closing exchanges says ends buses events keys n trace s is =
-          let w = (asks trace is).1 in
-          let x = exchanges buses events keys n _ s w.was in
-          visited_goes buses events keys n peer old _ _ _ trace mid new true w.was x
-          (cc (calls_agree.closes key mid buses (events ++ exchange n x.calls) keys n s.layout s.named x.stands))
-          (goes buses (events ++ exchange n x.calls) keys n trace (record { layout = s.layout; named = s.named; stands = x.stands }) is)
+          let now = events ++ exchange n x.calls in
+          let closes = calls_agree.closes key mid buses now keys n s.layout s.named x.stands in
+          let over : list_any loses x.calls || is_closing buses n now ≡ true =
+          ⊎_elim (λ e. or_left (list_any loses x.calls) (is_closing buses n now) (x.loses_is ∙ ap not e))
+          (λ e. or_right (list_any loses x.calls) (is_closing buses n now) (sym closes ∙ e)) ends in
+          visited_goes buses events keys n peer old trace_old trace_mid w.before trace mid new stays w.was x over
+          (goes buses now keys n trace (record { layout = s.layout; named = s.named; stands = x.stands }) is)
 
       -- the visit ends so
       pub visit_ends : Ends → Visits peer key old trace_old new trace_new false
-      visit_ends ends = ⊎_elim visit_lost (λ over. visit_closed true over.0 (sym over.1) refl) ends
+      visit_ends ends = ⊎_elim (visit_goes false (inl refl)) (λ over. visit_goes true (inr over.1) over.0) ends
 
 -- the connection is shut and the peer closed
 pub disconnects : (peer key : ℕ) (old new : Held) (trace_old trace_new : Trace) → new ≡ hung_up key old

@@ -1,32 +1,19 @@
 -- What the calls of a visit say was taken of a peer is what its events send.
-use Rattle.std.proofs.Common.{◌≡◌, ◌∙◌, ℕ, zero, suc, ◌≤◌, Bool, true, false, not, List, [], ◌∷◌, ◌++◌, map, take, length, if◌then◌else◌}
-use Rattle.std.proofs.Common.{Ok, Err, refl, ap, sym, subst, arith, append-nil, append_assoc, ◌==◌}
-use Rattle.std.specs.Prelude.{◌<◌, ◌||◌, filter_map}
-use Rattle.std.specs.List.{list_all, list_any, AllByRecursion}
-use Rattle.std.proofs.lemmas.Bool.Decides.{nat_tests}
-use Rattle.std.proofs.lemmas.Grind.{flat_map-append}
-use Rattle.std.proofs.lemmas.List.{map-append}
-use Rattle.std.proofs.lemmas.List.Elements.{filter_map-append}
-use Rattle.std.proofs.lemmas.List.Sums.{fold-append}
-use Rattle.srcp_grammar.specs.declared.layout.Bus.{Bus}
-use Rattle.srcp_core.specs.Under.{Piece, Event, Bytes, Room, Shut}
-use Rattle.srcp_core.specs.Course.{World, start, happens, course}
-use Rattle.srcp_serve.specs.Given.{Call, ExpectCall, NowCall, AcceptCall, ReadCall, WriteCall, CloseCall}
-use Rattle.srcp_serve.specs.Serving.{Question, Expects, Moments, Accepts, Reads, Writes, Closes, Client, question, IsFair, taken, taken_in}
-use Rattle.srcp_serve.specs.Serving.{piece_of, count_of, is_close, loses, loses_reading, lent_none_last, exchange, is_ready, is_closing}
-use Rattle.srcp_serve.specs.Serving.{lent, handed, unless_nil, reads_of, writes_of, closes_of, visit_asks}
+use Rattle.srcp_serve.proofs.Names.{◌≡◌, ◌∙◌, ℕ, zero, suc, ◌≤◌, Bool, true, false, not, List, [], ◌∷◌, ◌++◌, map, take, length}
+use Rattle.srcp_serve.proofs.Names.{if◌then◌else◌, Ok, Err, refl, ap, sym, subst, arith, append-nil, append_assoc, ◌==◌, ◌<◌, ◌||◌}
+use Rattle.srcp_serve.proofs.Names.{filter_map, list_all, list_any, AllByRecursion, nat_tests, flat_map-append, map-append}
+use Rattle.srcp_serve.proofs.Names.{filter_map-append, fold-append, Bus, Piece, Event, Bytes, Room, Shut, World, start, happens, course}
+use Rattle.srcp_serve.proofs.Names.{Call, WriteCall, Question, Reads, Writes, Closes, Client, question, IsFair, taken, taken_in, piece_of}
+use Rattle.srcp_serve.proofs.Names.{count_of, is_close, loses, loses_reading, lent_none_last, exchange, is_ready, is_closing, lent, handed}
+use Rattle.srcp_serve.proofs.Names.{unless_nil, reads_of, writes_of, closes_of, visit_asks, cond_both, take-nil}
 use Rattle.srcp_serve.proofs.OnlyRoomSends.{IsSending, sending_bytes, sending_shut}
 use Rattle.srcp_serve.proofs.RoomSendsWhatIsLent.{put, put_none, put_put, sending_room}
 
 -- ---- calls by their questions
 
 abbrev pub asks_write : Question → Bool
-asks_write (Expects due slack) = false
-asks_write Moments = false
-asks_write Accepts = false
-asks_write (Reads peer most) = false
 asks_write (Writes peer bytes) = true
-asks_write (Closes peer) = false
+asks_write other = false
 
 abbrev pub no_writes : List Question → Bool
 no_writes questions = list_all (λ q. not (asks_write q)) questions
@@ -35,12 +22,8 @@ no_writes questions = list_all (λ q. not (asks_write q)) questions
 pub none_taken : (peer : ℕ) (calls : List Call) → no_writes (map question calls) ≡ true
     → (filter_map count_of calls ≡ []) × (taken peer calls ≡ [])
 none_taken peer [] h = (refl, refl)
-none_taken peer (ExpectCall due slack ∷ calls) h = none_taken peer calls h
-none_taken peer (NowCall answer ∷ calls) h = none_taken peer calls h
-none_taken peer (AcceptCall answer granted ∷ calls) h = none_taken peer calls h
-none_taken peer (ReadCall who answer buffer grants ∷ calls) h = none_taken peer calls h
 none_taken peer (WriteCall who bytes answer ∷ calls) h = cc
-none_taken peer (CloseCall who answer ∷ calls) h = none_taken peer calls h
+none_taken peer (other ∷ calls) h = none_taken peer calls h
 
 -- the calls that asked the first, and those that asked the others
 pub record IsSplit (calls : List Call) (first others : List Question) : Type 0 where
@@ -54,16 +37,8 @@ pub split : (calls : List Call) (first others : List Question) → map question 
 split calls [] others e = record { xs = []; ys = calls; is = refl; prefix = refl; suffix = e }
 split [] (q ∷ first) others e = cc
 split (call ∷ calls) (q ∷ first) others e =
-    let head : question call ≡ q = cc in
-    let tail : map question calls ≡ first ++ others = cc in
-    let more = split calls first others tail in
-    record {
-      xs = call ∷ more.xs;
-      ys = more.ys;
-      is = ap (λ cs. call ∷ cs) more.is;
-      prefix = cc;
-      suffix = more.suffix;
-    }
+    let more = split calls first others (cc) in
+    record { xs = call ∷ more.xs; ys = more.ys; is = ap (λ cs. call ∷ cs) more.is; prefix = cc (e, more.prefix); suffix = more.suffix }
 
 pub all_parts : {X : Type 0} (P : X → Type 0) (xs ys : List X) → AllByRecursion P (xs ++ ys) → AllByRecursion P xs × AllByRecursion P ys
 all_parts P [] ys h = (tt, h)
@@ -121,13 +96,8 @@ module _ (buses : List Bus) (peer conn : ℕ) where
       → Sends (put conn (take count (lent buses conn events) ++ taken peer calls) texts)
       (events ++ (Room conn count ∷ map (Room conn) (filter_map count_of calls)))
   then_sends calls ih most count events texts h e a =
-      let now = lent buses conn events in
-      let counts = filter_map count_of calls in
-      let next = events ++ Room conn count ∷ [] in
       let one = sending_room buses events conn count texts h a in
-      let all =
-      by (count == length now) e one in
-      rw put_put at (rw append_assoc at all)
+      rw put_put at (rw append_assoc at (by (count == length (lent buses conn events)) e one))
     where
       by : (b : Bool)
           → map question calls
@@ -138,12 +108,7 @@ module _ (buses : List Bus) (peer conn : ℕ) where
           ((events ++ Room conn count ∷ []) ++ map (Room conn) (filter_map count_of calls))
       by true e one = ih most (events ++ Room conn count ∷ []) (put conn (take count (lent buses conn events)) texts) e one
       by false e one =
-          ih 0 (events ++ Room conn count ∷ []) (put conn (take count (lent buses conn events)) texts)
-          (cc (e, none most)) one
-        where
-          none : (n : ℕ) → take {A = List ℕ} n [] ≡ []
-          none zero = refl
-          none (suc n) = refl
+          ih 0 (events ++ Room conn count ∷ []) (put conn (take count (lent buses conn events)) texts) (e ∙ simp take-nil) one
 
   taken_here : (who count : ℕ) (bytes now : List ℕ) → who ≡ peer → bytes ≡ now
       → (if who == peer then take count bytes else []) ≡ take count now
@@ -155,32 +120,16 @@ module _ (buses : List Bus) (peer conn : ℕ) where
   sending_writes [] fair most events texts e a =
       subst (λ (ts : List (List ℕ)). Sends ts (events ++ [])) (sym (put_none conn texts))
       (rw append-nil a)
-  sending_writes (ExpectCall due slack ∷ calls) fair most events texts e a =
-      absurd (no_write peer _ _ _ refl e)
-  sending_writes (NowCall answer ∷ calls) fair most events texts e a = absurd (no_write peer Moments _ _ refl e)
-  sending_writes (AcceptCall answer granted ∷ calls) fair most events texts e a =
-      absurd (no_write peer Accepts _ _ refl e)
-  sending_writes (ReadCall who answer buffer grants ∷ calls) fair most events texts e a =
-      absurd (no_write peer _ _ _ refl e)
-  sending_writes (CloseCall who answer ∷ calls) fair most events texts e a =
-      absurd (no_write peer _ _ _ refl e)
   sending_writes (WriteCall who bytes (Ok count) ∷ calls) fair most events texts e a =
       let now = lent buses conn events in
-      let counts = filter_map count_of calls in
-      let f =
-      first_of_writes peer who most bytes now _
-      _ e in
+      let f = first_of_writes peer who most bytes now _ _ e in
       let fits = rw f.bytes_are at fair.0 in
-      subst (λ (t : List ℕ). Sends (put conn (t ++ taken peer calls) texts) (events ++ (Room conn count ∷ map (Room conn) counts)))
-      (sym (taken_here who count bytes now f.peer_is f.bytes_are))
+      rw (taken_here who count bytes now f.peer_is f.bytes_are)
       (then_sends calls (sending_writes calls fair.1) f.left count events texts fits f.others a)
   sending_writes (WriteCall who bytes (Err failed) ∷ calls) fair most events texts e a =
-      let now = lent buses conn events in
-      let counts = filter_map count_of calls in
-      let f =
-      first_of_writes peer who most bytes now _
-      _ e in
+      let f = first_of_writes peer who most bytes (lent buses conn events) _ _ e in
       then_sends calls (sending_writes calls fair.1) f.left 0 events texts (omega arith) f.others a
+  sending_writes (call ∷ calls) fair most events texts e a = absurd (no_write peer (question call) _ _ refl e)
 
   -- ---- a whole visit
 
@@ -212,16 +161,8 @@ module _ (buses : List Bus) (client : Client) (events : List Event) (calls : Lis
   abbrev closes_asked : List Question
   closes_asked = closes_of buses events calls client
 
-  reads_none : no_writes (reads_of buses events client) ≡ true
-  reads_none = elim (is_ready buses client.conn events) as (λ b. no_writes (if b then Reads client.peer 256 ∷ [] else []) ≡ true) [
-    | true ↦ refl
-    | false ↦ refl
-  ]
-
-  closes_none : no_writes closes_asked ≡ true
-  closes_none =
-      elim (list_any loses calls || is_closing buses client.conn (events ++ exchange client.conn calls))
-      as (λ b. no_writes (if b then Closes client.peer ∷ [] else []) ≡ true) [ true ↦ refl | false ↦ refl ]
+  abbrev NoWrites : List Question → Type 0
+  NoWrites questions = no_writes questions ≡ true
 
   -- the writes among the calls
   pub record HasWrites : Type 1 where
@@ -233,17 +174,18 @@ module _ (buses : List Bus) (client : Client) (events : List Event) (calls : Lis
 
   pub has_writes : map question calls ≡ visit_asks buses events calls client → HasWrites
   has_writes e =
-      let s =
-      split calls (reads_of buses events client) (writes_asked ++ closes_asked)
+      let s = split calls (reads_of buses events client) (writes_asked ++ closes_asked)
       (e ∙ append_assoc (reads_of buses events client) writes_asked closes_asked) in
       let t = split s.ys writes_asked closes_asked s.suffix in
-      let reads = none_taken client.peer s.xs (cc (s.prefix, reads_none)) in
-      let closes = none_taken client.peer t.ys (cc (t.suffix, closes_none)) in
+      let reads = none_taken client.peer s.xs (rw s.prefix
+      (cond_both (is_ready buses client.conn events) (Reads client.peer 256 ∷ []) [] NoWrites (λ e. refl) (λ e. refl))) in
+      let closing = list_any loses calls || is_closing buses client.conn (events ++ exchange client.conn calls) in
+      let closes = none_taken client.peer t.ys (rw t.suffix
+      (cond_both closing (Closes client.peer ∷ []) [] NoWrites (λ e. refl) (λ e. refl))) in
       record {
         writes = t.xs;
         asked = t.prefix;
-        each = λ P all. (all_parts P t.xs t.ys
-            (rw t.is at (all_parts P s.xs s.ys (rw s.is at all)).1)).0;
+        each = λ P all. (all_parts P t.xs t.ys (rw t.is at (all_parts P s.xs s.ys (rw s.is at all)).1)).0;
         counts = cc (filter_map-append count_of s.xs s.ys, filter_map-append count_of t.xs t.ys, append-nil (filter_map count_of t.xs));
         took =
             cc (
@@ -257,11 +199,7 @@ module _ (buses : List Bus) (client : Client) (events : List Event) (calls : Lis
       → ((read_events ++ map (Room client.conn) (filter_map count_of calls)) ++ map (Room client.conn) room) ++ shut
       ≡ events
       ++ ((map (Bytes client.conn) (filter_map piece_of calls) ++ map (Room client.conn) (filter_map count_of calls ++ room)) ++ shut)
-  joined room shut =
-      let b = map (Bytes client.conn) (filter_map piece_of calls) in
-      let r = map (Room client.conn) (filter_map count_of calls) in
-      let l = map (Room client.conn) room in
-      simp (append_assoc, map-append)
+  joined room shut = simp (append_assoc, map-append)
 
   -- what the calls of a visit say was taken is sent
   pub sending_visit : (texts : List (List ℕ)) → map question calls ≡ visit_asks buses events calls client → AllByRecursion IsFair calls
@@ -270,27 +208,17 @@ module _ (buses : List Bus) (client : Client) (events : List Event) (calls : Lis
   sending_visit texts e fair a =
       let h = has_writes e in
       let now = put client.conn (taken client.peer calls) texts in
-      let wrote = by h (list_any loses_reading calls) h.asked in
-      let wrote' : IsSending now (course buses (read_events ++ map (Room client.conn) (filter_map count_of calls))).connections =
-      rw h.took (rw h.counts wrote) in
-      let room = if lent_none_last calls then 0 ∷ [] else [] in
+      let read = sends_bytes buses client.peer client.conn texts events (filter_map piece_of calls) a in
+      let writing = sending_writes buses client.peer client.conn h.writes (h.each IsFair fair) in
+      let wrote : IsSending now (course buses (read_events ++ map (Room client.conn) (filter_map count_of calls))).connections =
+      rw (h.took, h.counts) (cond_both (list_any loses_reading calls) []
+      (map (Writes client.peer) (take 300 (handed buses client.conn read_events (filter_map count_of calls))))
+      (λ (qs : List Question). map question h.writes ≡ qs
+      → IsSending (put client.conn (taken client.peer h.writes) texts)
+      (course buses (read_events ++ map (Room client.conn) (filter_map count_of h.writes))).connections)
+      (λ t q. writing 0 read_events texts q read) (λ t q. writing 300 read_events texts (rw h.counts at q) read) h.asked) in
       let roomed =
       last_room buses client.peer client.conn (read_events ++ map (Room client.conn) (filter_map count_of calls)) now
-      (lent_none_last calls) wrote' in
-      let shut =
-      last_shut buses client.peer client.conn
-      ((read_events ++ map (Room client.conn) (filter_map count_of calls)) ++ map (Room client.conn) room) now
-      (list_any is_close calls) roomed in
-      rw joined at shut
-    where
-      by : (h : HasWrites) (b : Bool)
-          → map question h.writes
-          ≡ (if b then [] else map (Writes client.peer) (take 300 (handed buses client.conn read_events (filter_map count_of calls))))
-          → IsSending (put client.conn (taken client.peer h.writes) texts)
-          (course buses (read_events ++ map (Room client.conn) (filter_map count_of h.writes))).connections
-      by h true q = sending_writes buses client.peer client.conn h.writes (h.each IsFair fair) 0 read_events texts q
-          (sends_bytes buses client.peer client.conn texts events (filter_map piece_of calls) a)
-      by h false q =
-          sending_writes buses client.peer client.conn h.writes (h.each IsFair fair) 300 read_events texts
-          (cc (q, h.counts))
-          (sends_bytes buses client.peer client.conn texts events (filter_map piece_of calls) a)
+      (lent_none_last calls) wrote in
+      rw joined at (last_shut buses client.peer client.conn ((read_events ++ map (Room client.conn) (filter_map count_of calls))
+      ++ map (Room client.conn) (if lent_none_last calls then 0 ∷ [] else [])) now (list_any is_close calls) roomed)

@@ -1,24 +1,11 @@
 -- The writes of a visit: all but the last took all that was lent.
-use Rattle.std.proofs.Common.{◌≡◌, ◌∙◌, ℕ, ◌<◌, true, ◌==◌, List, [], ◌∷◌, ◌++◌, map, length, if◌then◌else◌, refl, ap, sym, arith}
-use Rattle.std.proofs.Common.{append_assoc, append-nil, zero, suc, ◌+◌, ◌≤◌, Bool, false, cond, not, take, Some, Ok, Err, inl, inr}
-use Rattle.std.proofs.Common.{length-append}
-use Rattle.std.proofs.lemmas.Bool.Decides.{nat_tests}
-use Rattle.srcp_core.specs.Under.{Event, Room}
-use Rattle.srcp_grammar.specs.declared.layout.Bus.{Bus}
-use Rattle.srcp_serve.specs.Serving.{lent, handed, unless_nil, Writes, question, count_of, is_write, loses, falls_short, rooms}
-use Rattle.std.proofs.Math.Seq.{take-append_seam}
-use Rattle.std.proofs.lemmas.List.{map-append}
-use Rattle.std.proofs.lemmas.List.Sums.{sum_by-cons}
-use Rattle.std.specs.List.{list_any, filter_map, count_by}
-use Rattle.std.specs.Prelude.{◌||◌, ◌&&◌, nat_lt}
-use Rattle.srcp_core.specs.Course.{course}
-use Rattle.srcp_core.specs.Held.{Held}
-use Rattle.srcp_core.specs.Stands.{StandsFor}
-use Rattle.srcp_serve.specs.Calls.{Call as DoorCall, Trace}
-use Rattle.srcp_serve.specs.Given.{Call, WriteCall}
-use Rattle.srcp_serve.specs.Turns.{AreAboutPeers, Asks}
-use Rattle.srcp_serve.specs.Visits.{AddsGiven, FromEveryCourse, HasWritten, Keys, WritesOnce, WritesOut}
-use Rattle.srcp_serve.specs.declared.serving.visit.Wrote.TheVariants.{All, Less, Failed}
+use Rattle.srcp_serve.proofs.Names.{◌≡◌, ◌∙◌, ℕ, ◌<◌, true, ◌==◌, List, [], ◌∷◌, ◌++◌, map, length, if◌then◌else◌, refl, ap, sym, arith}
+use Rattle.srcp_serve.proofs.Names.{append_assoc, append-nil, suc, ◌+◌, ◌≤◌, Bool, false, cond, not, take, Some, Ok, Err, inl, inr}
+use Rattle.srcp_serve.proofs.Names.{length-append, nat_tests, Event, Room, Bus, lent, handed, unless_nil, Writes, question, count_of}
+use Rattle.srcp_serve.proofs.Names.{is_write, loses, falls_short, rooms, take-append_seam, map-append, sum_by-cons, list_any, filter_map}
+use Rattle.srcp_serve.proofs.Names.{count_by, ◌||◌, ◌&&◌, nat_lt, course, Held, StandsFor, DoorCall, Trace, Call, WriteCall, AreAboutPeers}
+use Rattle.srcp_serve.proofs.Names.{Asks, AddsGiven, FromEveryCourse, HasWritten, Keys, WritesOnce, WritesOut, All, Less, Failed, take_all}
+use Rattle.srcp_serve.proofs.Names.{Wrote}
 use Rattle.srcp_serve.proofs.CallsAreAdded.{adds_none, asked_rooms, given_then}
 use Rattle.srcp_serve.proofs.VisitsFollow.{are_writes, IsWrittenTo}
 
@@ -55,25 +42,19 @@ module _ (buses : List Bus) (conn : ℕ) where
       → count ≡ length (lent buses conn (events ++ map (Room conn) counts)) → 0 < count → AreFull events (counts ++ count ∷ [])
   full-more events [] count h e some = (rw append-nil at e, some, tt)
   full-more events (first ∷ counts) count h e some =
-      let all =
-      append_assoc events (Room conn first ∷ []) (map (Room conn) counts) in (
-        h.0,
-        h.1,
-        full-more (events ++ Room conn first ∷ []) counts count h.2
-            (rw all e) some,
-      )
+      let all = append_assoc events (Room conn first ∷ []) (map (Room conn) counts) in
+      (h.0, h.1, full-more (events ++ Room conn first ∷ []) counts count h.2 (rw all e) some)
 
 -- ---- the writes of a visit: all but the last took all that was lent
 
--- room for nothing, or no more room
-abbrev last_room : Bool → List ℕ
-last_room b = if b then 0 ∷ [] else []
+-- no write comes after it; the peer is not lost by it
+abbrev pub IsLast : Wrote → Type 0
+IsLast All = ⊥
+IsLast other = Unit {0}
 
-take_within : (n : ℕ) (xs : List (List ℕ)) → length xs ≤ n → take n xs ≡ xs
-take_within zero [] h = refl
-take_within zero (x ∷ xs) h = absurd (omega arith)
-take_within (suc n) [] h = refl
-take_within (suc n) (x ∷ xs) h = let less : length xs ≤ n = omega arith in ap (λ more. x ∷ more) (take_within n xs less)
+abbrev pub keeps : Wrote → Bool
+keeps Failed = false
+keeps other = true
 
 module _ (buses : List Bus) (peer conn : ℕ) where
   -- writes that took all, and then others
@@ -134,22 +115,22 @@ module _ (buses : List Bus) (peer conn : ℕ) where
       → count_by is_write (written events counts last) ≡ length counts + count_by is_write last
   written-count events [] last = let k = count_by is_write last in omega arith
   written-count events (count ∷ counts) last =
-      let h = written-count (events ++ Room conn count ∷ []) counts last in
-      let one =
-      sum_by-cons (λ x. cond (is_write x) 1 0) (WriteCall peer (lent buses conn events) (Ok count))
-      (written (events ++ Room conn count ∷ []) counts last) in
-      omega (arith, one, h)
+      let more = written (events ++ Room conn count ∷ []) counts last in
+      omega (
+        arith,
+        sum_by-cons (λ x. cond (is_write x) 1 0) (WriteCall peer (lent buses conn events) (Ok count)) more,
+        written-count (events ++ Room conn count ∷ []) counts last,
+      )
 
   -- what was handed over before the last write, and by it
   handed_then : (events : List Event) (counts last : List ℕ) (end : List (List ℕ)) → AreFull buses conn events counts
       → handed buses conn (after events counts) last ≡ end → length counts + length end ≤ 300
       → take 300 (handed buses conn events (counts ++ last)) ≡ texts buses conn events counts ++ end
   handed_then events counts last end full e few =
-      let all : handed buses conn events (counts ++ last) ≡ texts buses conn events counts ++ end =
-      simp (handed-append, e) in
+      let all : handed buses conn events (counts ++ last) ≡ texts buses conn events counts ++ end = simp (handed-append, e) in
       let size : length (texts buses conn events counts ++ end) ≤ 300 =
       omega (arith, length-append (texts buses conn events counts) end, length-texts events counts, few) in
-      cc (take_within 300 (texts buses conn events counts ++ end) size)
+      cc (take_all 300 (texts buses conn events counts ++ end) size)
 
   -- the rooms of the writes
   rooms_are : (events : List Event) (counts : List ℕ) (last : List Call) (lost short : Bool) → AreFull buses conn events counts
@@ -158,8 +139,6 @@ module _ (buses : List Bus) (peer conn : ℕ) where
       ≡ (counts ++ filter_map count_of last)
       ++ (if not lost && (not short && nat_lt (length counts + count_by is_write last) 300) then 0 ∷ [] else [])
   rooms_are events counts last lost short full l s =
-      let all = written events counts last in
-      let prefix = counts ++ filter_map count_of last in
       cc (
         written-counts events counts last,
         written-loses events counts last,
@@ -216,9 +195,7 @@ module _ (buses : List Bus) (peer conn : ℕ) where
           written-counts events counts last,
         ) in
         writes_out events trace new stays (written events counts last) adds asked (written-loses events counts last ∙ lost)
-        (rw (append_assoc events (map (Room conn) counts) (map (Room conn) room)
-        ∙ ap (λ more. events ++ more) (sym (map-append (Room conn) counts room))
-        ∙ ap (λ all. events ++ map (Room conn) all) (sym are)) at stands)
+        (rw (are, map-append, ← append_assoc events (map (Room conn) counts) (map (Room conn) room)) stands)
 
     -- the peer took less, or the write failed
     last_write : (events : List Event) (trace : List DoorCall) (new : Held) (counts : List ℕ) (call : Call) (count : ℕ)
@@ -238,20 +215,18 @@ module _ (buses : List Bus) (peer conn : ℕ) where
         unless_some bytes _ some
         ∙ ap (λ t. bytes ∷ (if t then handed buses conn (after events counts ++ Room conn count ∷ []) [] else [])) differs in
         let size : length counts + 1 ≤ 300 = omega arith in
-        let no_more =
-        stops (not stays) short (nat_lt (length counts + count_by is_write (call ∷ [])) 300) ends in
-        let are =
-        rooms_are events counts (call ∷ []) (not stays) short full stays_is short_is
-        ∙ ap (λ xs. (counts ++ filter_map count_of (call ∷ [])) ++ xs) no_more
-        ∙ append-nil (counts ++ filter_map count_of (call ∷ []))
-        ∙ ap (λ xs. counts ++ xs) counted in
+        let are : rooms (written events counts (call ∷ [])) ≡ counts ++ count ∷ [] =
+        cc (
+          rooms_are events counts (call ∷ []) (not stays) short full stays_is short_is,
+          stops (not stays) short (nat_lt (length counts + count_by is_write (call ∷ [])) 300) ends,
+          append-nil (counts ++ filter_map count_of (call ∷ [])),
+          counted,
+        ) in
         ended_by events trace new counts (call ∷ []) (bytes ∷ []) (count ∷ []) stays full adds
         (ap (handed buses conn (after events counts)) counted ∙ hands) (ap (λ q. q ∷ []) asks) size stays_is are stands
       where
-        stops : (lost short few : Bool) → not lost && not short ≡ false → last_room (not lost && (not short && few)) ≡ []
-        stops true short few e = refl
-        stops false true few e = refl
-        stops false false few e = cc
+        stops : (lost short few : Bool) → not lost && not short ≡ false → not lost && (not short && few) ≡ false
+        stops lost short few e = grind arith
 
     -- no write yet
     takes_none : (events : List Event) (trace : List DoorCall) (now : Held) → old ≡ Some trace
@@ -283,8 +258,7 @@ module _ (buses : List Bus) (peer conn : ℕ) where
           full = full-more buses conn events t.counts count t.full refl took.0;
           adds =
               rw written-more (adds_last events t.counts mid trace (WriteCall peer bytes (Ok count) ∷ []) trace_mid is t.adds took.1.adds);
-          stands = rw (append_assoc events (map (Room conn) t.counts) (Room conn count ∷ [])
-              ∙ ap (λ more. events ++ more) (sym (map-append (Room conn) t.counts (count ∷ [])))) at took.1.stands;
+          stands = rw (map-append, ← append_assoc events (map (Room conn) t.counts) (Room conn count ∷ [])) took.1.stands;
         }
 
     -- the most writes there may be took all
@@ -292,10 +266,8 @@ module _ (buses : List Bus) (peer conn : ℕ) where
     out_full events trace now t =
         let counts = t.counts in
         let prefix = texts buses conn events counts in
-        let many = t.many in
-        let size = sym (length-texts events counts ∙ many) in
-        let no_more =
-        ap last_room (over (length counts) many) in
+        let size = sym (length-texts events counts ∙ t.many) in
+        let over : nat_lt (length counts + 0) 300 ≡ false = let many = t.many in grind (arith, nat_tests) in
         let are : rooms (written events counts []) ≡ counts =
         cc (rooms_are events counts [] false false t.full refl refl, append-nil (counts ++ []), append-nil counts) in
         let asked : map question (written events counts [])
@@ -307,49 +279,35 @@ module _ (buses : List Bus) (peer conn : ℕ) where
           handed-append buses conn events counts [] t.full,
           written-counts events counts [],
         ) in
-        writes_out events trace now true (written events counts []) t.adds asked (written-loses events counts [])
-        (rw (ap (λ all. events ++ map (Room conn) all) (sym are)) at t.stands)
-      where
-        over : (k : ℕ) → k ≡ 300 → nat_lt (k + 0) 300 ≡ false
-        over k e = grind (arith, nat_tests)
+        writes_out events trace now true (written events counts []) t.adds asked (written-loses events counts []) (rw are t.stands)
 
     module _ (events : List Event) (mid trace : List DoorCall) (before new : Held) (times : ℕ) (trace_mid : Trace)
         (is : trace_mid ≡ Some mid) (few : times < 300) (t : IsTaking events mid before times) where
-      -- nothing was lent, or the peer took less
-      out_less : HasWritten buses (after events t.counts) keys conn peer trace_mid trace new Less → Writes_out events trace new true
-      out_less (inl was) =
+      -- nothing was lent, the peer took less, or the write failed
+      out : (wrote : Wrote) → IsLast wrote → HasWritten buses (after events t.counts) keys conn peer trace_mid trace new wrote
+          → Writes_out events trace new (keeps wrote)
+      out All last wrote = absurd last
+      out Less last (inl was) =
           let counts = t.counts in
           let many = t.many in
-          let size : length counts + 0 ≤ 300 = omega (arith, many, few) in
-          let more =
-          ap last_room (below (length counts) (omega (arith, many, few))) in
+          let more : nat_lt (length counts + 0) 300 ≡ true = grind (arith, nat_tests) in
           let are : rooms (written events counts []) ≡ counts ++ 0 ∷ [] =
           cc (rooms_are events counts [] false false t.full refl refl, append-nil counts) in
           ended_by events trace new counts [] [] (0 ∷ []) true t.full
           (adds_last events counts mid trace [] trace_mid is t.adds was.1.adds)
-          (ap (λ l. unless_nil l []) was.0) refl size refl are was.1.stands
-        where
-          below : (k : ℕ) → k < 300 → nat_lt (k + 0) 300 ≡ true
-          below k h = grind (arith, nat_tests)
-      out_less (inr took) =
+          (ap (λ l. unless_nil l []) was.0) refl (omega (arith, many, few)) refl are was.1.stands
+      out Less last (inr took) =
           let bytes = lent buses conn (after events t.counts) in
-          let many = t.many in
           let call = WriteCall peer bytes (Ok took.0) in
-          let size : length t.counts < 300 = omega (arith, many, few) in
           let short : nat_lt took.0 (length bytes) ≡ true = let less = took.1 in grind (arith, nat_tests) in
           last_write events trace new t.counts call took.0 true true t.full
           (adds_last events t.counts mid trace (call ∷ []) trace_mid is t.adds took.2.adds)
-          refl refl took.1 size refl (ap (λ b. b || false) short) refl took.2.stands
-
-      out_failed : HasWritten buses (after events t.counts) keys conn peer trace_mid trace new Failed → Writes_out events trace new false
-      out_failed took =
-          let bytes = lent buses conn (after events t.counts) in
-          let many = t.many in
-          let call = WriteCall peer bytes (Err took.0) in
-          let size : length t.counts < 300 = omega (arith, many, few) in
+          refl refl took.1 (omega (arith, t.many, few)) refl (ap (λ b. b || false) short) refl took.2.stands
+      out Failed last took =
+          let call = WriteCall peer (lent buses conn (after events t.counts)) (Err took.0) in
           last_write events trace new t.counts call 0 false false t.full
           (adds_last events t.counts mid trace (call ∷ []) trace_mid is t.adds took.2.adds)
-          refl refl took.1 size refl refl refl took.2.stands
+          refl refl took.1 (omega (arith, t.many, few)) refl refl refl took.2.stands
 
 -- ---- the loop of the writes
 
@@ -374,22 +332,14 @@ module _ (peer key : ℕ) (old mid new : Held) (trace_old trace_mid trace_new : 
       (once buses (after buses peer n events t.counts) keys n trace
       (record { layout = s.layout; named = s.named; stands = t.stands }) is)
 
-  module _ (few : times < 300) (same : new.denied ≡ old.denied) where
-    pub ends_less : WritesOnce peer key mid trace_mid new trace_new Less → WritesOut peer key old trace_old new trace_new true
-    ends_less once buses events keys n trace s is =
-        let w = (asks trace is).1 in
-        let t = so buses events keys n w.before s w.was in
-        out_less buses peer n keys trace_old events w.before trace mid new times trace_mid w.was few t
-        (once buses (after buses peer n events t.counts) keys n trace
-        (record { layout = s.layout; named = s.named; stands = t.stands }) is) old same
-
-    pub ends_failed : WritesOnce peer key mid trace_mid new trace_new Failed → WritesOut peer key old trace_old new trace_new false
-    ends_failed once buses events keys n trace s is =
-        let w = (asks trace is).1 in
-        let t = so buses events keys n w.before s w.was in
-        out_failed buses peer n keys trace_old events w.before trace mid new times trace_mid w.was few t
-        (once buses (after buses peer n events t.counts) keys n trace
-        (record { layout = s.layout; named = s.named; stands = t.stands }) is) old same
+  pub takes_last : times < 300 → new.denied ≡ old.denied → (wrote : Wrote) → IsLast wrote
+      → WritesOnce peer key mid trace_mid new trace_new wrote → WritesOut peer key old trace_old new trace_new (keeps wrote)
+  takes_last few same wrote last once buses events keys n trace s is =
+      let w = (asks trace is).1 in
+      let t = so buses events keys n w.before s w.was in
+      out buses peer n keys trace_old events w.before trace mid new times trace_mid w.was few t wrote last
+      (once buses (after buses peer n events t.counts) keys n trace
+      (record { layout = s.layout; named = s.named; stands = t.stands }) is) old same
 
 pub ends_full : (peer key : ℕ) (old now : Held) (trace_old trace_now : Trace) (times : ℕ) → times ≡ 300 → now.denied ≡ old.denied
     → TakesSoFar peer key old trace_old now trace_now times → WritesOut peer key old trace_old now trace_now true

@@ -1,40 +1,23 @@
 -- A panel that takes what it is handed is settled: its visits, turn after turn, and the two laws.
-use Rattle.std.proofs.Common.{◌≡◌, ◌∙◌, ℕ, zero, suc, Bool, true, false, List, [], ◌∷◌, ◌++◌, map, if◌then◌else◌, Some, None, refl, ap}
-use Rattle.std.proofs.Common.{sym, subst, arith, append-nil, append_assoc, ◌==◌, ◌+◌, ◌*◌, ◌≤◌, length, ◌⊎◌, inl, inr, length-append}
-use Rattle.std.specs.Prelude.{filter_map, flat_map, fold, slice_get, ◌&&◌}
-use Rattle.std.specs.List.{list_any, AllByRecursion}
-use Rattle.std.proofs.lemmas.Bool.Decides.{nat_tests}
-use Rattle.srcp_info.proofs.ClientLaws.{all_append, all_filter}
-use Rattle.srcp_grammar.specs.declared.layout.Bus.{Bus}
-use Rattle.srcp_core.specs.Under.{Event, Open, Bytes, Room, Shut}
-use Rattle.srcp_serve.specs.Given.{Accepted, Call}
-use Rattle.srcp_serve.specs.Serving.{OfEachVisit, Client, Stand, begun, exchange, is_close, connects, with_connection, moment_of}
-use Rattle.srcp_serve.specs.Serving.{accept_of, piece_of, rooms, with_client, clients, timed, visit, visit_events, with_accept}
-use Rattle.srcp_serve.specs.Serving.{with_moment, Slots, IsFair, OfEachTurn, question, turned, visit_asks, is_about, empty_stand}
-use Rattle.srcp_serve.proofs.PeersAreSentTheirVisits.{ArePeersOf, IsPeerOf, turned_round}
-use Rattle.srcp_serve.proofs.CallsByTurnAndPeer.{IsNoneOf, PeersApart, AreAsked}
+use Rattle.srcp_serve.proofs.Names.{◌≡◌, ◌∙◌, ℕ, zero, suc, true, false, List, [], ◌∷◌, ◌++◌, map, if◌then◌else◌, Some, None, refl, ap, sym}
+use Rattle.srcp_serve.proofs.Names.{subst, arith, append-nil, append_assoc, ◌==◌, ◌+◌, ◌*◌, ◌≤◌, length, ◌⊎◌, inl, inr, length-append}
+use Rattle.srcp_serve.proofs.Names.{filter_map, flat_map, fold, slice_get, list_any, AllByRecursion, all_append, all_filter, Bus, Event}
+use Rattle.srcp_serve.proofs.Names.{Bytes, Room, Shut, Accepted, Call, OfEachVisit, Client, Stand, begun, exchange, is_close, moment_of}
+use Rattle.srcp_serve.proofs.Names.{accept_of, piece_of, rooms, with_client, clients, timed, visit, visit_events, with_accept, with_moment}
+use Rattle.srcp_serve.proofs.Names.{Slots, IsFair, OfEachTurn, question, turned, visit_asks, is_about, empty_stand, flat_map-append}
+use Rattle.srcp_serve.proofs.Names.{slice_get-map, Next, IsLayout, course, history, numbered, rows, brought, brought_in, ltb-false}
+use Rattle.srcp_serve.proofs.Names.{fold-append, Change, Shown, beyond, Connection, History, cursor_at, is_nil, is_open, is_settled, owed}
+use Rattle.srcp_serve.proofs.Names.{unsent, untold, waiting, no_lists, eqb-false, ne_eqb}
+use Rattle.srcp_serve.proofs.PeersAreSentTheirVisits.{ArePeersOf, IsPeerOf}
+use Rattle.srcp_serve.proofs.CallsByTurnAndPeer.{IsNoneOf, PeersApart, AreAsked, accept_as, all_if, turned_round}
 use Rattle.srcp_serve.proofs.PacedTurnsSparePanels.{opening_events, opens, begun_events, turn_events, turned_events}
 use Rattle.srcp_serve.proofs.OnlyRoomSends.{AreOfOthers, is_of}
 use Rattle.srcp_serve.proofs.SlotsAreTakenAndFreed.{all_here}
-use Rattle.std.proofs.lemmas.List.Concat.{flat_map-append}
-use Rattle.std.proofs.lemmas.Option.{slice_get-map}
-use Rattle.srcp_feed.specs.declared.feed.Next.{Next}
-use Rattle.srcp_grammar.specs.Layout.{IsLayout}
-use Rattle.srcp_core.specs.Course.{course, history, numbered, rows}
-use Rattle.srcp_core.specs.Waits.{brought}
-use Rattle.srcp_serve.specs.Pacing.{brought_in}
 use Rattle.srcp_serve.specs.Settling.{SettlesSoon, TakesAll, TakesWaits, WaitsAreGoneAfterAVisit}
 use Rattle.srcp_serve.proofs.SentIsTakenAfterAllTurns.{IsTurnOfPeers, turns_of_peers}
 use Rattle.srcp_serve.proofs.Settling.PanelsTakeTheirLines.{Panel, panel_others, brought_adds, no_map}
 use Rattle.srcp_serve.proofs.Settling.VisitsWriteUntilNothingIsLeft.{one_unless_nil, visited_whole}
-use Rattle.std.proofs.lemmas.Bool.{ltb-false}
-use Rattle.std.proofs.lemmas.List.Sums.{fold-append}
-use Rattle.srcp_info.specs.declared.change.Change.{Change}
-use Rattle.srcp_info.specs.declared.change.Shown.{Shown}
-use Rattle.srcp_feed.specs.Cursor.{beyond}
 use Rattle.srcp_feed.specs.declared.feed.Next.TheVariants.{Told, Listed}
-use Rattle.srcp_core.specs.Connection.{Connection, History, cursor_at, is_nil, is_open, is_settled, owed, unsent, untold, waiting}
-use Rattle.srcp_core.proofs.CourseLaws.RoomGivesWhatIsOwed.{no_lists}
 
 -- ---- slots
 
@@ -59,8 +42,7 @@ pub among_clients : (slots : Slots) (slot : ℕ) (client : Client) → HasSlot s
 among_clients [] slot client e = cc
 among_clients (None ∷ slots) zero client e = cc
 among_clients (None ∷ slots) (suc slot) client e = among_clients slots slot client e
-among_clients (Some other ∷ slots) zero client e = let same : other ≡ client =
-    cc in record { before = []; rest = clients slots; are = ap (λ s. s ∷ clients slots) same }
+among_clients (Some other ∷ slots) zero client e = record { before = []; rest = clients slots; are = cc }
 among_clients (Some other ∷ slots) (suc slot) client e =
     let more = among_clients slots slot client e in
     record { before = other ∷ more.before; rest = more.rest; are = ap (λ all. other ∷ all) more.are }
@@ -74,14 +56,7 @@ module _ (buses : List Bus) (slot : ℕ) (client : Client) where
   accept_stays : (stand : Stand) (accept : Accepted) → HasSlot slot client stand.slots
       → HasSlot slot client (with_accept buses stand accept).slots
   accept_stays stand accept e =
-      elim (connects buses stand.events accept.granted) as
-      (λ t. HasSlot slot client (if t then with_connection buses stand accept else record stand {
-        events =
-            stand.events ++ Open accept.granted ∷ [];
-      }).slots) [
-        | true ↦ connected_stays _ stand.slots slot client e
-        | false ↦ e
-      ]
+      accept_as buses (λ (s : Stand). HasSlot slot client s.slots) stand accept (connected_stays _ stand.slots slot client e) e
 
   accepts_stay : (stand : Stand) (connected : List Accepted) → HasSlot slot client stand.slots
       → HasSlot slot client (fold (with_accept buses) stand connected).slots
@@ -103,15 +78,7 @@ peer_same (suc (suc n)) a b (who ∷ connected) x y = peer_same (suc n) a b _ x.
 
 -- peers that differ have connections that differ
 conns_differ : (m a n b : ℕ) (connected : List ℕ) → IsPeerOf m a connected → IsPeerOf n b connected → (a == b) ≡ false → (m == n) ≡ false
-conns_differ m a n b connected x y e = by (m == n) refl
-  where
-    by : (t : Bool) → (m == n) ≡ t → t ≡ false
-    by false t = refl
-    by true t =
-        let same : m ≡ n = grind (arith, nat_tests) in
-        let one = peer_same n a b _ (rw same at x) y in
-        let yes : (a == b) ≡ true = grind (arith, nat_tests) in
-        cc
+conns_differ m a n b connected x y e = ne_eqb m n (λ same. eqb-false a b e (peer_same n a b _ (rw same at x) y))
 
 -- none of them has that connection
 abbrev pub AreOthers : ℕ → List Client → Type 0
@@ -155,18 +122,13 @@ module _ (n : ℕ) where
       (all_append Other (exchange client.conn own) (if list_any is_close own then Shut client.conn ∷ [] else [])
       (all_append Other (map (Bytes client.conn) (filter_map piece_of own)) (map (Room client.conn) (rooms own))
       (each_of (Bytes client.conn) (filter_map piece_of own) (λ x. h.0)) (each_of (Room client.conn) (rooms own) (λ x. h.0)))
-      (shuts (list_any is_close own)))
-      (visits_others calls all h.1)
-    where
-      shuts : (b : Bool) → AreOfOthers n (if b then Shut client.conn ∷ [] else [])
-      shuts true = (h.0, tt)
-      shuts false = tt
+      (all_if Other _ (Shut client.conn ∷ []) [] (h.0, tt) tt)) (visits_others calls all h.1)
 
 -- what holds of the visit in the middle
 pub visit_in : (buses : List Bus) (Law : List Event → List Call → Client → Type 0) (events : List Event) (calls : List Call)
     (before : List Client) (client : Client) (rest : List Client)
     → OfEachVisit buses Law events calls (before ++ client ∷ rest) → Law (events ++ flat_map (visit_events calls) before) calls client
-visit_in buses Law events calls [] client rest h = subst (λ (es : List Event). Law es calls client) (sym (append-nil events)) h.0
+visit_in buses Law events calls [] client rest h = rw append-nil h.0
 visit_in buses Law events calls (other ∷ before) client rest h =
     rw append_assoc at (visit_in buses Law (events ++ visit_events calls other) calls before client rest h.1)
 
@@ -213,25 +175,18 @@ module _ (buses : List Bus) (layout : IsLayout buses) (slot : ℕ) (client : Cli
       let c = b ++ own in
       let all : turn_events buses stand calls ≡ first ++ (before ++ (own ++ rest)) =
       cc (flat_map-append (visit_events calls) among.before (client ∷ among.rest)) in
-      let nothing : brought buses stand.events (first ++ (before ++ (own ++ rest))) ≡ 0 =
-      cc (turned_events buses stand calls, still.0) in
+      let nothing : brought buses stand.events (first ++ (before ++ (own ++ rest))) ≡ 0 = cc (turned_events buses stand calls, still.0) in
       let x = neither (brought buses stand.events first) (brought buses a (before ++ (own ++ rest)))
       (sym (brought_adds buses stand.events first (before ++ (own ++ rest))) ∙ nothing) in
       let y = neither (brought buses a before) (brought buses b (own ++ rest)) (sym (brought_adds buses a before (own ++ rest)) ∙ x.1) in
       let z = neither (brought buses b own) (brought buses c rest) (sym (brought_adds buses b own rest) ∙ y.1) in
       let at_a = panel_others buses n stand.events bytes nexts p layout first (opening_others n calls) x.0 in
-      let at_b =
-      panel_others buses n a bytes nexts at_a layout before (visits_others n calls among.before apart.0) y.0 in
-      let asked_all = rw among.are at t.asked in
-      let asked =
-      rw (ap (λ (es : List Event). es ++ before) (begun_events buses stand calls)) at
-      (visit_in buses _ now.events calls among.before client among.rest asked_all) in
+      let at_b = panel_others buses n a bytes nexts at_a layout before (visits_others n calls among.before apart.0) y.0 in
+      let asked = rw begun_events at (visit_in buses _ now.events calls among.before client among.rest (rw among.are at t.asked)) in
       let v = visited_whole buses layout client b (visit calls client) bytes nexts at_b asked
       (all_filter IsFair (is_about client.peer) calls t.fair) still.1.keeps still.1.whole in
-      let at_c =
-      subst (λ (es : List Event). Panel buses n (b ++ es) [] v.rest) (sym (stays_exchange calls client v.stays)) v.panel in
-      let at_end =
-      panel_others buses n c [] v.rest at_c layout rest (visits_others n calls among.rest apart.1) z.1 in
+      let at_c = subst (λ (es : List Event). Panel buses n (b ++ es) [] v.rest) (sym (stays_exchange calls client v.stays)) v.panel in
+      let at_end = panel_others buses n c [] v.rest at_c layout rest (visits_others n calls among.rest apart.1) z.1 in
       let end : c ++ rest ≡ (turned buses stand calls).events =
       cc (
         append_assoc b own rest,
@@ -267,14 +222,9 @@ module _ (buses : List Bus) (layout : IsLayout buses) (slot : ℕ) (client : Cli
     where
       fewer : (lines rest : List Next) → nexts ≡ lines ++ rest → (rest ≡ []) ⊎ (length lines + one_unless_nil bytes ≡ 300)
           → length rest + 0 ≤ 300 * length all
-      fewer lines rest whole (inl none) = let zero_long =
-          ap (λ (ns : List Next). length ns) none in omega (arith, zero_long)
+      fewer lines rest whole (inl none) = omega (arith, ap {B = ℕ} length none)
       fewer lines rest whole (inr many) =
-          let size : length nexts ≡ length lines + length rest = rw (whole, length-append lines rest) in
-          by (length nexts) (length lines) (length rest) (one_unless_nil bytes) (length all) size many few
-        where
-          by : (a b c d k : ℕ) → a ≡ b + c → b + d ≡ 300 → a + d ≤ 300 * (suc k) → c + 0 ≤ 300 * k
-          by a b c d k size many few = omega arith
+          let size : length nexts ≡ length lines + length rest = rw (whole, length-append lines rest) in omega (arith, size, many, few)
 
 -- ---- the laws of panels that take what they are handed
 
@@ -293,30 +243,22 @@ module _ (buses : List Bus) where
       → numbered n (course buses events).connections ≡ Some later
       → is_settled later (history buses (course buses events)) (rows buses (course buses events)) ≡ true
   settled_is events n later p there =
-      let w = course buses events in
       let found = sym p.is.there ∙ there in
       let same : p.conn ≡ later = cc in
-      rw same at
-      (ap (λ t. t && (p.conn.info && (is_nil (unsent p.conn) && is_nil (owed p.conn (history buses w) (rows buses w))))) p.is.open_now
-      ∙ ap (λ t. t && (is_nil (unsent p.conn) && is_nil (owed p.conn _ _))) p.is.info
-      ∙ ap (λ l. is_nil l && is_nil (owed p.conn (history buses w) (rows buses w))) p.left
-      ∙ ap is_nil p.owes)
+      let w = course buses events in
+      let settled : is_settled p.conn (history buses w) (rows buses w) ≡ true = cc (p.is.open_now, p.is.info, p.left, p.owes) in
+      rw same at settled
 
   pub settles_soon : SettlesSoon buses
   settles_soon layout count trace served differ fair before after parts slot client has conn is still enough later there =
       let now = fold (turned buses) empty_stand before in
       let w = course buses now.events in
       let due = owed conn _ _ in
-      let runs = later_turns _ before after _
-      (rw parts at (turns_of_peers buses count trace served differ fair)) in
+      let runs = later_turns _ before after _ (rw parts at (turns_of_peers buses count trace served differ fair)) in
       let p : Panel buses client.conn now.events (unsent conn) due = record { conn = conn; is = is; left = refl; owes = refl } in
-      let end =
-      ap (λ (s : Stand). s.events) (sym (fold-append _ _ before after)
-      ∙ ap (fold (turned buses) empty_stand) (sym parts)) in
-      let done = turns_settle buses layout slot client after now _ due runs still has p
-      (rw one_write enough) in
-      settled_is _ _ later
-      (rw end at done) there
+      let end = ap (λ (s : Stand). s.events) (sym (fold-append _ _ before after) ∙ ap (fold (turned buses) empty_stand) (sym parts)) in
+      let done = turns_settle buses layout slot client after now _ due runs still has p (rw one_write enough) in
+      settled_is _ _ later (rw end at done) there
 
   -- ---- the changes that wait
 
@@ -326,11 +268,8 @@ module _ (buses : List Bus) where
   none_waits changes listed lines rest [] others e h r = refl
   none_waits (change ∷ changes) listed [] rest _ others e h r = absurd (omega (arith, h))
   none_waits (change ∷ changes) listed (line ∷ lines) rest _ others e h r =
-      let tail : map Told changes ++ map Listed listed ≡ lines ++ rest = cc in
-      none_waits changes listed lines rest _ others tail (omega (arith, h)) r
-  none_waits [] (row ∷ listed) (line ∷ lines) rest (m ∷ more) others e h r =
-      let tail : map Listed listed ≡ lines ++ rest = cc in
-      none_waits [] listed lines rest _ others tail (omega (arith, h)) r
+      none_waits changes listed lines rest _ others (cc) (omega (arith, h)) r
+  none_waits [] (row ∷ listed) (line ∷ lines) rest _ others e h r = none_waits [] listed lines rest _ others (cc) (omega (arith, h)) r
   none_waits [] [] (line ∷ lines) rest (m ∷ more) others e h r = cc
   none_waits [] [] [] rest _ others e h r = let no = e ∙ r in cc
   none_waits [] (row ∷ listed) [] rest _ others e h r = let no = e ∙ r in cc
@@ -338,8 +277,7 @@ module _ (buses : List Bus) where
   -- what an open information session is owed
   owed_is : (conn : Connection) (h : History) (shown : List Shown) → is_open conn ≡ true → conn.info ≡ true → owed conn h shown
       ≡ map Told (untold conn h) ++ map Listed (beyond (cursor_at conn (length h)) shown)
-  owed_is conn h shown up info =
-      cc
+  owed_is conn h shown up info = cc
 
   takes_waits : (layout : IsLayout buses) (events : List Event) (calls : List Call) (client : Client) → map question (visit calls client)
       ≡ visit_asks buses events (visit calls client) client → AllByRecursion IsFair calls → TakesWaits buses events calls client
@@ -351,15 +289,13 @@ module _ (buses : List Bus) where
       record { conn = conn; is = is; left = refl; owes = refl } in
       let v = visited_whole buses layout client events (visit calls client) (unsent conn) (owed conn h shown) p asked
       (all_filter IsFair (is_about client.peer) calls fair) takes.keeps takes.whole in
-      let q : Panel buses client.conn (events ++ visit_events calls client) [] v.rest =
-      rw (stays_exchange calls client v.stays) v.panel in
+      let q : Panel buses client.conn (events ++ visit_events calls client) [] v.rest = rw (stays_exchange calls client v.stays) v.panel in
       let u = course buses (events ++ visit_events calls client) in
       let past = history buses u in
       let found = sym q.is.there ∙ there in
       let same : q.conn ≡ later = cc in
       let few = ltb-false 256 (length (untold conn h)) is.fine in
-      let left =
-      sym q.owes ∙ owed_is q.conn past (rows buses u) q.is.open_now q.is.info in
+      let left = sym q.owes ∙ owed_is q.conn past (rows buses u) q.is.open_now q.is.info in
       let none =
       gone (untold conn h) (beyond (cursor_at conn (length h)) shown) v.lines v.rest (untold q.conn past)
       (map Listed (beyond (cursor_at q.conn (length past)) (rows buses u))) (one_unless_nil (unsent conn))

@@ -1,39 +1,22 @@
 -- An information session that goes on: what is unsent of it and what it is owed, and what each event makes of that.
-use Rattle.std.proofs.Common.{◌≡◌, ◌∙◌, ◌+◌, List, [], ◌∷◌, ◌++◌, map, length, refl, ap, sym, append-nil, append_assoc, length-append, ℕ}
-use Rattle.std.proofs.Common.{true, false, if◌then◌else◌, None, arith, ◌-◌, ◌≤◌, min, Bool, Option, Some, length-drop}
-use Rattle.std.specs.Prelude.{flat_map, nat_le, nat_lt, filter, filter_map, fold, ◌||◌, ◌==◌}
-use Rattle.std.specs.List.{AllByRecursion, enumerate_from}
-use Rattle.std.proofs.lemmas.List.{drop_at, drop_all}
-use Rattle.std.proofs.lemmas.List.Concat.{flat_map-append}
-use Rattle.std.proofs.lemmas.List.Sums.{fold-append}
-use Rattle.srcp_info.specs.declared.change.Change.{Change}
-use Rattle.srcp_grammar.specs.declared.layout.Bus.{Bus}
+use Rattle.srcp_serve.proofs.Names.{◌≡◌, ◌∙◌, ◌+◌, List, [], ◌∷◌, ◌++◌, map, length, refl, ap, sym, append-nil, append_assoc, length-append}
+use Rattle.srcp_serve.proofs.Names.{ℕ, true, false, if◌then◌else◌, None, arith, ◌-◌, ◌≤◌, min, Bool, Option, Some, length-drop, flat_map}
+use Rattle.srcp_serve.proofs.Names.{nat_le, nat_lt, filter, filter_map, fold, ◌||◌, ◌==◌, AllByRecursion, enumerate_from, drop_at, drop_all}
+use Rattle.srcp_serve.proofs.Names.{flat_map-append, fold-append, Change, Bus, History, Connection, concerning, cursor_at, overran, owed}
+use Rattle.srcp_serve.proofs.Names.{told_change, untold, available, fitting, given, given_room, line_of, took, unsent, World, start}
+use Rattle.srcp_serve.proofs.Names.{happens, course, state, history, history_from, state_after, stepped, updates_of, numbered}
+use Rattle.srcp_serve.proofs.Names.{open_connection, at_connection, counted, or_refused, fault, answered, answered_as, greeted, commanded}
+use Rattle.srcp_serve.proofs.Names.{order_of, new_lines, rows, Event, Step, Bytes, Room, Piece, Heard, greets, brought, IsPanel, no_lists}
+use Rattle.srcp_serve.proofs.Names.{Shown, concerns, le_refl, Next, IsLayout, CoreFault, numbered_with, takes_within, took_overran, lent}
 use Rattle.srcp_rules.specs.State.{State, opening, shown_rows}
-use Rattle.srcp_core.specs.Connection.{History, Connection, concerning, cursor_at, overran, owed, told_change, untold, available, fitting}
-use Rattle.srcp_core.specs.Connection.{given, given_room, line_of, took, unsent}
-use Rattle.srcp_core.specs.Course.{World, start, happens, course, state, history, history_from, state_after, stepped, updates_of, numbered}
-use Rattle.srcp_core.specs.Course.{open_connection, at_connection, counted, or_refused, fault, answered, answered_as, greeted, commanded}
-use Rattle.srcp_core.specs.Course.{order_of, new_lines, rows}
-use Rattle.srcp_core.specs.Under.{Event, Step, Bytes, Room, Piece, Heard, greets}
-use Rattle.srcp_core.specs.Waits.{brought, IsPanel}
 use Rattle.srcp_core.proofs.CourseLaws.EventsKeep.{IsKept, kept_all}
-use Rattle.srcp_core.proofs.CourseLaws.RoomGivesWhatIsOwed.{no_lists}
 use Rattle.srcp_core.proofs.CourseLaws.ShownRegistry.{length_history}
-use Rattle.srcp_info.specs.declared.change.Shown.{Shown}
-use Rattle.srcp_feed.specs.Cursor.{concerns}
 use Rattle.srcp_core.proofs.CourseLaws.Histories.{AreBy, IsDoneBy, cursor_later, enumerate_push}
-use Rattle.std.proofs.Math.Nat.{le_refl}
-use Rattle.srcp_feed.specs.declared.feed.Next.{Next}
-use Rattle.srcp_grammar.specs.Layout.{IsLayout}
-use Rattle.srcp_core.specs.declared.record.CoreFault.{CoreFault}
-use Rattle.srcp_core.proofs.Agreement.NumbersAndKeys.{numbered_with}
 use Rattle.srcp_core.proofs.CourseLaws.ClientHoldsPassedRows.{Fits}
 use Rattle.srcp_core.proofs.CourseLaws.LinesHaveBytes.{AreFull, owed_full}
 use Rattle.srcp_core.proofs.CourseLaws.RoomSettles.{owes_after}
 use Rattle.srcp_core.proofs.CourseLaws.RoomAfterRoom.{left_after}
-use Rattle.srcp_core.proofs.CourseLaws.RoomsAddUp.{takes_within, took_overran}
 use Rattle.srcp_core.proofs.CourseLaws.SessionsOfACourse.{anything, fits_open, open_shut, stands}
-use Rattle.srcp_serve.specs.Serving.{lent}
 use Rattle.srcp_serve.proofs.RoomSendsWhatIsLent.{first_some, fits_left, given_more, after_room, lent_is, steady_course, there_after}
 use Rattle.srcp_serve.proofs.OnlyRoomSends.{steady_at, AreOfOthers, stays_all}
 

@@ -1,24 +1,12 @@
 -- What a visit hands over of an information session whose peer takes all: what was unsent first, and then line after line.
-use Rattle.std.proofs.Common.{◌≡◌, ◌∙◌, ℕ, zero, suc, ◌+◌, ◌<◌, Bool, true, false, not, List, [], ◌∷◌, ◌++◌, map, take, length}
-use Rattle.std.proofs.Common.{if◌then◌else◌, Ok, Err, ◌⊎◌, inl, inr, refl, ap, sym, subst, arith, append-nil, append_assoc, length-append}
-use Rattle.std.proofs.Common.{◌==◌}
-use Rattle.std.proofs.lemmas.List.Sums.{length-filter}
-use Rattle.std.specs.Prelude.{filter, filter_map, nat_lt, count_by, ◌&&◌, ◌||◌}
-use Rattle.std.specs.List.{list_any, AllByRecursion}
-use Rattle.std.proofs.lemmas.Bool.{ltb-false, ltb-true}
-use Rattle.std.proofs.lemmas.Bool.Decides.{nat_tests}
-use Rattle.std.proofs.lemmas.List.{map-append}
-use Rattle.std.proofs.lemmas.List.Folds.{list_any-append}
-use Rattle.srcp_feed.specs.declared.feed.Next.{Next}
-use Rattle.srcp_grammar.specs.declared.layout.Bus.{Bus}
-use Rattle.srcp_grammar.specs.Layout.{IsLayout}
-use Rattle.srcp_core.specs.Connection.{line_of}
-use Rattle.srcp_core.specs.Course.{course}
-use Rattle.srcp_core.specs.Under.{Event, Bytes, Room, Piece}
-use Rattle.srcp_serve.specs.Given.{Call, ExpectCall, NowCall, AcceptCall, ReadCall, WriteCall, CloseCall}
-use Rattle.srcp_serve.specs.Serving.{Question, Expects, Moments, Accepts, Reads, Writes, Closes, Client, IsFair, question, piece_of}
-use Rattle.srcp_serve.specs.Serving.{count_of, is_close, is_write, loses, loses_reading, falls_short, lent_none_last, exchange}
-use Rattle.srcp_serve.specs.Serving.{is_closing, lent, handed, closes_of, visit_asks}
+use Rattle.srcp_serve.proofs.Names.{◌≡◌, ◌∙◌, ℕ, zero, suc, ◌+◌, ◌<◌, Bool, true, false, not, List, [], ◌∷◌, ◌++◌, map, take, length}
+use Rattle.srcp_serve.proofs.Names.{if◌then◌else◌, Ok, Err, ◌⊎◌, inl, inr, refl, ap, sym, arith, append-nil, append_assoc, length-append}
+use Rattle.srcp_serve.proofs.Names.{◌==◌, length-filter, filter, filter_map, count_by, list_any, AllByRecursion, ltb-false, ltb-true}
+use Rattle.srcp_serve.proofs.Names.{nat_tests, map-append, list_any-append, Next, Bus, IsLayout, line_of, Event, Bytes, Room, Piece, Call}
+use Rattle.srcp_serve.proofs.Names.{WriteCall, CloseCall, Question, Reads, Writes, Closes, Client, IsFair, question, piece_of, count_of}
+use Rattle.srcp_serve.proofs.Names.{is_close, is_write, loses, loses_reading, falls_short, lent_none_last, exchange, is_closing, lent}
+use Rattle.srcp_serve.proofs.Names.{handed, closes_of, visit_asks, and_parts, cond_both, is_ready, reads_of, writes_of, all_weaker}
+use Rattle.srcp_serve.proofs.CallsByTurnAndPeer.{any_not, not_any}
 use Rattle.srcp_serve.proofs.VisitsSendWhatIsTaken.{first_of_writes, has_writes, no_write}
 use Rattle.srcp_serve.proofs.Settling.PanelsTakeTheirLines.{Panel, first_text, owed_then, panel_bytes, panel_full, panel_goes_on}
 use Rattle.srcp_serve.proofs.Settling.PanelsTakeTheirLines.{panel_lends, panel_open, panel_room}
@@ -55,14 +43,6 @@ module _ (buses : List Bus) (layout : IsLayout buses) (peer n : ℕ) where
   first_write : (call : Call) (calls : List Call) (most : ℕ) (events : List Event) (bytes : List ℕ) (nexts : List Next) → IsWhole call
       → Asked most events (call ∷ calls) (question call ∷ map question calls)
       → Panel buses n events bytes nexts → IsWritten most events bytes nexts calls (filter_map count_of (call ∷ calls))
-  first_write (ExpectCall due slack) calls most events bytes nexts h e p =
-      absurd (no_write peer (Expects due slack) (map question calls) _ refl e)
-  first_write (NowCall answer) calls most events bytes nexts h e p = absurd (no_write peer Moments (map question calls) _ refl e)
-  first_write (AcceptCall answer granted) calls most events bytes nexts h e p =
-      absurd (no_write peer Accepts (map question calls) _ refl e)
-  first_write (ReadCall who answer buffer grants) calls most events bytes nexts h e p =
-      absurd (no_write peer (Reads who (length buffer)) (map question calls) _ refl e)
-  first_write (CloseCall who answer) calls most events bytes nexts h e p = absurd (no_write peer (Closes who) (map question calls) _ refl e)
   first_write (WriteCall who text (Err failed)) calls most events bytes nexts h e p = let no = h.1 in cc
   first_write (WriteCall who text (Ok count)) calls most events bytes nexts h e p =
       let now = lent buses n events in
@@ -84,6 +64,7 @@ module _ (buses : List Bus) (layout : IsLayout buses) (peer n : ℕ) where
         others = cc;
         counted = refl;
       }
+  first_write call calls most events bytes nexts h e p = absurd (no_write peer (question call) (map question calls) _ refl e)
 
   -- these lines were given, and these are left; all, or as many as may be
   pub record IsHanded (most first : ℕ) (nexts : List Next) (events : List Event) (counts : List ℕ) : Type 0 where
@@ -98,14 +79,11 @@ module _ (buses : List Bus) (layout : IsLayout buses) (peer n : ℕ) where
   no_more : (most : ℕ) (events : List Event) (bytes : List ℕ) (nexts : List Next) → Asked most events [] []
       → Panel buses n events bytes nexts → (first_text bytes nexts ≡ []) ⊎ (0 ≡ most)
   no_more zero events bytes nexts e p = inr refl
-  no_more (suc most) events bytes nexts e p = inl (by (first_text bytes nexts) refl)
+  no_more (suc most) events bytes nexts e p = inl (by (first_text bytes nexts) (panel_lends buses n events bytes nexts p layout))
     where
-      by : (text : List ℕ) → first_text bytes nexts ≡ text → text ≡ []
+      by : (text : List ℕ) → lent buses n events ≡ text → text ≡ []
       by [] t = refl
-      by (byte ∷ text) t =
-          let lends = panel_lends buses n events bytes nexts p layout ∙ t in
-          let no : [] ≡ map (Writes peer) (take (suc most) ((byte ∷ text) ∷ [])) = cc in
-          cc
+      by (byte ∷ text) t = let no : [] ≡ map (Writes peer) (take (suc most) ((byte ∷ text) ∷ [])) = cc in cc
 
   -- the first write and then the others
   then_others : (most first : ℕ) (events : List Event) (bytes : List ℕ) (nexts prefix : List Next) (calls : List Call) (counts : List ℕ)
@@ -132,11 +110,6 @@ module _ (buses : List Bus) (layout : IsLayout buses) (peer n : ℕ) where
       by a b (inl none) size = inl none
       by a b (inr same) size = inr (cc)
 
-  -- the others, asked for after the first
-  asked_then : (most : ℕ) (events : List Event) (bytes : List ℕ) (nexts : List Next) (calls : List Call) (counts : List ℕ)
-      (f : IsWritten most events bytes nexts calls counts) → Asked f.left (events ++ Room n f.count ∷ []) calls (map question calls)
-  asked_then most events bytes nexts calls counts f = cc
-
   hands_lines : (calls : List Call) (most : ℕ) (events : List Event) (nexts : List Next) → AllByRecursion IsWhole calls
       → Asked most events calls (map question calls)
       → Panel buses n events [] nexts → IsHanded most 0 nexts events (filter_map count_of calls)
@@ -153,15 +126,13 @@ module _ (buses : List Bus) (layout : IsLayout buses) (peer n : ℕ) where
           → (nexts ≡ []) ⊎ (0 ≡ most)
       by nexts full (inr none) = inr none
       by [] full (inl none) = inl refl
-      by (what ∷ nexts) full (inl none) = let some = full.0 in let empty : length (line_of what) ≡ 0 =
-          ap (λ (l : List ℕ). length l) none in absurd (omega (arith, some, empty))
+      by (what ∷ nexts) full (inl none) = absurd (omega (arith, full.0, ap {B = ℕ} length none))
   hands_lines (call ∷ calls) most events [] h e p =
       let no = (first_write call calls most events [] [] h.0 e p).some in absurd (omega (arith, no))
   hands_lines (call ∷ calls) most events (what ∷ nexts) h e p =
       let f = first_write call calls most events [] (what ∷ nexts) h.0 e p in
       then_others most 0 events [] (what ∷ nexts) (what ∷ []) calls (filter_map count_of (call ∷ calls)) f refl refl
-      (hands_lines calls f.left (events ++ Room n f.count ∷ []) nexts h.1
-      (asked_then most events [] (what ∷ nexts) calls (filter_map count_of (call ∷ calls)) f) f.panel)
+      (hands_lines calls f.left (events ++ Room n f.count ∷ []) nexts h.1 (rw f.counted at f.others) f.panel)
 
   -- if some may be
   pub hands_all : (calls : List Call) (most : ℕ) (events : List Event) (bytes : List ℕ) (nexts : List Next) → 0 < most
@@ -176,69 +147,43 @@ module _ (buses : List Bus) (layout : IsLayout buses) (peer n : ℕ) where
   hands_all (call ∷ calls) most events (byte ∷ bytes) nexts some h e p =
       let f = first_write call calls most events (byte ∷ bytes) nexts h.0 e p in
       then_others most 1 events (byte ∷ bytes) nexts [] calls (filter_map count_of (call ∷ calls)) f refl refl
-      (hands_lines calls f.left (events ++ Room n f.count ∷ []) nexts h.1
-      (asked_then most events (byte ∷ bytes) nexts calls (filter_map count_of (call ∷ calls)) f) f.panel)
+      (hands_lines calls f.left (events ++ Room n f.count ∷ []) nexts h.1 (rw f.counted at f.others) f.panel)
 
 -- ---- the whole visit
-
-not_any : {X : Type 0} (p : X → Bool) (xs : List X) → list_any p xs ≡ false → AllByRecursion (λ x. p x ≡ false) xs
-not_any p [] e = tt
-not_any p (x ∷ xs) e = let b = neither (p x) _ e in (b.0, not_any p xs b.1)
-  where
-    neither : (a b : Bool) → a || b ≡ false → (a ≡ false) × (b ≡ false)
-    neither true b e = cc
-    neither false b e = (refl, e)
-
-any_not : {X : Type 0} (p : X → Bool) (xs : List X) → AllByRecursion (λ x. p x ≡ false) xs → list_any p xs ≡ false
-any_not p [] a = refl
-any_not p (x ∷ xs) a = cc (any_not p xs a.1)
 
 each_whole : (calls : List Call) → AllByRecursion IsFair calls → AllByRecursion (λ call. loses call ≡ false) calls
     → AllByRecursion (λ call. falls_short call ≡ false) calls → AllByRecursion IsWhole calls
 each_whole [] f l s = tt
 each_whole (call ∷ calls) f l s = ((f.0, l.0, s.0), each_whole calls f.1 l.1 s.1)
 
-each_read : (calls : List Call) → AllByRecursion (λ call. loses call ≡ false) calls
-    → AllByRecursion (λ call. loses_reading call ≡ false) calls
-each_read [] l = tt
-each_read (call ∷ calls) l = (first call l.0, each_read calls l.1)
-  where
-    first : (call : Call) → loses call ≡ false → loses_reading call ≡ false
-    first (WriteCall who bytes answer) e = refl
-    first other e = e
+still_read : (call : Call) → loses call ≡ false → loses_reading call ≡ false
+still_read (WriteCall who bytes answer) e = refl
+still_read other e = e
 
 -- as many counts as writes
 writes_counted : (calls : List Call) → length (filter is_write calls) ≡ length (filter_map count_of calls)
 writes_counted [] = refl
-writes_counted (ExpectCall due slack ∷ calls) = writes_counted calls
-writes_counted (NowCall answer ∷ calls) = writes_counted calls
-writes_counted (AcceptCall answer granted ∷ calls) = writes_counted calls
-writes_counted (ReadCall who answer buffer grants ∷ calls) = writes_counted calls
-writes_counted (WriteCall who bytes (Ok count) ∷ calls) = let more = writes_counted calls in omega arith
-writes_counted (WriteCall who bytes (Err failed) ∷ calls) = let more = writes_counted calls in omega arith
-writes_counted (CloseCall who answer ∷ calls) = writes_counted calls
-
-counts_many : (calls : List Call) → count_by is_write calls ≡ length (filter_map count_of calls)
-counts_many calls = sym (length-filter is_write calls) ∙ writes_counted calls
+writes_counted (WriteCall who bytes (Ok count) ∷ calls) = ap (λ n. suc n) (writes_counted calls)
+writes_counted (WriteCall who bytes (Err failed) ∷ calls) = ap (λ n. suc n) (writes_counted calls)
+writes_counted (other ∷ calls) = writes_counted calls
 
 -- the question is to close a peer
 abbrev asks_close : Question → Bool
 asks_close (Closes peer) = true
 asks_close other = false
 
+abbrev NoCloses : List Question → Type 0
+NoCloses questions = list_any asks_close questions ≡ false
+
 same_close : (call : Call) → is_close call ≡ asks_close (question call)
-same_close (ExpectCall due slack) = refl
-same_close (NowCall answer) = refl
-same_close (AcceptCall answer granted) = refl
-same_close (ReadCall who answer buffer grants) = refl
-same_close (WriteCall who bytes answer) = refl
 same_close (CloseCall who answer) = refl
+same_close other = refl
 
 closes_asked : (calls : List Call) → list_any is_close calls ≡ list_any asks_close (map question calls)
 closes_asked [] = refl
 closes_asked (call ∷ calls) = cc (same_close call, closes_asked calls)
 
-writes_close : (peer : ℕ) (texts : List (List ℕ)) → list_any asks_close (map (Writes peer) texts) ≡ false
+writes_close : (peer : ℕ) (texts : List (List ℕ)) → NoCloses (map (Writes peer) texts)
 writes_close peer [] = refl
 writes_close peer (text ∷ texts) = writes_close peer texts
 
@@ -251,7 +196,7 @@ module _ (buses : List Bus) (layout : IsLayout buses) (client : Client) (events 
 
   after_pieces : (events : List Event) (pieces : List Piece) → Panel buses client.conn events bytes nexts
       → Panel buses client.conn (events ++ map (Bytes client.conn) pieces) bytes nexts
-  after_pieces events [] q = subst (λ (es : List Event). Panel buses client.conn es bytes nexts) (sym (append-nil events)) q
+  after_pieces events [] q = rw append-nil q
   after_pieces events (piece ∷ pieces) q =
       rw append_assoc at
       (after_pieces (events ++ Bytes client.conn piece ∷ []) pieces (panel_bytes buses client.conn events bytes nexts q piece))
@@ -262,7 +207,7 @@ module _ (buses : List Bus) (layout : IsLayout buses) (client : Client) (events 
       let h = has_writes buses client events calls asked in
       let losing = not_any loses calls keeps in
       let whole = h.each IsWhole (each_whole calls fair losing (not_any falls_short calls takes)) in
-      let reading = any_not loses_reading calls (each_read calls losing) in
+      let reading = any_not loses_reading calls (all_weaker _ _ still_read calls losing) in
       let texts : List ℕ → List Question = λ cs. map (Writes client.peer) (take 300 (handed buses client.conn read_events cs)) in
       let asks : map question h.writes ≡ texts (filter_map count_of h.writes) = cc in
       rw h.counts (hands_all buses layout client.peer client.conn h.writes 300 read_events bytes nexts (omega arith) whole asks
@@ -279,66 +224,42 @@ module _ (buses : List Bus) (layout : IsLayout buses) (client : Client) (events 
 
   last_room : (now : List Event) (rest : List Next) (b : Bool) → (b ≡ true → rest ≡ []) → Panel buses client.conn now [] rest
       → Panel buses client.conn (now ++ map (Room client.conn) (if b then 0 ∷ [] else [])) [] rest
-  last_room now rest false none q = subst (λ (es : List Event). Panel buses client.conn es [] rest) (sym (append-nil now)) q
-  last_room now rest true none q =
-      let empty = none refl in
-      rw empty (panel_room buses _ now [] [] (rw empty at q) layout)
+  last_room now rest false none q = rw append-nil q
+  last_room now rest true none q = let empty = none refl in rw empty (panel_room buses _ now [] [] (rw empty at q) layout)
 
   -- of a session that goes on
   not_closing : (now : List Event) (left : List ℕ) (rest : List Next) → Panel buses client.conn now left rest
       → is_closing buses client.conn now ≡ false
-  not_closing now left rest q =
-      let w = course buses now in
-      cc (panel_open buses client.conn now left rest q, panel_goes_on buses client.conn now left rest q)
+  not_closing now left rest q = cc (panel_open buses client.conn now left rest q, panel_goes_on buses client.conn now left rest q)
 
   pub visited_whole : IsVisitedWhole
   visited_whole =
       let r = wrote in
       let n : ℕ = client.conn in
-      let counts = filter_map count_of calls in
       let asks_last = lent_none_last calls in
-      let none_then : asks_last ≡ true → r.rest ≡ [] = λ e. nothing r.rest r.ends (few e) in
-      let last = last_room (read_events ++ map (Room n) counts) r.rest asks_last none_then r.panel in
-      let whole : (read_events ++ map (Room n) counts) ++ map (Room n) (if asks_last then 0 ∷ [] else []) ≡ events ++ exchange n calls =
-      simp (append_assoc, map-append) in
-      let panel =
-      rw whole at last in
+      let last = last_room (read_events ++ map (Room n) (filter_map count_of calls)) r.rest asks_last (few r.rest r.ends) r.panel in
+      let whole : (read_events ++ map (Room n) (filter_map count_of calls)) ++ map (Room n) (if asks_last then 0 ∷ [] else [])
+      ≡ events ++ exchange n calls = simp (append_assoc, map-append) in
+      let panel = rw whole at last in
       let open_still = not_closing (events ++ exchange n calls) [] r.rest panel in
-      let none_closed : closes_of buses events calls client ≡ [] =
-      cc in
+      let reads : NoCloses (reads_of buses events client) =
+      cond_both (is_ready buses client.conn events) (Reads client.peer 256 ∷ []) [] NoCloses (λ e. refl) (λ e. refl) in
+      let texts = take 300 (handed buses client.conn read_events (filter_map count_of calls)) in
+      let writes : NoCloses (writes_of buses events calls client) =
+      cond_both (list_any loses_reading calls) [] (map (Writes client.peer) texts) NoCloses (λ e. refl)
+      (λ e. writes_close client.peer texts) in
+      let none_closed : closes_of buses events calls client ≡ [] = cc in
       record {
         lines = r.lines;
         rest = r.rest;
         whole = r.whole;
         panel = panel;
-        ends = by r.rest r.ends r.many;
+        ends = rw r.many r.ends;
         stays = rw (closes_asked, asked, list_any-append, none_closed, list_any-append, reads, writes);
       }
     where
-      few : lent_none_last calls ≡ true → length (filter_map count_of calls) < 300
-      few e = fewer (list_any loses calls) (list_any falls_short calls) (count_by is_write calls) (counts_many calls) e
-        where
-          fewer : (a b : Bool) (k : ℕ) → k ≡ length (filter_map count_of calls) → not a && (not b && nat_lt k 300) ≡ true
-              → length (filter_map count_of calls) < 300
-          fewer true b k same e = cc
-          fewer false true k same e = cc
-          fewer false false k same e = let less = ltb-true k 300 e in omega (arith, less, same)
-
-      nothing : (rest : List Next) → (rest ≡ []) ⊎ (length (filter_map count_of calls) ≡ 300) → length (filter_map count_of calls) < 300
-          → rest ≡ []
-      nothing rest (inl none) h = none
-      nothing rest (inr all) h = absurd (omega (arith, all, h))
-
-      by : (rest : List Next) {k : ℕ} → (rest ≡ []) ⊎ (length (filter_map count_of calls) ≡ 300) → k ≡ length (filter_map count_of calls)
-          → (rest ≡ []) ⊎ (k ≡ 300)
-      by rest (inl none) many = inl none
-      by rest (inr all) many = inr (many ∙ all)
-
-      reads : (b : Bool) → list_any asks_close (if b then Reads client.peer 256 ∷ [] else []) ≡ false
-      reads true = refl
-      reads false = refl
-
-      writes : (b : Bool) → list_any asks_close
-          (if b then [] else map (Writes client.peer) (take 300 (handed buses client.conn read_events (filter_map count_of calls)))) ≡ false
-      writes true = refl
-      writes false = writes_close client.peer (take 300 (handed buses client.conn read_events (filter_map count_of calls)))
+      few : (rest : List Next) → (rest ≡ []) ⊎ (length (filter_map count_of calls) ≡ 300) → lent_none_last calls ≡ true → rest ≡ []
+      few rest (inl none) e = none
+      few rest (inr all) e =
+          let last = and_parts (not (list_any falls_short calls)) _ (and_parts (not (list_any loses calls)) _ e).1 in
+          absurd (omega (arith, all, ltb-true (count_by is_write calls) 300 last.1, length-filter is_write calls, writes_counted calls))

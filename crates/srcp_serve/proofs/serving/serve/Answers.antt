@@ -1,8 +1,5 @@
-use Rattle.std.proofs.Common.{rules, ◌≡◌, ◌∙◌, arith, refl, ℕ}
-use Rattle.srcp_core.specs.Held.{Held}
-use Rattle.srcp_serve.specs.Calls.{Trace}
-use Rattle.srcp_serve.specs.Slots.{ServesCourse}
-use Rattle.srcp_serve.specs.Turns.{AreTurns, Asks}
+use Rattle.srcp_serve.proofs.Names.{◌≡◌, ◌∙◌, arith, refl, ℕ, Held, Trace, ServesCourse, AreTurns, Asks}
+use Rattle.std.proofs.Common.{rules}
 use Rattle.srcp_serve.proofs.ServingFollows.{fewer, serves_all, serves_first, serves_on}
 use Rattle.srcp_serve.proofs.DoorIsCalled.{counts_then, none_failed, asks_then, one_more_turn, turns_none}
 use Rattle.srcp_serve.proofs.serving.serve.Goals as goal

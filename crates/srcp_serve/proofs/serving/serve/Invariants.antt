@@ -1,6 +1,5 @@
-use Rattle.std.specs.Prelude.{◌≡◌, ◌≤◌}
+use Rattle.srcp_serve.proofs.Names.{◌≡◌, ◌≤◌, AreTurns, Asks}
 use Rattle.srcp_serve.specs.Tally.{CountsFaults}
-use Rattle.srcp_serve.specs.Turns.{AreTurns, Asks}
 use Rattle.srcp_serve.proofs.ServingFollows.{ServesSoFar}
 use Rattle.srcp_serve.proofs.serving.serve.Given as goal
 

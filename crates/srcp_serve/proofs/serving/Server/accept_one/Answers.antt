@@ -1,6 +1,6 @@
-use Rattle.std.proofs.Common.{ap, refl}
+use Rattle.std.proofs.Common.{Ok, Err, None, ap, refl}
 use Rattle.srcp_serve.specs.declared.tally.Tally.{Tally}
-use Rattle.srcp_serve.proofs.TurnsFollow.{accepts_nobody, accept_fails, accepts_peer}
+use Rattle.srcp_serve.proofs.TurnsFollow.{accepts_nobody, accepts_peer}
 use Rattle.srcp_serve.proofs.DoorIsCalled.{counts_then, none_failed, one_failed, asks_accept, asks_none}
 use Rattle.srcp_serve.proofs.serving.Server.accept_one.Goals as goal
 
@@ -29,8 +29,7 @@ returns-in-Err-clause-calls g c = record {
 
 pub returns-in-Ok-None-clause-course : goal.returns-in-Ok-None-clause-course
 returns-in-Ok-None-clause-course g c =
-    accepts_nobody _ _ _ _
-    (rw c.in-Ok-None.field-0-is at c.in-Ok-None.ensures.trace)
+    accepts_nobody _ _ _ _ (Ok None) tt (rw c.in-Ok-None.field-0-is at c.in-Ok-None.ensures.trace)
 
 pub returns-in-Ok-Some-clause-course : goal.returns-in-Ok-Some-clause-course
 returns-in-Ok-Some-clause-course g c =
@@ -39,6 +38,4 @@ returns-in-Ok-Some-clause-course g c =
     (rw c.in-Ok-Some.field-0-is at c.in-Ok-Some.ensures.trace) c.connect.ensures.calls.asks c.connect.ensures.course
 
 pub returns-in-Err-clause-course : goal.returns-in-Err-clause-course
-returns-in-Err-clause-course g c =
-    accept_fails _ _
-    _ _ c.in-Err.field-0 c.in-Err.ensures.trace
+returns-in-Err-clause-course g c = accepts_nobody _ _ _ _ (Err c.in-Err.field-0) tt c.in-Err.ensures.trace

@@ -1,8 +1,5 @@
-use Rattle.std.proofs.Common.{◌≡◌, Ok, Err, ap, arith, length, refl, []}
+use Rattle.srcp_serve.proofs.Names.{◌≡◌, Ok, Err, ap, arith, length, refl, [], ReadCall, loses_reading, piece_of, Got}
 use Rattle.srcp_serve.specs.declared.tally.Tally.{Tally}
-use Rattle.srcp_serve.specs.Given.{ReadCall}
-use Rattle.srcp_serve.specs.Serving.{loses_reading, piece_of}
-use Rattle.srcp_serve.specs.declared.door.Got.{Got}
 use Rattle.srcp_serve.proofs.DoorIsCalled.{fair_read, none_failed, one_failed, calls_none, calls_one}
 use Rattle.srcp_serve.proofs.OneCallFollows.{read_not, read_other, read_bytes}
 use Rattle.srcp_serve.proofs.serving.Server.read_in.Goals as goal

@@ -1,6 +1,6 @@
-use Rattle.std.proofs.Common.{ap, refl, ◌∙◌}
+use Rattle.std.proofs.Common.{Err, Ok, ap, refl, ◌∙◌}
 use Rattle.srcp_serve.specs.declared.tally.Tally.{Tally}
-use Rattle.srcp_serve.proofs.OneCallFollows.{keeps_moment, takes_moment}
+use Rattle.srcp_serve.proofs.OneCallFollows.{takes_moment}
 use Rattle.srcp_serve.proofs.DoorIsCalled.{none_failed, one_failed, asks_moment}
 use Rattle.srcp_serve.proofs.serving.Server.take_moment.Goals as goal
 
@@ -22,14 +22,10 @@ returns-in-Err-clause-calls g c = record {
 
 pub returns-in-Ok-clause-course : goal.returns-in-Ok-clause-course
 returns-in-Ok-clause-course g c =
-    takes_moment c.earliest_due.result c.slack.result _ c.earliest_due.ensures c.slack.ensures
-    _
-    (g.D.Door.trace c.expect.new.self)
-    _ c.expect.ensures.trace c.in-Ok.moment _ c.in-Ok.ensures.trace c.advance.ensures
+    takes_moment c.earliest_due.result c.slack.result _ c.earliest_due.ensures c.slack.ensures _ (g.D.Door.trace c.expect.new.self) _
+    c.expect.ensures.trace (Ok c.in-Ok.moment) _ c.in-Ok.ensures.trace c.advance.ensures
 
 pub returns-in-Err-clause-course : goal.returns-in-Err-clause-course
 returns-in-Err-clause-course g c =
-    keeps_moment c.earliest_due.result c.slack.result _ c.earliest_due.ensures c.slack.ensures
-    _
-    (g.D.Door.trace c.expect.new.self)
-    _ c.expect.ensures.trace c.in-Err.field-0 c.in-Err.ensures.trace
+    takes_moment c.earliest_due.result c.slack.result _ c.earliest_due.ensures c.slack.ensures _ (g.D.Door.trace c.expect.new.self) _
+    c.expect.ensures.trace (Err c.in-Err.field-0) _ c.in-Err.ensures.trace refl

@@ -1,6 +1,5 @@
-use Rattle.std.proofs.Common.{false, true, inl, inr, sym, ◌∙◌}
+use Rattle.srcp_serve.proofs.Names.{false, true, inl, inr, sym, ◌∙◌, AreAboutPeers}
 use Rattle.srcp_serve.specs.Tally.{CallsDoor}
-use Rattle.srcp_serve.specs.Turns.{AreAboutPeers}
 use Rattle.srcp_serve.proofs.DoorIsCalled.{calls_on}
 use Rattle.srcp_serve.proofs.VisitsFollow.{Ends, exchanges_lost, exchanges_on, visit_ends, visit_stays}
 use Rattle.srcp_serve.proofs.serving.Server.visit.Goals.{else-read_in-via-then-read_in+then-write_out+else-not-closing}

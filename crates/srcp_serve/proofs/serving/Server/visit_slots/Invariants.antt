@@ -1,7 +1,5 @@
-use Rattle.std.specs.Prelude.{◌≡◌, ◌≤◌, length}
-use Rattle.srcp_serve.specs.Slots.{AreFreeFrom}
+use Rattle.srcp_serve.proofs.Names.{◌≡◌, ◌≤◌, length, AreFreeFrom, AreAboutPeers}
 use Rattle.srcp_serve.specs.Tally.{CallsDoor}
-use Rattle.srcp_serve.specs.Turns.{AreAboutPeers}
 use Rattle.srcp_serve.proofs.SlotsFollow.{VisitsSoFar}
 use Rattle.srcp_serve.proofs.serving.Server.visit_slots.Given as goal
 

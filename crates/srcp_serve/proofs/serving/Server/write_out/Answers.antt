@@ -1,5 +1,5 @@
-use Rattle.std.proofs.Common.{◌≡◌, ◌∙◌, arith, refl}
-use Rattle.srcp_serve.proofs.WritesFollow.{ends_failed, ends_full, ends_less, takes_first, takes_on}
+use Rattle.srcp_serve.proofs.Names.{◌≡◌, ◌∙◌, arith, refl, Failed, Less}
+use Rattle.srcp_serve.proofs.WritesFollow.{ends_full, takes_first, takes_last, takes_on}
 use Rattle.srcp_serve.proofs.DoorIsCalled.{calls_none, calls_on}
 use Rattle.srcp_serve.proofs.serving.Server.write_out.Goals as goal
 
@@ -29,22 +29,18 @@ returns-in-Less-clause-calls g c = calls_on _ _ _ _ _ c.loop.invariant.calls c.w
 
 pub returns-in-Less-clause-course : goal.returns-in-Less-clause-course
 returns-in-Less-clause-course g c =
-    ends_less _ _ _ c.loop.core _ _
-    (g.D.Door.trace c.loop.self.door.now)
-    _ c.loop.counter c.loop.invariant.course
-    c.write_once.ensures.calls.asks c.loop-test.true
-    (c.write_once.ensures.denied ∙ c.loop.invariant.denied) c.in-Less.ensures.course
+    takes_last _ _ _ c.loop.core _ _ (g.D.Door.trace c.loop.self.door.now) _ c.loop.counter c.loop.invariant.course
+    c.write_once.ensures.calls.asks c.loop-test.true (c.write_once.ensures.denied ∙ c.loop.invariant.denied) Less tt
+    c.in-Less.ensures.course
 
 pub returns-in-Failed-clause-calls : goal.returns-in-Failed-clause-calls
 returns-in-Failed-clause-calls g c = calls_on _ _ _ _ _ c.loop.invariant.calls c.write_once.ensures.calls
 
 pub returns-in-Failed-clause-course : goal.returns-in-Failed-clause-course
 returns-in-Failed-clause-course g c =
-    ends_failed _ _ _ c.loop.core _ _
-    (g.D.Door.trace c.loop.self.door.now)
-    _ c.loop.counter c.loop.invariant.course
-    c.write_once.ensures.calls.asks c.loop-test.true
-    (c.write_once.ensures.denied ∙ c.loop.invariant.denied) c.in-Failed.ensures.course
+    takes_last _ _ _ c.loop.core _ _ (g.D.Door.trace c.loop.self.door.now) _ c.loop.counter c.loop.invariant.course
+    c.write_once.ensures.calls.asks c.loop-test.true (c.write_once.ensures.denied ∙ c.loop.invariant.denied) Failed tt
+    c.in-Failed.ensures.course
 
 pub returns-clause-calls : goal.returns-clause-calls
 returns-clause-calls g c = c.loop.invariant.calls

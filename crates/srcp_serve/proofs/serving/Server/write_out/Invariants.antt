@@ -1,6 +1,5 @@
-use Rattle.std.specs.Prelude.{◌≡◌}
+use Rattle.srcp_serve.proofs.Names.{◌≡◌, AreAboutPeers}
 use Rattle.srcp_serve.specs.Tally.{CallsDoor}
-use Rattle.srcp_serve.specs.Turns.{AreAboutPeers}
 use Rattle.srcp_serve.proofs.WritesFollow.{TakesSoFar}
 use Rattle.srcp_serve.proofs.serving.Server.write_out.Given as goal
 
