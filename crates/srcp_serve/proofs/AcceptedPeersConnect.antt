@@ -13,25 +13,15 @@ use Rattle.srcp_serve.proofs.CallsAreAdded.{adds_none, asked_one}
 module _ (buses : List Bus) where
   -- a connection that is refused since there are too many is refused whatever memory answers
   full_open : (w : World) → fault buses w (Open false) ≡ Some Full → fault buses w (Open true) ≡ Some Full
-  full_open w e = by (nat_lt (length (filter is_open w.connections)) 64) e
-    where
-      by : (b : Bool) → (if b then Some MemoryFault else Some Full) ≡ Some Full → (if b then None else Some Full) ≡ Some Full
-      by true e = cc
-      by false e = refl
+  full_open w e = grind arith
 
   -- if memory is what is refused, there are not too many
   few_open : (w : World) → fault buses w (Open false) ≡ Some MemoryFault → not (nat_lt (length (filter is_open w.connections)) 64) ≡ false
-  few_open w e = by _ e
-    where
-      by : (b : Bool) → (if b then Some MemoryFault else Some Full) ≡ Some MemoryFault → not b ≡ false
-      by true e = refl
-      by false e = cc
+  few_open w e = grind arith
 
   full_course : (events : List Event) → fault buses (course buses events) (Open false) ≡ Some Full
       → course buses (events ++ Open false ∷ []) ≡ course buses (events ++ Open true ∷ [])
-  full_course events e =
-      let w = course buses events in
-      simp (fold-append, e, full_open)
+  full_course events e = simp (fold-append, e, full_open)
 
 -- the peer was closed
 abbrev Refused : (buses : List Bus) (stand : Stand) (old : Trace) (trace : List DoorCall) (held : Held) (owns : Owns) (core_old : Held)
@@ -45,9 +35,6 @@ pub connects_refused : (peer : ℕ) (old mid : Held) (cause : CoreFault) (trace_
 connects_refused peer old mid cause trace_old trace_new owns closes not_admitted buses stand keys trace in_state is new =
     by cause not_admitted (calls_agree.refuses cause old mid not_admitted buses stand.events keys in_state.layout in_state.stands)
   where
-    no_more : (n : ℕ) → n ≡ n + 0
-    no_more n = omega arith
-
     stands : StandsFor buses keys mid (course buses (stand.events ++ Open false ∷ []))
     stands = calls_lead.not_opened cause old mid not_admitted buses stand.events keys in_state.layout in_state.stands
 
@@ -70,20 +57,17 @@ connects_refused peer old mid cause trace_old trace_new owns closes not_admitted
             asked_for = rw w (asked_one buses stand.events (Open granted) old mid asks);
             asked = sym (ap (λ b. (if b then [] else ClosesQuestion peer ∷ []) ++ []) shut);
             in_state = rw w (in_state_on buses stand (stand.events ++ Open granted ∷ []) keys old mid owns in_state after_open);
-            opened = ap (λ (s : Stand). length s.connected) w ∙ no_more (length stand.connected);
+            opened = rw w (omega arith);
           },
         )
 
     by : (cause : CoreFault) → IsNotAdmitted cause old mid → fault buses (course buses stand.events) (Open false) ≡ Some cause
         → Refused buses stand trace_old trace mid owns old peer
     by Full a out =
-        refused Full true (full_open buses (course buses stand.events) out)
-        (rw full_course at stands) (ap (λ (h : Held). h.denied) a.1)
-        (ap (λ (h : Held). h.denied) a.1)
-    by MemoryFault a out =
         let e = ap (λ (h : Held). h.denied) a.1 in
-        refused MemoryFault false out stands e
-        (simp (e, few_open))
+        refused Full true (full_open buses (course buses stand.events) out) (rw full_course at stands) e e
+    by MemoryFault a out =
+        let e = ap (λ (h : Held). h.denied) a.1 in refused MemoryFault false out stands e (simp (e, few_open))
     by other a out = absurd a
 
 pub connects_done : (peer key free : ℕ) (old mid : Held) (trace_old : Trace) (owns : Owns) → IsAdmitted key old mid
@@ -94,8 +78,7 @@ connects_done peer key free old mid trace_old owns admitted slot buses stand key
     let accept : Accepted = record { peer = peer; granted = true } in
     let client : Client = record { peer = peer; conn = length stand.connected + 1 } in
     let pushed = keys ++ Some key ∷ [] in
-    let connects_is =
-    ap is_none (calls_agree.accepts key old mid admitted buses stand.events keys in_state.layout in_state.stands) in
+    let connects_is = ap is_none (calls_agree.accepts key old mid admitted buses stand.events keys in_state.layout in_state.stands) in
     let after : Stand = record { events = stand.events ++ Open true ∷ []; connected = stand.connected; slots = stand.slots } in
     let w = ap (λ b. if b then with_connection buses stand accept else after) connects_is in
     let conn = ap (λ n. n + 1) (sym in_state.long) in
@@ -113,8 +96,7 @@ connects_done peer key free old mid trace_old owns admitted slot buses stand key
         asked = sym (ap (λ b. (if b then [] else ClosesQuestion peer ∷ []) ++ []) connects_is);
         in_state = rw w (record {
           layout = in_state.layout;
-          owns_are =
-              rw (free_is owns free slot) sitting;
+          owns_are = rw (free_is owns free slot) sitting;
           differ = clients_differ (with_client client stand.slots) (differ_connected client stand.slots
               (new_apart keys client owns stand.slots in_state.owns_are conn new) (slots_differ stand.slots in_state.differ));
           long = cc (length-append keys (Some key ∷ []), length-append stand.connected (peer ∷ []));

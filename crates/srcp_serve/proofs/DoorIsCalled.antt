@@ -59,9 +59,7 @@ not_now [] h = refl
 not_now (ExpectCall due slack ∷ calls) h = cc
 not_now (NowCall answer ∷ calls) h = cc
 not_now (AcceptCall answer ∷ calls) h = cc
-not_now (ReadCall peer answer buffer ∷ calls) h = not_now calls h
-not_now (WriteCall peer bytes answer ∷ calls) h = not_now calls h
-not_now (CloseCall peer answer ∷ calls) h = not_now calls h
+not_now (call ∷ calls) h = not_now calls h
 
 pub turns_none : (old : Trace) → Asks (AreTurns 0) old old
 turns_none old trace is = ([], adds_none is, record { many = refl; each = tt; all = refl })
@@ -99,9 +97,7 @@ pub fair_read : (peer : ℕ) (answer : Result Got DoorFault) (most : ℕ) (buffe
     → ((n : ℕ) → answer ≡ Ok (got.Bytes n) → (0 < n) × (n ≤ most)) → length buffer ≡ most → IsFair (ReadCall peer answer buffer)
 fair_read peer (Ok (got.Bytes n)) most buffer count same =
     let within = count n refl in (within.0, rw same within.1)
-fair_read peer (Ok got.Nothing) most buffer count same = tt
-fair_read peer (Ok got.Ended) most buffer count same = tt
-fair_read peer (Err fault) most buffer count same = tt
+fair_read peer other most buffer count same = tt
 
 pub fair_write : (peer : ℕ) (bytes : List ℕ) (answer : Result ℕ DoorFault) → IfOk answer (λ n. n ≤ length bytes)
     → IsFair (WriteCall peer bytes answer)
@@ -131,17 +127,8 @@ none_failed tally count _ le same = record {
 pub counts_then : (a b c d e f : ℕ) → CountsFaults a b c d → CountsFaults c d e f → CountsFaults a b e f
 counts_then a b c d e f first second = record {
   within = second.within;
-  onward = λ low.
-      let later = second.onward low in
-      let below : d < 18446744073709551615 = omega (arith, later, low) in
-      let sooner = first.onward below in
-      omega (arith, later, sooner);
-  exact = λ low.
-      let later = second.onward low in
-      let below : d < 18446744073709551615 = omega (arith, later, low) in
-      let x = first.exact below in
-      let y = second.exact low in
-      omega (arith, x, y);
+  onward = λ low. omega (arith, first.onward, second.onward);
+  exact = λ low. omega (arith, first.exact, second.onward, second.exact);
 }
 
 -- ---- what the methods of a server do to its door, call after call

@@ -10,6 +10,11 @@ use Rattle.srcp_serve.specs.declared.door.Got.TheVariants as got
 abbrev buses : List Bus
 buses = record { number = 1; power = true; gl_max = 0; ga_max = 0; ga_ports = 2; fb_ports = 0 } ∷ []
 
+-- these are the calls of so many turns, and each peer took what was sent of its connection
+abbrev IsServedOf : ℕ → List Call → List (List ℕ) → Type 0
+IsServedOf count calls texts =
+    IsServed buses count calls × SendsWhatIsTaken buses calls × (map sent (course buses (events_of buses calls)).connections ≡ texts)
+
 -- a buffer that begins with these bytes
 abbrev buffer : List ℕ → List ℕ
 buffer bytes = bytes ++ replicate 253 0
@@ -27,21 +32,13 @@ one_peer =
     ++ nobody ++ (ReadCall 1 (Ok (got.Bytes 3)) (buffer (codes "GO\n")) [] ∷ WriteCall 1 go_line (Ok 18) ∷ [])
     ++ nobody ++ (ReadCall 1 (Ok got.Ended) (buffer (codes "GO\n")) [] ∷ CloseCall 1 (Ok tt) ∷ [])
 
-one_peer_is_served : IsServed buses 3 one_peer
-unfolding digits
-one_peer_is_served = record { turns_are = refl; asked = refl }
-
 one_peer_makes : events_of buses one_peer
     ≡ At 0 ∷ Open true ∷ Room 1 45 ∷ Room 1 0 ∷ At 0 ∷ Bytes 1 (giving (codes "GO\n")) ∷ Room 1 18 ∷ Room 1 0 ∷ At 0 ∷ Shut 1 ∷ []
 one_peer_makes = refl
 
-one_peer_is_sent : map sent (course buses (events_of buses one_peer)).connections ≡ (welcome ++ go_line) ∷ []
+one_peer_is_served : IsServedOf 3 one_peer ((welcome ++ go_line) ∷ [])
 unfolding digits
-one_peer_is_sent = refl
-
-one_peer_takes : SendsWhatIsTaken buses one_peer
-unfolding digits
-one_peer_takes = refl
+one_peer_is_served = (record { turns_are = refl; asked = refl }, refl, refl)
 
 -- the same if the second write fails
 abbrev failing : List Call
@@ -51,17 +48,13 @@ failing =
     ++ (ReadCall 1 (Ok (got.Bytes 3)) (buffer (codes "GO\n")) [] ∷ WriteCall 1 go_line (Err fault.Write) ∷ CloseCall 1 (Ok tt) ∷ [])
     ++ nobody
 
-failing_is_served : IsServed buses 3 failing
-unfolding digits
-failing_is_served = record { turns_are = refl; asked = refl }
-
 failing_makes : events_of buses failing
     ≡ At 0 ∷ Open true ∷ Room 1 45 ∷ Room 1 0 ∷ At 0 ∷ Bytes 1 (giving (codes "GO\n")) ∷ Room 1 0 ∷ Shut 1 ∷ At 0 ∷ []
 failing_makes = refl
 
-failing_is_sent : map sent (course buses (events_of buses failing)).connections ≡ welcome ∷ []
+failing_is_served : IsServedOf 3 failing (welcome ∷ [])
 unfolding digits
-failing_is_sent = refl
+failing_is_served = (record { turns_are = refl; asked = refl }, refl, refl)
 
 -- ---- a peer that gives GO when it is first read
 
@@ -78,13 +71,9 @@ going = ReadCall 1 (Ok (got.Bytes 3)) (buffer (codes "GO\n")) [] ∷ WriteCall 1
 abbrev late : List Call
 late = ExpectCall None None ∷ NowCall (Ok 0) ∷ AcceptCall (Err fault.Accept) true ∷ (asked_in (greeting ∷ []) ++ nobody ++ going)
 
-late_is_served : IsServed buses 3 late
+late_is_served : IsServedOf 3 late ((welcome ++ go_line) ∷ [])
 unfolding digits
-late_is_served = record { turns_are = refl; asked = refl }
-
-late_takes : SendsWhatIsTaken buses late
-unfolding digits
-late_takes = refl
+late_is_served = (record { turns_are = refl; asked = refl }, refl, refl)
 
 -- the first read fails
 abbrev unread : List Call
@@ -147,13 +136,9 @@ two_peers =
     ∷ (nobody_beside 254 ++ quiet 1 ∷ wrote 1 (codes "0.000 101 INFO 0 SESSION 2 COMMAND\n") ∷ wrote 1 (codes "0.000 100 INFO 1 POWER ON\n")
     ∷ quiet 2 ∷ [])
 
-two_peers_are_served : IsServed buses 5 two_peers
+two_peers_are_served : IsServed buses 5 two_peers × SendsWhatIsTaken buses two_peers
 unfolding digits
-two_peers_are_served = record { turns_are = refl; asked = refl }
-
-two_peers_take : SendsWhatIsTaken buses two_peers
-unfolding digits
-two_peers_take = refl
+two_peers_are_served = (record { turns_are = refl; asked = refl }, refl)
 
 -- ---- memory is refused
 
@@ -165,40 +150,24 @@ refused =
     ++ nobody
     ++ (ReadCall 2 (Ok (got.Bytes 3)) (buffer (codes "GO\n")) (false ∷ []) ∷ wrote 2 (codes "0.000 500 ERROR out of resources\n") ∷ [])
 
-refused_is_served : IsServed buses 3 refused
+refused_is_served : IsServed buses 3 refused × SendsWhatIsTaken buses refused
 unfolding digits
-refused_is_served = record { turns_are = refl; asked = refl }
-
-refused_takes : SendsWhatIsTaken buses refused
-unfolding digits
-refused_takes = refl
+refused_is_served = (record { turns_are = refl; asked = refl }, refl)
 
 -- ---- what is not so served
 
 -- a server that hands over nothing
-abbrev silent : List Call
-silent = asked_in []
-
-silent_is_not : IsServed buses 1 silent → ⊥
+silent_is_not : IsServed buses 1 (asked_in []) → ⊥
 silent_is_not h = cc
 
 -- one that closes a peer whose write was short
-abbrev hasty : List Call
-hasty = asked_in (WriteCall 1 welcome (Ok 5) ∷ CloseCall 1 (Ok tt) ∷ [])
-
-hasty_is_not : IsServed buses 1 hasty → ⊥
+hasty_is_not : IsServed buses 1 (asked_in (WriteCall 1 welcome (Ok 5) ∷ CloseCall 1 (Ok tt) ∷ [])) → ⊥
 hasty_is_not h = cc
 
 -- one that reads before the welcome line is taken
-abbrev eager : List Call
-eager = asked_in (quiet 1 ∷ greeting ∷ [])
-
-eager_is_not : IsServed buses 1 eager → ⊥
+eager_is_not : IsServed buses 1 (asked_in (quiet 1 ∷ greeting ∷ [])) → ⊥
 eager_is_not h = cc
 
 -- one that keeps an accepted peer to which memory was refused
-abbrev keeping : List Call
-keeping = ExpectCall None None ∷ NowCall (Ok 0) ∷ AcceptCall (Ok (Some 1)) false ∷ []
-
-keeping_is_not : IsServed buses 1 keeping → ⊥
+keeping_is_not : IsServed buses 1 (ExpectCall None None ∷ NowCall (Ok 0) ∷ AcceptCall (Ok (Some 1)) false ∷ []) → ⊥
 keeping_is_not h = cc

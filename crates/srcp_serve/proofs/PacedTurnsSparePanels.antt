@@ -8,7 +8,7 @@ use Rattle.srcp_serve.proofs.Names.{drop_at, IsOverrun, option_or_256, slack, ro
 use Rattle.srcp_serve.proofs.Names.{SparesPanels, trace_room}
 use Rattle.srcp_core.proofs.CourseLaws.WaitsGrow.{few_close_none}
 use Rattle.srcp_core.proofs.CourseLaws.LinesBringTheirWeight.{light_lines}
-use Rattle.srcp_serve.proofs.CallsByTurnAndPeer.{AreTurnsAsked, turns_parted}
+use Rattle.srcp_serve.proofs.CallsByTurnAndPeer.{AreTurnsAsked, accept_as, turns_parted}
 
 -- a peer that was accepted
 abbrev pub opens : Accepted → Event
@@ -25,10 +25,7 @@ module _ (buses : List Bus) where
       ∙ append_assoc stand.events (At moment ∷ []) (map At moments)
 
   accept_events : (stand : Stand) (accept : Accepted) → (with_accept buses stand accept).events ≡ stand.events ++ opens accept ∷ []
-  accept_events stand accept =
-      elim (connects buses stand.events accept.granted) as
-      (λ t. (if t then with_connection buses stand accept else record stand { events = stand.events ++ opens accept ∷ [] }).events
-      ≡ stand.events ++ opens accept ∷ []) [ true ↦ refl | false ↦ refl ]
+  accept_events stand accept = accept_as buses (λ (s : Stand). s.events ≡ stand.events ++ opens accept ∷ []) stand accept refl refl
 
   accepts_events : (stand : Stand) (connected : List Accepted)
       → (fold (with_accept buses) stand connected).events ≡ stand.events ++ map opens connected
@@ -53,8 +50,7 @@ module _ (buses : List Bus) where
   turn_events stand calls = opening_events calls ++ flat_map (visit_events calls) (clients (begun buses stand calls).slots)
 
   pub turned_events : (stand : Stand) (calls : List Call) → (turned buses stand calls).events ≡ stand.events ++ turn_events stand calls
-  turned_events stand calls =
-      simp (begun_events, append_assoc)
+  turned_events stand calls = simp (begun_events, append_assoc)
 
 -- ---- a turn that brings no more changes than the door was told makes no panel overrun
 
@@ -62,16 +58,11 @@ module _ (buses : List Bus) where
   -- what the door was told is how many changes may come
   room_trace : (stand : Stand) (calls : List Call) → map question calls ≡ turn_asks buses stand calls
       → trace_room calls ≡ room buses (course buses stand.events)
-  room_trace stand [] e = cc
   room_trace stand (ExpectCall due slack_expected ∷ calls) e =
       let head : Expects due slack_expected ≡ expects buses stand.events = cc in
       let same : slack_expected ≡ slack buses (course buses stand.events) = cc in
       ap option_or_256 same
-  room_trace stand (NowCall answer ∷ calls) e = cc
-  room_trace stand (AcceptCall answer granted ∷ calls) e = cc
-  room_trace stand (ReadCall peer answer buffer grants ∷ calls) e = cc
-  room_trace stand (WriteCall peer bytes answer ∷ calls) e = cc
-  room_trace stand (CloseCall peer answer ∷ calls) e = cc
+  room_trace stand other e = cc
 
   -- what was told, of the course before the turn
   room_within : (stand : Stand) (calls : List Call) (n : ℕ) → map question calls ≡ turn_asks buses stand calls → n ≤ trace_room calls
@@ -83,10 +74,7 @@ module _ (buses : List Bus) where
   spares stand calls asked paced number later over =
       let more = turn_events buses stand calls in
       let same = turned_events buses stand calls in
-      let few =
-      rw same at (room_within stand calls _ asked paced) in
-      few_close_none buses stand.events more few number later
-      (rw same at over)
+      few_close_none buses stand.events more (rw same at (room_within stand calls _ asked paced)) number later (rw same at over)
 
   light_spares : IsLayout buses → (stand : Stand) (calls : List Call) → map question calls ≡ turn_asks buses stand calls
       → IsLight buses stand calls → SparesPanels buses stand calls
@@ -96,10 +84,8 @@ module _ (buses : List Bus) where
       let same = turned_events buses stand calls in
       let events : drop (length stand.events) (turned buses stand calls).events ≡ more =
       cc (drop_at stand.events more (length stand.events) refl) in
-      let few =
-      rw same at (rw events at (room_within stand calls _ asked light)) in
-      light_lines buses layout stand.events more few number later
-      (rw same at over)
+      let few = rw same at (rw events at (room_within stand calls _ asked light)) in
+      light_lines buses layout stand.events more few number later (rw same at over)
 
   -- ---- turn after turn
 

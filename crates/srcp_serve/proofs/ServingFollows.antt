@@ -4,6 +4,7 @@ use Rattle.srcp_serve.proofs.Names.{ap, sym, subst, arith, append-nil, append_ca
 use Rattle.srcp_serve.proofs.Names.{filter_map, AllZip, Bus, denied_over, start, Held, DoorCall, peer_of, Trace, Call, door_call}
 use Rattle.srcp_serve.proofs.Names.{CountsRefusals, Stand, IsServed, stand_after, events_of, Begins, IsInState, one_if, MakesTurn}
 use Rattle.srcp_serve.proofs.Names.{ClientsDiffer, IsSlotOf, ServesCourse, Owns, IsTurn, Asks, AreTurns, CountsAsked, Keys}
+use Rattle.srcp_serve.proofs.Names.{turned}
 use Rattle.std.specs.List.{IsDistinct}
 use Rattle.srcp_serve.proofs.CallsByTurnAndPeer.{served-more}
 use Rattle.srcp_serve.proofs.CallsAreAdded.{adds_then, refusals_then, same_calls}
@@ -29,18 +30,12 @@ abbrev pub ServesSoFar : (count opens : ℕ) (old : Held) (trace_old : Trace) (n
 ServesSoFar count opens old trace_old new trace_new owns =
     Begins (λ buses calls. IsServing buses count opens calls old new owns) old trace_old trace_new
 
-owns_none : (n : ℕ) → AllZip (IsSlotOf []) (replicate n None) (replicate n None)
-owns_none zero = tt
-owns_none (suc n) = (tt, owns_none n)
-
-known_none : (n : ℕ) → AreOf [] (replicate n None)
-known_none zero = tt
-known_none (suc n) = known_none n
-
-differ_none : (n : ℕ) → ClientsDiffer (replicate n None)
+-- nobody has a slot
+none_first : (n : ℕ) → AllZip (IsSlotOf []) (replicate n None) (replicate n None) × AreOf [] (replicate n None)
+    × ClientsDiffer (replicate n None)
 unfolding IsDistinct
-differ_none zero = tt
-differ_none (suc n) = differ_none n
+none_first zero = (tt, tt, tt)
+none_first (suc n) = let h = none_first n in ((tt, h.0), h.1, h.2)
 
 pub serves_first : (old : Held) (trace_old : Trace) → ServesSoFar 0 0 old trace_old old trace_old (replicate 64 None)
 serves_first old trace_old buses before calls layout stands was is differ =
@@ -52,11 +47,11 @@ serves_first old trace_old buses before calls layout stands was is differ =
       counted = refl;
       asked_for = λ first e. e;
       served = record { turns_are = refl; asked = refl };
-      known = known_none 64;
+      known = (none_first 64).1;
       in_state = record {
         layout = layout;
-        owns_are = owns_none 64;
-        differ = differ_none 64;
+        owns_are = (none_first 64).0;
+        differ = (none_first 64).2;
         long = refl;
         stands = stands;
       };
@@ -70,24 +65,19 @@ pub serves_on : (count opened : ℕ) (opens : Bool) (old mid new : Held) (trace_
     → MakesTurn mid trace_mid owns new trace_new owns_new opens
     → ServesSoFar (count + 1) (opened + one_if opens) old trace_old new trace_new owns_new
 serves_on count opened opens old mid new trace_old trace_mid trace_new owns owns_new so asks_before asks turn buses before calls layout
-    stands
-    was is differ =
+    stands was is differ =
     let trace = before ++ calls in
     let later = asks trace is in
     let w = later.1 in
     let earlier = asks_before w.before w.was in
     let first = earlier.0 in
-    let mid_is : w.before ≡ before ++ first =
-    cc (same_Some earlier.1.before before (sym earlier.1.was ∙ was)) in
-    let whole =
-    same_calls {trace = trace} (record { before = before; was = was; is = refl }) (adds_then w.was earlier.1 w) in
+    let mid_is : w.before ≡ before ++ first = cc (same_Some earlier.1.before before (sym earlier.1.was ∙ was)) in
+    let whole = same_calls {trace = trace} (record { before = before; was = was; is = refl }) (adds_then w.was earlier.1 w) in
     let differ_all = rw whole at differ in
     let s = so buses before first layout stands was (cc) (peers_prefix [] first later.0 differ_all) in
     let peers = filter_map peer_of first in
     let stood = stand_after buses s.calls in
-    let x =
-    turn buses stood s.keys trace s.in_state is peers later.0 w
-    (rw filter_map-append at differ_all) s.known in
+    let x = turn buses stood s.keys trace s.in_state is peers later.0 w (rw filter_map-append at differ_all) s.known in
     let same = same_calls w x.made.adds in
     let more = served-more buses count s.calls x.calls s.served x.asked in
     let known =
@@ -112,10 +102,8 @@ pub serves_all : (count turns opened : ℕ) (old now : Held) (trace_old trace_no
 serves_all count turns opened old now _ _ owns e asks so buses before calls layout stands was is differ =
     let s = so buses before calls layout stands was is differ in
     let a = asks _ is in
-    let same =
-    same_calls a.1 (record { before = before; was = was; is = refl }) ∙ sym s.are in
-    let fair =
-    fair_given s.calls (rw same at (fair_turns a.0 a.2)) in
+    let same = same_calls a.1 (record { before = before; was = was; is = refl }) ∙ sym s.are in
+    let fair = fair_given s.calls (rw same at (fair_turns a.0 a.2)) in
     let served = rw e at s.served in
     record {
       calls = s.calls;

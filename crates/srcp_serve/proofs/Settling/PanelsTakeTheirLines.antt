@@ -17,6 +17,8 @@ use Rattle.srcp_core.proofs.CourseLaws.LinesHaveBytes.{AreFull, owed_full}
 use Rattle.srcp_core.proofs.CourseLaws.RoomSettles.{owes_after}
 use Rattle.srcp_core.proofs.CourseLaws.RoomAfterRoom.{left_after}
 use Rattle.srcp_core.proofs.CourseLaws.SessionsOfACourse.{anything, fits_open, open_shut, stands}
+use Rattle.srcp_serve.proofs.Names.{cond_both}
+use Rattle.std.proofs.lemmas.List.{nil_from_length}
 use Rattle.srcp_serve.proofs.RoomSendsWhatIsLent.{first_some, fits_left, given_more, after_room, lent_is, steady_course, there_after}
 use Rattle.srcp_serve.proofs.OnlyRoomSends.{steady_at, AreOfOthers, stays_all}
 
@@ -119,8 +121,7 @@ module _ (conn : Connection) where
   part_of step = if nat_le conn.go_step step.0 then filter (concerns (cursor_at conn step.0)) step.1 else []
 
   part_none : (n : ℕ) → part_of (n, []) ≡ []
-  part_none n = elim (nat_le conn.go_step n) as
-      (λ t. (if t then filter (concerns (cursor_at conn n)) [] else []) ≡ []) [ true ↦ refl | false ↦ refl ]
+  part_none n = cond_both (nat_le conn.go_step n) [] [] (λ (cs : List Change). cs ≡ []) (λ e. refl) (λ e. refl)
 
   concerning_same : (past more : History) → AreNone more → concerning conn (past ++ more) ≡ concerning conn past
   concerning_same past [] none = ap (concerning conn) (append-nil past)
@@ -136,9 +137,7 @@ module _ (conn : Connection) where
 
   module _ (shut : conn.shut ≡ None) where
     untold_same : (past more : History) → AreNone more → untold conn (past ++ more) ≡ untold conn past
-    untold_same past more none =
-        let trace : ℕ = length (filter_map (λ item. told_change item.what) conn.items) in
-        cc (concerning_same past more none)
+    untold_same past more none = cc (concerning_same past more none)
 
     pub overran_same : (past more : History) → AreNone more → overran conn (past ++ more) ≡ overran conn past
     overran_same past more none = ap (λ (cs : List Change). nat_lt 256 (length cs)) (untold_same past more none)
@@ -147,8 +146,7 @@ module _ (conn : Connection) where
         → AreNone more → owed conn (past ++ more) rows ≡ owed conn past rows
     owed_same past more rows numbers finished none =
         let longer = length-append past more in
-        let cursor =
-        cursor_later (length past) (length (past ++ more)) conn.done conn.items (omega arith) finished numbers in
+        let cursor = cursor_later (length past) (length (past ++ more)) conn.done conn.items (omega arith) finished numbers in
         cc (untold_same past more none)
 
 -- ---- an information session that goes on: what is unsent of it and what it is owed, and what each event makes of that
@@ -174,8 +172,7 @@ owed_then [] (what ∷ nexts) = nexts
 owed_then [] [] = []
 
 first_lent : (bytes : List ℕ) (nexts : List Next) → bytes ++ flat_map line_of (fitting 0 bytes nexts) ≡ first_text bytes nexts
-first_lent (byte ∷ bytes) nexts = ap (λ ns. (byte ∷ bytes) ++ flat_map line_of ns) (fits_left 0 byte bytes nexts (omega arith))
-    ∙ append-nil _
+first_lent (byte ∷ bytes) nexts = cc (fits_left 0 byte bytes nexts (omega arith), append-nil (byte ∷ bytes))
 first_lent [] (what ∷ nexts) = append-nil (line_of what)
 first_lent [] [] = refl
 
@@ -188,7 +185,7 @@ first_fits [] [] full = refl
 -- it is what was unsent and what is given, and no more than there is
 first_size : (bytes : List ℕ) (nexts : List Next) → length (first_text bytes nexts)
     ≡ length bytes + length (flat_map line_of (first_given bytes nexts))
-first_size (byte ∷ bytes) nexts = let none : length (byte ∷ bytes) ≡ length (byte ∷ bytes) + 0 = omega arith in none
+first_size (byte ∷ bytes) nexts = omega arith
 first_size [] (what ∷ nexts) = let same = ap length (append-nil (line_of what)) in omega arith
 first_size [] [] = refl
 
@@ -259,14 +256,12 @@ module _ (buses : List Bus) (n : ℕ) where
         let past = history buses w in
         let due = owed p.conn past (rows buses w) in
         let later = took k (length past) due p.conn in
-        let v = course buses (events ++ Room n k ∷ []) in
         let next = after_room buses events n k p.conn panel_open in
         let same = ap (history buses) next in
         let shows = ap (rows buses) next in
         let fit : fitting k (unsent p.conn) due ≡ first_given bytes nexts = cc (first_fits bytes nexts panel_full) in
         let after = owes_after buses layout w k p.conn panel_shut p.is.info (panel_fits layout) in
-        let rest =
-        rest_is bytes nexts after.rest (cc) in
+        let rest = rest_is bytes nexts after.rest (cc) in
         record {
           conn = later;
           is = record {
@@ -346,8 +341,7 @@ module _ (buses : List Bus) (n : ℕ) where
             (cc (next, after, numbered_with n feed w.connections, p.is.there))
             (ap (λ (v : World). v.steps) (next ∙ after))
         by (Some cause) e =
-            let after =
-            ap (λ o. or_refused buses o (Bytes n piece) (counted w)) e in
+            let after = ap (λ o. or_refused buses o (Bytes n piece) (counted w)) e in
             panel_fed (Bytes n piece ∷ []) p.conn.fed (cc (next, after, p.is.there))
             (ap (λ (v : World). v.steps) (next ∙ after))
 
@@ -359,11 +353,10 @@ module _ (buses : List Bus) (n : ℕ) where
         let f = steps_follow buses events more in
         let v = course buses (events ++ more) in
         let since = history_from (state buses w) f.0 in
-        let empty = no_length _ (sym (brought_is buses events more f.0 f.1) ∙ none) in
+        let empty = nil_from_length _ (sym (brought_is buses events more f.0 f.1) ∙ none) in
         let each = none_each since empty in
         let grown = history_follows buses events more f.0 f.1 in
-        let shows =
-        ap shown_rows (state_follows buses events more f.0 f.1 ∙ same_state _ f.0 empty) in
+        let shows = ap shown_rows (state_follows buses events more f.0 f.1 ∙ same_state _ f.0 empty) in
         let fits = panel_fits layout in
         record {
           conn = p.conn;
@@ -376,7 +369,3 @@ module _ (buses : List Bus) (n : ℕ) where
           left = p.left;
           owes = cc (owed_same p.conn panel_shut past since (rows buses w) fits.numbers fits.finished each);
         }
-      where
-        no_length : {X : Type 0} (xs : List X) → length xs ≡ 0 → xs ≡ []
-        no_length [] e = refl
-        no_length (x ∷ xs) e = absurd (omega arith)
