@@ -6,7 +6,7 @@ use Rattle.srcp_serve.proofs.Names.{key_of, Event, Open, denied_by, StandsFor, C
 use Rattle.srcp_serve.proofs.Names.{key_push_last, DoorCall, Trace, Accepted, AcceptCall, CloseCall, Client, Stand, ClosesQuestion}
 use Rattle.srcp_serve.proofs.Names.{with_client, with_connection, IsSettled, Connects, Owns, Own}
 use Rattle.srcp_serve.specs.Visits.{Closes}
-use Rattle.srcp_serve.proofs.SlotsAreTakenAndFreed.{clients_differ, slots_differ, few_slots, differ_connected, in_state_on, free_is}
+use Rattle.srcp_serve.proofs.SlotsAreTakenAndFreed.{few_slots, differ_connected, in_state_on, free_is}
 use Rattle.srcp_serve.proofs.SlotsAreTakenAndFreed.{new_apart, none_free, owns_pushed, owns_connected}
 use Rattle.srcp_serve.proofs.CallsAreAdded.{adds_none, asked_one}
 
@@ -97,8 +97,8 @@ connects_done peer key free old mid trace_old owns admitted slot buses stand key
         in_state = rw w (record {
           layout = in_state.layout;
           owns_are = rw (free_is owns free slot) sitting;
-          differ = clients_differ (with_client client stand.slots) (differ_connected client stand.slots
-              (new_apart keys client owns stand.slots in_state.owns_are conn new) (slots_differ stand.slots in_state.differ));
+          differ =
+              differ_connected client stand.slots (new_apart keys client owns stand.slots in_state.owns_are conn new) in_state.differ;
           long = cc (length-append keys (Some key ∷ []), length-append stand.connected (peer ∷ []));
           stands = calls_lead.opened key old mid admitted buses stand.events keys in_state.layout in_state.stands;
         });
@@ -112,6 +112,6 @@ pub connects_without_slot : (peer : ℕ) (opens : Bool) (old new : Held) (trace_
     → position is_none owns ≡ None → Connects old trace_old owns new trace_new owns peer opens
 connects_without_slot peer opens old new trace_old trace_new owns below long none buses stand keys trace in_state is fresh =
     let taken = none_free keys owns stand.slots in_state.owns_are none in
-    let few = few_slots keys owns stand.slots in_state.owns_are (slots_differ stand.slots in_state.differ) in
+    let few = few_slots keys owns stand.slots in_state.owns_are in_state.differ in
     let opened = calls_agree.counted old buses stand.events keys in_state.stands in
     absurd (omega (arith, taken, few, opened, below, long))

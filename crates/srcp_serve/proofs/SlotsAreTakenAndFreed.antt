@@ -8,6 +8,8 @@ use Rattle.srcp_serve.proofs.Names.{visit_events, exchange, is_close, Client, St
 use Rattle.srcp_serve.proofs.Names.{sum_by-cons, course, Held, key_of, without_key, StandsFor, key_push, key_within, without_other, Own}
 use Rattle.srcp_serve.proofs.Names.{cond_both, eqb-false, ltb-false, ne_eqb, or_from, or_parts}
 use Rattle.std.specs.List.{IsDistinct}
+use Rattle.srcp_info.proofs.ClientLaws.{all_weaker}
+use Rattle.srcp_serve.proofs.PeersAreSentTheirVisits.{connected_all}
 use Rattle.srcp_serve.proofs.VisitsFollow.{AreAbout}
 use Rattle.srcp_serve.proofs.CallsByTurnAndPeer.{AreOf as AskOf, no_calls, none_asked, turned_round}
 
@@ -15,42 +17,14 @@ use Rattle.srcp_serve.proofs.CallsByTurnAndPeer.{AreOf as AskOf, no_calls, none_
 abbrev pub AreSlotsOf : Keys → Owns → Slots → Type 0
 AreSlotsOf keys owns slots = AllZip (IsSlotOf keys) owns slots
 
--- the slot is free, or another peer on another connection has it
-abbrev pub IsApartFrom : Client → Option Client → Type 0
-IsApartFrom client slot = IfSome slot (λ other. ((client.conn == other.conn) ≡ false) × ((client.peer == other.peer) ≡ false))
+-- the other is another peer on another connection
+abbrev pub IsApartFrom : Client → Client → Type 0
+IsApartFrom client other = (client.conn == other.conn) || (client.peer == other.peer) ≡ false
 
--- no connection and no peer has two slots, slot by slot
-abbrev pub SlotsDiffer : Slots → Type 0
-SlotsDiffer [] = Unit {0}
-SlotsDiffer (None ∷ slots) = SlotsDiffer slots
-SlotsDiffer (Some client ∷ slots) = AllByRecursion (IsApartFrom client) slots × SlotsDiffer slots
-
-abbrev overlap : Client → Client → Bool
-overlap a b = (a.conn == b.conn) || (a.peer == b.peer)
-
-apart_in : (client : Client) (slots : Slots) → AllByRecursion (λ other. overlap client other ≡ false) (clients slots)
-    → AllByRecursion (IsApartFrom client) slots
-apart_in client [] h = tt
-apart_in client (None ∷ slots) h = (tt, apart_in client slots h)
-apart_in client (Some other ∷ slots) h = (or_parts (client.conn == other.conn) _ h.0, apart_in client slots h.1)
-
-apart_of : (client : Client) (slots : Slots) → AllByRecursion (IsApartFrom client) slots
-    → AllByRecursion (λ other. overlap client other ≡ false) (clients slots)
-apart_of client [] h = tt
-apart_of client (None ∷ slots) h = apart_of client slots h.1
-apart_of client (Some other ∷ slots) h = (or_from (client.conn == other.conn) _ h.0.0 h.0.1, apart_of client slots h.1)
-
-pub slots_differ : (slots : Slots) → ClientsDiffer slots → SlotsDiffer slots
-unfolding IsDistinct
-slots_differ [] h = tt
-slots_differ (None ∷ slots) h = slots_differ slots h
-slots_differ (Some client ∷ slots) h = (apart_in client slots h.0, slots_differ slots h.1)
-
-pub clients_differ : (slots : Slots) → SlotsDiffer slots → ClientsDiffer slots
-unfolding IsDistinct
-clients_differ [] h = tt
-clients_differ (None ∷ slots) h = clients_differ slots h
-clients_differ (Some client ∷ slots) h = (apart_of client slots h.0, clients_differ slots h.1)
+apart_round : (a b : Client) → IsApartFrom a b → IsApartFrom b a
+apart_round a b h =
+    let parts = or_parts (a.conn == b.conn) _ h in
+    or_from (b.conn == a.conn) (b.peer == a.peer) (turned_round _ _ parts.0) (turned_round _ _ parts.1)
 
 -- the peer has no slot
 abbrev pub HasNone : ℕ → Slots → Type 0
@@ -171,30 +145,27 @@ owns_cleared keys (own ∷ owns) (p ∷ before) slot after (suc i) e h =
     (h.0, owns_cleared keys owns before slot after i (omega (arith, e)) h.1)
 owns_cleared keys (own ∷ owns) before slot after i e h = cc
 
--- the number has no slot
-abbrev IsNotNumber : ℕ → Option Client → Type 0
-IsNotNumber n None = Unit {0}
-IsNotNumber n (Some client) = (n == client.conn) ≡ false
+-- no slot has the number
+abbrev HasNoNumber : ℕ → Slots → Type 0
+HasNoNumber n slots = AllByRecursion (λ client. (n == client.conn) ≡ false) (clients slots)
 
-owns_kept : (n : ℕ) (keys : Keys) (owns : Owns) (slots : Slots) → AllByRecursion (IsNotNumber n) slots
+owns_kept : (n : ℕ) (keys : Keys) (owns : Owns) (slots : Slots) → HasNoNumber n slots
     → AreSlotsOf keys owns slots → AreSlotsOf (without_key n keys) owns slots
 owns_kept n keys [] [] free h = tt
-owns_kept n keys (None ∷ owns) (None ∷ slots) free h = (tt, owns_kept n keys owns slots free.1 h.1)
+owns_kept n keys (None ∷ owns) (None ∷ slots) free h = (tt, owns_kept n keys owns slots free h.1)
 owns_kept n keys (Some own ∷ owns) (Some client ∷ slots) free h = (
   (h.0.0, without_other n client.conn keys (λ same. eqb-false n client.conn free.0 (sym same)) ∙ h.0.1),
   owns_kept n keys owns slots free.1 h.1,
 )
 owns_kept n keys owns slots free h = search
 
-numbers_after : (client : Client) (slots : Slots) → AllByRecursion (IsApartFrom client) slots
-    → AllByRecursion (IsNotNumber client.conn) slots
-numbers_after client [] h = tt
-numbers_after client (None ∷ slots) h = (tt, numbers_after client slots h.1)
-numbers_after client (Some other ∷ slots) h = (h.0.0, numbers_after client slots h.1)
+numbers_after : (client : Client) (slots : Slots) → AllByRecursion (IsApartFrom client) (clients slots) → HasNoNumber client.conn slots
+numbers_after client slots = all_weaker (IsApartFrom client) _ (λ other h. (or_parts (client.conn == other.conn) _ h).0) (clients slots)
 
 -- no more slots are taken than there are connections
-pub few_slots : (keys : Keys) (owns : Owns) (slots : Slots) → AreSlotsOf keys owns slots → SlotsDiffer slots
+pub few_slots : (keys : Keys) (owns : Owns) (slots : Slots) → AreSlotsOf keys owns slots → ClientsDiffer slots
     → count_by is_some slots ≤ count_by is_some keys
+unfolding IsDistinct
 few_slots keys [] [] h d = omega arith
 few_slots keys (None ∷ owns) (None ∷ slots) h d = omega (arith, few_slots keys owns slots h.1 d, count_cons None slots)
 few_slots keys (Some own ∷ owns) (Some client ∷ slots) h d =
@@ -207,33 +178,38 @@ pub all_here : {X : Type 0} (P : X → Type 0) (before : List X) (x : X) (after 
 all_here P [] x after h = h.0
 all_here P (y ∷ before) x after h = all_here P before x after h.1
 
-all_cleared : (P : Option Client → Type 0) (before : Slots) (slot : Option Client) (after : Slots) → P None
-    → AllByRecursion P (before ++ slot ∷ after) → AllByRecursion P (before ++ None ∷ after)
-all_cleared P [] slot after none h = (none, h.1)
-all_cleared P (p ∷ before) slot after none h = (h.0, all_cleared P before slot after none h.1)
+-- what holds of all that have a slot holds of the one in the middle, and of the others
+all_around : (P : Client → Type 0) (before : Slots) (client : Client) (after : Slots)
+    → AllByRecursion P (clients (before ++ Some client ∷ after)) → P client × AllByRecursion P (clients (before ++ None ∷ after))
+all_around P [] client after h = (h.0, h.1)
+all_around P (None ∷ before) client after h = all_around P before client after h
+all_around P (Some other ∷ before) client after h = let more = all_around P before client after h.1 in (more.0, (h.0, more.1))
 
-numbers_around : (before : Slots) (client : Client) (after : Slots) → SlotsDiffer (before ++ Some client ∷ after)
-    → AllByRecursion (IsNotNumber client.conn) (before ++ None ∷ after)
-numbers_around [] client after h = (tt, numbers_after client after h.0)
-numbers_around (None ∷ before) client after h = (tt, numbers_around before client after h)
+numbers_around : (before : Slots) (client : Client) (after : Slots) → ClientsDiffer (before ++ Some client ∷ after)
+    → HasNoNumber client.conn (before ++ None ∷ after)
+unfolding IsDistinct
+numbers_around [] client after h = numbers_after client after h.0
+numbers_around (None ∷ before) client after h = numbers_around before client after h
 numbers_around (Some other ∷ before) client after h =
-    (turned_round _ _ (all_here (IsApartFrom other) before (Some client) after h.0).0, numbers_around before client after h.1)
+    let apart = apart_round other client (all_around (IsApartFrom other) before client after h.0).0 in
+    ((or_parts (client.conn == other.conn) _ apart).0, numbers_around before client after h.1)
 
 -- the peer that has that slot is disconnected
 pub owns_without : (keys : Keys) (owns : Owns) (before : Slots) (client : Client)
     (after : Slots) (i : ℕ)
-    → length before ≡ i → SlotsDiffer (before ++ Some client ∷ after) → AreSlotsOf keys owns (before ++ Some client ∷ after)
+    → length before ≡ i → ClientsDiffer (before ++ Some client ∷ after) → AreSlotsOf keys owns (before ++ Some client ∷ after)
     → AreSlotsOf (without_key client.conn keys) (slice_set owns i None) (before ++ None ∷ after)
 owns_without keys owns before client after i e differ h =
     owns_kept client.conn keys (slice_set owns i None) (before ++ None ∷ after) (numbers_around before client after differ)
     (owns_cleared keys owns before (Some client) after i e h)
 
-pub differ_cleared : (before : Slots) (client : Client) (after : Slots) → SlotsDiffer (before ++ Some client ∷ after)
-    → SlotsDiffer (before ++ None ∷ after)
+pub differ_cleared : (before : Slots) (client : Client) (after : Slots) → ClientsDiffer (before ++ Some client ∷ after)
+    → ClientsDiffer (before ++ None ∷ after)
+unfolding IsDistinct
 differ_cleared [] client after h = h.1
 differ_cleared (None ∷ before) client after h = differ_cleared before client after h
 differ_cleared (Some other ∷ before) client after h =
-    (all_cleared _ before _ after tt h.0, differ_cleared before client after h.1)
+    ((all_around (IsApartFrom other) before client after h.0).1, differ_cleared before client after h.1)
 
 -- ---- a peer that is connected
 
@@ -280,61 +256,62 @@ pub none_free : (keys : Keys) (owns : Owns) (slots : Slots) → AreSlotsOf keys 
 none_free keys owns slots h e = all_taken keys owns slots h (cond_both _ _ _ (λ (o : Option ℕ). o ≡ None → length owns ≤ free_in owns)
     (λ t e. cc) (λ t e. ltb-false _ _ t) e)
 
-pub all_connected : (P : Option Client → Type 0) (client : Client) (slots : Slots) → P (Some client) → AllByRecursion P slots
-    → AllByRecursion P (with_client client slots)
-all_connected P client [] new h = tt
-all_connected P client (None ∷ slots) new h = (new, h.1)
-all_connected P client (Some other ∷ slots) new h = (h.0, all_connected P client slots new h.1)
-
-pub differ_connected : (client : Client) (slots : Slots) → AllByRecursion (IsApartFrom client) slots → SlotsDiffer slots
-    → SlotsDiffer (with_client client slots)
+pub differ_connected : (client : Client) (slots : Slots) → AllByRecursion (IsApartFrom client) (clients slots) → ClientsDiffer slots
+    → ClientsDiffer (with_client client slots)
+unfolding IsDistinct
 differ_connected client [] new h = tt
-differ_connected client (None ∷ slots) new h = (new.1, h)
+differ_connected client (None ∷ slots) new h = (new, h)
 differ_connected client (Some other ∷ slots) new h = (
-  all_connected _ client slots (turned_round client.conn other.conn new.0.0, turned_round client.peer other.peer new.0.1) h.0,
+  connected_all (IsApartFrom other) client slots (apart_round client other new.0) h.0,
   differ_connected client slots new.1 h.1,
 )
 
 pub new_apart : (keys : Keys) (client : Client) (owns : Owns) (slots : Slots) → AreSlotsOf keys owns slots
-    → client.conn ≡ length keys + 1 → HasNone client.peer slots → AllByRecursion (IsApartFrom client) slots
+    → client.conn ≡ length keys + 1 → HasNone client.peer slots → AllByRecursion (IsApartFrom client) (clients slots)
 new_apart keys client [] [] h e new = tt
-new_apart keys client (None ∷ owns) (None ∷ slots) h e new = (tt, new_apart keys client owns slots h.1 e new)
+new_apart keys client (None ∷ owns) (None ∷ slots) h e new = new_apart keys client owns slots h.1 e new
 new_apart keys client (Some own ∷ owns) (Some other ∷ slots) h e new =
     let within = (key_within other.conn keys own.key h.0.1).1 in
-    ((ne_eqb _ _ (λ same. omega (arith, e, within, same)), new.0), new_apart keys client owns slots h.1 e new.1)
+    let no = ne_eqb client.conn other.conn (λ same. omega (arith, e, within, same)) in
+    (or_from (client.conn == other.conn) _ no new.0, new_apart keys client owns slots h.1 e new.1)
 new_apart keys client owns slots h e new = search
 
 -- ---- visits of some slots, and of the next one
 
 module _ (buses : List Bus) (slot : Option Client) (after : Slots) (events : List Event) (calls : List Call) where
   -- the visit of the next slot is of no client before it
-  pub none_before : (slots : Slots) → SlotsDiffer (slots ++ slot ∷ after)
+  pub none_before : (slots : Slots) → ClientsDiffer (slots ++ slot ∷ after)
       → map question calls ≡ visits_ask buses events calls (clients (slot ∷ [])) → NoVisits calls (clients slots)
+  unfolding IsDistinct
   none_before [] h e = tt
   none_before (None ∷ slots) h e = none_before slots h e
   none_before (Some client ∷ slots) h e = (
-    no_visit calls client (ap (filter (asks_of client.peer)) e ∙ by slot (all_here (IsApartFrom client) slots slot after h.0)),
+    no_visit calls client (ap (filter (asks_of client.peer)) e ∙ by slot h.0),
     none_before slots h.1 e,
   )
     where
-      by : (next : Option Client) → IsApartFrom client next
+      by : (next : Option Client) → AllByRecursion (IsApartFrom client) (clients (slots ++ next ∷ after))
           → filter (asks_of client.peer) (visits_ask buses events calls (clients (next ∷ []))) ≡ []
       by None a = refl
-      by (Some other) a = none_asked buses client.peer events calls (other ∷ []) (turned_round client.peer other.peer a.1, tt)
+      by (Some other) a =
+          let apart = apart_round client other (all_around (IsApartFrom client) slots other after a).0 in
+          none_asked buses client.peer events calls (other ∷ []) ((or_parts (other.conn == client.conn) _ apart).1, tt)
 
   -- nor is one before it of its client
-  pub none_next : (slots : Slots) → SlotsDiffer (slots ++ slot ∷ after) → map question calls ≡ visits_ask buses events calls (clients slots)
-      → NoVisits calls (clients (slot ∷ []))
+  pub none_next : (slots : Slots) → ClientsDiffer (slots ++ slot ∷ after)
+      → map question calls ≡ visits_ask buses events calls (clients slots) → NoVisits calls (clients (slot ∷ []))
+  unfolding IsDistinct
   none_next slots h e = by slot h
     where
-      apart : (slots : Slots) (client : Client) → SlotsDiffer (slots ++ Some client ∷ after)
+      apart : (slots : Slots) (client : Client) → ClientsDiffer (slots ++ Some client ∷ after)
           → AllByRecursion (λ other. (other.peer == client.peer) ≡ false) (clients slots)
       apart [] client h = tt
       apart (None ∷ slots) client h = apart slots client h
       apart (Some other ∷ slots) client h =
-          ((all_here (IsApartFrom other) slots (Some client) after h.0).1, apart slots client h.1)
+          let one = (all_around (IsApartFrom other) slots client after h.0).0 in
+          ((or_parts (other.conn == client.conn) _ one).1, apart slots client h.1)
 
-      by : (next : Option Client) → SlotsDiffer (slots ++ next ∷ after) → NoVisits calls (clients (next ∷ []))
+      by : (next : Option Client) → ClientsDiffer (slots ++ next ∷ after) → NoVisits calls (clients (next ∷ []))
       by None h = tt
       by (Some client) h = (
         no_visit calls client

@@ -6,9 +6,10 @@ use Rattle.srcp_serve.proofs.Names.{Bus, course, Held, key_of, without_key, Stan
 use Rattle.srcp_serve.proofs.Names.{clients, Stand, is_about, is_close, kept, question, visit, visit_asks, visit_events, Slots, IsInState}
 use Rattle.srcp_serve.proofs.Names.{HasVisited, VisitsSlot, VisitsSlots, FromEveryState, Owns, AreFreeFrom, MayFree, AreAboutPeers, Asks}
 use Rattle.srcp_serve.proofs.Names.{Call, Keys, Visits, Own, filter_every, filter_map-append, flat_map}
-use Rattle.srcp_serve.proofs.SlotsAreTakenAndFreed.{differ_cleared, in_state_on, length-owns, owns_without, AreSlotsOf, clients_differ}
-use Rattle.srcp_serve.proofs.SlotsAreTakenAndFreed.{slots_differ, own_here, about_asked, first_visits, none_before, none_next, same_asked}
-use Rattle.srcp_serve.proofs.SlotsAreTakenAndFreed.{same_kept, same_made, SameVisits, second_visits, SlotsDiffer, visits_ask-append}
+use Rattle.srcp_serve.proofs.Names.{ClientsDiffer}
+use Rattle.srcp_serve.proofs.SlotsAreTakenAndFreed.{differ_cleared, in_state_on, length-owns, owns_without, AreSlotsOf}
+use Rattle.srcp_serve.proofs.SlotsAreTakenAndFreed.{own_here, about_asked, first_visits, none_before, none_next, same_asked}
+use Rattle.srcp_serve.proofs.SlotsAreTakenAndFreed.{same_kept, same_made, SameVisits, second_visits, visits_ask-append}
 use Rattle.srcp_serve.proofs.CallsByTurnAndPeer.{visit_own}
 use Rattle.srcp_serve.proofs.CallsAreAdded.{makes_none, makes_then}
 use Rattle.srcp_serve.proofs.DoorIsCalled.{asks_none}
@@ -77,11 +78,10 @@ module _ (slot : ℕ) (d : Option Own) (own : Own) (old new : Held) (trace_old t
   pub slot_goes : Visits own.peer own.key old trace_old new trace_new false
       → VisitsSlot old trace_old owns new trace_new (slice_set owns slot None) slot
   slot_goes visits = slot_visited false _ visits (λ buses stand events keys before client after e h named stands.
-      let apart = slots_differ (before ++ Some client ∷ after) h.differ in
       record {
         layout = h.layout;
-        owns_are = owns_without keys owns before client after slot e apart h.owns_are;
-        differ = clients_differ (before ++ None ∷ after) (differ_cleared before client after apart);
+        owns_are = owns_without keys owns before client after slot e h.differ h.owns_are;
+        differ = differ_cleared before client after h.differ;
         long = length_without client.conn keys ∙ h.long;
         stands = stands;
       })
@@ -122,7 +122,7 @@ slots_first old trace_old owns buses stand keys trace in_state is = record {
 module _ (buses : List Bus) (stand : Stand) (old : Trace) (core_old : Held) (slots : Slots) where
   -- one slot more was visited
   visited_then : (mid : List DoorCall) (trace_mid : Trace) (between new : Held) (owns owns_after : Owns)
-      (trace : List DoorCall) (slot : Option Client) (after : Slots) → SlotsDiffer (slots ++ slot ∷ after)
+      (trace : List DoorCall) (slot : Option Client) (after : Slots) → ClientsDiffer (slots ++ slot ∷ after)
       → trace_mid ≡ Some mid
       → (x : HasVisited buses stand old mid between owns core_old [] slots (slot ∷ after))
       → HasVisited buses (record stand {
@@ -178,7 +178,7 @@ module _ (slot : ℕ) (old mid new : Held) (trace_old trace_mid trace_new : Trac
     (owns_old owns owns_after : Owns) (long : length owns ≡ 64) (within : slot < 64)
     (visits : VisitsSlot mid trace_mid owns new trace_new owns_after slot) where
   slotd_on : (buses : List Bus) (stand : Stand) (trace trace_then : List DoorCall) → trace_new ≡ Some trace → trace_mid ≡ Some trace_then
-      → SlotsDiffer stand.slots → (clients after : Slots) → stand.slots ≡ clients ++ after → length clients ≡ slot
+      → ClientsDiffer stand.slots → (clients after : Slots) → stand.slots ≡ clients ++ after → length clients ≡ slot
       → HasVisited buses stand trace_old trace_then mid owns old [] clients after
       → HasVisitedSoFar buses stand trace_old trace new owns_after old (slot + 1)
   slotd_on buses stand trace trace_then is was differ clients [] are many x =
@@ -193,7 +193,7 @@ module _ (slot : ℕ) (old mid new : Held) (trace_old trace_mid trace_new : Trac
         are = are ∙ sym (append_assoc clients (p ∷ []) after);
         many = cc (length-append clients (p ∷ []));
         visited = visited_then buses stand trace_old old clients trace_then trace_mid mid new owns owns_after trace p after
-            (subst SlotsDiffer are differ) was x y;
+            (subst ClientsDiffer are differ) was x y;
       }
 
   pub slots_on : VisitsSoFar slot old trace_old owns_old mid trace_mid owns → Asks AreAboutPeers trace_mid trace_new
@@ -201,7 +201,7 @@ module _ (slot : ℕ) (old mid new : Held) (trace_old trace_mid trace_new : Trac
   slots_on so asks buses stand keys trace in_state is =
       let w = (asks trace is).1 in
       let s = so buses stand keys w.before in_state w.was in
-      slotd_on buses stand trace w.before is w.was (slots_differ stand.slots in_state.differ) s.clients s.after s.are s.many s.visited
+      slotd_on buses stand trace w.before is w.was in_state.differ s.clients s.after s.are s.many s.visited
 
 pub slots_all : (slot : ℕ) (old now : Held) (trace_old trace_now : Trace) (owns_old owns : Owns)
     → length owns ≡ 64 → slot ≡ 64 → VisitsSoFar slot old trace_old owns_old now trace_now owns
