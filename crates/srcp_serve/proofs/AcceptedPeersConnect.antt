@@ -1,13 +1,13 @@
 -- A peer that is accepted gets a connection and the first free slot, or is closed.
-use Rattle.srcp_serve.proofs.Names.{◌≡◌, ◌∙◌, ℕ, suc, ◌+◌, ◌<◌, Bool, true, false, List, [], ◌∷◌, ◌++◌, length, if◌then◌else◌, Some, None}
-use Rattle.srcp_serve.proofs.Names.{Ok, refl, ap, sym, arith, length-append, filter, slice_set, is_none, not, position, nat_lt, fold-append}
+use Rattle.srcp_serve.proofs.Names.{◌≡◌, ℕ, suc, ◌+◌, ◌<◌, Bool, true, false, List, [], ◌∷◌, ◌++◌, length, if◌then◌else◌, Some, None, Ok}
+use Rattle.srcp_serve.proofs.Names.{refl, ap, sym, arith, length-append, filter, slice_set, is_none, not, position, nat_lt, fold-append}
 use Rattle.srcp_serve.proofs.Names.{Bus, is_open, World, counted, course, denied_in, fault, Held, open_count, IsAdmitted, IsNotAdmitted}
 use Rattle.srcp_serve.proofs.Names.{key_of, Event, Open, denied_by, StandsFor, CoreFault, Full, MemoryFault, calls_agree, calls_lead}
 use Rattle.srcp_serve.proofs.Names.{key_push_last, DoorCall, Trace, Accepted, AcceptCall, CloseCall, Client, Stand, ClosesQuestion}
-use Rattle.srcp_serve.proofs.Names.{with_client, with_connection, IsSettled, Connects, Owns, Own}
+use Rattle.srcp_serve.proofs.Names.{with_connection, IsSettled, Connects, Owns, Own}
 use Rattle.srcp_serve.specs.Visits.{Closes}
-use Rattle.srcp_serve.proofs.SlotsAreTakenAndFreed.{few_slots, differ_connected, in_state_on, free_is}
-use Rattle.srcp_serve.proofs.SlotsAreTakenAndFreed.{new_apart, none_free, owns_pushed, owns_connected}
+use Rattle.srcp_serve.proofs.SlotsAreTakenAndFreed.{few_slots, differ_connected, in_state_on, free_is, new_apart, none_free, owns_pushed}
+use Rattle.srcp_serve.proofs.SlotsAreTakenAndFreed.{owns_connected}
 use Rattle.srcp_serve.proofs.CallsAreAdded.{adds_none, asked_one}
 
 module _ (buses : List Bus) where

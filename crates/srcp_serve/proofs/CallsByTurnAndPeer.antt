@@ -62,6 +62,12 @@ pub any_not : {X : Type 0} (p : X → Bool) (xs : List X) → AllByRecursion (λ
 any_not p [] a = refl
 any_not p (x ∷ xs) a = cc (any_not p xs a.1)
 
+-- what each step keeps, all steps keep
+pub fold_keeps : {A B : Type 0} (P : A → Type 0) (f : A → B → A) → ((a : A) (b : B) → P a → P (f a b)) → (bs : List B) (a : A) → P a
+    → P (fold f a bs)
+fold_keeps P f step [] a p = p
+fold_keeps P f step (b ∷ bs) a p = fold_keeps P f step bs (f a b) (step a b p)
+
 -- what holds of each of both lists holds of each of the one that is chosen
 pub all_if : {X : Type 0} (P : X → Type 0) (b : Bool) (xs ys : List X) → AllByRecursion P xs → AllByRecursion P ys
     → AllByRecursion P (if b then xs else ys)

@@ -6,8 +6,8 @@ pub use Rattle.srcp_core.proofs.CourseLaws.RoomGivesWhatIsOwed.{fitting_none, no
 pub use Rattle.srcp_core.proofs.CourseLaws.RoomsAddUp.{owed_plain, takes_within, took_overran}
 pub use Rattle.srcp_core.proofs.CourseLaws.SessionsAreKept.{all_numbered, all_push, opened}
 pub use Rattle.srcp_core.specs.Connection.{Connection, History, available, concerning, cursor_at, fitting, given, given_room, is_last}
-pub use Rattle.srcp_core.specs.Connection.{is_nil, is_open, is_settled, items_of, line_of, overran, owed, prefix, sent, text, told_change}
-pub use Rattle.srcp_core.specs.Connection.{took, unsent, untold, waiting}
+pub use Rattle.srcp_core.specs.Connection.{is_nil, is_open, is_settled, items_of, line_of, overran, owed, prefix, sent, text, took, unsent}
+pub use Rattle.srcp_core.specs.Connection.{untold, waiting}
 pub use Rattle.srcp_core.specs.Course.{World, answered, answered_as, at_connection, commanded, counted, course, denied_in, denied_over, did}
 pub use Rattle.srcp_core.specs.Course.{ended, entered, fault, fed_to, fresh, goes, greeted, happens, history, history_from, is_info}
 pub use Rattle.srcp_core.specs.Course.{new_lines, numbered, obeyed, open_connection, or_refused, order_of, replied, rows, shut_as, start}
@@ -71,5 +71,5 @@ pub use Rattle.std.proofs.lemmas.List.Sums.{fold-append, length-filter, sum_by-a
 pub use Rattle.std.proofs.lemmas.Option.{same_Some, slice_get-map}
 pub use Rattle.std.specs.List.{AllByRecursion, AllZip, cons_option, count_by, enumerate_from, list_all, list_any, prefix_len}
 pub use Rattle.std.specs.List.{slice_index_or, slice_set, take_while}
-pub use Rattle.std.specs.Prelude.{IfOk, IfSome, MatchResult, OnOk, filter_map, flat_map, fold, is_none, is_some, nat_le, nat_lt, position}
+pub use Rattle.std.specs.Prelude.{IfOk, MatchResult, OnOk, filter_map, flat_map, fold, is_none, is_some, nat_le, nat_lt, position}
 pub use Rattle.std.specs.Prelude.{slice_get, ◌&&◌, ◌||◌}

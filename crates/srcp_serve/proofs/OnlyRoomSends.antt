@@ -15,6 +15,7 @@ use Rattle.srcp_info.specs.declared.change.Reply.TheVariants.{Protocol, Mode as 
 use Rattle.srcp_info.specs.declared.value.Mode.{Mode}
 use Rattle.srcp_rules.specs.Effect.{Effect}
 use Rattle.srcp_core.proofs.CourseLaws.NothingAfterTheEnd.{numbered_other, numbered_push}
+use Rattle.srcp_serve.proofs.CallsByTurnAndPeer.{fold_keeps}
 
 -- it was given no line unless it is an information session, which no command of its own ends, and no more was taken of it
 -- than it was given
@@ -94,6 +95,12 @@ quiet_with n f texts conns h q = record {
           cc ((h c).items, (q.none c t).0),
           cc ((h c).ended, (q.none c t).1),
         )
+
+-- what an event makes of the connections keeps a law, if it is refused or not
+pub event_keeps : (buses : List Bus) (P : List Connection → Type 0) (event : Event) (w : World)
+    → P (or_refused buses None event (counted w)).connections → P w.connections → P (happens buses w event).connections
+event_keeps buses P event w now was = elim (fault buses (counted w) event) as (λ o. P (or_refused buses o event (counted w)).connections)
+    [ None ↦ now | Some cause ↦ was ]
 
 -- ---- what comes of the bytes of a connection and of its end
 
@@ -189,15 +196,11 @@ module _ (buses : List Bus) (n : ℕ) (Law Quiet : List Connection → Type 0) (
                 (λ c t. ap (λ (x : Connection). x.info) (same_Some c conn (sym t ∙ here)) ∙ e) quiet
           ]
 
-  kept_lines : (lines : List Heard) (w : World) → Holds w → Holds (fold (answered buses n) w lines)
-  kept_lines [] w a = a
-  kept_lines (line ∷ lines) w a = kept_lines lines _ (kept_answered _ line w (λ conn e. (opened _ conn e).0 ∙ sym e) a)
-
   kept_fed : (piece : Piece) (o : Option Connection) (w : World) → Holds w → Holds (fed_to buses n piece o w)
   kept_fed piece None w a = a
   kept_fed piece (Some conn) w a =
-      kept_lines (new_lines buses conn.fed piece) (at_connection n (λ c. record c { fed = c.fed ++ piece.bytes }) w)
-      (kept.feeds _ _ a)
+      fold_keeps Holds (answered buses n) (λ w line. kept_answered _ line w (λ conn e. (opened _ conn e).0 ∙ sym e))
+      (new_lines buses conn.fed piece) (at_connection n (λ c. record c { fed = c.fed ++ piece.bytes }) w) (kept.feeds _ _ a)
 
   kept_shut_as : (o : Option Connection) (w : World) → Holds w → Holds (shut_as buses n o w)
   kept_shut_as None w a = a
@@ -209,18 +212,10 @@ module _ (buses : List Bus) (n : ℕ) (Law Quiet : List Connection → Type 0) (
       ]
 
   pub kept_bytes : (piece : Piece) (w : World) → Holds w → Holds (happens buses w (Bytes n piece))
-  kept_bytes piece w a =
-      elim (fault buses (counted w) (Bytes n piece)) as (λ o. Holds (or_refused buses o (Bytes n piece) (counted w))) [
-        | None ↦ kept_fed piece (open_connection (counted w) n) (counted w) a
-        | Some cause ↦ a
-      ]
+  kept_bytes piece w a = event_keeps buses Law (Bytes n piece) w (kept_fed piece (open_connection (counted w) n) (counted w) a) a
 
   pub kept_shut : (w : World) → Holds w → Holds (happens buses w (Shut n))
-  kept_shut w a =
-      elim (fault buses (counted w) (Shut n)) as (λ o. Holds (or_refused buses o (Shut n) (counted w))) [
-        | None ↦ kept_shut_as (open_connection (counted w) n) (counted w) a
-        | Some cause ↦ a
-      ]
+  kept_shut w a = event_keeps buses Law (Shut n) w (kept_shut_as (open_connection (counted w) n) (counted w) a) a
 
 sending_kept : (n : ℕ) (texts : List (List ℕ)) → IsKeptBy n (IsSending texts) (IsQuiet n texts)
 sending_kept n texts = record {
@@ -298,17 +293,11 @@ module _ (buses : List Bus) (n : ℕ) (conn : Connection) where
     }
 
   stays_happens : (event : Event) (w : World) → is_of n event ≡ false → Stays w → Stays (happens buses w event)
-  stays_happens (Open granted) w e s = elim (fault buses (counted w) (Open granted)) as
-      (λ o. Stays (or_refused buses o (Open granted) (counted w))) [
-        | None ↦ numbered_push n w.connections fresh conn s
-        | Some cause ↦ s
-      ]
+  stays_happens (Open granted) w e s =
+      event_keeps buses (λ conns. numbered n conns ≡ Some conn) (Open granted) w (numbered_push n w.connections fresh conn s) s
   stays_happens (Bytes m piece) w e s = kept_bytes buses m _ _ (stays_kept m e) piece w s
-  stays_happens (Room m bytes) w e s = elim (fault buses (counted w) (Room m bytes)) as
-      (λ o. Stays (or_refused buses o (Room m bytes) (counted w))) [
-        | None ↦ stays_with m e (given_room bytes (history buses w) (rows buses w)) w.connections s
-        | Some cause ↦ s
-      ]
+  stays_happens (Room m bytes) w e s = event_keeps buses (λ conns. numbered n conns ≡ Some conn) (Room m bytes) w
+      (stays_with m e (given_room bytes (history buses w) (rows buses w)) w.connections s) s
   stays_happens (At moment) w e s = s
   stays_happens (Shut m) w e s = kept_shut buses m _ _ (stays_kept m e) w s
 

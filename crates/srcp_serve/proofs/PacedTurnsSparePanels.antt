@@ -1,11 +1,10 @@
 -- A turn that brings no more changes than the door was told makes no panel overrun.
-use Rattle.srcp_serve.proofs.Names.{drop, ◌≡◌, ◌∙◌, ℕ, true, false, List, [], ◌∷◌, ◌++◌, map, if◌then◌else◌, refl, ap, sym, append-nil}
-use Rattle.srcp_serve.proofs.Names.{append_assoc, zero, suc, ◌≤◌, length, filter_map, flat_map, fold, Bus, Event, At, Open, Accepted, Call}
-use Rattle.srcp_serve.proofs.Names.{ExpectCall, NowCall, AcceptCall, ReadCall, WriteCall, CloseCall, Stand, begun, connects}
-use Rattle.srcp_serve.proofs.Names.{with_connection, moment_of, accept_of, clients, timed, turned, visit_events, with_accept, with_moment}
-use Rattle.srcp_serve.proofs.Names.{Expects, OfEachTurn, empty_stand, expects, question, turn_asks, turns, Connection, course, IsLayout}
-use Rattle.srcp_serve.proofs.Names.{drop_at, IsOverrun, option_or_256, slack, room, IsLight, IsPaced, ServingSparesAll, TurnsSpare}
-use Rattle.srcp_serve.proofs.Names.{SparesPanels, trace_room}
+use Rattle.srcp_serve.proofs.Names.{drop, ◌≡◌, ◌∙◌, ℕ, List, [], ◌∷◌, ◌++◌, map, refl, ap, sym, append-nil, append_assoc, zero, suc, ◌≤◌}
+use Rattle.srcp_serve.proofs.Names.{length, filter_map, flat_map, fold, Bus, Event, At, Open, Accepted, Call, ExpectCall, Stand, begun}
+use Rattle.srcp_serve.proofs.Names.{moment_of, accept_of, clients, timed, turned, visit_events, with_accept, with_moment, Expects}
+use Rattle.srcp_serve.proofs.Names.{OfEachTurn, empty_stand, expects, question, turn_asks, turns, Connection, course, IsLayout, drop_at}
+use Rattle.srcp_serve.proofs.Names.{IsOverrun, option_or_256, slack, room, IsLight, IsPaced, ServingSparesAll, TurnsSpare, SparesPanels}
+use Rattle.srcp_serve.proofs.Names.{trace_room}
 use Rattle.srcp_core.proofs.CourseLaws.WaitsGrow.{few_close_none}
 use Rattle.srcp_core.proofs.CourseLaws.LinesBringTheirWeight.{light_lines}
 use Rattle.srcp_serve.proofs.CallsByTurnAndPeer.{AreTurnsAsked, accept_as, turns_parted}

@@ -1,14 +1,15 @@
 -- What a connection lends and its peer then takes is what the course says was sent.
 use Rattle.srcp_serve.proofs.Names.{◌≡◌, ◌∙◌, ℕ, zero, suc, ◌+◌, ◌-◌, ◌≤◌, min, Bool, true, false, ◌==◌, List, [], ◌∷◌, ◌++◌, take, drop}
 use Rattle.srcp_serve.proofs.Names.{length, refl, ap, sym, arith, length-append, length-drop, take-add, append-nil, append_assoc, add-zero}
-use Rattle.srcp_serve.proofs.Names.{if◌then◌else◌, Option, Some, None, map, ◌<◌, flat_map, fold, nat_tests, zero-min, min-eq_left}
-use Rattle.srcp_serve.proofs.Names.{take-append-le, drop_at, flat_map-append, Shown, Next, Connection, History, line_of, text, given, sent}
-use Rattle.srcp_serve.proofs.Names.{unsent, prefix, fitting, available, items_of, owed, overran, took, given_room, is_open, take-nil}
-use Rattle.srcp_serve.proofs.Names.{fold-append, same_Some, AllByRecursion, Event, Open, Bytes, Room, At, Shut, Bus, World, fresh, fault}
-use Rattle.srcp_serve.proofs.Names.{start, numbered, with_numbered, open_connection, at_connection, counted, or_refused, happens, course}
-use Rattle.srcp_serve.proofs.Names.{history, rows, NoSuch, owed_plain, numbered_with, fitting_none, took_within, all_numbered, all_push}
-use Rattle.srcp_serve.proofs.Names.{lent, and-false, cond_both, is_none, opened}
-use Rattle.srcp_serve.proofs.OnlyRoomSends.{IsSteady, IsSending, sending_bytes, sending_shut, steady_at}
+use Rattle.srcp_serve.proofs.Names.{if◌then◌else◌, Option, Some, None, map, ◌<◌, flat_map, nat_tests, zero-min, min-eq_left, take-append-le}
+use Rattle.srcp_serve.proofs.Names.{drop_at, flat_map-append, Shown, Next, Connection, History, line_of, text, given, sent, unsent, prefix}
+use Rattle.srcp_serve.proofs.Names.{fitting, available, items_of, owed, overran, took, given_room, is_open, take-nil, fold-append}
+use Rattle.srcp_serve.proofs.Names.{same_Some, AllByRecursion, Event, Open, Bytes, Room, At, Shut, Bus, World, fresh, start, numbered}
+use Rattle.srcp_serve.proofs.Names.{with_numbered, open_connection, at_connection, counted, or_refused, happens, course, history, rows}
+use Rattle.srcp_serve.proofs.Names.{NoSuch, owed_plain, numbered_with, fitting_none, took_within, all_numbered, all_push, lent, and-false}
+use Rattle.srcp_serve.proofs.Names.{cond_both, is_none, opened}
+use Rattle.srcp_serve.proofs.OnlyRoomSends.{IsSteady, IsSending, event_keeps, sending_bytes, sending_shut, steady_at}
+use Rattle.srcp_serve.proofs.CallsByTurnAndPeer.{fold_keeps}
 
 -- the text that is given after room for this many bytes, and how many bytes of it are taken then
 abbrev pub now_given : (left got : List ℕ) → List Next → ℕ → List ℕ
@@ -243,26 +244,13 @@ module _ (buses : List Bus) where
   steady_happens : (w : World) (event : Event) → AllByRecursion IsSteady w.connections
       → AllByRecursion IsSteady (happens buses w event).connections
   steady_happens w (Open granted) a =
-      elim (fault buses (counted w) (Open granted)) as
-      (λ o. AllByRecursion IsSteady (or_refused buses o (Open granted) (counted w)).connections) [
-        | None ↦ all_push _ _ fresh a (record { plain = λ h. refl; goes_on = λ h. refl; within = omega arith })
-        | Some cause ↦ a
-      ]
+      event_keeps buses (AllByRecursion IsSteady) (Open granted) w
+      (all_push _ _ fresh a (record { plain = λ h. refl; goes_on = λ h. refl; within = omega arith })) a
   steady_happens w (Bytes n piece) a = (sending_bytes buses n _ piece w (record { steady = a; sends = refl })).steady
   steady_happens w (Room n bytes) a =
-      elim (fault buses (counted w) (Room n bytes)) as
-      (λ o. AllByRecursion IsSteady (or_refused buses o (Room n bytes) (counted w)).connections) [
-        | None ↦ all_numbered _ n _ _
-            (λ c t s. steady_room bytes _ _ c s) a
-        | Some cause ↦ a
-      ]
+      event_keeps buses (AllByRecursion IsSteady) (Room n bytes) w (all_numbered _ n _ _ (λ c t s. steady_room bytes _ _ c s) a) a
   steady_happens w (At moment) a = a
   steady_happens w (Shut n) a = (sending_shut buses n _ w (record { steady = a; sends = refl })).steady
 
-  steady_all : (events : List Event) (w : World) → AllByRecursion IsSteady w.connections
-      → AllByRecursion IsSteady (fold (happens buses) w events).connections
-  steady_all [] w a = a
-  steady_all (event ∷ events) w a = steady_all events _ (steady_happens w event a)
-
   pub steady_course : (events : List Event) → AllByRecursion IsSteady (course buses events).connections
-  steady_course events = steady_all events start tt
+  steady_course events = fold_keeps (λ (w : World). AllByRecursion IsSteady w.connections) (happens buses) steady_happens events start tt

@@ -9,8 +9,8 @@ use Rattle.srcp_serve.proofs.Names.{course, due_next, slack, all_append, flat_ma
 use Rattle.std.specs.List.{IsDistinct}
 use Rattle.srcp_serve.specs.Serving.{PeersDiffer}
 use Rattle.srcp_serve.proofs.CallsByTurnAndPeer.{IsNoneOf, IsOfNone, AreOfPeers, asks_peer, refused_peers, visits_peers, AreAsked}
-use Rattle.srcp_serve.proofs.CallsByTurnAndPeer.{AreTurnsAsked, PeersApart, accept_as, in_turn, no_calls, refuses_as, turned_round}
-use Rattle.srcp_serve.proofs.CallsByTurnAndPeer.{turns_parted, visits_parted}
+use Rattle.srcp_serve.proofs.CallsByTurnAndPeer.{AreTurnsAsked, PeersApart, accept_as, fold_keeps, in_turn, no_calls, refuses_as}
+use Rattle.srcp_serve.proofs.CallsByTurnAndPeer.{turned_round, turns_parted, visits_parted}
 use Rattle.srcp_serve.proofs.PeersAreSentTheirVisits.{IsSentAsTaken, sent_after_moment, IsNew, sent_after_accept, new_unconnected}
 use Rattle.srcp_serve.proofs.PeersAreSentTheirVisits.{sent_after_visits, ArePeersOf, new_push, nothing_taken}
 use Rattle.srcp_serve.proofs.VisitsSendWhatIsTaken.{no_writes, all_parts}
@@ -20,17 +20,13 @@ use Rattle.std.proofs.lemmas.Map.Keys.{IsDistinct-head, IsDistinct-tail}
 pub sent_after_moments : (buses : List Bus) (before : ℕ → List ℕ) (stand : Stand) (moments : List ℕ) → IsSentAsTaken buses before stand
     → IsSentAsTaken buses before (fold (with_moment buses) stand moments)
     × ((fold (with_moment buses) stand moments).connected ≡ stand.connected)
-sent_after_moments buses before stand [] h = (h, refl)
-sent_after_moments buses before stand (moment ∷ moments) h =
-    sent_after_moments buses before (with_moment buses stand moment) moments (sent_after_moment buses before stand moment h)
+sent_after_moments buses before stand moments h =
+    fold_keeps (λ (s : Stand). IsSentAsTaken buses before s × (s.connected ≡ stand.connected)) (with_moment buses)
+    (λ s moment p. (sent_after_moment buses before s moment p.0, p.1)) moments stand (h, refl)
 
-no_accept_first : (due slack : Option ℕ) (call : Call) → question call ≡ Expects due slack → accept_of call ≡ None
-no_accept_first due slack (AcceptCall answer granted) e = cc
-no_accept_first due slack other e = refl
-
-no_accept : (call : Call) → question call ≡ Moments → accept_of call ≡ None
-no_accept (AcceptCall answer granted) e = cc
-no_accept other e = refl
+no_accept : (call : Call) → (question call ≡ Accepts → ⊥) → accept_of call ≡ None
+no_accept (AcceptCall answer granted) other = absurd (other refl)
+no_accept call other = refl
 
 pub no_accepts : (calls : List Call) → AreOfPeers (map question calls) → filter_map accept_of calls ≡ []
 no_accepts [] h = refl
@@ -42,12 +38,9 @@ pub one_accept : (due slack : Option ℕ) (calls : List Call) (questions : List 
     → map question calls ≡ Expects due slack ∷ Moments ∷ Accepts ∷ questions → AreOfPeers questions
     → (filter_map accept_of calls ≡ []) ⊎ ((peer : Accepted) × (filter_map accept_of calls ≡ peer ∷ []))
 one_accept due slack (first ∷ timed_now ∷ call ∷ calls) questions e h =
-    let begin : question first ≡ Expects due slack = cc in
-    let second : question timed_now ≡ Moments = cc in
     let rest : map question calls ≡ questions = cc in
     let none = no_accepts calls (rw rest h) in
-    by (accept_of call)
-    (cc (no_accept_first due slack first begin, no_accept timed_now second))
+    by (accept_of call) (cc (no_accept first (λ no. cc), no_accept timed_now (λ no. cc)))
   where
     by : (o : Option Accepted) → filter_map accept_of (first ∷ timed_now ∷ call ∷ calls) ≡ cons_option o []
         → (filter_map accept_of (first ∷ timed_now ∷ call ∷ calls) ≡ [])

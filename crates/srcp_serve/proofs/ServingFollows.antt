@@ -4,7 +4,6 @@ use Rattle.srcp_serve.proofs.Names.{ap, sym, subst, arith, append-nil, append_ca
 use Rattle.srcp_serve.proofs.Names.{filter_map, AllZip, Bus, denied_over, start, Held, DoorCall, peer_of, Trace, Call, door_call}
 use Rattle.srcp_serve.proofs.Names.{CountsRefusals, Stand, IsServed, stand_after, events_of, Begins, IsInState, one_if, MakesTurn}
 use Rattle.srcp_serve.proofs.Names.{ClientsDiffer, IsSlotOf, ServesCourse, Owns, IsTurn, Asks, AreTurns, CountsAsked, Keys}
-use Rattle.srcp_serve.proofs.Names.{turned}
 use Rattle.std.specs.List.{IsDistinct}
 use Rattle.srcp_serve.proofs.CallsByTurnAndPeer.{served-more}
 use Rattle.srcp_serve.proofs.CallsAreAdded.{adds_then, refusals_then, same_calls}

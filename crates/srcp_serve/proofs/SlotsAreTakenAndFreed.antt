@@ -1,14 +1,13 @@
 -- Who has which slot: peers take slots and free them, and a round visits those that have one.
 use Rattle.srcp_serve.proofs.Names.{◌≡◌, ◌∙◌, ℕ, List, [], ◌∷◌, ◌++◌, map, refl, ap, sym, append-nil, append_assoc, zero, suc, ◌+◌, ◌≤◌}
-use Rattle.srcp_serve.proofs.Names.{Bool, true, false, ◌==◌, cond, length, if◌then◌else◌, Option, Some, None, subst, arith, filter}
-use Rattle.srcp_serve.proofs.Names.{flat_map, not, is_some, is_none, position, nat_lt, ◌||◌, IfSome, filter-append, list_any, count_by}
-use Rattle.srcp_serve.proofs.Names.{slice_index_or, slice_set, prefix_len, AllByRecursion, AllZip, Event, Shut, filter-map, Bus, Call}
-use Rattle.srcp_serve.proofs.Names.{IsSlotOf, ClientsDiffer, IsInState, Owns, is_about, asks_of, visit, visit_asks, visits_ask}
-use Rattle.srcp_serve.proofs.Names.{visit_events, exchange, is_close, Client, Stand, with_client, clients, kept, Slots, question, Keys}
-use Rattle.srcp_serve.proofs.Names.{sum_by-cons, course, Held, key_of, without_key, StandsFor, key_push, key_within, without_other, Own}
-use Rattle.srcp_serve.proofs.Names.{cond_both, eqb-false, ltb-false, ne_eqb, or_from, or_parts}
+use Rattle.srcp_serve.proofs.Names.{true, false, ◌==◌, cond, length, if◌then◌else◌, Option, Some, None, subst, arith, filter, flat_map, not}
+use Rattle.srcp_serve.proofs.Names.{is_some, is_none, position, nat_lt, ◌||◌, filter-append, list_any, count_by, slice_index_or, slice_set}
+use Rattle.srcp_serve.proofs.Names.{prefix_len, AllByRecursion, AllZip, Event, Shut, filter-map, Bus, Call, IsSlotOf, ClientsDiffer}
+use Rattle.srcp_serve.proofs.Names.{IsInState, Owns, is_about, asks_of, visit, visit_asks, visits_ask, visit_events, exchange, is_close}
+use Rattle.srcp_serve.proofs.Names.{Client, Stand, with_client, clients, kept, Slots, question, Keys, sum_by-cons, course, Held, key_of}
+use Rattle.srcp_serve.proofs.Names.{without_key, StandsFor, key_push, key_within, without_other, Own, cond_both, eqb-false, ltb-false}
+use Rattle.srcp_serve.proofs.Names.{ne_eqb, or_from, or_parts, all_weaker}
 use Rattle.std.specs.List.{IsDistinct}
-use Rattle.srcp_info.proofs.ClientLaws.{all_weaker}
 use Rattle.srcp_serve.proofs.PeersAreSentTheirVisits.{connected_all}
 use Rattle.srcp_serve.proofs.VisitsFollow.{AreAbout}
 use Rattle.srcp_serve.proofs.CallsByTurnAndPeer.{AreOf as AskOf, no_calls, none_asked, turned_round}

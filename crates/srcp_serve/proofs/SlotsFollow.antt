@@ -5,11 +5,10 @@ use Rattle.srcp_serve.proofs.Names.{◌≤◌, max, add-one, flat_map-append, ma
 use Rattle.srcp_serve.proofs.Names.{Bus, course, Held, key_of, without_key, StandsFor, Event, length_without, DoorCall, Trace, Client}
 use Rattle.srcp_serve.proofs.Names.{clients, Stand, is_about, is_close, kept, question, visit, visit_asks, visit_events, Slots, IsInState}
 use Rattle.srcp_serve.proofs.Names.{HasVisited, VisitsSlot, VisitsSlots, FromEveryState, Owns, AreFreeFrom, MayFree, AreAboutPeers, Asks}
-use Rattle.srcp_serve.proofs.Names.{Call, Keys, Visits, Own, filter_every, filter_map-append, flat_map}
-use Rattle.srcp_serve.proofs.Names.{ClientsDiffer}
-use Rattle.srcp_serve.proofs.SlotsAreTakenAndFreed.{differ_cleared, in_state_on, length-owns, owns_without, AreSlotsOf}
-use Rattle.srcp_serve.proofs.SlotsAreTakenAndFreed.{own_here, about_asked, first_visits, none_before, none_next, same_asked}
-use Rattle.srcp_serve.proofs.SlotsAreTakenAndFreed.{same_kept, same_made, SameVisits, second_visits, visits_ask-append}
+use Rattle.srcp_serve.proofs.Names.{Call, Keys, Visits, Own, filter_every, filter_map-append, flat_map, ClientsDiffer}
+use Rattle.srcp_serve.proofs.SlotsAreTakenAndFreed.{differ_cleared, in_state_on, length-owns, owns_without, AreSlotsOf, own_here}
+use Rattle.srcp_serve.proofs.SlotsAreTakenAndFreed.{about_asked, first_visits, none_before, none_next, same_asked, same_kept, same_made}
+use Rattle.srcp_serve.proofs.SlotsAreTakenAndFreed.{SameVisits, second_visits, visits_ask-append}
 use Rattle.srcp_serve.proofs.CallsByTurnAndPeer.{visit_own}
 use Rattle.srcp_serve.proofs.CallsAreAdded.{makes_none, makes_then}
 use Rattle.srcp_serve.proofs.DoorIsCalled.{asks_none}

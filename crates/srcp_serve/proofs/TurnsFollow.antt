@@ -13,7 +13,7 @@ use Rattle.std.specs.List.{IsDistinct}
 use Rattle.srcp_core.proofs.CourseLaws.SentLinesAreOneList.{all_prefix}
 use Rattle.srcp_serve.proofs.PeersAreSentTheirVisits.{connected_all, kept_all}
 use Rattle.srcp_serve.proofs.VisitsFollow.{closing_call}
-use Rattle.srcp_serve.proofs.CallsByTurnAndPeer.{accept_as, same_peer}
+use Rattle.srcp_serve.proofs.CallsByTurnAndPeer.{accept_as, fold_keeps, same_peer}
 use Rattle.srcp_serve.proofs.SlotsAreTakenAndFreed.{all_here, AreOf, HasNone, NoVisits, SameVisits, same_asked, same_kept, same_made}
 use Rattle.srcp_serve.proofs.SlotsAreTakenAndFreed.{second_visits}
 use Rattle.srcp_serve.proofs.CallsAreAdded.{adds_one, adds_then, asked_moment, given_then, makes_then, same_calls}
@@ -110,8 +110,7 @@ module _ (buses : List Bus) where
 
   known_moments : (moments : List ℕ) (peers : List ℕ) (stand : Stand) → AreOf peers stand.slots
       → AreOf peers (fold (with_moment buses) stand moments).slots
-  known_moments [] peers stand h = h
-  known_moments (moment ∷ moments) peers stand h = known_moments moments peers (with_moment buses stand moment) h
+  known_moments moments peers = fold_keeps (λ (s : Stand). AreOf peers s.slots) (with_moment buses) (λ s moment h. h) moments
 
   -- after a turn, each that has a slot was one of the peers or was accepted
   pub known_turned : (peers : List ℕ) (stand : Stand) (calls : List Call) → AreOf peers stand.slots

@@ -97,29 +97,21 @@ module _ (buses : List Bus) (peer conn : ℕ) where
       (events ++ (Room conn count ∷ map (Room conn) (filter_map count_of calls)))
   then_sends calls ih most count events texts h e a =
       let one = sending_room buses events conn count texts h a in
-      rw put_put at (rw append_assoc at (by (count == length (lent buses conn events)) e one))
-    where
-      by : (b : Bool)
-          → map question calls
-          ≡ map (Writes peer)
-          (take most (if b then handed buses conn (events ++ Room conn count ∷ []) (filter_map count_of calls) else []))
-          → Sends (put conn (take count (lent buses conn events)) texts) (events ++ Room conn count ∷ [])
-          → Sends (put conn (taken peer calls) (put conn (take count (lent buses conn events)) texts))
-          ((events ++ Room conn count ∷ []) ++ map (Room conn) (filter_map count_of calls))
-      by true e one = ih most (events ++ Room conn count ∷ []) (put conn (take count (lent buses conn events)) texts) e one
-      by false e one =
-          ih 0 (events ++ Room conn count ∷ []) (put conn (take count (lent buses conn events)) texts) (e ∙ simp take-nil) one
+      let next = events ++ Room conn count ∷ [] in
+      let sent = put conn (take count (lent buses conn events)) texts in
+      let all = cond_both (count == length (lent buses conn events)) (handed buses conn next (filter_map count_of calls)) []
+      (λ (ts : List (List ℕ)). map question calls ≡ map (Writes peer) (take most ts)
+      → Sends (put conn (taken peer calls) sent) (next ++ map (Room conn) (filter_map count_of calls)))
+      (λ t q. ih most next sent q one) (λ t q. ih 0 next sent (q ∙ simp take-nil) one) e in
+      rw put_put at (rw append_assoc at all)
 
   taken_here : (who count : ℕ) (bytes now : List ℕ) → who ≡ peer → bytes ≡ now
       → (if who == peer then take count bytes else []) ≡ take count now
-  taken_here who count bytes now p b =
-      let own : (who == peer) ≡ true = grind (arith, nat_tests) in
-      cc
+  taken_here who count bytes now p b = let own : (who == peer) ≡ true = grind (arith, nat_tests) in cc
 
   pub sending_writes : (calls : List Call) → AllByRecursion IsFair calls → WritesSend calls
   sending_writes [] fair most events texts e a =
-      subst (λ (ts : List (List ℕ)). Sends ts (events ++ [])) (sym (put_none conn texts))
-      (rw append-nil a)
+      subst (λ (ts : List (List ℕ)). Sends ts (events ++ [])) (sym (put_none conn texts)) (rw append-nil a)
   sending_writes (WriteCall who bytes (Ok count) ∷ calls) fair most events texts e a =
       let now = lent buses conn events in
       let f = first_of_writes peer who most bytes now _ _ e in

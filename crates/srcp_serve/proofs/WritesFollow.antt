@@ -228,38 +228,12 @@ module _ (buses : List Bus) (peer conn : ℕ) where
         stops : (lost short few : Bool) → not lost && not short ≡ false → not lost && (not short && few) ≡ false
         stops lost short few e = grind arith
 
-    -- no write yet
-    takes_none : (events : List Event) (trace : List DoorCall) (now : Held) → old ≡ Some trace
-        → StandsFor buses keys now (course buses events) → IsTaking events trace now 0
-    takes_none events trace now is stands = record {
-      counts = [];
-      many = refl;
-      full = tt;
-      adds = adds_none is;
-      stands = rw append-nil stands;
-    }
-
     -- more calls after these writes
     adds_last : (events : List Event) (counts : List ℕ) (mid trace : List DoorCall) (calls : List Call) (trace_mid : Trace)
         → trace_mid ≡ Some mid → AddsGiven old mid (written events counts []) → AddsGiven trace_mid trace calls
         → AddsGiven old trace (written events counts calls)
     adds_last events counts mid trace calls _ is first second =
         rw written-append at (given_then _ calls is first second)
-
-    takes_more : (events : List Event) (mid trace : List DoorCall) (before new : Held) (times : ℕ) (trace_mid : Trace)
-        → trace_mid ≡ Some mid → (t : IsTaking events mid before times)
-        → HasWritten buses (after events t.counts) keys conn peer trace_mid trace new All → IsTaking events trace new (times + 1)
-    takes_more events mid trace before new times trace_mid is t took =
-        let bytes = lent buses conn (after events t.counts) in
-        let count = length bytes in
-        record {
-          counts = t.counts ++ count ∷ [];
-          many = cc (length-append t.counts (count ∷ []));
-          full = full-more buses conn events t.counts count t.full refl took.0;
-          adds =
-              rw written-more (adds_last events t.counts mid trace (WriteCall peer bytes (Ok count) ∷ []) trace_mid is t.adds took.1.adds);
-          stands = rw (map-append, ← append_assoc events (map (Room conn) t.counts) (Room conn count ∷ [])) took.1.stands;
-        }
 
     -- the most writes there may be took all
     out_full : (events : List Event) (trace : List DoorCall) (now : Held) → IsTaking events trace now 300 → Writes_out events trace now true
@@ -320,7 +294,8 @@ TakesSoFar peer key old trace_old now trace_now times =
     (λ buses events keys n trace. IsTaking buses peer n keys trace_old events trace now times)
 
 pub takes_first : (peer key : ℕ) (old : Held) (trace_old : Trace) → TakesSoFar peer key old trace_old old trace_old 0
-takes_first peer key old trace_old buses events keys n trace s is = takes_none buses peer n keys trace_old events trace old is s.stands
+takes_first peer key old trace_old buses events keys n trace s is =
+    record { counts = []; many = refl; full = tt; adds = adds_none is; stands = rw append-nil s.stands }
 
 module _ (peer key : ℕ) (old mid new : Held) (trace_old trace_mid trace_new : Trace) (times : ℕ)
     (so : TakesSoFar peer key old trace_old mid trace_mid times) (asks : Asks AreAboutPeers trace_mid trace_new) where
@@ -328,9 +303,18 @@ module _ (peer key : ℕ) (old mid new : Held) (trace_old trace_mid trace_new : 
   takes_on once buses events keys n trace s is =
       let w = (asks trace is).1 in
       let t = so buses events keys n w.before s w.was in
-      takes_more buses peer n keys trace_old events w.before trace mid new times trace_mid w.was t
-      (once buses (after buses peer n events t.counts) keys n trace
-      (record { layout = s.layout; named = s.named; stands = t.stands }) is)
+      let took = once buses (after buses peer n events t.counts) keys n trace
+      (record { layout = s.layout; named = s.named; stands = t.stands }) is in
+      let bytes = lent buses n (after buses peer n events t.counts) in
+      let count = length bytes in
+      record {
+        counts = t.counts ++ count ∷ [];
+        many = cc (length-append t.counts (count ∷ []));
+        full = full-more buses n events t.counts count t.full refl took.0;
+        adds = rw written-more (adds_last buses peer n keys trace_old events t.counts w.before trace (WriteCall peer bytes (Ok count) ∷ [])
+            trace_mid w.was t.adds took.1.adds);
+        stands = rw (map-append, ← append_assoc events (map (Room n) t.counts) (Room n count ∷ [])) took.1.stands;
+      }
 
   pub takes_last : times < 300 → new.denied ≡ old.denied → (wrote : Wrote) → IsLast wrote
       → WritesOnce peer key mid trace_mid new trace_new wrote → WritesOut peer key old trace_old new trace_new (keeps wrote)
@@ -344,5 +328,4 @@ module _ (peer key : ℕ) (old mid new : Held) (trace_old trace_mid trace_new : 
 pub ends_full : (peer key : ℕ) (old now : Held) (trace_old trace_now : Trace) (times : ℕ) → times ≡ 300 → now.denied ≡ old.denied
     → TakesSoFar peer key old trace_old now trace_now times → WritesOut peer key old trace_old now trace_now true
 ends_full peer key old now trace_old trace_now times e same so buses events keys n trace s is =
-    out_full buses peer n keys _ events trace now
-    (rw e at (so buses events keys n trace s is)) old same
+    out_full buses peer n keys _ events trace now (rw e at (so buses events keys n trace s is)) old same

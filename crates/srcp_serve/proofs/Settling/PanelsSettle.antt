@@ -2,14 +2,14 @@
 use Rattle.srcp_serve.proofs.Names.{◌≡◌, ◌∙◌, ℕ, zero, suc, true, false, List, [], ◌∷◌, ◌++◌, map, if◌then◌else◌, Some, None, refl, ap, sym}
 use Rattle.srcp_serve.proofs.Names.{subst, arith, append-nil, append_assoc, ◌==◌, ◌+◌, ◌*◌, ◌≤◌, length, ◌⊎◌, inl, inr, length-append}
 use Rattle.srcp_serve.proofs.Names.{filter_map, flat_map, fold, slice_get, list_any, AllByRecursion, all_append, all_filter, Bus, Event}
-use Rattle.srcp_serve.proofs.Names.{Bytes, Room, Shut, Accepted, Call, OfEachVisit, Client, Stand, begun, exchange, is_close, moment_of}
-use Rattle.srcp_serve.proofs.Names.{accept_of, piece_of, rooms, with_client, clients, timed, visit, visit_events, with_accept, with_moment}
-use Rattle.srcp_serve.proofs.Names.{Slots, IsFair, OfEachTurn, question, turned, visit_asks, is_about, empty_stand, flat_map-append}
-use Rattle.srcp_serve.proofs.Names.{slice_get-map, Next, IsLayout, course, history, numbered, rows, brought, brought_in, ltb-false}
-use Rattle.srcp_serve.proofs.Names.{fold-append, Change, Shown, beyond, Connection, History, cursor_at, is_nil, is_open, is_settled, owed}
-use Rattle.srcp_serve.proofs.Names.{unsent, untold, waiting, no_lists, eqb-false, ne_eqb}
+use Rattle.srcp_serve.proofs.Names.{Bytes, Room, Shut, Call, OfEachVisit, Client, Stand, begun, exchange, is_close, moment_of, accept_of}
+use Rattle.srcp_serve.proofs.Names.{piece_of, rooms, with_client, clients, timed, visit, visit_events, with_accept, with_moment, Slots}
+use Rattle.srcp_serve.proofs.Names.{IsFair, OfEachTurn, question, turned, visit_asks, is_about, empty_stand, flat_map-append, slice_get-map}
+use Rattle.srcp_serve.proofs.Names.{Next, IsLayout, course, history, numbered, rows, brought, brought_in, ltb-false, fold-append, Change}
+use Rattle.srcp_serve.proofs.Names.{Shown, beyond, Connection, History, cursor_at, is_nil, is_open, is_settled, owed, unsent, untold}
+use Rattle.srcp_serve.proofs.Names.{waiting, no_lists, eqb-false, ne_eqb}
 use Rattle.srcp_serve.proofs.PeersAreSentTheirVisits.{ArePeersOf, IsPeerOf}
-use Rattle.srcp_serve.proofs.CallsByTurnAndPeer.{IsNoneOf, PeersApart, AreAsked, accept_as, all_if, turned_round}
+use Rattle.srcp_serve.proofs.CallsByTurnAndPeer.{IsNoneOf, PeersApart, AreAsked, accept_as, all_if, fold_keeps, turned_round}
 use Rattle.srcp_serve.proofs.PacedTurnsSparePanels.{opening_events, opens, begun_events, turn_events, turned_events}
 use Rattle.srcp_serve.proofs.OnlyRoomSends.{AreOfOthers, is_of}
 use Rattle.srcp_serve.proofs.SlotsAreTakenAndFreed.{all_here}
@@ -48,25 +48,13 @@ among_clients (Some other ∷ slots) (suc slot) client e =
     record { before = other ∷ more.before; rest = more.rest; are = ap (λ all. other ∷ all) more.are }
 
 module _ (buses : List Bus) (slot : ℕ) (client : Client) where
-  moments_stay : (stand : Stand) (moments : List ℕ) → HasSlot slot client stand.slots
-      → HasSlot slot client (fold (with_moment buses) stand moments).slots
-  moments_stay stand [] e = e
-  moments_stay stand (moment ∷ moments) e = moments_stay (with_moment buses stand moment) moments e
-
-  accept_stays : (stand : Stand) (accept : Accepted) → HasSlot slot client stand.slots
-      → HasSlot slot client (with_accept buses stand accept).slots
-  accept_stays stand accept e =
-      accept_as buses (λ (s : Stand). HasSlot slot client s.slots) stand accept (connected_stays _ stand.slots slot client e) e
-
-  accepts_stay : (stand : Stand) (connected : List Accepted) → HasSlot slot client stand.slots
-      → HasSlot slot client (fold (with_accept buses) stand connected).slots
-  accepts_stay stand [] e = e
-  accepts_stay stand (accept ∷ connected) e = accepts_stay (with_accept buses stand accept) connected (accept_stays stand accept e)
-
   pub begun_stays : (stand : Stand) (calls : List Call) → HasSlot slot client stand.slots
       → HasSlot slot client (begun buses stand calls).slots
-  begun_stays stand calls e = accepts_stay (timed buses stand calls) (filter_map accept_of calls)
-      (moments_stay stand (filter_map moment_of calls) e)
+  begun_stays stand calls e =
+      let Stays : Stand → Type 0 = λ s. HasSlot slot client s.slots in
+      fold_keeps Stays (with_accept buses) (λ s accept h. accept_as buses Stays s accept (connected_stays _ s.slots slot client h) h)
+      (filter_map accept_of calls) (timed buses stand calls)
+      (fold_keeps Stays (with_moment buses) (λ s moment h. h) (filter_map moment_of calls) stand e)
 
 -- ---- numbers
 

@@ -1,13 +1,14 @@
 -- An information session that goes on: what is unsent of it and what it is owed, and what each event makes of that.
 use Rattle.srcp_serve.proofs.Names.{◌≡◌, ◌∙◌, ◌+◌, List, [], ◌∷◌, ◌++◌, map, length, refl, ap, sym, append-nil, append_assoc, length-append}
 use Rattle.srcp_serve.proofs.Names.{ℕ, true, false, if◌then◌else◌, None, arith, ◌-◌, ◌≤◌, min, Bool, Option, Some, length-drop, flat_map}
-use Rattle.srcp_serve.proofs.Names.{nat_le, nat_lt, filter, filter_map, fold, ◌||◌, ◌==◌, AllByRecursion, enumerate_from, drop_at, drop_all}
+use Rattle.srcp_serve.proofs.Names.{nat_le, nat_lt, filter, fold, ◌||◌, ◌==◌, AllByRecursion, enumerate_from, drop_at, drop_all}
 use Rattle.srcp_serve.proofs.Names.{flat_map-append, fold-append, Change, Bus, History, Connection, concerning, cursor_at, overran, owed}
-use Rattle.srcp_serve.proofs.Names.{told_change, untold, available, fitting, given, given_room, line_of, took, unsent, World, start}
-use Rattle.srcp_serve.proofs.Names.{happens, course, state, history, history_from, state_after, stepped, updates_of, numbered}
-use Rattle.srcp_serve.proofs.Names.{open_connection, at_connection, counted, or_refused, fault, answered, answered_as, greeted, commanded}
-use Rattle.srcp_serve.proofs.Names.{order_of, new_lines, rows, Event, Step, Bytes, Room, Piece, Heard, greets, brought, IsPanel, no_lists}
-use Rattle.srcp_serve.proofs.Names.{Shown, concerns, le_refl, Next, IsLayout, CoreFault, numbered_with, takes_within, took_overran, lent}
+use Rattle.srcp_serve.proofs.Names.{untold, available, fitting, given, given_room, line_of, took, unsent, World, start, happens, course}
+use Rattle.srcp_serve.proofs.Names.{state, history, history_from, state_after, stepped, updates_of, numbered, open_connection}
+use Rattle.srcp_serve.proofs.Names.{at_connection, counted, or_refused, fault, answered, answered_as, greeted, commanded, order_of}
+use Rattle.srcp_serve.proofs.Names.{new_lines, rows, Event, Step, Bytes, Room, Piece, Heard, greets, brought, IsPanel, no_lists, Shown}
+use Rattle.srcp_serve.proofs.Names.{concerns, le_refl, Next, IsLayout, CoreFault, numbered_with, takes_within, took_overran, lent}
+use Rattle.srcp_serve.proofs.Names.{cond_both, nil_from_length}
 use Rattle.srcp_rules.specs.State.{State, opening, shown_rows}
 use Rattle.srcp_core.proofs.CourseLaws.EventsKeep.{IsKept, kept_all}
 use Rattle.srcp_core.proofs.CourseLaws.ShownRegistry.{length_history}
@@ -17,8 +18,6 @@ use Rattle.srcp_core.proofs.CourseLaws.LinesHaveBytes.{AreFull, owed_full}
 use Rattle.srcp_core.proofs.CourseLaws.RoomSettles.{owes_after}
 use Rattle.srcp_core.proofs.CourseLaws.RoomAfterRoom.{left_after}
 use Rattle.srcp_core.proofs.CourseLaws.SessionsOfACourse.{anything, fits_open, open_shut, stands}
-use Rattle.srcp_serve.proofs.Names.{cond_both}
-use Rattle.std.proofs.lemmas.List.{nil_from_length}
 use Rattle.srcp_serve.proofs.RoomSendsWhatIsLent.{first_some, fits_left, given_more, after_room, lent_is, steady_course, there_after}
 use Rattle.srcp_serve.proofs.OnlyRoomSends.{steady_at, AreOfOthers, stays_all}
 
