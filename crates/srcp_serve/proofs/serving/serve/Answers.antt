@@ -32,9 +32,6 @@ loop-preserved g c = record {
   trace = asks_then one_more_turn _ _ _ c.loop.invariant.trace c.turn-opens.ensures.calls.asks;
 }
 
-pub returns-clause-turns : goal.returns-clause-turns
-returns-clause-turns g c = refl
-
 -- what is told to one value is told to the same value under another name
 same_trace : {D : Type 0} (trace_of : D → Trace) (turns : ℕ) (old : Trace) {x y : D} → y ≡ x
     → Asks (AreTurns turns) old (trace_of x) → Asks (AreTurns turns) old (trace_of y)

@@ -28,12 +28,6 @@ loop-slot-preserved g c = record {
       c.loop-slot.invariant.course c.visit_slot.ensures.calls.asks;
 }
 
-pub visit_slot-requires-clause-counted : goal.visit_slot-requires-clause-counted
-visit_slot-requires-clause-counted g c = c.loop-slot.invariant.calls.counted.within
-
-pub returns-clause-calls : goal.returns-clause-calls
-returns-clause-calls g c = c.loop-slot.invariant.calls
-
 pub returns-clause-course : goal.returns-clause-course
 returns-clause-course g c =
     let i = c.loop-slot.invariant in

@@ -42,20 +42,8 @@ returns-in-Failed-clause-course g c =
     c.write_once.ensures.calls.asks c.loop-test.true (c.write_once.ensures.denied ∙ c.loop.invariant.denied) Failed tt
     c.in-Failed.ensures.course
 
-pub returns-clause-calls : goal.returns-clause-calls
-returns-clause-calls g c = c.loop.invariant.calls
-
 pub returns-clause-course : goal.returns-clause-course
 returns-clause-course g c =
     let most : c.loop.counter ≡ 300 = omega (arith, c.loop-test.false, c.loop.auto.counter-end) in
     ends_full _ _ _ _ _
     _ _ most c.loop.invariant.denied c.loop.invariant.course
-
-pub returns-in-Less-clause-slots : goal.returns-in-Less-clause-slots
-returns-in-Less-clause-slots g c = c.write_once.ensures.slots ∙ c.loop.invariant.slots
-
-pub returns-in-Failed-clause-slots : goal.returns-in-Failed-clause-slots
-returns-in-Failed-clause-slots g c = c.write_once.ensures.slots ∙ c.loop.invariant.slots
-
-pub returns-clause-slots : goal.returns-clause-slots
-returns-clause-slots g c = c.loop.invariant.slots
