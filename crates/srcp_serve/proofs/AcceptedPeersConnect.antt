@@ -97,8 +97,7 @@ connects_done peer key free old mid trace_old owns admitted slot buses stand key
         in_state = rw w (record {
           layout = in_state.layout;
           owns_are = rw (free_is owns free slot) sitting;
-          differ =
-              differ_connected client stand.slots (new_apart keys client owns stand.slots in_state.owns_are conn new) in_state.differ;
+          differ = differ_connected client stand.slots (new_apart keys client owns stand.slots in_state.owns_are conn new) in_state.differ;
           long = cc (length-append keys (Some key ∷ []), length-append stand.connected (peer ∷ []));
           stands = calls_lead.opened key old mid admitted buses stand.events keys in_state.layout in_state.stands;
         });

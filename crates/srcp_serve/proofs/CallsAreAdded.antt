@@ -92,6 +92,5 @@ pub makes_none : (buses : List Bus) (events : List Event) (trace_old : Trace) (t
 makes_none buses events trace_old trace old is =
     record { adds = adds_none is; counted = refl; asked_for = asked_none buses events old }
 
-pub closes_by : (peer : ℕ) (answer : Result Unit DoorFault) (old new : Trace) → Tells old (CloseCall peer answer) new
-    → Closes peer old new
+pub closes_by : (peer : ℕ) (answer : Result Unit DoorFault) (old new : Trace) → Tells old (CloseCall peer answer) new → Closes peer old new
 closes_by peer answer old new h trace is = (CloseCall peer answer ∷ [], adds_one _ old new trace h is, (answer, refl))

@@ -105,8 +105,7 @@ other_question p q Moments e h = refl
 other_question p q other e h = grind (arith, nat_tests)
 
 pub other_questions : (p q : ℕ) (questions : List Question) → (p == q) ≡ false → AreOf p questions → filter (asks_of q) questions ≡ []
-other_questions p q questions e h =
-    filter_no_one _ _ (all_weaker _ _ (λ asked own. other_question p q asked e own) _ h)
+other_questions p q questions e h = filter_no_one _ _ (all_weaker _ _ (λ asked own. other_question p q asked e own) _ h)
 
 peer_question : (peer : ℕ) (q : Question) → asks_of peer q ≡ true → asks_peer q ≡ true
 peer_question peer Moments h = h

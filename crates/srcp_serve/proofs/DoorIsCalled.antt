@@ -70,8 +70,7 @@ one_more_turn trace (ExpectCall due slack ∷ NowCall now ∷ AcceptCall answer 
     let whole = ExpectCall due slack ∷ later in
     let alone = one_part is_expect later (not_now rest t.peers) in
     let last : turns whole ≡ whole ∷ [] = rw (alone.0, alone.1) refl in
-    let all : turns (trace ++ whole) ≡ turns trace ++ whole ∷ [] =
-    rw (parts-append, last) refl in
+    let all : turns (trace ++ whole) ≡ turns trace ++ whole ∷ [] = rw (parts-append, last) refl in
     record {
       many = rw (all, length-append, so.many) refl;
       each = rw all (all_append IsTurn (turns trace) (whole ∷ []) so.each (t, tt));

@@ -2,6 +2,7 @@
 pub use Rattle.srcp_core.proofs.Agreement.CallLaws.{calls_agree, calls_lead}
 pub use Rattle.srcp_core.proofs.Agreement.MemoryAnswers.{line_law, none_denied}
 pub use Rattle.srcp_core.proofs.Agreement.NumbersAndKeys.{key_push, key_push_last, key_within, length_without, numbered_with, without_other}
+pub use Rattle.srcp_core.proofs.CourseLaws.EventsKeep.{IsAnswered, IsKept, kept_all, kept_fed, kept_shut, numbered_after}
 pub use Rattle.srcp_core.proofs.CourseLaws.RoomGivesWhatIsOwed.{fitting_none, no_lists, took_within}
 pub use Rattle.srcp_core.proofs.CourseLaws.RoomsAddUp.{owed_plain, takes_within, took_overran}
 pub use Rattle.srcp_core.proofs.CourseLaws.SessionsAreKept.{all_numbered, all_push, opened}
@@ -54,8 +55,8 @@ pub use Rattle.srcp_serve.specs.declared.serving.visit.Wrote.{Wrote}
 pub use Rattle.srcp_serve.specs.declared.serving.visit.Wrote.TheVariants.{All, Failed, Less}
 pub use Rattle.std.proofs.Common.{Bool, Err, List, None, Ok, Option, Result, Some, [], add-one, add-zero, ap, append-nil, append_assoc}
 pub use Rattle.std.proofs.Common.{arith, codes, cond, drop, false, filter, if◌then◌else◌, inl, inr, length, length-append, length-drop}
-pub use Rattle.std.proofs.Common.{length-take, map, max, min, not, option_map, refl, replicate, subst, suc, sym, take, take-add, true, zero}
-pub use Rattle.std.proofs.Common.{ℕ, ⊎_elim, ◌*◌, ◌++◌, ◌+◌, ◌-◌, ◌<◌, ◌==◌, ◌∙◌, ◌∷◌, ◌≡◌, ◌≤◌, ◌⊎◌}
+pub use Rattle.std.proofs.Common.{length-take, map, max, min, not, refl, replicate, subst, suc, sym, take, take-add, true, zero, ℕ, ⊎_elim}
+pub use Rattle.std.proofs.Common.{◌*◌, ◌++◌, ◌+◌, ◌-◌, ◌<◌, ◌==◌, ◌∙◌, ◌∷◌, ◌≡◌, ◌≤◌, ◌⊎◌}
 pub use Rattle.std.proofs.Math.Bool.{and-false, or-false}
 pub use Rattle.std.proofs.Math.Nat.{le_refl, min-eq_left, zero-min}
 pub use Rattle.std.proofs.Math.Seq.{take-append_seam, take-nil}

@@ -122,5 +122,4 @@ module _ (buses : List Bus) where
       each_spares _ (light_spares layout) empty_stand (turns trace) (turns_parted buses empty_stand trace [] tt served.asked).1
 
   pub light_spares_all : IsLayout buses → ServingSparesAll buses (IsLight buses)
-  light_spares_all layout count trace served light =
-      all_spared _ _ _ (light_spare layout count trace served) light none_first
+  light_spares_all layout count trace served light = all_spared _ _ _ (light_spare layout count trace served) light none_first

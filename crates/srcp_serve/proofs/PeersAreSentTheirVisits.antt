@@ -6,7 +6,7 @@ use Rattle.srcp_serve.proofs.Names.{happens, fault, Call, WriteCall, Accepted, C
 use Rattle.srcp_serve.proofs.Names.{taken_in, Stand, clients, with_client, kept, is_close, with_moment, with_accept, Slots, Question}
 use Rattle.srcp_serve.proofs.Names.{question, visited, visits_ask, asks_of, map-append, fold-append, CoreFault, filter-append, and_from}
 use Rattle.srcp_serve.proofs.Names.{and_parts, cond_both, add-one}
-use Rattle.srcp_serve.proofs.OnlyRoomSends.{IsSending, sending_opened, sending_refused}
+use Rattle.srcp_serve.proofs.OnlyRoomSends.{IsSending, sending_opened}
 use Rattle.srcp_serve.proofs.RoomSendsWhatIsLent.{put}
 use Rattle.srcp_serve.proofs.VisitsSendWhatIsTaken.{sending_visit, asks_write, no_writes, none_taken}
 use Rattle.srcp_serve.proofs.CallsByTurnAndPeer.{IsNoneOf, PeersApart, AreAsked, IsOfNone, any_not, none_asked, not_any, turned_round}
@@ -79,8 +79,7 @@ module _ (buses : List Bus) (connected : List ℕ) (before : ℕ → List ℕ) (
       let now =
       put_peer (so_far before calls (client ∷ all)) (so_far before calls all) more client.conn client.peer connected known.0 others own in
       let next = events ++ visit_events calls client in
-      let here =
-      rw now at one in
+      let here = rw now at one in
       rw append_assoc at (sending_visits next all known.1 apart.1 asked.1 here)
 
 -- ---- slots
@@ -97,8 +96,7 @@ kept_all P calls (Some client ∷ slots) h =
     let more = kept_all P calls slots h.1 in
     kept_as calls client (λ (s : Option Client). AllByRecursion P (clients (s ∷ map (kept calls) slots))) more (h.0, more)
 
-pub kept_apart : (calls : List Call) (slots : Slots) → PeersApart (clients slots)
-    → PeersApart (clients (map (kept calls) slots))
+pub kept_apart : (calls : List Call) (slots : Slots) → PeersApart (clients slots) → PeersApart (clients (map (kept calls) slots))
 kept_apart calls [] h = tt
 kept_apart calls (None ∷ slots) h = kept_apart calls slots h
 kept_apart calls (Some client ∷ slots) h =
@@ -204,7 +202,7 @@ module _ (buses : List Bus) (before : ℕ → List ℕ) where
                 connected_apart client stand.slots (new_unconnected accept.peer stand.connected (clients stand.slots) new h.known) h.apart;
           })
       by (Some cause) e = rw e (record {
-        sending = rw next (sending_refused buses (map before stand.connected) accept.granted (course buses stand.events) cause h.sending e);
+        sending = rw (next, e) h.sending;
         known = h.known;
         apart = h.apart;
       })

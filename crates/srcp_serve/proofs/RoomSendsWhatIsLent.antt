@@ -43,8 +43,7 @@ taken_none left taken nexts = simp (zero-min, add-zero)
 
 takes_none : (left got : List ℕ) (taken : ℕ) (nexts : List Next) → taken ≤ length got
     → take (now_taken left taken nexts 0) (now_given left got nexts 0) ≡ take taken got ++ take 0 (lent_text left got taken nexts)
-takes_none left got taken nexts within =
-    simp (taken_none, take-append-le, append-nil)
+takes_none left got taken nexts within = simp (taken_none, take-append-le, append-nil)
 
 no_bytes : (bytes : ℕ) (text : List ℕ) → text ≡ [] → bytes ≤ length text → 0 ≡ bytes
 no_bytes bytes text e h = let none = ap length e in omega (arith, none, h)

@@ -141,8 +141,7 @@ module _ (buses : List Bus) (before : ℕ → List ℕ) (stand : Stand) (calls :
   -- the step of an induction over turns
   pub sent_after_turn : Begins (filter_map accept_of calls)
       → IsSentAsTaken buses (λ peer. before peer ++ taken peer calls) (turned buses stand calls)
-  sent_after_turn b =
-      sent_after_visits buses before _ calls b.first b.still b.asked fair b.none b.sent_before_visits
+  sent_after_turn b = sent_after_visits buses before _ calls b.first b.still b.asked fair b.none b.sent_before_visits
 
 -- ---- peers that are accepted
 

@@ -119,8 +119,7 @@ count_without (suc (suc n)) (k ∷ keys) key e =
 
 -- ---- which peer has which slot
 
-pub length-owns : (keys : Keys) (owns : Owns) (slots : Slots) → AreSlotsOf keys owns slots
-    → length owns ≡ length slots
+pub length-owns : (keys : Keys) (owns : Owns) (slots : Slots) → AreSlotsOf keys owns slots → length owns ≡ length slots
 length-owns keys [] [] h = refl
 length-owns keys (own ∷ owns) (slot ∷ slots) h = ap (λ n. suc n) (length-owns keys owns slots h.1)
 length-owns keys owns slots h = absurd h

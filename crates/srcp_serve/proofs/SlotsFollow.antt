@@ -102,8 +102,7 @@ abbrev pub VisitsSoFar : (count : ℕ) (old : Held) (trace_old : Trace) (owns_ol
 VisitsSoFar count old trace_old owns_old now trace_now owns_now = FromEveryState old trace_old owns_old now trace_now owns_now
     (λ buses stand keys trace. HasVisitedSoFar buses stand trace_old trace now owns_now old count)
 
-pub slots_first : (old : Held) (trace_old : Trace) (owns : Owns)
-    → VisitsSoFar 0 old trace_old owns old trace_old owns
+pub slots_first : (old : Held) (trace_old : Trace) (owns : Owns) → VisitsSoFar 0 old trace_old owns old trace_old owns
 slots_first old trace_old owns buses stand keys trace in_state is = record {
   clients = [];
   after = stand.slots;
@@ -242,8 +241,7 @@ still_free end slot old new (inl e) free = rw e free
 still_free end slot old new (inr e) free = rw e (free_set end slot old free)
 
 -- a slot before those that are free is none of them
-set_before : (end slot : ℕ) (own : Option Own) (owns : Owns) → slot < end → AreFreeFrom end owns
-    → AreFreeFrom end (slice_set owns slot own)
+set_before : (end slot : ℕ) (own : Option Own) (owns : Owns) → slot < end → AreFreeFrom end owns → AreFreeFrom end (slice_set owns slot own)
 set_before end slot own [] before free = free
 set_before zero slot own (x ∷ owns) before free = absurd (omega (arith, before))
 set_before (suc end) zero own _ before free = free
@@ -281,5 +279,4 @@ module _ (old now : Held) (trace_old trace_now : Trace) (owns_old owns : Owns) (
   -- no peer is visited at slots that are free
   pub slots_rest : (slot : ℕ) → slot ≤ 64 → AreFreeFrom slot owns → VisitsSoFar slot old trace_old owns_old now trace_now owns
       → VisitsSlots old trace_old owns_old now trace_now owns
-  slots_rest slot most free so =
-      rest_of (64 - slot) slot (omega (arith, most)) free so
+  slots_rest slot most free so = rest_of (64 - slot) slot (omega (arith, most)) free so

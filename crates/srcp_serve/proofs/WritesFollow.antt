@@ -232,8 +232,7 @@ module _ (buses : List Bus) (peer conn : ℕ) where
     adds_last : (events : List Event) (counts : List ℕ) (mid trace : List DoorCall) (calls : List Call) (trace_mid : Trace)
         → trace_mid ≡ Some mid → AddsGiven old mid (written events counts []) → AddsGiven trace_mid trace calls
         → AddsGiven old trace (written events counts calls)
-    adds_last events counts mid trace calls _ is first second =
-        rw written-append at (given_then _ calls is first second)
+    adds_last events counts mid trace calls _ is first second = rw written-append at (given_then _ calls is first second)
 
     -- the most writes there may be took all
     out_full : (events : List Event) (trace : List DoorCall) (now : Held) → IsTaking events trace now 300 → Writes_out events trace now true
@@ -286,9 +285,7 @@ module _ (buses : List Bus) (peer conn : ℕ) where
 -- ---- the loop of the writes
 
 -- this many writes took all
-abbrev pub TakesSoFar : (peer key : ℕ) (old : Held) (trace_old : Trace) (now : Held) (trace_now : Trace)
-    (times : ℕ)
-    → Type 0
+abbrev pub TakesSoFar : (peer key : ℕ) (old : Held) (trace_old : Trace) (now : Held) (trace_now : Trace) (times : ℕ) → Type 0
 TakesSoFar peer key old trace_old now trace_now times =
     FromEveryCourse peer key old trace_old now trace_now
     (λ buses events keys n trace. IsTaking buses peer n keys trace_old events trace now times)

@@ -318,5 +318,4 @@ module _ (buses : List Bus) where
   )
 
   pub waits_are_gone : WaitsAreGoneAfterAVisit buses
-  waits_are_gone layout count trace served differ fair =
-      turns_take layout _ _ (turns_of_peers buses count trace served differ fair)
+  waits_are_gone layout count trace served differ fair = turns_take layout _ _ (turns_of_peers buses count trace served differ fair)

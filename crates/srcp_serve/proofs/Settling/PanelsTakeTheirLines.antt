@@ -8,9 +8,8 @@ use Rattle.srcp_serve.proofs.Names.{state, history, history_from, state_after, s
 use Rattle.srcp_serve.proofs.Names.{at_connection, counted, or_refused, fault, answered, answered_as, greeted, commanded, order_of}
 use Rattle.srcp_serve.proofs.Names.{new_lines, rows, Event, Step, Bytes, Room, Piece, Heard, greets, brought, IsPanel, no_lists, Shown}
 use Rattle.srcp_serve.proofs.Names.{concerns, le_refl, Next, IsLayout, CoreFault, numbered_with, takes_within, took_overran, lent}
-use Rattle.srcp_serve.proofs.Names.{cond_both, nil_from_length}
+use Rattle.srcp_serve.proofs.Names.{cond_both, nil_from_length, IsKept, kept_all}
 use Rattle.srcp_rules.specs.State.{State, opening, shown_rows}
-use Rattle.srcp_core.proofs.CourseLaws.EventsKeep.{IsKept, kept_all}
 use Rattle.srcp_core.proofs.CourseLaws.ShownRegistry.{length_history}
 use Rattle.srcp_core.proofs.CourseLaws.Histories.{AreBy, IsDoneBy, cursor_later, enumerate_push}
 use Rattle.srcp_core.proofs.CourseLaws.ClientHoldsPassedRows.{Fits}
@@ -285,8 +284,7 @@ module _ (buses : List Bus) (n : ℕ) where
             let long : length (given (took k steps due p.conn)) ≡ length (given p.conn) + length more =
             cc (length-append (given p.conn) more) in
             let all : available (unsent p.conn) due ≡ available bytes nexts = cc in
-            let there : k ≤ length (available (unsent p.conn) due) =
-            rw all (rw size (first_there bytes nexts)) in
+            let there : k ≤ length (available (unsent p.conn) due) = rw all (rw size (first_there bytes nexts)) in
             drop_all (p.conn.taken + min k (length (available (unsent p.conn) due))) (given (took k steps due p.conn))
             (rw long (most k (length (unsent p.conn)) p.conn.taken (length (given p.conn)) (length more) (length bytes)
             (length (available (unsent p.conn) due))

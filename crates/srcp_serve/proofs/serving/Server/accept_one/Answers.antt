@@ -28,8 +28,7 @@ returns-in-Err-clause-calls g c = record {
 }
 
 pub returns-in-Ok-None-clause-course : goal.returns-in-Ok-None-clause-course
-returns-in-Ok-None-clause-course g c =
-    accepts_nobody _ _ _ _ (Ok None) tt (rw c.in-Ok-None.field-0-is at c.in-Ok-None.ensures.trace)
+returns-in-Ok-None-clause-course g c = accepts_nobody _ _ _ _ (Ok None) tt (rw c.in-Ok-None.field-0-is at c.in-Ok-None.ensures.trace)
 
 pub returns-in-Ok-Some-clause-course : goal.returns-in-Ok-Some-clause-course
 returns-in-Ok-Some-clause-course g c =
