@@ -261,37 +261,18 @@ module _ (buses : List Bus) where
       → (map question (in_turn trace) ≡ first) × AreTurnsAsked stand (turns trace)
   turns_parted stand [] [] h e = (refl, tt)
   turns_parted stand [] (q ∷ first) h e = cc
-  turns_parted stand (call ∷ trace) first h e = by (λ other. turns_parted other trace) (is_expect call) refl first h e
-    where
-      other : (b : Bool) → is_expect call ≡ b → in_turn (call ∷ trace) ≡ cond (not b) (call ∷ in_turn trace) []
-      other b t = cc (take_while-cons (λ next. not (is_expect next)) call trace, t)
-
-      turns_are : (b : Bool) → is_expect call ≡ b → turns (call ∷ trace) ≡ (if b then (call ∷ in_turn trace) ∷ turns trace else turns trace)
-      turns_are b t = ap (λ c. if c then (call ∷ in_turn trace) ∷ turns trace else turns trace) t
-
-      by : ((now : Stand) (asked : List Question) → NoMoments asked → map question trace ≡ asked ++ turns_ask buses now (turns trace)
-          → (map question (in_turn trace) ≡ asked) × AreTurnsAsked now (turns trace))
-          → (b : Bool) → is_expect call ≡ b → (first : List Question) → NoMoments first
-          → map question (call ∷ trace) ≡ first ++ turns_ask buses stand (turns (call ∷ trace))
-          → (map question (in_turn (call ∷ trace)) ≡ first) × AreTurnsAsked stand (turns (call ∷ trace))
-      by ih true t (q ∷ first) h e = let same : question call ≡ q = cc in cc (is_moment call, ap asks_moment same, h.0)
-      by ih true t [] h e =
-          let calls = call ∷ in_turn trace in
-          let whole : question call ∷ map question trace
-          ≡ turn_asks buses stand calls ++ turns_ask buses (turned buses stand calls) (turns trace) =
-          cc (e, turns_are true t) in
-          let head : question call ≡ expects buses stand.events = cc in
-          let tail : map question trace ≡ rest_asks stand calls ++ turns_ask buses (turned buses stand calls) (turns trace) = cc in
-          let more = ih (turned buses stand calls) (rest_asks stand calls) (rest_moments stand calls) tail in
-          (ap (map question) (other true t), rw (turns_are true t) (cc, more.1))
-      by ih false t [] h e =
-          absurd (not_first stand call (map question trace) (turns trace) (sym (is_moment call) ∙ t) (cc (e, turns_are false t)))
-      by ih false t (q ∷ first) h e =
-          let whole : question call ∷ map question trace ≡ q ∷ (first ++ turns_ask buses stand (turns trace)) =
-          cc (e, turns_are false t) in
-          let head : question call ≡ q = cc in
-          let tail : map question trace ≡ first ++ turns_ask buses stand (turns trace) = cc in
-          let more = ih stand first h.1 tail in (cc (other false t), rw (turns_are false t) more.1)
+  turns_parted stand (ExpectCall due slack ∷ trace) [] h e =
+      let calls = ExpectCall due slack ∷ in_turn trace in
+      let tail : map question trace ≡ rest_asks stand calls ++ turns_ask buses (turned buses stand calls) (turns trace) = cc in
+      let more = turns_parted (turned buses stand calls) trace (rest_asks stand calls) (rest_moments stand calls) tail in
+      let asked : map question calls ≡ turn_asks buses stand calls = cc (e, more.0) in
+      (ap (map question) (take_while-cons (λ next. not (is_expect next)) (ExpectCall due slack) trace), (asked, more.1))
+  turns_parted stand (ExpectCall due slack ∷ trace) (q ∷ first) h e =
+      let same : Expects due slack ≡ q = cc in cc (ap asks_moment same, h.0)
+  turns_parted stand (call ∷ trace) [] h e = absurd (not_first stand call (map question trace) (turns trace) refl e)
+  turns_parted stand (call ∷ trace) (q ∷ first) h e =
+      let more = turns_parted stand trace first h.1 (cc) in
+      (cc (e, take_while-cons (λ next. not (is_expect next)) call trace, more.0), more.1)
 
 -- ---- laws of what a door tells: of some turns, and then some more
 
@@ -309,25 +290,18 @@ module _ (buses : List Bus) where
   pub served-more : (n : ℕ) (trace calls : List Call) → IsServed buses n trace
       → map question calls ≡ turn_asks buses (stand_after buses trace) calls
       → IsServed buses (n + 1) (trace ++ calls) × (stand_after buses (trace ++ calls) ≡ turned buses (stand_after buses trace) calls)
-  served-more n trace [] before asked = cc
-  served-more n trace (call ∷ calls) before asked =
+  served-more n trace (ExpectCall due slack ∷ calls) before asked =
       let stand = stand_after buses trace in
-      let first : question call ≡ expects buses stand.events = cc in
-      let begins : is_expect call ≡ true = is_moment buses call ∙ ap (asks_moment buses) first in
-      let rest : map question calls ≡ rest_asks buses stand (call ∷ calls) = cc in
-      let alone = one_part is_expect calls (not_expect calls (rw rest (rest_moments buses stand (call ∷ calls)))) in
-      let all : turns (trace ++ call ∷ calls) ≡ turns trace ++ (call ∷ calls) ∷ [] =
-      rw (parts-append is_expect trace call calls begins, begins, alone.0, alone.1) refl in (
+      let turn = ExpectCall due slack ∷ calls in
+      let rest : map question calls ≡ rest_asks buses stand turn = cc in
+      let alone = one_part is_expect calls (not_expect calls (rw rest (rest_moments buses stand turn))) in
+      let all : turns (trace ++ turn) ≡ turns trace ++ turn ∷ [] =
+      rw (parts-append is_expect trace (ExpectCall due slack) calls refl, alone.0, alone.1) refl in (
         record {
-          turns_are = rw (all, length-append (turns trace) ((call ∷ calls) ∷ []), before.turns_are) refl;
-          asked = rw (
-            all,
-            map-append question trace (call ∷ calls),
-            turns_ask-append empty_stand (turns trace) ((call ∷ calls) ∷ []),
-            before.asked,
-            asked,
-          )
-              (ap (λ more. turns_ask buses empty_stand (turns trace) ++ more) (sym (append-nil (turn_asks buses stand (call ∷ calls)))));
+          turns_are = rw (all, length-append (turns trace) (turn ∷ []), before.turns_are) refl;
+          asked = rw (all, map-append question trace turn, turns_ask-append empty_stand (turns trace) (turn ∷ []), before.asked, asked)
+              (ap (λ more. turns_ask buses empty_stand (turns trace) ++ more) (sym (append-nil (turn_asks buses stand turn))));
         },
-        rw all (fold-append (turned buses) empty_stand (turns trace) ((call ∷ calls) ∷ [])),
+        rw all (fold-append (turned buses) empty_stand (turns trace) (turn ∷ [])),
       )
+  served-more n trace other before asked = cc

@@ -5,7 +5,7 @@ use Rattle.srcp_serve.proofs.Names.{flat_map, list_any, AllByRecursion, nat_test
 use Rattle.srcp_serve.proofs.Names.{happens, fault, Call, WriteCall, Accepted, Client, IsFair, is_about, visit, visit_events, taken}
 use Rattle.srcp_serve.proofs.Names.{taken_in, Stand, clients, with_client, kept, is_close, with_moment, with_accept, Slots, Question}
 use Rattle.srcp_serve.proofs.Names.{question, visited, visits_ask, asks_of, map-append, fold-append, CoreFault, filter-append, and_from}
-use Rattle.srcp_serve.proofs.Names.{and_parts, cond_both, add-one}
+use Rattle.srcp_serve.proofs.Names.{and_parts, cond_both, add-one, all_weaker}
 use Rattle.srcp_serve.proofs.OnlyRoomSends.{IsSending, sending_opened}
 use Rattle.srcp_serve.proofs.RoomSendsWhatIsLent.{put}
 use Rattle.srcp_serve.proofs.VisitsSendWhatIsTaken.{sending_visit, asks_write, no_writes, none_taken}
@@ -152,18 +152,12 @@ peer_other (suc (suc n)) peer new _ h i = peer_other (suc n) peer new _ h.1 i.1
 
 -- so it has no slot
 pub new_unconnected : (new : ℕ) (connected : List ℕ) (all : List Client) → IsNew new connected → ArePeersOf connected all → IsNoneOf new all
-new_unconnected new _ [] h k = tt
-new_unconnected new connected (client ∷ all) h k =
-    (peer_other client.conn client.peer new connected h k.0, new_unconnected new connected all h k.1)
+new_unconnected new connected all h = all_weaker _ _ (λ client k. peer_other client.conn client.peer new connected h k) all
 
 pub peers_before : (new : ℕ) (connected : List ℕ) (all : List Client) → IsNew new connected → ArePeersOf connected all
     → ArePeersOf (connected ++ new ∷ []) all
-peers_before new connected [] h k = tt
-peers_before new connected (client ∷ all) h k = (
-  peer_before client.conn client.peer new connected
-      (turned_round client.peer new (peer_other client.conn client.peer new connected h k.0)) k.0,
-  peers_before new connected all h k.1,
-)
+peers_before new connected all h = all_weaker _ _ (λ client k. peer_before client.conn client.peer new connected
+    (turned_round client.peer new (peer_other client.conn client.peer new connected h k)) k) all
 
 -- ---- the beginning of a turn
 

@@ -1,11 +1,11 @@
 -- Turn after turn: each connection was sent what was taken of its peer in all the turns so far.
-use Rattle.srcp_serve.proofs.Names.{◌≡◌, ◌∙◌, ℕ, Bool, true, false, List, [], ◌∷◌, ◌++◌, map, filter, cond, if◌then◌else◌, Option, Some}
-use Rattle.srcp_serve.proofs.Names.{None, ◌⊎◌, inl, inr, refl, ap, ◌==◌, ⊎_elim, not, Ok, append-nil, append_assoc, filter_map, fold}
-use Rattle.srcp_serve.proofs.Names.{flat_map, cons_option, AllByRecursion, Event, Open, Bus, Accepted, Call, AcceptCall, door_call}
-use Rattle.srcp_serve.proofs.Names.{Question, Expects, Moments, Accepts, Closes, Client, Stand, question, accept_of, with_moment, connects}
-use Rattle.srcp_serve.proofs.Names.{refuses, asks_of, expects, IsFair, moment_of, clients, taken, timed, turned, visits_ask, with_accept}
-use Rattle.srcp_serve.proofs.Names.{with_connection, turn_asks, is_expect, empty_stand, begun, turns, IsServed, OfEachTurn, SentIsTaken}
-use Rattle.srcp_serve.proofs.Names.{course, due_next, slack, all_append, flat_map-append, filter_map-append, take_while-cons, sent, peer_of}
+use Rattle.srcp_serve.proofs.Names.{◌≡◌, ◌∙◌, ℕ, Bool, true, false, List, [], ◌∷◌, ◌++◌, map, filter, if◌then◌else◌, Option, Some, None}
+use Rattle.srcp_serve.proofs.Names.{◌⊎◌, inl, inr, refl, ap, ◌==◌, ⊎_elim, not, Ok, append-nil, append_assoc, filter_map, fold, flat_map}
+use Rattle.srcp_serve.proofs.Names.{cons_option, AllByRecursion, Event, Open, Bus, Accepted, Call, AcceptCall, door_call, Question, Expects}
+use Rattle.srcp_serve.proofs.Names.{Moments, Accepts, Closes, Client, Stand, question, accept_of, with_moment, connects, refuses, asks_of}
+use Rattle.srcp_serve.proofs.Names.{expects, IsFair, moment_of, clients, taken, timed, turned, visits_ask, with_accept, with_connection}
+use Rattle.srcp_serve.proofs.Names.{turn_asks, is_expect, empty_stand, begun, turns, IsServed, OfEachTurn, SentIsTaken, course, due_next}
+use Rattle.srcp_serve.proofs.Names.{slack, all_append, flat_map-append, filter_map-append, take_while-cons, sent, peer_of, ExpectCall}
 use Rattle.std.specs.List.{IsDistinct}
 use Rattle.srcp_serve.specs.Serving.{PeersDiffer}
 use Rattle.srcp_serve.proofs.CallsByTurnAndPeer.{IsNoneOf, IsOfNone, AreOfPeers, asks_peer, refused_peers, visits_peers, AreAsked}
@@ -311,14 +311,9 @@ module _ (buses : List Bus) where
   -- the calls before the first moment, and then the turns, are all the calls
   turns_joined : (trace : List Call) → in_turn buses trace ++ joined (turns trace) ≡ trace
   turns_joined [] = refl
-  turns_joined (call ∷ trace) =
-      cc (take_while-cons (λ next. not (is_expect next)) call trace, by (turns_joined trace) (is_expect call))
-    where
-      by : in_turn buses trace ++ joined (turns trace) ≡ trace → (b : Bool)
-          → cond (not b) (call ∷ in_turn buses trace) [] ++ joined (if b then (call ∷ in_turn buses trace) ∷ turns trace else turns trace)
-          ≡ call ∷ trace
-      by ih true = ap (λ cs. call ∷ cs) ih
-      by ih false = ap (λ cs. call ∷ cs) ih
+  turns_joined (ExpectCall due slack ∷ trace) =
+      cc (take_while-cons (λ next. not (is_expect next)) (ExpectCall due slack) trace, turns_joined trace)
+  turns_joined (call ∷ trace) = cc (take_while-cons (λ next. not (is_expect next)) call trace, turns_joined trace)
 
   module _ (count : ℕ) (trace : List Call) (served : IsServed buses count trace) (differ : PeersDiffer buses trace)
       (fair : AllByRecursion IsFair trace) where

@@ -48,13 +48,11 @@ abbrev pub NoVisits : List Call → List Client → Type 0
 NoVisits calls all = AllByRecursion (λ client. visit calls client ≡ []) all
 
 pub first_visits : (xs ys : List Call) (all : List Client) → NoVisits ys all → SameVisits (xs ++ ys) xs all
-first_visits xs ys [] h = tt
-first_visits xs ys (client ∷ all) h =
-    (cc (filter-append (is_about client.peer) xs ys, h.0, append-nil (visit xs client)), first_visits xs ys all h.1)
+first_visits xs ys =
+    all_weaker _ _ (λ client none. cc (filter-append (is_about client.peer) xs ys, none, append-nil (visit xs client)))
 
 pub second_visits : (xs ys : List Call) (all : List Client) → NoVisits xs all → SameVisits (xs ++ ys) ys all
-second_visits xs ys [] h = tt
-second_visits xs ys (client ∷ all) h = (cc (filter-append (is_about client.peer) xs ys, h.0), second_visits xs ys all h.1)
+second_visits xs ys = all_weaker _ _ (λ client none. cc (filter-append (is_about client.peer) xs ys, none))
 
 -- what a visit makes happen and asks is seen in its own calls
 same_events : (xs ys : List Call) (client : Client) → visit xs client ≡ visit ys client → visit_events xs client ≡ visit_events ys client

@@ -1,6 +1,6 @@
 -- A turn follows the course: its accept, and its visits.
 use Rattle.srcp_serve.proofs.Names.{◌≡◌, ◌∙◌, ℕ, ◌+◌, Bool, true, false, ◌==◌, List, [], ◌∷◌, ◌++◌, map, fold, length, if◌then◌else◌}
-use Rattle.srcp_serve.proofs.Names.{Option, Some, None, Ok, Err, Result, refl, ap, sym, subst, arith, append_assoc, append-nil, nat_tests}
+use Rattle.srcp_serve.proofs.Names.{Option, Some, Ok, Err, Result, refl, ap, sym, subst, arith, append_assoc, append-nil, nat_tests}
 use Rattle.srcp_serve.proofs.Names.{map-append, filter_map-append, list_any-append, list_all, list_any, filter_map, AllByRecursion, ◌||◌}
 use Rattle.srcp_serve.proofs.Names.{flat_map, Bus, course, Held, StandsFor, Open, filter_no_one, DoorCall, Tells, PeersDiffer, peer_of}
 use Rattle.srcp_serve.proofs.Names.{Trace, Accepted, Call, ExpectCall, NowCall, AcceptCall, CloseCall, door_call, Client, Closes, Stand}
@@ -8,7 +8,7 @@ use Rattle.srcp_serve.proofs.Names.{Expects, Moments, expects, Accepts, IsFair, 
 use Rattle.srcp_serve.proofs.Names.{visit_events, visits_ask, connects, with_connection, with_accept, with_moment, timed, begun, turned}
 use Rattle.srcp_serve.proofs.Names.{turn_asks, refuses, Slots, IsInState, one_if, AcceptsOne, MakesTurn, Connects, TakesMoment, VisitsSlots}
 use Rattle.srcp_serve.proofs.Names.{Owns, AreAccept, Asks, AreAboutPeers, IsTurn, is_of_peer, Keys, Makes, DoorFault, or_cases, or_right}
-use Rattle.srcp_serve.proofs.Names.{⊎_elim}
+use Rattle.srcp_serve.proofs.Names.{⊎_elim, all_weaker}
 use Rattle.std.specs.List.{IsDistinct}
 use Rattle.srcp_core.proofs.CourseLaws.SentLinesAreOneList.{all_prefix}
 use Rattle.srcp_serve.proofs.PeersAreSentTheirVisits.{connected_all, kept_all}
@@ -59,9 +59,7 @@ not_known [] p r h k = cc
 not_known (x ∷ peers) p r h k = ⊎_elim (no_either x p r h.0) (not_known peers p r h.1) (or_cases (x == r) _ k)
 
 fresh : (peers : List ℕ) (p : ℕ) (slots : Slots) → AllByRecursion (λ x. (x == p) ≡ false) peers → AreOf peers slots → HasNone p slots
-fresh peers p [] h k = tt
-fresh peers p (None ∷ slots) h k = fresh peers p slots h k
-fresh peers p (Some client ∷ slots) h k = (not_known peers p _ h k.0, fresh peers p slots h k.1)
+fresh peers p slots h = all_weaker _ _ (λ client known. not_known peers p client.peer h known) (clients slots)
 
 -- a peer that the door accepts has no slot
 new_peer : (peers : List ℕ) (answer : Result (Option ℕ) DoorFault) (later : List DoorCall) (slots : Slots)
@@ -70,12 +68,8 @@ new_peer peers answer later slots differ known peer e =
     fresh peers peer slots (differ_last peers peer (filter_map peer_of later) (rw e at differ)) known
 
 known_more : (peers more : List ℕ) (slots : Slots) → AreOf peers slots → AreOf (peers ++ more) slots
-known_more peers more [] h = tt
-known_more peers more (None ∷ slots) h = known_more peers more slots h
-known_more peers more (Some client ∷ slots) h = (
-  cc (list_any-append (λ q. q == client.peer) peers more),
-  known_more peers more slots h.1,
-)
+known_more peers more slots = all_weaker (λ client. list_any (λ peer. peer == client.peer) peers ≡ true) _
+    (λ client known. rw (list_any-append, known) refl) (clients slots)
 
 known_last : (peers : List ℕ) (p : ℕ) → list_any (λ q. q == p) (peers ++ p ∷ []) ≡ true
 known_last [] p = ap (λ t. t || false) (same_peer p)
@@ -88,9 +82,8 @@ none_seen (call ∷ early) (client ∷ all) e = cc
 
 closed_seen : (peer : ℕ) (answer : Result Unit DoorFault) (all : List Client) → AllByRecursion (λ client. (peer == client.peer) ≡ false) all
     → NoVisits (CloseCall peer answer ∷ []) all
-closed_seen peer answer [] h = tt
-closed_seen peer answer (client ∷ all) h =
-    (filter_no_one (is_about client.peer) (CloseCall peer answer ∷ []) (h.0, tt), closed_seen peer answer all h.1)
+closed_seen peer answer =
+    all_weaker _ _ (λ client apart. filter_no_one (is_about client.peer) (CloseCall peer answer ∷ []) (apart, tt))
 
 module _ (buses : List Bus) where
   known_accept : (peers : List ℕ) (stand : Stand) (accept : Accepted) → AreOf peers stand.slots

@@ -84,43 +84,33 @@ module _ (buses : List Bus) (peer conn : ℕ) where
       ap (λ calls. WriteCall peer (lent buses conn events) (Ok first) ∷ calls)
       (cc (written-more (events ++ Room conn first ∷ []) counts count, after-more events first counts))
 
-  written-counts : (events : List Event) (counts : List ℕ) (last : List Call)
-      → filter_map count_of (written events counts last) ≡ counts ++ filter_map count_of last
-  written-counts events [] last = refl
-  written-counts events (count ∷ counts) last = ap (λ more. count ∷ more) (written-counts (events ++ Room conn count ∷ []) counts last)
-
-  written-asked : (events : List Event) (counts : List ℕ) (last : List Call)
-      → map question (written events counts last) ≡ map (Writes peer) (texts buses conn events counts) ++ map question last
-  written-asked events [] last = refl
-  written-asked events (count ∷ counts) last =
-      ap (λ more. Writes peer (lent buses conn events) ∷ more) (written-asked (events ++ Room conn count ∷ []) counts last)
-
   length-texts : (events : List Event) (counts : List ℕ) → length (texts buses conn events counts) ≡ length counts
   length-texts events [] = refl
   length-texts events (count ∷ counts) = ap (λ n. suc n) (length-texts (events ++ Room conn count ∷ []) counts)
 
-  written-loses : (events : List Event) (counts : List ℕ) (last : List Call)
-      → list_any loses (written events counts last) ≡ list_any loses last
-  written-loses events [] last = refl
-  written-loses events (count ∷ counts) last = written-loses (events ++ Room conn count ∷ []) counts last
+  -- what such writes say
+  record AreWritten (events : List Event) (counts : List ℕ) (last calls : List Call) : Type 0 where
+    counted : filter_map count_of calls ≡ counts ++ filter_map count_of last
+    asked : map question calls ≡ map (Writes peer) (texts buses conn events counts) ++ map question last
+    losing : list_any loses calls ≡ list_any loses last
+    short : list_any falls_short calls ≡ list_any falls_short last
+    many : count_by is_write calls ≡ length counts + count_by is_write last
 
-  written-short : (events : List Event) (counts : List ℕ) (last : List Call) → AreFull buses conn events counts
-      → list_any falls_short (written events counts last) ≡ list_any falls_short last
-  written-short events [] last full = refl
-  written-short events (count ∷ counts) last full =
-      let all : nat_lt count (length (lent buses conn events)) ≡ false = let e = full.0 in grind (arith, nat_tests) in
-      cc (written-short (events ++ Room conn count ∷ []) counts last full.2)
-
-  written-count : (events : List Event) (counts : List ℕ) (last : List Call)
-      → count_by is_write (written events counts last) ≡ length counts + count_by is_write last
-  written-count events [] last = let k = count_by is_write last in omega arith
-  written-count events (count ∷ counts) last =
+  are_written : (events : List Event) (counts : List ℕ) (last : List Call) → AreFull buses conn events counts
+      → AreWritten events counts last (written events counts last)
+  are_written events [] last full =
+      record { counted = refl; asked = refl; losing = refl; short = refl; many = let k = count_by is_write last in omega arith }
+  are_written events (count ∷ counts) last full =
+      let w = are_written (events ++ Room conn count ∷ []) counts last full.2 in
       let more = written (events ++ Room conn count ∷ []) counts last in
-      omega (
-        arith,
-        sum_by-cons (λ x. cond (is_write x) 1 0) (WriteCall peer (lent buses conn events) (Ok count)) more,
-        written-count (events ++ Room conn count ∷ []) counts last,
-      )
+      let all : nat_lt count (length (lent buses conn events)) ≡ false = let e = full.0 in grind (arith, nat_tests) in
+      record {
+        counted = ap (λ more. count ∷ more) w.counted;
+        asked = ap (λ more. Writes peer (lent buses conn events) ∷ more) w.asked;
+        losing = w.losing;
+        short = cc (all, w.short);
+        many = omega (arith, sum_by-cons (λ x. cond (is_write x) 1 0) (WriteCall peer (lent buses conn events) (Ok count)) more, w.many);
+      }
 
   -- what was handed over before the last write, and by it
   handed_then : (events : List Event) (counts last : List ℕ) (end : List (List ℕ)) → AreFull buses conn events counts
@@ -139,12 +129,7 @@ module _ (buses : List Bus) (peer conn : ℕ) where
       ≡ (counts ++ filter_map count_of last)
       ++ (if not lost && (not short && nat_lt (length counts + count_by is_write last) 300) then 0 ∷ [] else [])
   rooms_are events counts last lost short full l s =
-      cc (
-        written-counts events counts last,
-        written-loses events counts last,
-        written-short events counts last full,
-        written-count events counts last,
-      )
+      let w = are_written events counts last full in cc (w.counted, w.losing, w.short, w.many)
 
   module _ (keys : Keys) (old : Trace) where
     -- this many writes took all
@@ -186,15 +171,16 @@ module _ (buses : List Bus) (peer conn : ℕ) where
         → list_any loses last ≡ not stays → rooms (written events counts last) ≡ counts ++ room
         → StandsFor buses keys new (course buses (after events counts ++ map (Room conn) room)) → Writes_out events trace new stays
     ended_by events trace new counts last end room stays full adds hands asks few lost are stands =
+        let w = are_written events counts last full in
         let asked : map question (written events counts last)
         ≡ map (Writes peer) (take 300 (handed buses conn events (filter_map count_of (written events counts last)))) =
         cc (
-          written-asked events counts last,
+          w.asked,
           map-append (Writes peer) (texts buses conn events counts) end,
           handed_then events counts (filter_map count_of last) end full hands few,
-          written-counts events counts last,
+          w.counted,
         ) in
-        writes_out events trace new stays (written events counts last) adds asked (written-loses events counts last ∙ lost)
+        writes_out events trace new stays (written events counts last) adds asked (w.losing ∙ lost)
         (rw (are, map-append, ← append_assoc events (map (Room conn) counts) (map (Room conn) room)) stands)
 
     -- the peer took less, or the write failed
@@ -238,6 +224,7 @@ module _ (buses : List Bus) (peer conn : ℕ) where
     out_full : (events : List Event) (trace : List DoorCall) (now : Held) → IsTaking events trace now 300 → Writes_out events trace now true
     out_full events trace now t =
         let counts = t.counts in
+        let w = are_written events counts [] t.full in
         let prefix = texts buses conn events counts in
         let size = sym (length-texts events counts ∙ t.many) in
         let over : nat_lt (length counts + 0) 300 ≡ false = let many = t.many in grind (arith, nat_tests) in
@@ -246,13 +233,13 @@ module _ (buses : List Bus) (peer conn : ℕ) where
         let asked : map question (written events counts [])
         ≡ map (Writes peer) (take 300 (handed buses conn events (filter_map count_of (written events counts [])))) =
         cc (
-          written-asked events counts [],
+          w.asked,
           append-nil (map (Writes peer) prefix),
           take-append_seam prefix (handed buses conn (after events counts) []),
           handed-append buses conn events counts [] t.full,
-          written-counts events counts [],
+          w.counted,
         ) in
-        writes_out events trace now true (written events counts []) t.adds asked (written-loses events counts []) (rw are t.stands)
+        writes_out events trace now true (written events counts []) t.adds asked w.losing (rw are t.stands)
 
     module _ (events : List Event) (mid trace : List DoorCall) (before new : Held) (times : ℕ) (trace_mid : Trace)
         (is : trace_mid ≡ Some mid) (few : times < 300) (t : IsTaking events mid before times) where
