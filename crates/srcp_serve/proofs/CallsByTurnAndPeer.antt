@@ -207,6 +207,12 @@ module _ (buses : List Bus) where
 
   -- ---- turn by turn
 
+  -- what follows from a law of a turn holds of each turn of which that holds
+  pub each_turn : (P Q : Stand → List Call → Type 0) → ((stand : Stand) (calls : List Call) → P stand calls → Q stand calls)
+      → (stand : Stand) (all : List (List Call)) → OfEachTurn buses P stand all → OfEachTurn buses Q stand all
+  each_turn P Q law stand [] h = tt
+  each_turn P Q law stand (calls ∷ all) h = (law stand calls h.0, each_turn P Q law (turned buses stand calls) all h.1)
+
   -- each turn asked what it was to ask
   abbrev pub AreTurnsAsked : Stand → List (List Call) → Type 0
   AreTurnsAsked stand all = OfEachTurn buses (λ stand calls. map question calls ≡ turn_asks buses stand calls) stand all
@@ -246,14 +252,10 @@ module _ (buses : List Bus) where
       (visits_peers (begun buses stand calls).events calls _) in
       (refl, (refl, all_weaker _ _ no_moment (refused ++ visits) peers))
 
-  pub is_moment : (call : Call) → is_expect call ≡ asks_moment (question call)
-  is_moment (ExpectCall due slack) = refl
-  is_moment other = refl
-
   not_first : (stand : Stand) (call : Call) (questions : List Question) (all : List (List Call)) → asks_moment (question call) ≡ false
       → question call ∷ questions ≡ turns_ask buses stand all → ⊥
   not_first stand call questions [] h e = cc
-  not_first stand call questions (calls ∷ all) h e = let same : question call ≡ expects buses stand.events = cc in cc (ap asks_moment same)
+  not_first stand call questions (calls ∷ all) h e = let same : question call ≡ expects buses stand.events = cc in cc
 
   -- what is asked before the next moment, and then the turns
   pub turns_parted : (stand : Stand) (trace : List Call) (first : List Question) → NoMoments first
@@ -284,7 +286,8 @@ module _ (buses : List Bus) where
 
   not_expect : (calls : List Call) → NoMoments buses (map question calls) → list_all (λ call. not (is_expect call)) calls ≡ true
   not_expect [] h = refl
-  not_expect (call ∷ calls) h = rw (is_moment buses call, h.0) (not_expect calls h.1)
+  not_expect (ExpectCall due slack ∷ calls) h = let no = h.0 in cc
+  not_expect (call ∷ calls) h = not_expect calls h.1
 
   -- one turn more
   pub served-more : (n : ℕ) (trace calls : List Call) → IsServed buses n trace

@@ -144,6 +144,20 @@ module _ (peer key : ℕ) (old : Held) (trace_old : Trace) where
   lent_is : (bytes : List ℕ) → Lends bytes → OfConnection key old (λ buses events n. bytes ≡ lent buses n events)
   lent_is bytes lends buses events keys n layout named s = lends ∙ calls_agree.lends key old buses events keys n layout named s
 
+  -- the door told the write of what was lent
+  took : (bytes : List ℕ) (count : ℕ) (answer : Result ℕ DoorFault) (new : Held) (trace_new : Trace) → Lends bytes
+      → LeadsAt key (λ n. Room n count) old new → Tells trace_old (WriteCall peer bytes answer) trace_new
+      → FromEveryCourse peer key old trace_old new trace_new (λ buses events keys n trace. (bytes ≡ lent buses n events)
+      × Took buses events keys n peer trace_old trace new (given.WriteCall peer (lent buses n events) answer ∷ []) count)
+  took bytes count answer new trace_new lends sends tells buses events keys n trace s named =
+      let lent_bytes = lent_is bytes lends buses events keys n s.layout s.named s.stands in (
+        lent_bytes,
+        record {
+          adds = rw lent_bytes at (adds_one (WriteCall peer bytes answer) trace_old trace_new trace tells named);
+          stands = sends buses events keys n s.layout s.named s.stands;
+        },
+      )
+
   -- there is no connection at the key
   pub wrote_absent : (new : Held) (trace_new : Trace) (wrote : Wrote) → at old key ≡ None
       → WritesOnce peer key old trace_old new trace_new wrote
@@ -165,33 +179,18 @@ module _ (peer key : ℕ) (old : Held) (trace_old : Trace) where
         → Tells trace_old (WriteCall peer bytes (Err fault)) trace_new → (length bytes == 0) ≡ false
         → WritesOnce peer key old trace_old mid trace_new Failed
     wrote_failed bytes fault trace_new lends tells some buses events keys n trace s named =
-        let lent_bytes = lent_is bytes lends buses events keys n s.layout s.named s.stands in (
-          fault,
-          rw lent_bytes at (some_of bytes some),
-          record {
-            adds = rw lent_bytes at (adds_one (WriteCall peer bytes (Err fault)) trace_old trace_new trace tells named);
-            stands = asked buses events keys n s.layout s.named s.stands;
-          },
-        )
+        let t = took bytes 0 (Err fault) mid trace_new lends asked tells buses events keys n trace s named in
+        (fault, rw t.0 at (some_of bytes some), t.1)
 
   module _ (bytes : List ℕ) (count : ℕ) (new : Held) (trace_new : Trace) (lends : Lends bytes)
       (sends : LeadsAt key (λ n. Room n count) old new) (tells : Tells trace_old (WriteCall peer bytes (Ok count)) trace_new) where
-    took : FromEveryCourse peer key old trace_old new trace_new (λ buses events keys n trace.
-        Took buses events keys n peer trace_old trace new (given.WriteCall peer (lent buses n events) (Ok count) ∷ []) count)
-    took buses events keys n trace s named =
-        let lent_bytes = lent_is bytes lends buses events keys n s.layout s.named s.stands in
-        record {
-          adds = rw lent_bytes at (adds_one (WriteCall peer bytes (Ok count)) trace_old trace_new trace tells named);
-          stands = sends buses events keys n s.layout s.named s.stands;
-        }
-
     pub wrote_less : count < length bytes → WritesOnce peer key old trace_old new trace_new Less
     wrote_less few buses events keys n trace s named =
-        let lent_bytes = lent_is bytes lends buses events keys n s.layout s.named s.stands in
-        inr (count, rw lent_bytes at few, took buses events keys n trace s named)
+        let t = took bytes count (Ok count) new trace_new lends sends tells buses events keys n trace s named in
+        inr (count, rw t.0 at few, t.1)
 
     pub wrote_all : count ≡ length bytes → (length bytes == 0) ≡ false → WritesOnce peer key old trace_old new trace_new All
     wrote_all full some buses events keys n trace s named =
-        let lent_bytes = lent_is bytes lends buses events keys n s.layout s.named s.stands in
-        let whole : count ≡ length (lent buses n events) = rw lent_bytes at full in
-        (rw lent_bytes at (some_of bytes some), rw whole at (took buses events keys n trace s named))
+        let t = took bytes count (Ok count) new trace_new lends sends tells buses events keys n trace s named in
+        let whole : count ≡ length (lent buses n events) = rw t.0 at full in
+        (rw t.0 at (some_of bytes some), rw whole at t.1)

@@ -6,7 +6,7 @@ use Rattle.srcp_serve.proofs.Names.{Bytes, At, Shut, Obeyed, Began, Ended, Event
 use Rattle.srcp_serve.proofs.Names.{fresh, numbered, with_numbered, open_connection, at_connection, did, replied, counted, is_info, state}
 use Rattle.srcp_serve.proofs.Names.{entered, goes, greeted, ended, obeyed, commanded, answered_as, answered, order_of, fault, new_lines}
 use Rattle.srcp_serve.proofs.Names.{fed_to, shut_as, or_refused, happens, rows, history, line_law, all_numbered, all_push, opened}
-use Rattle.srcp_serve.proofs.Names.{eqb-false, map-append, IsAnswered, kept_fed, kept_shut, numbered_after}
+use Rattle.srcp_serve.proofs.Names.{eqb-false, map-append, IsAnswered, kept_fed, kept_shut, numbered_after, cond_both, or_parts}
 use Rattle.srcp_info.specs.Line.{reply_line}
 use Rattle.srcp_info.specs.declared.change.Code.{Code}
 use Rattle.srcp_info.specs.declared.change.Code.TheVariants.{C500}
@@ -110,13 +110,11 @@ module _ (buses : List Bus) (n : ℕ) (texts : List (List ℕ)) where
   quiet_goes mode w q =
       let id : ℕ = w.last_id + 1 in
       let begun = did (Began id w.moment mode) (record w { last_id = id }) in
-      elim (nat_lt w.last_id 4294967295)
-      as (λ t. IsQuietNow (if t then replied n (Go id) (entered buses n id begun) else replied n (Refused C500) w)) [
-        | true ↦ quiet_replied (Go id) (entered buses n id begun) (quiet_with n
-            (λ conn. record conn { session = id; info = is_info conn.mode; go_step = length begun.steps }) texts w.connections
-            (λ conn. record { items = refl; ended = refl; taken = refl; more = []; out = sym (append-nil conn.out) }) q)
-        | false ↦ quiet_replied (Refused C500) w q
-      ]
+      cond_both (nat_lt w.last_id 4294967295) (replied n (Go id) (entered buses n id begun)) (replied n (Refused C500) w) IsQuietNow
+      (λ t. quiet_replied (Go id) (entered buses n id begun) (quiet_with n
+      (λ conn. record conn { session = id; info = is_info conn.mode; go_step = length begun.steps }) texts w.connections
+      (λ conn. record { items = refl; ended = refl; taken = refl; more = []; out = sym (append-nil conn.out) }) q))
+      (λ t. quiet_replied (Refused C500) w q)
 
   quiet_greeted : (mode : Mode) (w : World) → IsQuietNow w → (line : Heard) → IsQuietNow (greeted buses n mode (greets line) w)
   quiet_greeted mode w q line =
@@ -137,13 +135,11 @@ module _ (buses : List Bus) (n : ℕ) (texts : List (List ℕ)) where
       let still = quiet_replied result.reply (did (Obeyed session w.moment command) w) q in
       let plain_still : IsPlain once =
       λ conn e. numbered_after (λ c. c.info ≡ false) n n _ w.connections conn e plain (λ other here p. p) in
-      elim result.ends as (λ t. Sends (if t then ended buses n session once else once)) [
-        | true ↦ sending_with n (λ c. record c { ended = true }) texts once.connections (λ conn e s. (
-          record { plain = s.plain; goes_on = λ info. let no = plain_still conn e in cc; within = s.within },
-          refl,
-        )) still.sending
-        | false ↦ still.sending
-      ]
+      cond_both result.ends (ended buses n session once) once Sends
+      (λ t. sending_with n (λ c. record c { ended = true }) texts once.connections (λ conn e s. (
+        record { plain = s.plain; goes_on = λ info. let no = plain_still conn e in cc; within = s.within },
+        refl,
+      )) still.sending) (λ t. still.sending)
 
   sending_commanded : (session : ℕ) (command : Result Order Code) (w : World) → IsPlain w → IsQuietNow w
       → Sends (commanded buses n session command w)
@@ -154,27 +150,21 @@ module _ (buses : List Bus) (n : ℕ) (texts : List (List ℕ)) where
   sending_answered : (o : Option Connection) (line : Heard) (w : World)
       → ((conn : Connection) → o ≡ Some conn → numbered n w.connections ≡ o) → Sends w → Sends (answered_as buses n o line w)
   sending_answered None line w there a = a
-  sending_answered (Some conn) line w there a = by conn.info refl conn.ended refl
-    where
-      by : (t : Bool) → conn.info ≡ t → (b : Bool) → conn.ended ≡ b
-          → Sends (if t || b then w
-          else (if conn.session == 0 then greeted buses n conn.mode (greets line) w
-          else commanded buses n conn.session (order_of buses line) w))
-      by false e false on =
-          let here = there conn refl in
-          let same : (c : Connection) → numbered n w.connections ≡ Some c → c ≡ conn = λ c t. same_Some c conn (sym t ∙ here) in
-          let items = (steady_at n w.connections conn here a.steady).plain e in
-          let quiet : IsQuietNow w = record {
-            sending = a;
-            none = λ c t. (ap (λ (x : Connection). x.items) (same c t) ∙ items, ap (λ (x : Connection). x.ended) (same c t) ∙ on);
-          } in
-          elim (conn.session == 0) as
-          (λ t. Sends (if t then greeted buses n conn.mode (greets line) w else commanded buses n conn.session (order_of buses line) w)) [
-            | true ↦ (quiet_greeted conn.mode w quiet line).sending
-            | false ↦ sending_commanded conn.session (order_of buses line) w (λ c t. ap (λ (x : Connection). x.info) (same c t) ∙ e) quiet
-          ]
-      by true e b on = a
-      by false e true on = a
+  sending_answered (Some conn) line w there a =
+      let begun = greeted buses n conn.mode (greets line) w in
+      let obeyed_then = commanded buses n conn.session (order_of buses line) w in
+      cond_both (conn.info || conn.ended) w (if conn.session == 0 then begun else obeyed_then) Sends (λ t. a) (λ t.
+      let no = or_parts conn.info conn.ended t in
+      let here = there conn refl in
+      let same : (c : Connection) → numbered n w.connections ≡ Some c → c ≡ conn = λ c there. same_Some c conn (sym there ∙ here) in
+      let items = (steady_at n w.connections conn here a.steady).plain no.0 in
+      let quiet : IsQuietNow w = record {
+        sending = a;
+        none = λ c there. (ap (λ (x : Connection). x.items) (same c there) ∙ items, ap (λ (x : Connection). x.ended) (same c there) ∙ no.1);
+      } in
+      let plain : IsPlain w = λ c there. ap (λ (x : Connection). x.info) (same c there) ∙ no.0 in
+      cond_both (conn.session == 0) begun obeyed_then Sends (λ u. (quiet_greeted conn.mode w quiet line).sending)
+      (λ u. sending_commanded conn.session (order_of buses line) w plain quiet))
 
   sending_fed : (piece : Piece) (o : Option Connection) (w : World) → Sends w → Sends (fed_to buses n piece o w)
   sending_fed piece None w a = a
@@ -189,10 +179,7 @@ module _ (buses : List Bus) (n : ℕ) (texts : List (List ℕ)) where
       let once = at_connection n (λ c. record c { shut = Some (length w.steps) }) w in
       let still : Sends once =
       sending_with n _ texts w.connections (λ c e s. (record { plain = s.plain; goes_on = s.goes_on; within = s.within }, refl)) a in
-      elim ((conn.session == 0) || conn.ended) as (λ t. Sends (if t then once else did (Ended conn.session w.moment) once)) [
-        | true ↦ still
-        | false ↦ still
-      ]
+      cond_both ((conn.session == 0) || conn.ended) once (did (Ended conn.session w.moment) once) Sends (λ t. still) (λ t. still)
 
   pub sending_bytes : (piece : Piece) (w : World) → Sends w → Sends (happens buses w (Bytes n piece))
   sending_bytes piece w a =

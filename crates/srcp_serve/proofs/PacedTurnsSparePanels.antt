@@ -1,13 +1,12 @@
 -- A turn that brings no more changes than the door was told makes no panel overrun.
-use Rattle.srcp_serve.proofs.Names.{drop, ◌≡◌, ◌∙◌, ℕ, List, [], ◌∷◌, ◌++◌, map, refl, ap, sym, append-nil, append_assoc, zero, suc, ◌≤◌}
-use Rattle.srcp_serve.proofs.Names.{length, filter_map, flat_map, fold, Bus, Event, At, Open, Accepted, Call, ExpectCall, Stand, begun}
-use Rattle.srcp_serve.proofs.Names.{moment_of, accept_of, clients, timed, turned, visit_events, with_accept, with_moment, Expects}
-use Rattle.srcp_serve.proofs.Names.{OfEachTurn, empty_stand, expects, question, turn_asks, turns, Connection, course, IsLayout, drop_at}
-use Rattle.srcp_serve.proofs.Names.{IsOverrun, option_or_256, slack, room, IsLight, IsPaced, ServingSparesAll, TurnsSpare, SparesPanels}
-use Rattle.srcp_serve.proofs.Names.{trace_room}
+use Rattle.srcp_serve.proofs.Names.{drop, ◌≡◌, ◌∙◌, ℕ, List, [], ◌∷◌, ◌++◌, map, refl, ap, sym, append-nil, append_assoc, zero, suc, length}
+use Rattle.srcp_serve.proofs.Names.{filter_map, flat_map, fold, Bus, Event, At, Open, Accepted, Call, ExpectCall, Stand, begun, moment_of}
+use Rattle.srcp_serve.proofs.Names.{accept_of, clients, timed, turned, visit_events, with_accept, with_moment, Expects, OfEachTurn}
+use Rattle.srcp_serve.proofs.Names.{empty_stand, expects, question, turn_asks, turns, Connection, course, IsLayout, drop_at, IsOverrun}
+use Rattle.srcp_serve.proofs.Names.{option_or_256, slack, room, IsLight, IsPaced, ServingSparesAll, TurnsSpare, SparesPanels, trace_room}
 use Rattle.srcp_core.proofs.CourseLaws.WaitsGrow.{few_close_none}
 use Rattle.srcp_core.proofs.CourseLaws.LinesBringTheirWeight.{light_lines}
-use Rattle.srcp_serve.proofs.CallsByTurnAndPeer.{AreTurnsAsked, accept_as, turns_parted}
+use Rattle.srcp_serve.proofs.CallsByTurnAndPeer.{accept_as, each_turn, turns_parted}
 
 -- a peer that was accepted
 abbrev pub opens : Accepted → Event
@@ -63,17 +62,12 @@ module _ (buses : List Bus) where
       ap option_or_256 same
   room_trace stand other e = cc
 
-  -- what was told, of the course before the turn
-  room_within : (stand : Stand) (calls : List Call) (n : ℕ) → map question calls ≡ turn_asks buses stand calls → n ≤ trace_room calls
-      → n ≤ room buses (course buses stand.events)
-  room_within stand calls n asked few = rw (room_trace stand calls asked) at few
-
   spares : (stand : Stand) (calls : List Call) → map question calls ≡ turn_asks buses stand calls → IsPaced buses stand calls
       → SparesPanels buses stand calls
   spares stand calls asked paced number later over =
       let more = turn_events buses stand calls in
       let same = turned_events buses stand calls in
-      few_close_none buses stand.events more (rw same at (room_within stand calls _ asked paced)) number later (rw same at over)
+      few_close_none buses stand.events more (rw (room_trace stand calls asked, same) at paced) number later (rw same at over)
 
   light_spares : IsLayout buses → (stand : Stand) (calls : List Call) → map question calls ≡ turn_asks buses stand calls
       → IsLight buses stand calls → SparesPanels buses stand calls
@@ -83,17 +77,10 @@ module _ (buses : List Bus) where
       let same = turned_events buses stand calls in
       let events : drop (length stand.events) (turned buses stand calls).events ≡ more =
       cc (drop_at stand.events more (length stand.events) refl) in
-      let few = rw same at (rw events at (room_within stand calls _ asked light)) in
+      let few = rw (room_trace stand calls asked, events, same) at light in
       light_lines buses layout stand.events more few number later (rw same at over)
 
   -- ---- turn after turn
-
-  -- what is so of a turn by what it asked is so of each
-  each_spares : (Law : Stand → List Call → Type 0)
-      → ((stand : Stand) (calls : List Call) → map question calls ≡ turn_asks buses stand calls → Law stand calls)
-      → (stand : Stand) (all : List (List Call)) → AreTurnsAsked buses stand all → OfEachTurn buses Law stand all
-  each_spares Law law stand [] asked = tt
-  each_spares Law law stand (calls ∷ all) asked = (law stand calls asked.0, each_spares Law law (turned buses stand calls) all asked.1)
 
   -- so none ever overran
   all_spared : (Law : Stand → List Call → Type 0) (stand : Stand) (all : List (List Call))
@@ -111,7 +98,7 @@ module _ (buses : List Bus) where
 
   pub paced_spare : TurnsSpare buses (IsPaced buses)
   paced_spare count trace served =
-      each_spares _ spares empty_stand (turns trace) (turns_parted buses empty_stand trace [] tt served.asked).1
+      each_turn buses _ _ spares empty_stand (turns trace) (turns_parted buses empty_stand trace [] tt served.asked).1
 
   pub paced_spares_all : ServingSparesAll buses (IsPaced buses)
   paced_spares_all count trace served paced =
@@ -119,7 +106,7 @@ module _ (buses : List Bus) where
 
   pub light_spare : IsLayout buses → TurnsSpare buses (IsLight buses)
   light_spare layout count trace served =
-      each_spares _ (light_spares layout) empty_stand (turns trace) (turns_parted buses empty_stand trace [] tt served.asked).1
+      each_turn buses _ _ (light_spares layout) empty_stand (turns trace) (turns_parted buses empty_stand trace [] tt served.asked).1
 
   pub light_spares_all : IsLayout buses → ServingSparesAll buses (IsLight buses)
   light_spares_all layout count trace served light = all_spared _ _ _ (light_spare layout count trace served) light none_first

@@ -30,8 +30,7 @@ put_peer : (f g : ℕ → List ℕ) (more : List ℕ) (n peer : ℕ) (connected 
 put_peer f g more n peer [] i h e = absurd i
 put_peer f g more zero peer (who ∷ connected) i h e = absurd i
 put_peer f g more (suc zero) peer (who ∷ connected) i h e =
-    ap (λ p. (f p ++ more) ∷ map f connected) i.0 ∙ ap (λ t. t ∷ map f connected) e ∙ ap (λ p. g p ∷ map f connected) (sym i.0)
-    ∙ ap (λ ts. g who ∷ ts) (same_map f g peer connected h i.1)
+    cc (i.0, e, same_map f g peer connected h i.1)
 put_peer f g more (suc (suc n)) peer (who ∷ connected) i h e =
     cc (h who i.0, put_peer f g more (suc n) peer connected i.1 h e)
 

@@ -311,8 +311,7 @@ module _ (buses : List Bus) where
   -- the calls before the first moment, and then the turns, are all the calls
   turns_joined : (trace : List Call) → in_turn buses trace ++ joined (turns trace) ≡ trace
   turns_joined [] = refl
-  turns_joined (ExpectCall due slack ∷ trace) =
-      cc (take_while-cons (λ next. not (is_expect next)) (ExpectCall due slack) trace, turns_joined trace)
+  turns_joined (ExpectCall due slack ∷ trace) = cc (turns_joined trace)
   turns_joined (call ∷ trace) = cc (take_while-cons (λ next. not (is_expect next)) call trace, turns_joined trace)
 
   module _ (count : ℕ) (trace : List Call) (served : IsServed buses count trace) (differ : PeersDiffer buses trace)

@@ -1,9 +1,9 @@
 -- Turn after turn, serving follows the course.
-use Rattle.srcp_serve.proofs.Names.{◌≡◌, ◌∙◌, ℕ, zero, suc, ◌+◌, ◌≤◌, Bool, true, false, List, [], ◌++◌, map, replicate, length, None, refl}
-use Rattle.srcp_serve.proofs.Names.{ap, sym, subst, arith, append-nil, append_cancel_left, map-append, filter_map-append, same_Some}
-use Rattle.srcp_serve.proofs.Names.{filter_map, AllZip, Bus, denied_over, start, Held, DoorCall, peer_of, Trace, Call, door_call}
-use Rattle.srcp_serve.proofs.Names.{CountsRefusals, Stand, IsServed, stand_after, events_of, Begins, IsInState, one_if, MakesTurn}
-use Rattle.srcp_serve.proofs.Names.{ClientsDiffer, IsSlotOf, ServesCourse, Owns, IsTurn, Asks, AreTurns, CountsAsked, Keys}
+use Rattle.srcp_serve.proofs.Names.{◌≡◌, ◌∙◌, ℕ, zero, suc, ◌+◌, ◌≤◌, Bool, List, [], ◌++◌, map, replicate, length, None, refl, ap, sym}
+use Rattle.srcp_serve.proofs.Names.{subst, arith, append-nil, append_cancel_left, map-append, filter_map-append, same_Some, filter_map}
+use Rattle.srcp_serve.proofs.Names.{AllZip, Bus, denied_over, start, Held, DoorCall, peer_of, Trace, Call, door_call, CountsRefusals, Stand}
+use Rattle.srcp_serve.proofs.Names.{IsServed, stand_after, events_of, Begins, IsInState, one_if, MakesTurn, ClientsDiffer, IsSlotOf}
+use Rattle.srcp_serve.proofs.Names.{ServesCourse, Owns, IsTurn, Asks, AreTurns, CountsAsked, Keys}
 use Rattle.std.specs.List.{IsDistinct}
 use Rattle.srcp_serve.proofs.CallsByTurnAndPeer.{served-more}
 use Rattle.srcp_serve.proofs.CallsAreAdded.{adds_then, refusals_then, same_calls}
@@ -120,5 +120,4 @@ serves_all count turns opened old now _ _ owns e asks so buses before calls layo
 
 -- no more were connected than there were turns
 pub fewer : (opens : Bool) (opened count after : ℕ) → opened ≤ count → after ≡ opened + one_if opens → after ≤ count + 1
-fewer true opened count after h e = omega (arith, h, e)
-fewer false opened count after h e = omega (arith, h, e)
+fewer opens opened count after h e = grind arith

@@ -170,10 +170,6 @@ few_slots keys (Some own ∷ owns) (Some client ∷ slots) h d =
     omega (arith, ih, count_cons (Some client) slots, count_without n keys own.key h.0.1)
 few_slots keys owns slots h d = search
 
-pub all_here : {X : Type 0} (P : X → Type 0) (before : List X) (x : X) (after : List X) → AllByRecursion P (before ++ x ∷ after) → P x
-all_here P [] x after h = h.0
-all_here P (y ∷ before) x after h = all_here P before x after h.1
-
 -- what holds of all that have a slot holds of the one in the middle, and of the others
 all_around : (P : Client → Type 0) (before : Slots) (client : Client) (after : Slots)
     → AllByRecursion P (clients (before ++ Some client ∷ after)) → P client × AllByRecursion P (clients (before ++ None ∷ after))

@@ -6,6 +6,7 @@ use Rattle.srcp_serve.proofs.Names.{Bus, course, Held, key_of, without_key, Stan
 use Rattle.srcp_serve.proofs.Names.{clients, Stand, is_about, is_close, kept, question, visit, visit_asks, visit_events, Slots, IsInState}
 use Rattle.srcp_serve.proofs.Names.{HasVisited, VisitsSlot, VisitsSlots, FromEveryState, Owns, AreFreeFrom, MayFree, AreAboutPeers, Asks}
 use Rattle.srcp_serve.proofs.Names.{Call, Keys, Visits, Own, filter_every, filter_map-append, flat_map, ClientsDiffer}
+use Rattle.std.proofs.Math.ListN.{length-set}
 use Rattle.srcp_serve.proofs.SlotsAreTakenAndFreed.{differ_cleared, in_state_on, length-owns, owns_without, AreSlotsOf, own_here}
 use Rattle.srcp_serve.proofs.SlotsAreTakenAndFreed.{about_asked, first_visits, none_before, none_next, same_asked, same_kept, same_made}
 use Rattle.srcp_serve.proofs.SlotsAreTakenAndFreed.{SameVisits, second_visits, visits_ask-append}
@@ -219,14 +220,9 @@ slots_all slot old now trace_old trace_now owns_old owns long most so buses stan
 
 -- ---- the slots from some slot on stay free in a turn, and no peer is visited there
 
-pub length_set : (owns : Owns) (slot : ℕ) (own : Option Own) → length (slice_set owns slot own) ≡ length owns
-length_set [] slot own = refl
-length_set (x ∷ owns) zero own = refl
-length_set (x ∷ owns) (suc slot) own = ap (λ n. suc n) (length_set owns slot own)
-
 pub length_kept : (slot : ℕ) (old new : Owns) → MayFree slot old new → length new ≡ length old
 length_kept slot old new (inl e) = ap length e
-length_kept slot old new (inr e) = simp (e, length_set)
+length_kept slot old new (inr e) = simp (e, length-set)
 
 -- a slot that is freed is free
 free_set : (end slot : ℕ) (owns : Owns) → AreFreeFrom end owns → AreFreeFrom end (slice_set owns slot None)

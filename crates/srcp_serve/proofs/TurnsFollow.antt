@@ -10,12 +10,11 @@ use Rattle.srcp_serve.proofs.Names.{turn_asks, refuses, Slots, IsInState, one_if
 use Rattle.srcp_serve.proofs.Names.{Owns, AreAccept, Asks, AreAboutPeers, IsTurn, is_of_peer, Keys, Makes, DoorFault, or_cases, or_right}
 use Rattle.srcp_serve.proofs.Names.{⊎_elim, all_weaker}
 use Rattle.std.specs.List.{IsDistinct}
-use Rattle.srcp_core.proofs.CourseLaws.SentLinesAreOneList.{all_prefix}
+use Rattle.srcp_serve.proofs.VisitsSendWhatIsTaken.{all_parts}
 use Rattle.srcp_serve.proofs.PeersAreSentTheirVisits.{connected_all, kept_all}
 use Rattle.srcp_serve.proofs.VisitsFollow.{closing_call}
 use Rattle.srcp_serve.proofs.CallsByTurnAndPeer.{accept_as, fold_keeps, same_peer}
-use Rattle.srcp_serve.proofs.SlotsAreTakenAndFreed.{all_here, AreOf, HasNone, NoVisits, SameVisits, same_asked, same_kept, same_made}
-use Rattle.srcp_serve.proofs.SlotsAreTakenAndFreed.{second_visits}
+use Rattle.srcp_serve.proofs.SlotsAreTakenAndFreed.{AreOf, HasNone, NoVisits, SameVisits, same_asked, same_kept, same_made, second_visits}
 use Rattle.srcp_serve.proofs.CallsAreAdded.{adds_one, adds_then, asked_moment, given_then, makes_then, same_calls}
 use Rattle.srcp_serve.proofs.SentIsTakenAfterAllTurns.{peers_trace}
 use Rattle.srcp_serve.specs.Calls as door
@@ -36,12 +35,12 @@ fair_given (call ∷ calls) h = (h.0, fair_given calls h.1)
 differ_prefix : (xs ys : List ℕ) → IsDistinct (λ a b. a == b) (xs ++ ys) → IsDistinct (λ a b. a == b) xs
 unfolding IsDistinct
 differ_prefix [] ys h = tt
-differ_prefix (x ∷ xs) ys h = (all_prefix (λ y. (x == y) ≡ false) xs ys h.0, differ_prefix xs ys h.1)
+differ_prefix (x ∷ xs) ys h = ((all_parts (λ y. (x == y) ≡ false) xs ys h.0).0, differ_prefix xs ys h.1)
 
 differ_last : (xs : List ℕ) (y : ℕ) (ys : List ℕ) → IsDistinct (λ a b. a == b) (xs ++ y ∷ ys) → AllByRecursion (λ x. (x == y) ≡ false) xs
 unfolding IsDistinct
 differ_last [] y ys h = tt
-differ_last (x ∷ xs) y ys h = (all_here (λ z. (x == z) ≡ false) xs y ys h.0, differ_last xs y ys h.1)
+differ_last (x ∷ xs) y ys h = ((all_parts (λ z. (x == z) ≡ false) xs (y ∷ ys) h.0).1.0, differ_last xs y ys h.1)
 
 pub peers_prefix : (peers : List ℕ) (xs ys : List DoorCall) → PeersDiffer peers (xs ++ ys) → PeersDiffer peers xs
 peers_prefix peers xs ys h =

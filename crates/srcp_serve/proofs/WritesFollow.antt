@@ -66,10 +66,6 @@ module _ (buses : List Bus) (peer conn : ℕ) where
   abbrev pub after : List Event → List ℕ → List Event
   after events counts = events ++ map (Room conn) counts
 
-  after-more : (events : List Event) (count : ℕ) (counts : List ℕ)
-      → after (events ++ Room conn count ∷ []) counts ≡ after events (count ∷ counts)
-  after-more events count counts = append_assoc events _ _
-
   pub written-append : (events : List Event) (counts : List ℕ) (last : List Call)
       → written events counts [] ++ last ≡ written events counts last
   written-append events [] last = refl
@@ -82,7 +78,7 @@ module _ (buses : List Bus) (peer conn : ℕ) where
   written-more events [] count = ap (λ all. WriteCall peer (lent buses conn all) (Ok count) ∷ []) (sym (append-nil events))
   written-more events (first ∷ counts) count =
       ap (λ calls. WriteCall peer (lent buses conn events) (Ok first) ∷ calls)
-      (cc (written-more (events ++ Room conn first ∷ []) counts count, after-more events first counts))
+      (cc (written-more (events ++ Room conn first ∷ []) counts count, append_assoc events (Room conn first ∷ []) (map (Room conn) counts)))
 
   length-texts : (events : List Event) (counts : List ℕ) → length (texts buses conn events counts) ≡ length counts
   length-texts events [] = refl
@@ -229,7 +225,7 @@ module _ (buses : List Bus) (peer conn : ℕ) where
         let size = sym (length-texts events counts ∙ t.many) in
         let over : nat_lt (length counts + 0) 300 ≡ false = let many = t.many in grind (arith, nat_tests) in
         let are : rooms (written events counts []) ≡ counts =
-        cc (rooms_are events counts [] false false t.full refl refl, append-nil (counts ++ []), append-nil counts) in
+        cc (rooms_are events counts [] false false t.full refl refl, append-nil counts) in
         let asked : map question (written events counts [])
         ≡ map (Writes peer) (take 300 (handed buses conn events (filter_map count_of (written events counts [])))) =
         cc (

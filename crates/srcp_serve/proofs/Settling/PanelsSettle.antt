@@ -6,13 +6,13 @@ use Rattle.srcp_serve.proofs.Names.{Bytes, Room, Shut, Call, OfEachVisit, Client
 use Rattle.srcp_serve.proofs.Names.{piece_of, rooms, with_client, clients, timed, visit, visit_events, with_accept, with_moment, Slots}
 use Rattle.srcp_serve.proofs.Names.{IsFair, OfEachTurn, question, turned, visit_asks, is_about, empty_stand, flat_map-append, slice_get-map}
 use Rattle.srcp_serve.proofs.Names.{Next, IsLayout, course, history, numbered, rows, brought, brought_in, ltb-false, fold-append, Change}
-use Rattle.srcp_serve.proofs.Names.{Shown, beyond, Connection, History, cursor_at, is_nil, is_open, is_settled, owed, unsent, untold}
-use Rattle.srcp_serve.proofs.Names.{waiting, no_lists, eqb-false, ne_eqb}
+use Rattle.srcp_serve.proofs.Names.{Shown, beyond, Connection, History, cursor_at, is_open, is_settled, owed, unsent, untold, waiting}
+use Rattle.srcp_serve.proofs.Names.{no_lists, eqb-false, ne_eqb}
 use Rattle.srcp_serve.proofs.PeersAreSentTheirVisits.{ArePeersOf, IsPeerOf}
-use Rattle.srcp_serve.proofs.CallsByTurnAndPeer.{IsNoneOf, PeersApart, AreAsked, accept_as, all_if, fold_keeps, turned_round}
+use Rattle.srcp_serve.proofs.CallsByTurnAndPeer.{IsNoneOf, PeersApart, AreAsked, accept_as, each_turn, all_if, fold_keeps, turned_round}
 use Rattle.srcp_serve.proofs.PacedTurnsSparePanels.{opening_events, opens, begun_events, turn_events, turned_events}
 use Rattle.srcp_serve.proofs.OnlyRoomSends.{AreOfOthers, is_of}
-use Rattle.srcp_serve.proofs.SlotsAreTakenAndFreed.{all_here}
+use Rattle.srcp_serve.proofs.VisitsSendWhatIsTaken.{all_parts}
 use Rattle.srcp_serve.specs.Settling.{SettlesSoon, TakesAll, TakesWaits, WaitsAreGoneAfterAVisit}
 use Rattle.srcp_serve.proofs.SentIsTakenAfterAllTurns.{IsTurnOfPeers, turns_of_peers}
 use Rattle.srcp_serve.proofs.Settling.PanelsTakeTheirLines.{Panel, panel_others, brought_adds, no_map}
@@ -86,8 +86,8 @@ pub others_apart : (connected : List ℕ) (before : List Client) (client : Clien
 others_apart connected [] client rest k h = (tt, rest_others _ client rest k.0 k.1 h.0)
 others_apart connected (other ∷ before) client rest k h =
     let more = others_apart _ before client rest k.1 h.1 in
-    let own = all_here (λ (s : Client). IsPeerOf s.conn s.peer _) before client rest k.1 in
-    let differs = all_here (λ (s : Client). (s.peer == other.peer) ≡ false) before client rest h.0 in
+    let own = (all_parts (λ (s : Client). IsPeerOf s.conn s.peer connected) before (client ∷ rest) k.1).1.0 in
+    let differs = (all_parts (λ (s : Client). (s.peer == other.peer) ≡ false) before (client ∷ rest) h.0).1.0 in
     ((conns_differ _ _ _ _ _ k.0 own (turned_round client.peer other.peer differs), more.0), more.1)
 
 -- ---- events
@@ -223,10 +223,6 @@ module _ (buses : List Bus) where
   later_turns Law [] after stand h = h
   later_turns Law (calls ∷ before) after stand h = later_turns Law before after (turned buses stand calls) h.1
 
-  one_write : (bytes : List ℕ) → one_unless_nil bytes ≡ (if is_nil bytes then 0 else 1)
-  one_write [] = refl
-  one_write (byte ∷ bytes) = refl
-
   settled_is : (events : List Event) (n : ℕ) (later : Connection) → Panel buses n events [] []
       → numbered n (course buses events).connections ≡ Some later
       → is_settled later (history buses (course buses events)) (rows buses (course buses events)) ≡ true
@@ -245,7 +241,7 @@ module _ (buses : List Bus) where
       let runs = later_turns _ before after _ (rw parts at (turns_of_peers buses count trace served differ fair)) in
       let p : Panel buses client.conn now.events (unsent conn) due = record { conn = conn; is = is; left = refl; owes = refl } in
       let end = ap (λ (s : Stand). s.events) (sym (fold-append _ _ before after) ∙ ap (fold (turned buses) empty_stand) (sym parts)) in
-      let done = turns_settle buses layout slot client after now _ due runs still has p (rw one_write enough) in
+      let done = turns_settle buses layout slot client after now _ due runs still has p enough in
       settled_is _ _ later (rw end at done) there
 
   -- ---- the changes that wait
@@ -308,14 +304,7 @@ module _ (buses : List Bus) where
   visits_take layout events calls (client ∷ all) fair asked =
       (takes_waits layout events calls client asked.0 fair, visits_take layout (events ++ visit_events calls client) calls all fair asked.1)
 
-  turns_take : (layout : IsLayout buses) (all : List (List Call)) (stand : Stand) → OfEachTurn buses (IsTurnOfPeers buses) stand all
-      → OfEachTurn buses (λ stand calls. OfEachVisit buses (TakesWaits buses) (begun buses stand calls).events calls
-      (clients (begun buses stand calls).slots)) stand all
-  turns_take layout [] stand h = tt
-  turns_take layout (calls ∷ all) stand h = (
-    visits_take layout (begun buses stand calls).events calls (clients (begun buses stand calls).slots) h.0.fair h.0.asked,
-    turns_take layout all (turned buses stand calls) h.1,
-  )
-
   pub waits_are_gone : WaitsAreGoneAfterAVisit buses
-  waits_are_gone layout count trace served differ fair = turns_take layout _ _ (turns_of_peers buses count trace served differ fair)
+  waits_are_gone layout count trace served differ fair =
+      each_turn buses (IsTurnOfPeers buses) _ (λ stand calls t. visits_take layout (begun buses stand calls).events calls
+      (clients (begun buses stand calls).slots) t.fair t.asked) _ _ (turns_of_peers buses count trace served differ fair)

@@ -5,7 +5,7 @@ use Rattle.srcp_serve.proofs.Names.{◌==◌, length-filter, filter, filter_map,
 use Rattle.srcp_serve.proofs.Names.{nat_tests, map-append, list_any-append, Next, Bus, IsLayout, line_of, Event, Bytes, Room, Piece, Call}
 use Rattle.srcp_serve.proofs.Names.{WriteCall, CloseCall, Question, Reads, Writes, Closes, Client, IsFair, question, piece_of, count_of}
 use Rattle.srcp_serve.proofs.Names.{is_close, is_write, loses, loses_reading, falls_short, lent_none_last, exchange, is_closing, lent}
-use Rattle.srcp_serve.proofs.Names.{handed, closes_of, visit_asks, and_parts, cond_both, is_ready, reads_of, writes_of, all_weaker}
+use Rattle.srcp_serve.proofs.Names.{handed, closes_of, visit_asks, and_parts, cond_both, is_ready, reads_of, writes_of, all_weaker, is_nil}
 use Rattle.srcp_serve.proofs.CallsByTurnAndPeer.{any_not, not_any}
 use Rattle.srcp_serve.proofs.VisitsSendWhatIsTaken.{first_of_writes, has_writes, no_write}
 use Rattle.srcp_serve.proofs.Settling.PanelsTakeTheirLines.{Panel, first_text, owed_then, panel_bytes, panel_full, panel_goes_on}
@@ -20,8 +20,7 @@ whole_count peer count bytes h = let low = ltb-false count _ h.2 in let high = h
 
 -- one write more if something is unsent
 abbrev pub one_unless_nil : List ℕ → ℕ
-one_unless_nil [] = 0
-one_unless_nil (byte ∷ bytes) = 1
+one_unless_nil bytes = if is_nil bytes then 0 else 1
 
 module _ (buses : List Bus) (layout : IsLayout buses) (peer n : ℕ) where
   -- the first of some writes, and what it leaves
@@ -175,13 +174,10 @@ asks_close other = false
 abbrev NoCloses : List Question → Type 0
 NoCloses questions = list_any asks_close questions ≡ false
 
-same_close : (call : Call) → is_close call ≡ asks_close (question call)
-same_close (CloseCall who answer) = refl
-same_close other = refl
-
 closes_asked : (calls : List Call) → list_any is_close calls ≡ list_any asks_close (map question calls)
 closes_asked [] = refl
-closes_asked (call ∷ calls) = cc (same_close call, closes_asked calls)
+closes_asked (CloseCall who answer ∷ calls) = refl
+closes_asked (call ∷ calls) = closes_asked calls
 
 writes_close : (peer : ℕ) (texts : List (List ℕ)) → NoCloses (map (Writes peer) texts)
 writes_close peer [] = refl

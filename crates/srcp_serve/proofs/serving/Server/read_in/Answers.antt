@@ -1,4 +1,4 @@
-use Rattle.srcp_serve.proofs.Names.{◌≡◌, Ok, Err, ap, arith, length, refl, [], ReadCall, loses_reading, piece_of, Got}
+use Rattle.srcp_serve.proofs.Names.{Ok, Err, ap, arith, refl, [], ReadCall, loses_reading, piece_of, Got}
 use Rattle.srcp_serve.specs.declared.tally.Tally.{Tally}
 use Rattle.srcp_serve.proofs.DoorIsCalled.{fair_read, none_failed, one_failed, calls_none, calls_one}
 use Rattle.srcp_serve.proofs.OneCallFollows.{read_not, read_other, read_bytes}
@@ -9,30 +9,27 @@ returns-then-not-ready-clause-course g c = read_not _ _ _ _ _ c.ready.ensures c.
 
 pub returns-in-Ok-Bytes-clause-course : goal.returns-in-Ok-Bytes-clause-course
 returns-in-Ok-Bytes-clause-course g c =
-    let full : length c.read.new.buf ≡ 256 = omega (arith, c.read.auto.buf) in
-    read_bytes _ _ _ _ _ c.ready.ensures c.in-Ok-Bytes.count c.read.new.buf _ _ _ _ c.if-not-ready.false full
+    read_bytes _ _ _ _ _ c.ready.ensures c.in-Ok-Bytes.count c.read.new.buf _ _ _ _ c.if-not-ready.false (omega (arith, c.read.auto.buf))
     (rw c.in-Ok-Bytes.field-0-is at c.in-Ok-Bytes.ensures.trace) c.receive.ensures.fault c.receive.ensures.received c.is_ok.ensures.value
 
 pub returns-in-Ok-Nothing-clause-course : goal.returns-in-Ok-Nothing-clause-course
 returns-in-Ok-Nothing-clause-course g c =
-    let full : length c.read.new.buf ≡ 256 = omega (arith, c.read.auto.buf) in
-    read_other _ _ _ _ _ c.ready.ensures
-    (Ok c.in-Ok-Nothing.field-0) c.read.new.buf _ c.if-not-ready.false full c.in-Ok-Nothing.ensures.trace _
+    read_other _ _ _ _ _ c.ready.ensures (Ok c.in-Ok-Nothing.field-0) c.read.new.buf _ c.if-not-ready.false (omega (arith, c.read.auto.buf))
+    c.in-Ok-Nothing.ensures.trace _
     (ap (λ (x : Got). piece_of (ReadCall c.args.client.peer (Ok x) c.read.new.buf [])) c.in-Ok-Nothing.field-0-is)
     (ap (λ (x : Got). loses_reading (ReadCall c.args.client.peer (Ok x) c.read.new.buf [])) c.in-Ok-Nothing.field-0-is)
 
 pub returns-in-Ok-Ended-clause-course : goal.returns-in-Ok-Ended-clause-course
 returns-in-Ok-Ended-clause-course g c =
-    let full : length c.read.new.buf ≡ 256 = omega (arith, c.read.auto.buf) in
-    read_other _ _ _ _ _ c.ready.ensures (Ok c.in-Ok-Ended.field-0) c.read.new.buf _ c.if-not-ready.false full c.in-Ok-Ended.ensures.trace _
+    read_other _ _ _ _ _ c.ready.ensures (Ok c.in-Ok-Ended.field-0) c.read.new.buf _ c.if-not-ready.false (omega (arith, c.read.auto.buf))
+    c.in-Ok-Ended.ensures.trace _
     (ap (λ (x : Got). piece_of (ReadCall c.args.client.peer (Ok x) c.read.new.buf [])) c.in-Ok-Ended.field-0-is)
     (ap (λ (x : Got). loses_reading (ReadCall c.args.client.peer (Ok x) c.read.new.buf [])) c.in-Ok-Ended.field-0-is)
 
 pub returns-in-Err-clause-course : goal.returns-in-Err-clause-course
 returns-in-Err-clause-course g c =
-    let full : length c.read.new.buf ≡ 256 = omega (arith, c.read.auto.buf) in
-    read_other _ _ _ _ _ c.ready.ensures
-    (Err c.in-Err.field-0) c.read.new.buf _ c.if-not-ready.false full c.in-Err.ensures.trace _ refl refl
+    read_other _ _ _ _ _ c.ready.ensures (Err c.in-Err.field-0) c.read.new.buf _ c.if-not-ready.false (omega (arith, c.read.auto.buf))
+    c.in-Err.ensures.trace _ refl refl
 
 pub returns-then-not-ready-clause-calls : goal.returns-then-not-ready-clause-calls
 returns-then-not-ready-clause-calls g c = calls_none _ _ _ c.requires

@@ -1,12 +1,13 @@
 use Rattle.std.proofs.Common.{◌∙◌, arith}
-use Rattle.srcp_serve.proofs.SlotsFollow.{free_behind, length_set}
+use Rattle.std.proofs.Math.ListN.{length-set}
+use Rattle.srcp_serve.proofs.SlotsFollow.{free_behind}
 use Rattle.srcp_serve.proofs.serving.Slots.give.Goals as goal
 
 pub invariant_of-self : goal.invariant_of-self
 invariant_of-self c =
     let p = c.self.inside in
     let i = c.self.invariant in (
-      length_set _ _ _ ∙ i.0,
+      length-set _ _ _ ∙ i.0,
       omega (arith, c.max-self-inside.ensures, c.requires, i.1),
       free_behind p.end _ _ _ _ c.max-self-inside.ensures i.2,
     )
