@@ -90,9 +90,10 @@ pub use Rattle.srcp_text.specs.Reading.{Reading, StandsAt, nothing_read}
 pub use Rattle.std.proofs.Common.{Bool, List, [], add-one, ap, append-nil, append_assoc, arith, cond, drop, false, inl, inr, length}
 pub use Rattle.std.proofs.Common.{length-append, length-drop, map, max, min, refl, subst, suc, sym, take, true, true≢false, zero, ℕ, ⊎_elim}
 pub use Rattle.std.proofs.Common.{◌++◌, ◌+◌, ◌-◌, ◌<◌, ◌^◌, ◌∙◌, ◌∷◌, ◌≡◌, ◌≢◌, ◌≤◌, ◌⊎◌}
-pub use Rattle.std.proofs.Math.Bool.{and-false}
+pub use Rattle.std.proofs.Math.Bool.{and-false, and-true, or-true}
 pub use Rattle.std.proofs.Math.Nat.{le_refl, pos_of_ne-zero, suc-ne-zero, suc_inj}
-pub use Rattle.std.proofs.lemmas.Bool.{and_parts, cond_both, eqb-false, eqb-true, false≢true, le-leb, le-ltb, leb-false, leb-true, lt-leb}
+pub use Rattle.std.proofs.lemmas.Bool.{and_parts, cases_lt, cond_both, eqb-false, eqb-true, false≢true, le-leb, le-ltb, leb-false, leb-true}
+pub use Rattle.std.proofs.lemmas.Bool.{lt-leb}
 pub use Rattle.std.proofs.lemmas.Bool.{lt-ltb, ltb-false, ltb-true, ne_eqb}
 pub use Rattle.std.proofs.lemmas.Bool.Decides.{nat_tests}
 pub use Rattle.std.proofs.lemmas.List.{drop-append-le, drop-drop, drop_all, length-map, length_push, map-append, nil_from_length}
@@ -107,3 +108,9 @@ pub use Rattle.std.specs.Ordering.{is_eq}
 pub use Rattle.std.specs.Prelude.{Err, IfOk, IfSome, IsTrue, None, Ok, Option, Result, Some, codes, count_by, if◌then◌else◌, is_none}
 pub use Rattle.std.specs.Prelude.{is_some, nat_le, nat_lt, not, slice_get, slice_index_or, slice_set, ◌&&◌, ◌==◌, ◌||◌}
 pub use Rattle.std.specs.declared.cmp.Ordering.TheVariants.{Equal, Less}
+
+-- what holds of both outcomes of two choices that are made alike
+pub if_two : {A B : Type 0} (R : A → B → Type 0) (t : Bool) (a b : A) (c d : B) → R a c → R b d
+    → R (if t then a else b) (if t then c else d)
+if_two R true a b c d p q = p
+if_two R false a b c d p q = q

@@ -4,10 +4,9 @@ use Rattle.srcp_core.proofs.Names.{le-ltb, filter, Option, Some, None, is_none, 
 use Rattle.srcp_core.proofs.Names.{if◌then◌else◌, Bus, IsLayout, opening, shown_rows, Event, Open, Bytes, Room, Shut, Piece, OfCourse}
 use Rattle.srcp_core.proofs.Names.{OfConnection, lent, Connection, is_open, overran, unsent, World, course, fault, absent_fault, history}
 use Rattle.srcp_core.proofs.Names.{open_connection, Place, Held, at, IsAdmitted, IsNotAdmitted, bytes_fault, bytes_fault_from, finish_at}
-use Rattle.srcp_core.proofs.Names.{unsent_at, let_out, key_of, StandsFor, place_of, CoreFault, Full, Busy, PieceTooLong}
+use Rattle.srcp_core.proofs.Names.{unsent_at, let_out, key_of, StandsFor, place_of, CoreFault, Full, Busy, PieceTooLong, open_count, ◌≤◌}
 use Rattle.std.specs.Prelude.{IsSome}
 use Rattle.srcp_core.specs.Agrees.{closes}
-use Rattle.srcp_core.proofs.Names.{open_count, ◌≤◌}
 use Rattle.srcp_core.specs.Connection.{is_last}
 use Rattle.srcp_core.specs.declared.record.CoreFault.TheVariants.{Memory as MemoryFault, Closing as ClosingFault}
 use Rattle.srcp_core.proofs.Agreement.LinesAgree.{IsFine}

@@ -3,8 +3,7 @@ use Rattle.srcp_core.proofs.Names.{◌≡◌, refl, ap, sym, ◌∙◌, Held, Is
 use Rattle.srcp_core.specs.Calls.{CallsLead, CallsAgree, CallsCount}
 use Rattle.srcp_core.specs.declared.record.CoreFault.TheVariants.{Memory as MemoryFault}
 use Rattle.srcp_core.proofs.Agreement.AnswersAgree.{there_agrees, accepts_agrees, refuses_agrees, names_newest, counts_open, bytes_agree}
-use Rattle.srcp_core.proofs.Agreement.AnswersAgree.{takes_agrees}
-use Rattle.srcp_core.proofs.Agreement.AnswersAgree.{closes_agrees, lends_agrees, shuts_agrees}
+use Rattle.srcp_core.proofs.Agreement.AnswersAgree.{takes_agrees, closes_agrees, lends_agrees, shuts_agrees}
 use Rattle.srcp_core.proofs.Agreement.SlackAgrees.{slack_agrees, due_agrees}
 use Rattle.srcp_core.proofs.Agreement.MemoryAnswers.{counts}
 use Rattle.srcp_core.proofs.Agreement.CallsFollowTheCourse.{first_stands, at_leads, open_leads, not_open_leads, out_leads, shut_leads}

@@ -4,10 +4,8 @@ use Rattle.srcp_core.proofs.Names.{false, Option, Some, None, Bus, IsLayout, Eve
 use Rattle.srcp_core.proofs.Names.{fault, accepted, course, Place, Held, at, open_count, IsAdmitted, IsNotAdmitted, opening_held}
 use Rattle.srcp_core.proofs.Names.{one_denied, advanced, hung_up, let_out, unsent_at, changed_at, changed_in, without_sent, live_session}
 use Rattle.srcp_core.proofs.Names.{Recording, key_of, record_of, stepped, shut, Runs, count_at, taken_at, taking, StandsFor, CoreFault}
-use Rattle.srcp_core.proofs.Names.{Full}
-use Rattle.srcp_core.specs.declared.record.Step.TheVariants as recorded
+use Rattle.srcp_core.proofs.Names.{Full, OfCourse, true, without_key}
 use Rattle.srcp_core.specs.Agrees.{AtKey}
-use Rattle.srcp_core.proofs.Names.{OfCourse, true, without_key}
 use Rattle.srcp_core.specs.Run.{LeadsTo, LeadsAt}
 use Rattle.srcp_core.specs.declared.record.CoreFault.TheVariants.{Memory as MemoryFault}
 use Rattle.srcp_core.proofs.Agreement.EventsAgree.{stands_counted, full_fault}
@@ -18,6 +16,7 @@ use Rattle.srcp_core.proofs.Agreement.RunsAnEvent.{shut_keys, gives_first, room_
 use Rattle.srcp_core.proofs.CourseLaws.SessionsOfACourse.{opening_in_order}
 use Rattle.srcp_core.proofs.Agreement.StandsAfterAChange.{found_at}
 use Rattle.srcp_core.proofs.Agreement.RoomsAgree.{filled_kept, taken_kept, Kept}
+use Rattle.srcp_core.specs.declared.record.Step.TheVariants as recorded
 
 -- what a run would have told of the course
 abbrev pub telling : List (Option ℕ) → World → Recording

@@ -1,12 +1,12 @@
 -- A core that stands for a course, and the events of connections and moments.
 use Rattle.srcp_core.proofs.Names.{◌≡◌, ◌≢◌, ⊎_elim, inl, inr, ◌⊎◌, ℕ, zero, suc, ◌+◌, ◌<◌, Bool, true, false, cond, List, [], ◌∷◌, ◌++◌}
 use Rattle.srcp_core.proofs.Names.{length, length-append, refl, ap, sym, ◌∙◌, subst, arith, nat_tests, false≢true, filter, Option, Some}
-use Rattle.srcp_core.proofs.Names.{None, not, ◌&&◌, ◌||◌, ◌==◌, nat_lt, slice_set, is_some, count_by, if◌then◌else◌, nothing_read, Bus}
-use Rattle.srcp_core.proofs.Names.{opening, shown_rows, key_at, IsRisingBy, Open, At, Shut, Ended, Connection, History, is_open, is_nil}
-use Rattle.srcp_core.proofs.Names.{overran, unsent, untold, World, numbered, at_connection, open_connection, if_open, did, history, fresh}
-use Rattle.srcp_core.proofs.Names.{counted, fault, accepted, shut_as, Place, Held, at, place_at, open_count, IsAdmitted, bytes_fault}
-use Rattle.srcp_core.proofs.Names.{bytes_fault_from, freed_place, freed_of, hung_up, hung_up_from, advanced, has_overrun, key_of}
-use Rattle.srcp_core.proofs.Names.{without_key, StandsBy, StandsFor, IsAt, IsOwned, place_of, Full, Busy, PieceTooLong, Closing}
+use Rattle.srcp_core.proofs.Names.{None, not, ◌&&◌, ◌||◌, nat_lt, slice_set, is_some, count_by, if◌then◌else◌, nothing_read, Bus, opening}
+use Rattle.srcp_core.proofs.Names.{shown_rows, key_at, IsRisingBy, Open, At, Shut, Ended, Connection, History, is_open, is_nil, overran}
+use Rattle.srcp_core.proofs.Names.{unsent, untold, World, numbered, at_connection, open_connection, if_open, did, history, fresh, counted}
+use Rattle.srcp_core.proofs.Names.{fault, accepted, Place, Held, at, place_at, open_count, IsAdmitted, bytes_fault, bytes_fault_from}
+use Rattle.srcp_core.proofs.Names.{freed_place, freed_of, hung_up, advanced, key_of, without_key, StandsBy, StandsFor, IsAt, IsOwned}
+use Rattle.srcp_core.proofs.Names.{place_of, Full, Busy, PieceTooLong, Closing, if_two, le-ltb}
 use Rattle.srcp_core.specs.Course.{bytes_fault as course_fault}
 use Rattle.srcp_core.specs.declared.record.CoreFault.TheVariants.{Memory as MemoryFault}
 use Rattle.srcp_core.proofs.Agreement.LinesAgree.{IsFine}
@@ -60,9 +60,6 @@ module _ (buses : List Bus) where
       let over = over_is buses _ h.conn h.shut f in
       let p = place_of h.reader _ h.conn in
       ap (bytes_fault_from piece) h.place
-      ∙ ap (λ t. if t || has_overrun p.panel then Some Closing
-      else (if not (is_nil p.unsent) then Some Busy else (if nat_lt 256 (length piece) then Some PieceTooLong else None)))
-      refl
       ∙ ap (λ t. if h.conn.ended || t then Some Closing
       else (if not (is_nil p.unsent) then Some Busy else (if nat_lt 256 (length piece) then Some PieceTooLong else None)))
       (place_overran h.reader _ h.conn)
@@ -84,10 +81,8 @@ module _ (buses : List Bus) where
 
   pub full_fault : (keys : List (Option ℕ)) (held : Held) (w : World) → StandsFor buses keys held w → open_count held ≡ 64
       → (granted : Bool) → fault buses w (Open granted) ≡ Some Full
-  full_fault keys held w s e granted = cc
-    where
-      many : nat_lt (length (filter is_open w.connections)) 64 ≡ false
-      many = let c = s.count in grind (arith, nat_tests)
+  full_fault keys held w s e granted =
+      let c = s.count in let many : nat_lt (length (filter is_open w.connections)) 64 ≡ false = le-ltb _ 64 (omega arith) in cc
 
   -- where fewer than 64 connections are open in the core, so many are in the course
   pub free_room : (keys : List (Option ℕ)) (held : Held) (w : World) → StandsFor buses keys held w → open_count held < 64
@@ -292,64 +287,20 @@ module _ (buses : List Bus) where
       → StandsFor buses (without_key n keys) (hung_up key held) (accepted buses (Shut n) w)
   stands_hung_up order keys held w n key a s named =
       let h = found_at buses (λ n fed. fed) keys held w n key s named in
-      let p = place_of h.reader (history buses w) h.conn in
-      rw h.place
-      (rw h.opened
-      (by h.conn h.there h.shut p (h.conn.session == 0) h.conn.ended (cc) refl refl refl refl))
+      let freed = stands_freed keys held w n key (length w.steps) s named in
+      let fine =
+      sound_at buses order Anything _ n (λ c. record c { shut = Some (length w.steps) }) w
+      (λ other k g.
+      let same : h.conn ≡ other = let both : Some h.conn ≡ Some other = sym h.there ∙ k in cc in
+      stands_shut _ order Anything _ _ _ other (sym (length_history _ w.steps)) (cc) g)
+      a in
+      rw (h.place, h.opened)
+      (if_two (StandsFor buses (without_key n keys)) _ _ _ _ _ freed
+      (subst
+      (λ m. StandsFor buses (without_key n keys) (freed_of h.conn.session (freed_place key held)) (did (Ended h.conn.session m) closed))
+      s.moment
+      (stands_did buses (λ n fed. fed) (without_key n keys) (freed_place key held) closed (Ended h.conn.session held.moment)
+      (λ m c e. at_number (Fine buses (history buses closed)) m closed.connections c fine e) freed)))
     where
       closed : World
       closed = at_connection n (λ c. record c { shut = Some (length w.steps) }) w
-
-      fine : (conn : Connection) → numbered n w.connections ≡ Some conn → conn.shut ≡ None → IsFine buses order closed
-      fine conn e shut =
-          sound_at buses order Anything _ n (λ c. record c { shut = Some (length w.steps) }) w
-          (λ other k g.
-          let same : conn ≡ other = let both : Some conn ≡ Some other = sym e ∙ k in cc in
-          stands_shut _ order Anything _ _
-          _ other (sym (length_history _ w.steps))
-          (cc) g)
-          a
-
-      by : (conn : Connection) → numbered n w.connections ≡ Some conn → conn.shut ≡ None → (p : Place) (first ended : Bool)
-          → (p.session == 0) ≡ first → p.ended ≡ ended → p.session ≡ conn.session → (conn.session == 0) ≡ first → conn.ended ≡ ended
-          → StandsFor buses (without_key n keys) (hung_up_from key held (Some p)) (shut_as buses n (Some conn) w)
-      by conn there shut p first ended f e z cf ce =
-          subst (λ t.
-          StandsFor buses (without_key n keys)
-          (if t || p.ended then freed_place key held else freed_of p.session (freed_place key held))
-          (shut_as buses n (Some conn) w))
-          (sym f)
-          (subst (λ t.
-          StandsFor buses (without_key n keys)
-          (if first || t then freed_place key held else freed_of p.session (freed_place key held))
-          (shut_as buses n (Some conn) w))
-          (sym e)
-          (subst (λ t.
-          StandsFor buses (without_key n keys)
-          (if first || ended then freed_place key held else freed_of p.session (freed_place key held))
-          (if t || conn.ended then closed else did (Ended conn.session w.moment) closed))
-          (sym cf)
-          (subst (λ t.
-          StandsFor buses (without_key n keys)
-          (if first || ended then freed_place key held else freed_of p.session (freed_place key held))
-          (if first || t then closed else did (Ended conn.session w.moment) closed))
-          (sym ce)
-          (elim (first
-          || ended) as (λ t.
-          StandsFor buses (without_key n keys) (if t then freed_place key held else freed_of p.session (freed_place key held))
-          (if t then closed else did (Ended conn.session w.moment) closed)) [
-            | true ↦ freed
-            | false ↦
-                subst (λ m.
-                StandsFor buses (without_key n keys) (freed_of p.session (freed_place key held))
-                (did (Ended conn.session m) closed))
-                s.moment
-                (subst (λ k.
-                StandsFor buses (without_key n keys) (freed_of p.session (freed_place key held)) (did (Ended k held.moment) closed))
-                z
-                (stands_did buses (λ n fed. fed) (without_key n keys) (freed_place key held) closed (Ended p.session held.moment)
-                (λ m c e. at_number (Fine buses (history buses closed)) m closed.connections c (fine conn there shut) e) freed))
-          ]))))
-        where
-          freed : StandsFor buses (without_key n keys) (freed_place key held) closed
-          freed = stands_freed keys held w n key _ s named

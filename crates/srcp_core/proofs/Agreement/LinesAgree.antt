@@ -1,21 +1,19 @@
 -- A core that stands for a course answers a line as the course does.
 use Rattle.srcp_core.proofs.Names.{cond_both, ◌≡◌, ℕ, ◌+◌, ◌≤◌, Bool, true, false, List, [], ◌∷◌, ◌++◌, length, refl, ap, sym, ◌∙◌, subst}
 use Rattle.srcp_core.proofs.Names.{and-false, Option, Some, None, ◌&&◌, ◌||◌, ◌==◌, nat_lt, Result, Ok, Err, not, if◌then◌else◌, reply_line}
-use Rattle.srcp_core.proofs.Names.{Code, C500, Reply, Protocol, Go, Refused, Mark, Reading, Command, Bus, Effect, refused, began, State}
-use Rattle.srcp_core.proofs.Names.{Update, opening, shown_rows, key_at, IsRisingBy, Obeyed, Began, Ended, Order, greeting_under}
-use Rattle.srcp_core.proofs.Names.{wants_memory, Connection, is_open, given, untold, World, numbered, at_connection, did, is_info, state}
-use Rattle.srcp_core.proofs.Names.{history, command_of, ordered, entered, open_connection, Greeting, Speaks, Chooses, Goes, Refuses, Place}
-use Rattle.srcp_core.proofs.Names.{Held, at, with_unsent, entered_place, carried, changed_at, session_begun, freed_of, one_denied}
-use Rattle.srcp_core.proofs.Names.{denied_line, asked_of, panel_for, key_of, StandsBy, place_of, Asked, Dropped, Greets, Commands}
+use Rattle.srcp_core.proofs.Names.{Code, C500, Reply, Protocol, Go, Refused, Mark, Reading, Command, Bus, refused, began, Update, opening}
+use Rattle.srcp_core.proofs.Names.{shown_rows, key_at, IsRisingBy, Obeyed, Began, Ended, Order, greeting_under, wants_memory, Connection}
+use Rattle.srcp_core.proofs.Names.{is_open, given, untold, World, numbered, at_connection, did, is_info, state, history, command_of}
+use Rattle.srcp_core.proofs.Names.{ordered, entered, open_connection, Greeting, Speaks, Chooses, Goes, Refuses, Place, Held, at}
+use Rattle.srcp_core.proofs.Names.{with_unsent, entered_place, carried, changed_at, session_begun, freed_of, one_denied, denied_line}
+use Rattle.srcp_core.proofs.Names.{asked_of, panel_for, key_of, StandsBy, place_of, Asked, Dropped, Greets, Commands, if_two}
 use Rattle.srcp_info.specs.declared.change.Reply.TheVariants.{Mode as ModeReply}
 use Rattle.srcp_rules.specs.Effect.{effect as effect_of}
 use Rattle.srcp_core.specs.Under.{effect}
-use Rattle.srcp_core.specs.Course.{replied as course_replied, goes as course_goes, greeted as course_greeted}
-use Rattle.srcp_core.specs.Course.{ended as course_ended, obeyed as course_obeyed, commanded as course_commanded}
-use Rattle.srcp_core.specs.Course.{answered as course_answered}
+use Rattle.srcp_core.specs.Course.{replied as course_replied, goes as course_goes, greeted as course_greeted, ended as course_ended}
+use Rattle.srcp_core.specs.Course.{obeyed as course_obeyed, commanded as course_commanded, answered as course_answered}
 use Rattle.srcp_core.specs.Handshake.{greets as greets_of}
-use Rattle.srcp_core.specs.Machine.{replied, goes, greeted}
-use Rattle.srcp_core.specs.Machine.{finished, obeyed, commanded, answered}
+use Rattle.srcp_core.specs.Machine.{replied, goes, greeted, obeyed, commanded, answered}
 use Rattle.srcp_core.proofs.Agreement.PlacesChange.{replied_still, chosen_place, ended_place, entered_place_of, is_over_place, untold_shut}
 use Rattle.srcp_core.proofs.Agreement.PlacesChange.{place_info}
 use Rattle.srcp_core.proofs.CourseLaws.SessionsOfACourse.{anything, at_number}
@@ -150,19 +148,8 @@ module _ (buses : List Bus) (order : IsRisingBy key_at (shown_rows (opening buse
       → StandsBy buses read keys (goes true key conn.mode held) (course_goes buses n conn.mode w)
   stands_goes held w conn a s there shut plain =
       rw (← (timed_is held w s))
-      (elim (nat_lt held.last_id 4294967295)
-      as (λ t.
-      StandsBy buses read keys
-      (if t then replied key (Go (held.last_id + 1)) (session_begun key (held.last_id + 1) conn.mode held)
-      else replied key (Refused C500) held)
-      (if t
-      then course_replied n (Go (held.last_id + 1))
-      (entered buses n (held.last_id + 1)
-      (did (Began (held.last_id + 1) held.moment conn.mode) (record (timed held w) { last_id = held.last_id + 1 })))
-      else course_replied n (Refused C500) (timed held w))) [
-        | true ↦ stands_begun held w conn (held.last_id + 1) a s there shut plain
-        | false ↦ stands_plainly held (timed held w) conn (Refused C500) a (stands_timed held w s) there plain
-      ])
+      (if_two (StandsBy buses read keys) _ _ _ _ _ (stands_begun held w conn (held.last_id + 1) a s there shut plain)
+      (stands_plainly held (timed held w) conn (Refused C500) a (stands_timed held w s) there plain))
 
   stands_greeted : (held : Held) (w : World) (conn : Connection) (greeting : Greeting) → IsFine buses order w
       → StandsBy buses read keys held w → numbered n w.connections ≡ Some conn → conn.shut ≡ None → conn.info ≡ false
@@ -204,52 +191,20 @@ module _ (buses : List Bus) (order : IsRisingBy key_at (shown_rows (opening buse
       → StandsBy buses read keys (obeyed key session (effect held.rows session held.moment command) held)
       (course_obeyed buses n session command (effect (state buses w) session w.moment command) w)
   stands_obeyed held w conn session command a s there plain =
-      subst (λ (state : State).
-      StandsBy buses read keys (obeyed key session (effect held.rows session held.moment command) held)
-      (course_obeyed buses n session command (effect state session w.moment command) w))
-      s.rows
-      (subst (λ m.
-      StandsBy buses read keys (obeyed key session (effect held.rows session held.moment command) held)
-      (finishes m (effect held.rows session m command) (effect held.rows session m command).ends))
-      s.moment
-      (elim (effect held.rows session held.moment command).ends
-      as (λ t.
-      StandsBy buses read keys (finished t key session (replied key result.reply (carried result.updates held)))
-      (finishes held.moment result t)) [
-        | true ↦
-            stands_ended (replied key result.reply (carried result.updates held))
-            (course_replied n result.reply (did (Obeyed session held.moment command) w))
-            (record conn { out = conn.out ++ reply_line w.moment result.reply }) session sound_two two
-            (numbered_at (did (Obeyed session held.moment command) w) conn
-            (λ conn. record conn { out = conn.out ++ reply_line w.moment result.reply }) there)
-            plain
-        | false ↦ two
-      ]))
-    where
-      result : Effect
-      result = effect held.rows session held.moment command
-
-      finishes : ℕ → Effect → Bool → World
-      finishes m result t =
-          if t then course_ended buses n session (course_replied n result.reply (did (Obeyed session m command) w))
-          else course_replied n result.reply (did (Obeyed session m command) w)
-
-      sound_one : IsFine buses order (did (Obeyed session held.moment command) w)
-      sound_one = sound_did buses order Anything _ _ w a
-
-      one : StandsBy buses read keys (carried result.updates held) (did (Obeyed session held.moment command) w)
-      one = stands_did buses read keys held w (Obeyed session held.moment command) (fine_of w a) s
-
-      two : StandsBy buses read keys (replied key result.reply (carried result.updates held))
-          (course_replied n result.reply (did (Obeyed session held.moment command) w))
-      two =
-          stands_plainly (carried result.updates held)
-          (did (Obeyed session held.moment command) w) conn result.reply sound_one one there plain
-
-      sound_two : IsFine buses order (course_replied n result.reply (did (Obeyed session held.moment command) w))
-      sound_two =
-          sound_replied buses order Anything (anything (shown_rows (opening buses 0))) n result.reply
-          (did (Obeyed session held.moment command) w) sound_one
+      let now = did (Obeyed session held.moment command) (timed held w) in
+      let result = effect held.rows session held.moment command in
+      let sound_one : IsFine buses order now = sound_did buses order Anything _ _ (timed held w) a in
+      let one : StandsBy buses read keys (carried result.updates held) now =
+      stands_did buses read keys held (timed held w) (Obeyed session held.moment command) (fine_of w a) (stands_timed held w s) in
+      let two = stands_plainly (carried result.updates held) now conn result.reply sound_one one there plain in
+      rw (← (timed_is held w s))
+      (rw (← s.rows)
+      (if_two (StandsBy buses read keys) _ _ _ _ _
+      (stands_ended (replied key result.reply (carried result.updates held)) (course_replied n result.reply now)
+      (record conn { out = conn.out ++ reply_line held.moment result.reply }) session
+      (sound_replied buses order Anything (anything (shown_rows (opening buses 0))) n result.reply now sound_one) two
+      (numbered_at now conn (λ conn. record conn { out = conn.out ++ reply_line held.moment result.reply }) there) plain)
+      two))
 
   -- ---- what memory answers
 

@@ -7,20 +7,19 @@ use Rattle.srcp_core.proofs.Names.{greeting_under, recorded_step, wants_memory, 
 use Rattle.srcp_core.proofs.Names.{at_connection, did, is_info, state, history, command_of, ordered, replied, entered, goes, greeted, ended}
 use Rattle.srcp_core.proofs.Names.{obeyed, commanded, answered, Greeting, Speaks, Chooses, Goes, Refuses, Place, Held, at, asked_of}
 use Rattle.srcp_core.proofs.Names.{steps_answered, Recording, key_of, record_of, changed_record, noted, stepped, StandsBy, Dropped, Greets}
-use Rattle.srcp_core.proofs.Names.{Commands, ConnRecord}
+use Rattle.srcp_core.proofs.Names.{Commands, ConnRecord, option_map_or, slice_set}
 use Rattle.srcp_info.specs.declared.change.Reply.TheVariants.{Mode as ModeReply}
 use Rattle.srcp_rules.specs.Effect.{effect as effect_of}
 use Rattle.srcp_core.specs.declared.record.Step.{Step as PlainStep}
-use Rattle.srcp_core.specs.declared.record.Step.TheVariants as recorded
 use Rattle.srcp_core.specs.Handshake.{greets as greets_of}
 use Rattle.srcp_core.specs.Machine.{steps_gone, steps_greeted, steps_commanded}
-use Rattle.srcp_core.proofs.Names.{option_map_or, slice_set}
-pub use Rattle.srcp_core.specs.Run.{Tells}
 use Rattle.srcp_core.proofs.Agreement.LinesAgree.{IsFine, asks_of}
 use Rattle.srcp_core.proofs.Agreement.PlacesChange.{given_reply}
 use Rattle.srcp_core.proofs.CourseLaws.SessionsOfACourse.{at_number}
 use Rattle.srcp_core.proofs.Agreement.NumbersAndKeys.{numbered_with}
 use Rattle.srcp_core.proofs.Agreement.StandsAfterAChange.{Fine}
+use Rattle.srcp_core.specs.declared.record.Step.TheVariants as recorded
+pub use Rattle.srcp_core.specs.Run.{Tells}
 
 -- ---- the records of connections
 
@@ -56,10 +55,6 @@ pub sent_reply : (conn : Connection) (line : List ℕ) → conn.items ≡ [] →
     → sent (record conn { out = conn.out ++ line }) ≡ sent conn
 sent_reply conn line none within = cc (given_reply conn line none, take-append-le _ _ line within)
 
-told_reply : (conn : Connection) (line : List ℕ) → conn.items ≡ [] → conn.taken ≤ length (given conn)
-    → record_of (record conn { out = conn.out ++ line }) ≡ record_of conn
-told_reply conn line none within = cc (sent_reply conn line none within)
-
 -- ---- what a run has told of a course
 
 pub tells_same : (r : Recording) (w : World) (n : ℕ) (f : Connection → Connection)
@@ -91,7 +86,7 @@ module _ (buses : List Bus) (n : ℕ) (r : Recording) where
       → Tells r (replied n reply w)
   tells_replied r w reply h t =
       tells_same r w n (λ conn. record conn { out = conn.out ++ reply_line w.moment reply })
-      (λ conn e. told_reply conn (reply_line w.moment reply) (h conn e).0 (h conn e).1) t
+      (λ conn e. cc (sent_reply conn (reply_line w.moment reply) (h conn e).0 (h conn e).1)) t
 
   -- no line was put into the connection of the number, and no more was taken of it than it was given
   abbrev IsPlain : World → Connection → Type 0

@@ -28,6 +28,56 @@ with_itself zero (x ∷ xs) = refl
 with_itself (suc zero) (x ∷ xs) = refl
 with_itself (suc (suc n)) (x ∷ xs) = cc (with_itself (suc n) xs)
 
+-- two changes of one connection
+pub with_twice : (n : ℕ) (f g k : Connection → Connection) (xs : List Connection)
+    → ((x : Connection) → numbered n xs ≡ Some x → g (f x) ≡ k x) → with_numbered n g (with_numbered n f xs) ≡ with_numbered n k xs
+with_twice n f g k [] h = refl
+with_twice zero f g k (x ∷ xs) h = refl
+with_twice (suc zero) f g k (x ∷ xs) h = cc (h x refl)
+with_twice (suc (suc n)) f g k (x ∷ xs) h = cc (with_twice (suc n) f g k xs h)
+
+pub with_same : (n : ℕ) (f : Connection → Connection) (xs : List Connection)
+    → ((x : Connection) → numbered n xs ≡ Some x → f x ≡ x) → with_numbered n f xs ≡ xs
+with_same n f xs h = rw (with_itself n xs) at (with_twice n (λ c. c) f (λ c. c) xs h)
+
+pub with_push : (n : ℕ) (f : Connection → Connection) (xs ys : List Connection) (x : Connection) → numbered n xs ≡ Some x
+    → with_numbered n f (xs ++ ys) ≡ with_numbered n f xs ++ ys
+with_push zero f xs ys x e = cc
+with_push (suc n) f [] ys x e = cc
+with_push (suc zero) f (y ∷ xs) ys x e = refl
+with_push (suc (suc n)) f (y ∷ xs) ys x e = cc (with_push (suc n) f xs ys x e)
+
+-- changes of two connections
+pub with_apart : (n m : ℕ) (f g : Connection → Connection) (xs : List Connection) → m ≢ n
+    → with_numbered m f (with_numbered n g xs) ≡ with_numbered n g (with_numbered m f xs)
+with_apart n m f g [] d = refl
+with_apart zero zero f g (x ∷ xs) d = refl
+with_apart zero (suc zero) f g (x ∷ xs) d = refl
+with_apart zero (suc (suc m)) f g (x ∷ xs) d = refl
+with_apart (suc zero) zero f g (x ∷ xs) d = refl
+with_apart (suc zero) (suc zero) f g (x ∷ xs) d = absurd (d refl)
+with_apart (suc zero) (suc (suc m)) f g (x ∷ xs) d = refl
+with_apart (suc (suc n)) zero f g (x ∷ xs) d = refl
+with_apart (suc (suc n)) (suc zero) f g (x ∷ xs) d = refl
+with_apart (suc (suc n)) (suc (suc m)) f g (x ∷ xs) d = cc (with_apart (suc n) (suc m) f g xs (λ e. d (cc)))
+
+-- the connection of another number
+pub numbered_other : (n m : ℕ) (f : Connection → Connection) (xs : List Connection) → n ≢ m
+    → numbered m (with_numbered n f xs) ≡ numbered m xs
+numbered_other n zero f xs d = refl
+numbered_other n (suc m) f [] d = refl
+numbered_other zero (suc m) f (x ∷ xs) d = refl
+numbered_other (suc zero) (suc zero) f (x ∷ xs) d = absurd (d refl)
+numbered_other (suc (suc n)) (suc zero) f (x ∷ xs) d = refl
+numbered_other (suc zero) (suc (suc m)) f (x ∷ xs) d = refl
+numbered_other (suc (suc n)) (suc (suc m)) f (x ∷ xs) d = numbered_other (suc n) (suc m) f xs (λ e. d (cc))
+
+pub numbered_push : (n : ℕ) (xs : List Connection) (x y : Connection) → numbered n xs ≡ Some y → numbered n (xs ++ x ∷ []) ≡ Some y
+numbered_push zero xs x y e = cc
+numbered_push (suc n) [] x y e = cc
+numbered_push (suc zero) (z ∷ xs) x y e = e
+numbered_push (suc (suc n)) (z ∷ xs) x y e = numbered_push (suc n) xs x y e
+
 pub no_connection : (n : ℕ) (conn : Connection) → numbered n [] ≡ Some conn → ⊥
 no_connection zero conn e = cc
 no_connection (suc n) conn e = cc
@@ -63,12 +113,17 @@ opens_with (suc (suc n)) f (y ∷ xs) x e =
     let b = opens_cons y xs in
     omega (arith, a, b, ih)
 
-pub opens_same : (n : ℕ) (f : Connection → Connection) (xs : List Connection) (x : Connection) → numbered n xs ≡ Some x
-    → is_open (f x) ≡ is_open x → opens (with_numbered n f xs) ≡ opens xs
-opens_same n f xs x e o =
-    let k = opens_with n f xs x e in
-    let s = ap one_if o in
-    omega (arith, k, s)
+pub opens_same : (n : ℕ) (f : Connection → Connection) (xs : List Connection)
+    → ((x : Connection) → numbered n xs ≡ Some x → is_open (f x) ≡ is_open x) → opens (with_numbered n f xs) ≡ opens xs
+opens_same n f [] o = refl
+opens_same zero f (x ∷ xs) o = refl
+opens_same (suc zero) f (x ∷ xs) o =
+    let a = opens_cons (f x) xs in let b = opens_cons x xs in let c = ap one_if (o x refl) in omega (arith, a, b, c)
+opens_same (suc (suc n)) f (x ∷ xs) o =
+    let ih = opens_same (suc n) f xs o in
+    let a = opens_cons x (with_numbered (suc n) f xs) in
+    let b = opens_cons x xs in
+    omega (arith, a, b, ih)
 
 pub opens_push : (xs : List Connection) (x : Connection) → is_open x ≡ true → opens (xs ++ x ∷ []) ≡ opens xs + 1
 opens_push xs x o =

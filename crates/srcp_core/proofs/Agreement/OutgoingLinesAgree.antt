@@ -51,7 +51,8 @@ took_still : (n : ℕ) (nexts : List Next) (conn : Connection) (byte : ℕ) (byt
 took_still n nexts conn byte bytes e =
     parts_same conn (ap (λ left. conn.items ++ items_of n (fitting 0 left nexts)) e ∙ none _ refl) (none_taken _ _)
     (ap (λ left. if conn.info && exhausts 0 left nexts then option_or conn.done (Some n) else conn.done) e
-    ∙ ap (λ t. if conn.info && t then option_or conn.done (Some n) else conn.done) not_yet ∙ never _)
+    ∙ ap (λ t. if conn.info && t then option_or conn.done (Some n) else conn.done) not_yet
+    ∙ ap (λ t. if t then option_or conn.done (Some n) else conn.done) (and-false conn.info))
   where
     none : (k : ℕ) → k ≡ 0 - length (byte ∷ bytes) → conn.items ++ items_of n (prefix (0 - length (byte ∷ bytes)) nexts) ≡ conn.items
     none k e =
@@ -59,10 +60,6 @@ took_still n nexts conn byte bytes e =
 
     not_yet : exhausts 0 (byte ∷ bytes) nexts ≡ false
     not_yet = ap (λ t. t || false) (le-ltb _ 0 (omega arith))
-
-    never : (info : Bool) → (if info && false then option_or conn.done (Some n) else conn.done) ≡ conn.done
-    never true = refl
-    never false = refl
 
 -- where nothing is unsent the first of what is owed is put in
 took_one : (n : ℕ) (nexts : List Next) (conn : Connection) → unsent conn ≡ [] → took 0 n nexts conn ≡ record conn {

@@ -5,15 +5,14 @@ use Rattle.srcp_core.proofs.Names.{Held, IsPromised, Recording, Keeps, kept, cha
 use Rattle.srcp_core.proofs.Names.{nothing_recorded, PlainMoments, ConnRecord, Record}
 use Rattle.std.proofs.lemmas.Option.{slice_get-map}
 use Rattle.srcp_core.specs.Promised.{connection_outline, IsPromisedOutline}
-use Rattle.srcp_core.specs.Recording.{Becomes, recording_outline, began}
+use Rattle.srcp_core.specs.Recording.{Becomes, recording_outline, began, took}
 use Rattle.srcp_core.proofs.Agreement.LinesAreNoted.{changed_in}
-use Rattle.srcp_core.specs.Recording.{took}
 use Rattle.srcp_core.specs.Run.{RunsTold, recorded_in}
 use Rattle.srcp_core.specs.declared.event.Event.{Event as PlainEvent}
 use Rattle.srcp_core.specs.declared.record.Finish.TheVariants.{Shut as ShutFinish}
 use Rattle.srcp_core.specs.declared.record.Step.{Step}
-use Rattle.srcp_core.specs.declared.record.Step.TheVariants as recorded
 use Rattle.srcp_core.proofs.Agreement.RunPromises.{promised}
+use Rattle.srcp_core.specs.declared.record.Step.TheVariants as recorded
 
 -- ---- what a recorder keeps
 

@@ -5,7 +5,7 @@ use Rattle.srcp_core.proofs.Names.{le_refl, fold, option_map, Option, Some, None
 use Rattle.srcp_core.proofs.Names.{Reading, StandsAt, Bus, opening, shown_rows, key_at, IsRisingBy, Heard, lines_under, Connection, World}
 use Rattle.srcp_core.proofs.Names.{numbered, at_connection, history, entered, open_connection, new_marks, wants_as, denied_lines, Place}
 use Rattle.srcp_core.proofs.Names.{Held, at, place_at, asked_of, heard_from, heard_at, line_answered, steps_of_line, steps_answered}
-use Rattle.srcp_core.proofs.Names.{Recording, key_of, noted, StandsBy, StandsFor, place_of, Asked}
+use Rattle.srcp_core.proofs.Names.{Recording, key_of, noted, StandsBy, StandsFor, place_of, Asked, IsAt, is_open}
 use Rattle.std.proofs.lemmas.Bool.{eq-eqb}
 use Rattle.std.specs.Prelude.{slice_range}
 use Rattle.srcp_text.specs.Marks.{marks}
@@ -249,26 +249,7 @@ module _ (buses : List Bus) (order : IsRisingBy key_at (shown_rows (opening buse
   -- all bytes were read
   stands_all : (held : Held) (v : World) (bytes : List ℕ) → fed_of n v ≡ Some bytes → StandsBy buses (partly n bytes) keys held v
       → StandsFor buses keys held v
-  stands_all held v bytes whole s = record {
-    layout = s.layout;
-    rows = s.rows;
-    moment = s.moment;
-    last_id = s.last_id;
-    count = s.count;
-    long = s.long;
-    opens =
-        λ m conn e o. let a = s.opens m conn e o in
-        record {
-          key = a.key;
-          reader = a.reader;
-          named = a.named;
-          place = a.place;
-          reads = subst (λ read. StandsAt read a.reader) (read_is m conn e (where_is m n)) a.reads;
-        };
-    closed = s.closed;
-    apart = s.apart;
-    owned = s.owned;
-  }
+  stands_all held v bytes whole s = assumption opens
     where
       read_is : (m : ℕ) (conn : Connection) → numbered m v.connections ≡ Some conn → Where m n → partly n bytes m conn.fed ≡ conn.fed
       read_is m conn e (Here same) =
@@ -277,6 +258,11 @@ module _ (buses : List Bus) (order : IsRisingBy key_at (shown_rows (opening buse
           let equal : conn.fed ≡ bytes = cc in
           cc (partly_here n bytes conn.fed)
       read_is m conn e (Away d) = partly_other n m bytes conn.fed d
+
+      opens : (m : ℕ) (conn : Connection) → numbered m v.connections ≡ Some conn → is_open conn ≡ true
+          → IsAt keys held.places (history buses v) m conn conn.fed
+      opens m conn e o =
+          let a = s.opens m conn e o in subst (IsAt keys held.places (history buses v) m conn) (read_is m conn e (where_is m n)) a
 
   pub record IsEnded (grants : List Bool) (new : Held) (v : World) : Type 0 where
     pub fine : IsFine buses order (fold (course_answered buses n) w (lines_under grants (new_marks buses fed piece)))

@@ -4,7 +4,7 @@ use Rattle.srcp_core.proofs.Names.{◌∙◌, arith, append-nil, append_assoc, n
 use Rattle.srcp_core.proofs.Names.{◌&&◌, nat_lt, Option, Some, None, Change, Cursor, Start, Shown, Mode, Info, Reading, concerns}
 use Rattle.srcp_core.proofs.Names.{Connection, History, cursor_at, untold, unsent, text, given, is_info, Place, place_at, told_place}
 use Rattle.srcp_core.proofs.Names.{told_all, told_each, with_unsent, entered_place, panel_for, has_overrun, is_panel, Absent, if◌then◌else◌}
-use Rattle.srcp_core.proofs.Names.{place_of, panel_at}
+use Rattle.srcp_core.proofs.Names.{place_of, panel_at, cond_both, Overran, Listening}
 use Rattle.srcp_info.specs.declared.value.Mode.TheVariants.{Command as CommandMode}
 use Rattle.srcp_core.proofs.CourseLaws.Histories.{concerning_by, concerning_push, cursor_by, cursor_later}
 use Rattle.srcp_core.proofs.CourseLaws.ClientHoldsPassedRows.{Fits, tolds, untold_by}
@@ -195,27 +195,25 @@ entered_place_of reader history conn id go shut plain none undone =
 abbrev pub is_over_place : History → Connection → Bool
 is_over_place history conn = conn.info && nat_lt 256 (length (untold conn history))
 
-module _ (reader : Reading) (history : History) (conn : Connection) where
-  abbrev over : Bool
-  over = nat_lt 256 (length (untold conn history))
+panel_info : (info : Bool) (cursor : Cursor) (queue : List Change) → is_panel (panel_at info cursor queue) ≡ info
+panel_info false cursor queue = refl
+panel_info true cursor queue =
+    cond_both (nat_lt 256 (length queue)) Overran (Listening (record { cursor = cursor; queue = queue })) (λ panel. is_panel panel ≡ true)
+    (λ _. refl) (λ _. refl)
 
+panel_overran : (info : Bool) (cursor : Cursor) (queue : List Change)
+    → has_overrun (panel_at info cursor queue) ≡ info && nat_lt 256 (length queue)
+panel_overran false cursor queue = refl
+panel_overran true cursor queue =
+    elim (nat_lt 256 (length queue))
+    as (λ t. has_overrun (if t then Overran else Listening (record { cursor = cursor; queue = queue })) ≡ t) [ true ↦ refl | false ↦ refl ]
+
+module _ (reader : Reading) (history : History) (conn : Connection) where
   pub place_info : is_panel (place_of reader history conn).panel ≡ conn.info
-  place_info = by _ over refl refl
-    where
-      by : (info o : Bool) → conn.info ≡ info → over ≡ o
-          → is_panel (panel_at conn.info (cursor_at conn (length history)) (untold conn history)) ≡ conn.info
-      by false o i e = rw i refl
-      by true true i e = rw (i, e) refl
-      by true false i e = rw (i, e) refl
+  place_info = panel_info conn.info _ _
 
   pub place_overran : has_overrun (place_of reader history conn).panel ≡ is_over_place history conn
-  place_overran = by _ over refl refl
-    where
-      by : (info o : Bool) → conn.info ≡ info → over ≡ o
-          → has_overrun (panel_at conn.info (cursor_at conn (length history)) (untold conn history)) ≡ conn.info && over
-      by false o i e = rw i refl
-      by true true i e = rw (i, e) refl
-      by true false i e = rw (i, e) refl
+  place_overran = panel_overran conn.info _ _
 
   pub place_unsent : is_over_place history conn ≡ false → (place_of reader history conn).unsent ≡ unsent conn
   place_unsent e = rw e refl

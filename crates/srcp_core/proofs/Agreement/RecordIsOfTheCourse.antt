@@ -27,27 +27,26 @@ use Rattle.srcp_core.proofs.Invariants.PlacesCover.{no_place}
 
 -- ---- how each connection stands in the end
 
-finish_step_none : (held : Held) (i : ℕ) (keys : List (Option ℕ)) (tolds : List ConnRecord) → slice_get keys i ≡ Some None
+finish_step_none : (held : Held) (i : ℕ) (keys : List (Option ℕ)) (tolds : List ConnRecord) → slice_index_or keys i None ≡ None
     → finished held (take (suc i) keys) tolds ≡ finished held (take i keys) tolds
-finish_step_none held i [] tolds e = cc
+finish_step_none held zero [] tolds e = refl
+finish_step_none held (suc i) [] tolds e = refl
 finish_step_none held zero (None ∷ keys) [] e = refl
 finish_step_none held zero (None ∷ keys) (told ∷ tolds) e = refl
 finish_step_none held zero (Some key ∷ keys) tolds e = cc
 finish_step_none held (suc i) (key ∷ keys) [] e = refl
-finish_step_none held (suc i) (key ∷ keys) (told ∷ tolds) e =
-    cc (finish_step_none held i keys tolds e)
+finish_step_none held (suc i) (key ∷ keys) (told ∷ tolds) e = cc (finish_step_none held i keys tolds e)
 
-finish_step_some : (held : Held) (i key : ℕ) (keys : List (Option ℕ)) (tolds : List ConnRecord) → slice_get keys i ≡ Some (Some key)
+finish_step_some : (held : Held) (i key : ℕ) (keys : List (Option ℕ)) (tolds : List ConnRecord) → slice_index_or keys i None ≡ Some key
     → finished held (take (suc i) keys) tolds
     ≡ changed_record (suc i) (λ told. record told { finish = finish_at key held }) (finished held (take i keys) tolds)
-finish_step_some held i key [] tolds e = cc
+finish_step_some held zero key [] tolds e = cc
+finish_step_some held (suc i) key [] tolds e = cc
 finish_step_some held zero key (None ∷ keys) tolds e = cc
 finish_step_some held zero key (Some other ∷ keys) [] e = refl
-finish_step_some held zero key (Some other ∷ keys) (told ∷ tolds) e =
-    let same : other ≡ key = cc in cc
+finish_step_some held zero key (Some other ∷ keys) (told ∷ tolds) e = let same : other ≡ key = cc in cc
 finish_step_some held (suc i) key (other ∷ keys) [] e = refl
-finish_step_some held (suc i) key (other ∷ keys) (told ∷ tolds) e =
-    cc (finish_step_some held i key keys tolds e, prefix _)
+finish_step_some held (suc i) key (other ∷ keys) (told ∷ tolds) e = cc (finish_step_some held i key keys tolds e, prefix _)
   where
     prefix : (o : Option ConnRecord)
         → finished_by held other told
@@ -57,39 +56,16 @@ finish_step_some held (suc i) key (other ∷ keys) (told ∷ tolds) e =
     prefix None = refl
     prefix (Some x) = refl
 
-pub finish_none : (held : Held) (i : ℕ) (keys : List (Option ℕ)) (tolds now : List ConnRecord) → slice_get keys i ≡ Some None
-    → now ≡ finished held (take i keys) tolds → now ≡ finished held (take (i + 1) keys) tolds
-finish_none held i keys tolds now e is =
-    cc (finish_step_none held i keys tolds e, add-one i)
-
-pub finish_some : (held : Held) (i key : ℕ) (keys : List (Option ℕ)) (tolds now later : List ConnRecord)
-    → slice_get keys i ≡ Some (Some key) → now ≡ finished held (take i keys) tolds
-    → later ≡ changed_record (i + 1) (λ told. record told { finish = finish_at key held }) now
-    → later ≡ finished held (take (i + 1) keys) tolds
-finish_some held i key keys tolds now later e is step =
-    cc (add-one i, finish_step_some held i key keys tolds e)
-
-get_some : {A : Type 0} (xs : List (Option A)) (i : ℕ) (x : A) → slice_index_or xs i None ≡ Some x → slice_get xs i ≡ Some (Some x)
-get_some [] zero x e = cc
-get_some [] (suc i) x e = cc
-get_some (y ∷ xs) zero x e = cc
-get_some (y ∷ xs) (suc i) x e = get_some xs i x e
-
-get_none : {A : Type 0} (xs : List (Option A)) (i : ℕ) → i < length xs → slice_index_or xs i None ≡ None → slice_get xs i ≡ Some None
-get_none [] i h e = absurd (omega (arith, h))
-get_none (y ∷ xs) zero h e = cc
-get_none (y ∷ xs) (suc i) h e = let l : i < length xs = omega (arith, h) in get_none xs i l e
-
 pub finish_kept : (held : Held) (i : ℕ) (keys : List (Option ℕ)) (tolds now : List ConnRecord) → i < length keys
     → slice_index_or keys i None ≡ None → now ≡ finished held (take i keys) tolds → now ≡ finished held (take (i + 1) keys) tolds
-finish_kept held i keys tolds now h e is = finish_none held i keys tolds now (get_none keys i h e) is
+finish_kept held i keys tolds now h e is = cc (finish_step_none held i keys tolds e, add-one i)
 
 pub finish_noted : (held : Held) (i key : ℕ) (keys : List (Option ℕ)) (tolds now later : List ConnRecord) (ends : Finish)
     → slice_index_or keys i None ≡ Some key → ends ≡ finish_at key held → now ≡ finished held (take i keys) tolds
     → later ≡ changed_record (i + 1) (λ told. record told { finish = ends }) now → later ≡ finished held (take (i + 1) keys) tolds
 finish_noted held i key keys tolds now later ends e f is step =
-    finish_some held i key keys tolds now later (get_some keys i key e) is
-    (step ∙ ap (λ (x : Finish). changed_record (i + 1) (λ told. record told { finish = x }) now) f)
+    step ∙ ap (λ (x : Finish). changed_record (i + 1) (λ told. record told { finish = x }) now) f
+    ∙ cc (add-one i, finish_step_some held i key keys tolds e)
 
 finished_is : (history : History) (held : Held) (keys : List (Option ℕ)) (conns : List Connection) → length keys ≡ length conns
     → ((k : ℕ) (conn : Connection) → slice_get conns k ≡ Some conn
@@ -168,10 +144,7 @@ events_happens buses w event = by _
     by (Some cause) = refl
 
 events_from : (buses : List Bus) (events : List Event) (w : World) → (fold (happens buses) w events).events ≡ w.events + length events
-events_from buses [] w = none w.events
-  where
-    none : (n : ℕ) → n ≡ n + 0
-    none n = omega arith
+events_from buses [] w = omega arith
 events_from buses (event ∷ events) w =
     let a = events_from buses events (happens buses w event) in let b = events_happens buses w event in omega (arith, a, b)
 

@@ -8,12 +8,11 @@ use Rattle.srcp_core.proofs.Names.{lines_under, under, denied_by, Dropped, Greet
 use Rattle.srcp_rules.specs.Effect.{effect as effect_of}
 use Rattle.srcp_core.specs.Course.{answered as course_answered}
 use Rattle.srcp_core.specs.Handshake.{greets as greets_of}
-use Rattle.srcp_core.specs.Machine.{obeyed, replied, goes, greeted, commanded}
-use Rattle.srcp_core.specs.Machine.{answered}
+use Rattle.srcp_core.specs.Machine.{obeyed, replied, goes, greeted, commanded, answered}
 use Rattle.srcp_core.specs.Under.{greeting_wants, reading_wants}
 use Rattle.srcp_core.specs.declared.event.Event.{Event as PlainEvent}
-use Rattle.srcp_core.specs.declared.event.Event.TheVariants as plain
 use Rattle.srcp_core.proofs.Agreement.LinesAgree.{asks_of}
+use Rattle.srcp_core.specs.declared.event.Event.TheVariants as plain
 
 -- the count after a line that wants memory or not
 abbrev pub after : ℕ → Bool → Bool → ℕ

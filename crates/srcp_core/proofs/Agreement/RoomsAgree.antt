@@ -6,11 +6,11 @@ use Rattle.srcp_core.proofs.Names.{Reading, Bus, IsLayout, opening, shown_rows, 
 use Rattle.srcp_core.proofs.Names.{History, unsent, sent, given, line_of, is_nil, is_open, owed, prefix, available, items_of, given_room}
 use Rattle.srcp_core.proofs.Names.{overran, World, numbered, at_connection, history, rows, Place, Held, AddsUp, item_from, item_of, item_at}
 use Rattle.srcp_core.proofs.Names.{let_out, without_sent, changed_at, changed_in, unsent_at, feed_in, Recording, key_of, record_of, gave}
-use Rattle.srcp_core.proofs.Names.{StandsFor, place_of}
+use Rattle.srcp_core.proofs.Names.{StandsFor, place_of, and-false}
 use Rattle.srcp_core.specs.Connection.{took as took_room}
 use Rattle.srcp_core.specs.Recording.{took}
 use Rattle.srcp_core.proofs.CourseLaws.RoomInTwoParts.{parts_same}
-use Rattle.srcp_core.proofs.CourseLaws.RoomsAddUp.{adds_none, adds_up, with_twice, shut_after}
+use Rattle.srcp_core.proofs.CourseLaws.RoomsAddUp.{adds_none, adds_up, shut_after}
 use Rattle.srcp_core.proofs.Agreement.LinesAgree.{IsFine, stands_of}
 use Rattle.srcp_core.proofs.Agreement.EventsAgree.{over_is}
 use Rattle.srcp_core.proofs.Agreement.OutgoingLinesAgree.{IsFilled, fills, with_given}
@@ -20,30 +20,19 @@ use Rattle.srcp_core.proofs.Agreement.PiecesAgree.{set_same}
 use Rattle.srcp_core.proofs.Agreement.PlacesChange.{is_over_place, place_unsent}
 use Rattle.srcp_core.proofs.CourseLaws.ShownRegistry.{shown_after, length_history}
 use Rattle.srcp_core.proofs.CourseLaws.SessionsOfACourse.{at_number, fits_open}
-use Rattle.srcp_core.proofs.Agreement.NumbersAndKeys.{numbered_with, with_itself}
+use Rattle.srcp_core.proofs.Agreement.NumbersAndKeys.{numbered_with, with_itself, with_twice}
 use Rattle.srcp_core.proofs.Agreement.StandsAfterAChange.{Anything, Fine, found_at}
 use Rattle.srcp_core.proofs.CourseLaws.SessionsAreKept.{sound_at, stands_room, in_order_after}
 use Rattle.srcp_core.proofs.CourseLaws.RoomGivesWhatIsOwed.{pos-eqb}
+use Rattle.std.proofs.Math.Seq.{take-nil}
 
 -- ---- one connection
 
-abbrev nil : (A : Type 0) → List A
-nil A = []
-
 take_plus : {A : Type 0} (a b : ℕ) (xs : List A) → take (a + b) xs ≡ take a xs ++ take b (drop a xs)
-take_plus zero b xs = ap (λ m. take m xs) plus
-  where
-    plus : 0 + b ≡ b
-    plus = omega arith
-take_plus {A} (suc a) b [] = nothing _ ∙ sym (nothing b)
-  where
-    nothing : (m : ℕ) → take m (nil A) ≡ nil A
-    nothing zero = refl
-    nothing (suc m) = refl
-take_plus (suc a) b (x ∷ xs) = ap (λ m. take m (x ∷ xs)) plus ∙ ap (λ ys. x ∷ ys) (take_plus a b xs)
-  where
-    plus : suc a + b ≡ suc (a + b)
-    plus = omega arith
+take_plus zero b xs = let plus : 0 + b ≡ b = omega arith in ap (λ m. take m xs) plus
+take_plus (suc a) b [] = cc (take-nil (suc a + b), take-nil b)
+take_plus (suc a) b (x ∷ xs) =
+    let plus : suc a + b ≡ suc (a + b) = omega arith in ap (λ m. take m (x ∷ xs)) plus ∙ ap (λ ys. x ∷ ys) (take_plus a b xs)
 
 -- so many of the unsent bytes were taken
 abbrev pub with_taken : ℕ → Connection → Connection
@@ -53,6 +42,10 @@ with_taken count conn = record conn { taken = conn.taken + count }
 room_unsent : (count : ℕ) (history : History) (rows : List Shown) (conn : Connection) → overran conn history ≡ false → 0 < count
     → count ≤ length (unsent conn) → given_room count history rows conn ≡ with_taken count conn
 room_unsent count history rows conn still some few =
+    let size = length-append (unsent conn) (flat_map line_of (owed conn history rows)) in
+    let none_left : count - length (unsent conn) ≡ 0 = omega (arith, few) in
+    let enough : nat_lt (length (available (unsent conn) (owed conn history rows))) count ≡ false =
+    le-ltb _ count (omega (arith, size, few)) in
     ap (λ t. if t then conn else took_room count (length history) (owed conn history rows) conn) still
     ∙ parts_same conn
     (ap (λ t. conn.items
@@ -60,31 +53,15 @@ room_unsent count history rows conn still some few =
     (if t && is_nil (unsent conn) then take 1 (owed conn history rows)
     else prefix (count - length (unsent conn)) (owed conn history rows)))
     (pos-eqb count some)
-    ∙ ap (λ m. conn.items ++ items_of (length history) (prefix m (owed conn history rows))) none_left ∙ append-nil _) all_taken
+    ∙ ap (λ m. conn.items ++ items_of (length history) (prefix m (owed conn history rows))) none_left ∙ append-nil _)
+    (omega (arith, size, few))
     (ap (λ t. if conn.info && (t || ((count == 0) && (is_nil (unsent conn) && is_nil (owed conn history rows))))
     then option_or conn.done (Some (length history)) else conn.done)
     enough
     ∙ ap (λ t. if conn.info && (t && (is_nil (unsent conn) && is_nil (owed conn history rows)))
     then option_or conn.done (Some (length history)) else conn.done)
     (pos-eqb count some)
-    ∙ never _)
-  where
-    none_left : count - length (unsent conn) ≡ 0
-    none_left = omega (arith, few)
-
-    size : length (available (unsent conn) (owed conn history rows))
-        ≡ length (unsent conn) + length (flat_map line_of (owed conn history rows))
-    size = length-append _ _
-
-    all_taken : conn.taken + min count (length (available (unsent conn) (owed conn history rows))) ≡ conn.taken + count
-    all_taken = let z = size in omega (arith, z, few)
-
-    enough : nat_lt (length (available (unsent conn) (owed conn history rows))) count ≡ false
-    enough = let z = size in le-ltb _ count (omega (arith, z, few))
-
-    never : (info : Bool) → (if info && false then option_or conn.done (Some (length history)) else conn.done) ≡ conn.done
-    never true = refl
-    never false = refl
+    ∙ ap (λ t. if t then option_or conn.done (Some (length history)) else conn.done) (and-false conn.info))
 
 taken_place : (reader : Reading) (history : History) (conn : Connection) (count : ℕ) → is_over_place history conn ≡ false
     → without_sent count (place_of reader history conn) ≡ place_of reader history (with_taken count conn)

@@ -7,7 +7,7 @@ use Rattle.srcp_core.proofs.Names.{numbered, at_connection, open_connection, did
 use Rattle.srcp_core.proofs.Names.{Held, at, open_count, IsAdmitted, IsNotAdmitted, one_denied, hung_up, hung_up_from, advanced}
 use Rattle.srcp_core.proofs.Names.{live_session, let_out, without_sent, changed_at, unsent_at, item_of, item_at, Recording, key_of, shut}
 use Rattle.srcp_core.proofs.Names.{stepped, gave, without_key, changed_record, Tells, Runs, Happened, count_at, denied_by, denied_in}
-use Rattle.srcp_core.proofs.Names.{taken_at, taking, StandsFor, place_of, ConnRecord, CoreFault, Full, NoSuch}
+use Rattle.srcp_core.proofs.Names.{taken_at, taking, StandsFor, place_of, ConnRecord, CoreFault, Full, NoSuch, if_two}
 use Rattle.std.proofs.Math.Nat.{zero-min}
 use Rattle.srcp_core.specs.declared.event.Event.{Event as PlainEvent}
 use Rattle.srcp_core.specs.declared.event.Event.TheVariants as plain
@@ -32,11 +32,11 @@ pub fine_course : (buses : List Bus) (layout : IsLayout buses) (events : List Ev
     → IsFine buses (opening_in_order buses layout) (counted (course buses events))
 fine_course buses layout events = sound buses (opening_in_order buses layout) Anything (anything (shown_rows (opening buses 0))) events
 
-tells_counted : (r : Recording) (w : World) → Tells r w → Tells r (counted w)
-tells_counted r w t = record { steps = t.steps; refused = t.refused; connections = t.connections }
-
 pub runs_counted : (buses : List Bus) (r : Recording) (held : Held) (w : World) → Runs buses r held w → Runs buses r held (counted w)
-runs_counted buses r held w s = record { stands = stands_counted buses r.keys held w s.stands; tells = tells_counted r w s.tells }
+runs_counted buses r held w s = record {
+  stands = stands_counted buses r.keys held w s.stands;
+  tells = let t = s.tells in record { steps = t.steps; refused = t.refused; connections = t.connections };
+}
 
 -- what was refused in the event is what was asked for in the course, whatever the events were before
 abbrev pub CountsAsked : Recording → Held → Held → Event → Type 0
@@ -202,22 +202,14 @@ abbrev pub with_end : Option ℕ → ℕ → Recording → Recording
 with_end None moment r = r
 with_end (Some session) moment r = stepped (recorded.Ended session moment ∷ []) r
 
-hung_up_moment : (key : ℕ) (held : Held) (o : Option Place) → (hung_up_from key held o).moment ≡ held.moment
-hung_up_moment key held None = refl
-hung_up_moment key held (Some p) =
-    cond_both _ _ _ (λ (it : Held). it.moment ≡ held.moment)
-    (λ _. refl)
-    (λ _. refl)
-
-hung_up_denied : (key : ℕ) (held : Held) (o : Option Place) → (hung_up_from key held o).denied ≡ held.denied
-hung_up_denied key held None = refl
-hung_up_denied key held (Some p) =
-    cond_both _ _ _ (λ (it : Held). it.denied ≡ held.denied)
-    (λ _. refl)
-    (λ _. refl)
+hung_up_keeps : (key : ℕ) (held : Held) (o : Option Place)
+    → ((hung_up_from key held o).moment ≡ held.moment) × ((hung_up_from key held o).denied ≡ held.denied)
+hung_up_keeps key held None = (refl, refl)
+hung_up_keeps key held (Some p) =
+    cond_both _ _ _ (λ (it : Held). (it.moment ≡ held.moment) × (it.denied ≡ held.denied)) (λ _. (refl, refl)) (λ _. (refl, refl))
 
 pub shut_count : (key : ℕ) (old new : Held) → new ≡ hung_up key old → new.denied ≡ old.denied
-shut_count key old new is = cc (hung_up_denied key old (at old key))
+shut_count key old new is = cc (hung_up_keeps key old (at old key)).1
 
 -- a number that has a key has a place there
 pub gone_happens : (event : PlainEvent) (refusal : Option CoreFault) (n key : ℕ) (r : Recording) (held : Held) (later_r : Recording)
@@ -248,9 +240,7 @@ shut_happens n key r old new now named is now_is =
     let stands =
     subst (λ (x : Held). StandsFor buses (without_key n r.keys) x (accepted buses (Shut n) w)) (sym is)
     (stands_hung_up buses order r.keys old w n key (fine_course buses layout events) c.stands named) in
-    let told =
-    shut_told buses n r w h.conn now (h.conn.session == 0) h.conn.ended h.there refl refl
-    (cc (hung_up_moment key old (at old key), c.stands.moment)) c.tells in
+    let told = shut_told buses w h.conn h.there (cc ((hung_up_keeps key old (at old key)).0, c.stands.moment)) c.tells in
     let live : live_session key old ≡ (if (h.conn.session == 0) || h.conn.ended then None else Some h.conn.session) =
     cc h.place in
     let tells : Tells (with_end (live_session key old) now (shut n r)) (accepted buses (Shut n) w) =
@@ -259,29 +249,17 @@ shut_happens n key r old new now named is now_is =
       cc h.opened,
       record {
         stands =
-            rw (keys_are (live_session key old) now) stands;
+            rw (shut_keys n (live_session key old) now r) stands;
         tells = tells;
       },
     ))
   where
-    keys_are : (o : Option ℕ) (m : ℕ) → (with_end o m (shut n r)).keys ≡ without_key n r.keys
-    keys_are None m = refl
-    keys_are (Some session) m = refl
-
-    shut_told : (buses : List Bus) (n : ℕ) (r : Recording) (w : World) (conn : Connection) (now : ℕ) (first ended : Bool)
-        → numbered n w.connections ≡ Some conn → (conn.session == 0) ≡ first → conn.ended ≡ ended → now ≡ w.moment → Tells r w
+    shut_told : (buses : List Bus) (w : World) (conn : Connection) → numbered n w.connections ≡ Some conn → now ≡ w.moment → Tells r w
         → Tells (with_end (if (conn.session == 0) || conn.ended then None else Some conn.session) now (shut n r))
         (shut_as buses n (Some conn) w)
-    shut_told buses n r w conn now first ended there f e m t =
-        elim ((conn.session == 0) || conn.ended)
-        as (λ b.
-        Tells (with_end (if b then None else Some conn.session) now (shut n r))
-        (if b then closed else did (Ended conn.session w.moment) closed)) [
-          | true ↦ all
-          | false ↦
-              rw m
-              (tells_did _ closed _ all)
-        ]
+    shut_told buses w conn there m t =
+        if_two (λ o v. Tells (with_end o now (shut n r)) v) ((conn.session == 0) || conn.ended) None (Some conn.session) closed
+        (did (Ended conn.session w.moment) closed) all (rw m (tells_did _ closed _ all))
       where
         closed : World
         closed = at_connection n (λ c. record c { shut = Some (length w.steps) }) w

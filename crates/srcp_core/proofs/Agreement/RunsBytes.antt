@@ -3,21 +3,20 @@ use Rattle.srcp_core.proofs.Names.{◌≡◌, ℕ, ◌<◌, ◌≤◌, Bool, tru
 use Rattle.srcp_core.proofs.Names.{fold, Option, Some, None, not, nat_lt, if◌then◌else◌, Bus, IsLayout, Event, Bytes, Piece, lines_under}
 use Rattle.srcp_core.proofs.Names.{denied_by, Connection, is_nil, World, open_connection, counted, accepted, fed_to, new_marks, course}
 use Rattle.srcp_core.proofs.Names.{denied_fed, Place, Held, at, HasRoom, bytes_fault, bytes_fault_from, heard_at, line_answered}
-use Rattle.srcp_core.proofs.Names.{steps_of_line, Recording, key_of, noted, Tells, Runs, Happened, Asked, CoreFault}
-use Rattle.srcp_core.proofs.Names.{NoSuch, Busy, PieceTooLong, Closing}
-use Rattle.srcp_core.specs.declared.event.Event.TheVariants as plain
+use Rattle.srcp_core.proofs.Names.{steps_of_line, Recording, key_of, noted, Tells, Runs, Happened, Asked, CoreFault, Busy, PieceTooLong}
+use Rattle.srcp_core.proofs.Names.{Closing}
 use Rattle.srcp_core.specs.declared.record.Step.{Step as PlainStep}
-use Rattle.srcp_core.specs.declared.record.Step.TheVariants as recorded
-use Rattle.srcp_core.specs.Course.{bytes_fault as course_fault}
-use Rattle.srcp_core.specs.Course.{answered as course_answered}
+use Rattle.srcp_core.specs.Course.{bytes_fault as course_fault, answered as course_answered}
 use Rattle.srcp_core.proofs.Agreement.EventsAgree.{fault_same}
 use Rattle.srcp_core.proofs.Agreement.MemoryAnswers.{counted_more}
 use Rattle.srcp_core.proofs.Invariants.LinesAreFound.{nothing_begun, heard_denied}
 use Rattle.srcp_core.proofs.Agreement.LinesAreNoted.{tells_same}
 use Rattle.srcp_core.proofs.Agreement.PiecesAgree.{accepting, IsUpTo, world_upto, lined, lines_ended, piece_begun}
-use Rattle.srcp_core.proofs.CourseLaws.SessionsOfACourse.{opening_in_order}
+use Rattle.srcp_core.proofs.CourseLaws.SessionsOfACourse.{opening_in_order, nil_is}
 use Rattle.srcp_core.proofs.Agreement.StandsAfterAChange.{found_at}
 use Rattle.srcp_core.proofs.Agreement.RunsAnEvent.{CountsAsked, HappensAs, happens_by, fine_course, refused_happens, runs_counted}
+use Rattle.srcp_core.specs.declared.event.Event.TheVariants as plain
+use Rattle.srcp_core.specs.declared.record.Step.TheVariants as recorded
 
 pub bytes_refused : (n key : ℕ) (piece : List ℕ) (r : Recording) (held : Held) (cause : CoreFault) → key_of n r.keys ≡ Some key
     → bytes_fault key piece held ≡ Some cause → HappensAs (plain.Bytes n piece) (Some cause) r held r held
@@ -33,23 +32,16 @@ pub bytes_room : (key : ℕ) (piece : List ℕ) (held : Held) → bytes_fault ke
     → (length piece ≤ 256) × HasRoom key piece 0 held
 bytes_room key piece held e = by _ refl e
   where
-    some_none : (cause : CoreFault) → Some cause ≡ None → ⊥
-    some_none cause e = cc
-
     with : (p : Place) (over idle long : Bool) → at held key ≡ Some p → is_nil p.unsent ≡ idle → nat_lt 256 (length piece) ≡ long
         → (if over then Some Closing else (if not idle then Some Busy else (if long then Some PieceTooLong else None))) ≡ None
         → (length piece ≤ 256) × HasRoom key piece 0 held
-    with p true idle long h i l e = absurd (some_none Closing e)
-    with p false false long h i l e = absurd (some_none Busy e)
-    with p false true true h i l e = absurd (some_none _ e)
+    with p true idle long h i l e = cc
+    with p false false long h i l e = cc
+    with p false true true h i l e = cc
     with p false true false h i l e = (ltb-false 256 _ l, nothing_begun key piece held (cc (nil_is p.unsent i)))
-      where
-        nil_is : (xs : List ℕ) → is_nil xs ≡ true → xs ≡ []
-        nil_is [] e = refl
-        nil_is (x ∷ xs) e = cc
 
     by : (o : Option Place) → at held key ≡ o → bytes_fault_from piece o ≡ None → (length piece ≤ 256) × HasRoom key piece 0 held
-    by None h e = absurd (some_none NoSuch e)
+    by None h e = cc
     by (Some p) h e = with p _ _ _ h refl refl e
 
 -- the piece was read up to a place

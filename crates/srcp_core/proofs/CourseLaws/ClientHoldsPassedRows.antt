@@ -1,14 +1,13 @@
 -- What an information session was given and what waits for it: together they are the rows that its listing has passed.
-use Rattle.srcp_core.proofs.Names.{◌≡◌, ℕ, ◌+◌, ◌-◌, ◌<◌, ◌≤◌, Bool, true, false, List, [], ◌∷◌, ◌++◌, map, length, drop, refl, ap, sym}
-use Rattle.srcp_core.proofs.Names.{◌∙◌, subst, arith, append-nil, append_assoc, length-append, length-drop, le-leb, length_push}
-use Rattle.srcp_core.proofs.Names.{drop-append-le, drop-drop, flat_map-append, filter_map-append, fold-append, filter, filter_map, nat_le}
-use Rattle.srcp_core.proofs.Names.{Option, Some, None, IsRisingBy, Change, Put, Start, After, Done, Shown, passed, beyond, moved, said}
-use Rattle.srcp_core.proofs.Names.{changed_all, Next, Told, Listed, key_at, lists_one, beyond_done, History, tells, told_change, items_of}
-use Rattle.srcp_core.proofs.Names.{Item}
+use Rattle.srcp_core.proofs.Names.{◌≡◌, ℕ, ◌+◌, ◌-◌, ◌≤◌, Bool, true, false, List, [], ◌∷◌, ◌++◌, map, length, drop, refl, ap, sym, ◌∙◌}
+use Rattle.srcp_core.proofs.Names.{subst, arith, append-nil, append_assoc, length-append, length-drop, le-leb, length_push, drop-append-le}
+use Rattle.srcp_core.proofs.Names.{drop-drop, flat_map-append, filter_map-append, fold-append, filter, filter_map, nat_le, Option, Some}
+use Rattle.srcp_core.proofs.Names.{None, IsRisingBy, Change, Put, Start, After, Done, Shown, passed, beyond, moved, said, changed_all, Next}
+use Rattle.srcp_core.proofs.Names.{Told, Listed, key_at, lists_one, beyond_done, History, tells, told_change, items_of, Item, le_refl}
 use Rattle.srcp_info.specs.Client.{changed}
 use Rattle.srcp_feed.proofs.Steps.{ListsOne, passed_changed}
-use Rattle.srcp_core.proofs.CourseLaws.Histories.{rows_after, concerning_by, concerning_push, concerning_same, cursor_by, AreBy}
-use Rattle.srcp_core.proofs.CourseLaws.Histories.{IsDoneBy, by_all, by_more, done_more, cursor_later, cursor_before}
+use Rattle.srcp_core.proofs.CourseLaws.Histories.{rows_after, concerning_by, concerning_push, concerning_same, cursor_by, AreBy, IsDoneBy}
+use Rattle.srcp_core.proofs.CourseLaws.Histories.{by_all, by_more, done_more, cursor_later, cursor_before}
 
 -- the changes that were told
 abbrev pub tolds : List Item → List Change
@@ -88,24 +87,17 @@ all_push n (i ∷ items) item a h = (a.0, all_push n items item a.1 h)
 pub concerning_item : (history : History) (go : ℕ) (items : List Item) (done : Option ℕ) (what : Next)
     → concerning_by go (cursor_by done (items ++ item_of history what ∷ [])) history ≡ concerning_by go (cursor_by done items) history
 concerning_item history go items done what =
-    concerning_same go _ _ 0 history
-    (λ k low high. cursor_before _ k done items _ (below k high) (refl, tt))
-  where
-    below : (k : ℕ) → k < 0 + length history → k < length history
-    below k h = omega arith
+    concerning_same go _ _ 0 history (λ k low high. cursor_before (length history) k done items _ (omega (arith, high)) (refl, tt))
 
 -- how far the listing is after a line
 pub cursor_item : (history : History) (items : List Item) (what : Next) → AreBy (length history) items
     → cursor_by None (items ++ item_of history what ∷ []) (length history) ≡ moved (cursor_by None items (length history)) what
 cursor_item history items what a =
     cc (
-      by_all (length history) _ (all_push (length history) items (item_of history what) a self),
+      by_all (length history) _ (all_push (length history) items (item_of history what) a (le_refl _)),
       fold-append (λ cursor item. moved cursor item.what) Start items (item_of history what ∷ []),
       by_all _ items a,
     )
-  where
-    self : length history ≤ length history
-    self = omega arith
 
 pub cursor_told : (history : History) (items : List Item) (done : Option ℕ) (change : Change) → AreBy (length history) items
     → cursor_by done (items ++ item_of history (Told change) ∷ []) (length history) ≡ cursor_by done items (length history)
@@ -136,7 +128,6 @@ fits_told start history go items done change changes f e =
     cc (length-drop _ before) in
     let lencon : length (concerning_by go (cursor_by done (items ++ item_of history (Told change) ∷ [])) history) ≡ length before =
     cc in
-    let self : length history ≤ length history = omega arith in
     let waits : untold_by go (items ++ item_of history (Told change) ∷ []) done history ≡ changes =
     ap (λ n. drop n (concerning_by go (cursor_by done (items ++ item_of history (Told change) ∷ [])) history)) len
     ∙ ap (drop (length (tolds items) + 1)) con
@@ -144,7 +135,7 @@ fits_told start history go items done change changes f e =
     ∙ ap (drop 1) e in
     record {
       fits = record {
-        numbers = all_push _ items _ f.numbers self;
+        numbers = all_push _ items _ f.numbers (le_refl _);
         finished = f.finished;
         began = f.began;
         enough = omega arith;
@@ -188,7 +179,6 @@ fits_listed start history go items None row left order f e b =
     ≡ length (concerning_by go (cursor_by None items) history) =
     ap length con in
     let enough = f.enough in
-    let self : length history ≤ length history = omega arith in
     let one : ListsOne (cursor_by None items (length history)) row left (rows_after start history) =
     lists_one (cursor_by None items (length history)) row left (rows_after start history) order b in
     let waits : untold_by go (items ++ item_of history (Listed row) ∷ []) None history ≡ [] =
@@ -198,7 +188,7 @@ fits_listed start history go items None row left order f e b =
     ap (λ u. changed_all u []) (sym (append-nil (tells items)) ∙ ap (λ u. tells items ++ u) (sym e)) ∙ f.kept in
     record {
       fits = record {
-        numbers = all_push _ items _ f.numbers self;
+        numbers = all_push _ items _ f.numbers (le_refl _);
         finished = f.finished;
         began = f.began;
         enough = omega arith;

@@ -1,7 +1,6 @@
 -- Information sessions are told rightly, and every connection is served rightly.
 use Rattle.srcp_core.proofs.Names.{◌≡◌, ℕ, List, subst, Some, Bus, IsLayout, Connection, course, numbered, AllMoments, IsSession, Event}
-use Rattle.srcp_core.specs.Laws.{IsHeldRightly, IsSentNoMoreSince, IsServedRightly}
-use Rattle.srcp_core.specs.Laws.{ServedRightly, ToldRightly}
+use Rattle.srcp_core.specs.Laws.{IsHeldRightly, IsSentNoMoreSince, IsServedRightly, ServedRightly, ToldRightly}
 use Rattle.srcp_core.proofs.CourseLaws.RoomsAddUp.{rooms_add_up, rooms_are_one, sends_all_replies, takes_within}
 use Rattle.srcp_core.proofs.CourseLaws.NothingAfterTheEnd.{sends_no_more}
 use Rattle.srcp_core.proofs.CourseLaws.OneLineIsUnsent.{leaves_one_line}

@@ -16,9 +16,7 @@ use Rattle.srcp_info.specs.declared.change.Code.TheVariants.{C400, C401, C410}
 use Rattle.srcp_info.specs.declared.value.Mode.TheVariants.{Command as CommandMode}
 use Rattle.srcp_grammar.specs.Grammar.{reads}
 use Rattle.srcp_core.specs.Course.{stepped}
-use Rattle.srcp_core.specs.Handshake.{greets as greets_of, greets_mode, greets_protocol}
-use Rattle.srcp_core.specs.Handshake.{greets_words}
-use Rattle.srcp_core.specs.Handshake.{is_version}
+use Rattle.srcp_core.specs.Handshake.{greets as greets_of, greets_mode, greets_protocol, greets_words, is_version}
 use Rattle.srcp_text.specs.Words.{words_of, is_keyword}
 use Rattle.srcp_core.specs.Under.{effect}
 use Rattle.srcp_core.specs.Waits.{brought_besides, completed, due_and_freed, may_bring, weighs, weight_of_mark}
@@ -107,17 +105,12 @@ module _ (buses : List Bus) where
     longer = cc (g.longer, f.longer, append_assoc w.steps f.steps g.steps);
     few =
         let few = f.few in
-        let further = g_few in
+        let after : state buses v ≡ state_after (state buses w) f.steps = cc (f.longer, fold-append stepped _ w.steps f.steps) in
+        let further = rw after at g.few in
         let all = changes-append (state buses w) f.steps g.steps in
         let besides = due_and_freed-append (state buses w) f.steps g.steps in
         omega arith;
   }
-    where
-      after : state buses v ≡ state_after (state buses w) f.steps
-      after = cc (f.longer, fold-append stepped _ w.steps f.steps)
-
-      g_few : changes (state_after (state buses w) f.steps) g.steps ≤ b + due_and_freed (state_after (state buses w) f.steps) g.steps
-      g_few = rw (← after) g.few
 
   within : (a b : ℕ) (w later : World) → a ≤ b → ComesOf a w later → ComesOf b w later
   within a b w later h f = record { steps = f.steps; longer = f.longer; few = let few = f.few in omega arith }
@@ -151,15 +144,12 @@ module _ (buses : List Bus) where
       → ComesOf (length (effect (state buses w) session w.moment order).updates) w (obeyed buses n session order result w)
   comes_obeyed n session order result w =
       elim result.ends as (λ t. ComesOf (length (updates_of (state buses w) step)) w (if t then ended buses n session answer else answer)) [
-        | true ↦ record { steps = step ∷ last ∷ []; longer = append_assoc w.steps _ _; few = omega arith }
+        | true ↦ record { steps = step ∷ Ended session w.moment ∷ []; longer = append_assoc w.steps _ _; few = omega arith }
         | false ↦ record { steps = step ∷ []; longer = refl; few = omega arith }
       ]
     where
       step : Step
       step = Obeyed session w.moment order
-
-      last : Step
-      last = Ended session w.moment
 
       answer : World
       answer = replied n result.reply (did step w)
@@ -315,11 +305,8 @@ module _ (buses : List Bus) where
         longer = cc (fold-append _ start events more, c.longer)
 
         -- the later steps, and their history
-        new : drop (length w.steps) later.steps ≡ c.steps
-        new = ap (drop (length w.steps)) longer ∙ drop-append_seam w.steps c.steps
-
         rest : brought_besides buses w later ≡ due_and_freed (state buses w) c.steps
-        rest = ap (due_and_freed (state buses w)) new
+        rest = ap (due_and_freed (state buses w)) (ap (drop (length w.steps)) longer ∙ drop-append_seam w.steps c.steps)
 
         told : drop (length w.steps) (history buses later) ≡ history_from (state buses w) c.steps
         told = ap (λ xs. drop (length w.steps) (history_from (opening buses 0) xs)) longer

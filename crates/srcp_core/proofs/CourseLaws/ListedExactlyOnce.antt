@@ -4,7 +4,7 @@ use Rattle.srcp_core.proofs.Names.{sym, ◌∙◌, subst, arith, take_all, take-
 use Rattle.srcp_core.proofs.Names.{AllByRecursion, is_eq, Less, Equal, ◌||◌, Option, None, IsRisingBy, key_cmp, owns, Change, Cursor, Start}
 use Rattle.srcp_core.proofs.Names.{After, Done, Shown, Device, Key, Bus, opening, shown_rows, beyond, Listed, key_cmp_total, key_at}
 use Rattle.srcp_core.proofs.Names.{lists_one, IsLayout, Event, Connection, History, is_settled, World, start, happens, course, rows}
-use Rattle.srcp_core.proofs.Names.{history, listed, has_key, rows_at, listed_row, IsSession, AllMoments, Item}
+use Rattle.srcp_core.proofs.Names.{history, listed, has_key, rows_at, listed_row, IsSession, AllMoments, Item, cond_both, le_refl}
 use Rattle.std.specs.Ordering.{eq_by_cmp}
 use Rattle.std.specs.declared.cmp.Ordering.{Ordering}
 use Rattle.std.specs.declared.cmp.Ordering.TheVariants.{Greater}
@@ -41,29 +41,14 @@ at_most_one : (key : Key) (rows : List Shown) → IsRisingBy (λ (row : Shown). 
     → length (filter (λ row. eq_by_cmp key_cmp row.key key) rows) ≤ 1
 at_most_one key [] r = omega arith
 at_most_one key (row ∷ rows) r =
-    let ih = at_most_one key rows r.1 in
-    let by : (t : Bool) → eq_by_cmp key_cmp row.key key ≡ t → length (filter (λ row. eq_by_cmp key_cmp row.key key) (row ∷ rows)) ≤ 1 =
-    elim [
-      | true ↦ λ e. let none = none_equal row.key key rows (is_equal row.key key e) r.0 in rw e (rw none (one_le 1 refl))
-      | false ↦ λ e. rw e ih
-    ] in
-    by (eq_by_cmp key_cmp row.key key) refl
-  where
-    one_le : (n : ℕ) → n ≡ 1 → 1 ≤ n
-    one_le n e = omega arith
+    cond_both _ _ _ (λ (xs : List Shown). length xs ≤ 1)
+    (λ e. rw (none_equal row.key key rows (is_equal row.key key e) r.0) (le_refl 1)) (λ e. at_most_one key rows r.1)
 
 at_least_one : (key : Key) (rows : List Shown) → has_key key rows ≡ true → 1 ≤ length (filter (λ row. eq_by_cmp key_cmp row.key key) rows)
 at_least_one key [] h = cc
 at_least_one key (row ∷ rows) h =
-    let by : (t : Bool) → eq_by_cmp key_cmp row.key key ≡ t → 1 ≤ length (filter (λ row. eq_by_cmp key_cmp row.key key) (row ∷ rows)) =
-    elim [
-      | true ↦ λ e. rw e (one_more (length (filter (λ row. eq_by_cmp key_cmp row.key key) rows)))
-      | false ↦ λ e. rw e (at_least_one key rows (rw e at h))
-    ] in
-    by (eq_by_cmp key_cmp row.key key) refl
-  where
-    one_more : (n : ℕ) → 1 ≤ suc n
-    one_more n = omega arith
+    cond_both (eq_by_cmp key_cmp row.key key) (row ∷ filter (λ row. eq_by_cmp key_cmp row.key key) rows) _ (λ xs. 1 ≤ length xs)
+    (λ e. omega arith) (λ e. at_least_one key rows (rw e at h))
 
 pub lists_none_twice : (buses : List Bus) → OfSessions buses (λ w conn. (key : Key) → times_listed key conn.items ≤ 1)
 lists_none_twice buses layout events number conn s key =
@@ -165,8 +150,7 @@ met_law start = record {
         → ((k : ℕ) → go ≤ k → k ≤ length history → has_key key (rows_after start (take k history)) ≡ true)
         → has_key key (rows_after start history) ≡ true
     now history go key h there =
-        let self : length history ≤ length history = omega arith in
-        cc (take_all _ history self, there _ h self)
+        cc (take_all _ history (le_refl _), there _ h (le_refl _))
 
     by_passed : (history : History) (go : ℕ) (items : List Item) (row : Shown) (left : List Shown)
         → IsRisingBy key_at (rows_after start history) → Fits start history go items None → Met start history go items None

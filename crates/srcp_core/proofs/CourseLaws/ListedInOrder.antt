@@ -1,32 +1,29 @@
 -- What a session lists: rows in key order, each as the registry held it, and on a still registry the listing.
 use Rattle.srcp_core.proofs.Names.{◌≡◌, ℕ, zero, suc, ◌+◌, ◌≤◌, Bool, true, false, List, [], ◌∷◌, ◌++◌, map, take, length, drop, refl, ap}
-use Rattle.srcp_core.proofs.Names.{sym, ◌∙◌, subst, arith, append-nil, append_assoc, leb-false, leb-true, nat_tests, take-append-drop}
-use Rattle.srcp_core.proofs.Names.{take_all, take-append-le, length_push, map-append, flat_map-append, filter_map-append, fold-append}
-use Rattle.srcp_core.proofs.Names.{filter, flat_map, enumerate_from, AllByRecursion, is_eq, Less, Equal, nat_le, Option, Some, None}
-use Rattle.srcp_core.proofs.Names.{if◌then◌else◌, IsRisingBy, key_cmp, is_after, line, Change, Put, Cursor, Shown, after_not_itself}
-use Rattle.srcp_core.proofs.Names.{all_filter, all_weaker, key_at, Bus, IsLayout, State, opening, shown_rows, concerns, passed, beyond}
-use Rattle.srcp_core.proofs.Names.{said, changed_all, Next, Told, Listed, Settled, key_cmp_total, lists_one, passed_all, passed_done}
+use Rattle.srcp_core.proofs.Names.{sym, ◌∙◌, subst, arith, append-nil, append_assoc, leb-true, take-append-drop, take_all, take-append-le}
+use Rattle.srcp_core.proofs.Names.{length_push, map-append, flat_map-append, filter_map-append, fold-append, filter, flat_map}
+use Rattle.srcp_core.proofs.Names.{enumerate_from, AllByRecursion, is_eq, Less, Equal, nat_le, Option, Some, None, if◌then◌else◌}
+use Rattle.srcp_core.proofs.Names.{IsRisingBy, key_cmp, is_after, line, Change, Put, Cursor, Shown, after_not_itself, all_filter}
+use Rattle.srcp_core.proofs.Names.{all_weaker, key_at, Bus, IsLayout, State, opening, shown_rows, concerns, passed, beyond, said}
+use Rattle.srcp_core.proofs.Names.{changed_all, Next, Told, Listed, Settled, key_cmp_total, lists_one, passed_all, passed_done}
 use Rattle.srcp_core.proofs.Names.{passed_start, Step, Connection, History, heard, tells, sent, unsent, text, World, course, rows, history}
-use Rattle.srcp_core.proofs.Names.{history_from, listed_row, listed, rows_at, Item}
-use Rattle.std.proofs.Common.{not, get_or}
-use Rattle.std.proofs.Common.{length-take}
+use Rattle.srcp_core.proofs.Names.{history_from, listed_row, listed, rows_at, Item, cond_both, cases_lt, ⊎_elim, le_refl}
+use Rattle.std.proofs.Common.{not, get_or, length-take}
 use Rattle.std.proofs.lemmas.Cmp.{tied_itself}
-use Rattle.std.proofs.lemmas.List.{take-take, get_or_past}
-use Rattle.std.proofs.lemmas.List.{get_or_append_left, get_or_push, get_or-take, get_or-drop}
+use Rattle.std.proofs.lemmas.List.{take-take, get_or_past, get_or_append_left, get_or_push, get_or-take, get_or-drop}
 use Rattle.std.proofs.Math.Seq.{drop-nil}
-use Rattle.std.specs.Prelude.{⊤}
+use Rattle.std.specs.Prelude.{⊤, IfSome}
 use Rattle.srcp_info.specs.Client.{listing}
 use Rattle.srcp_info.proofs.ClientLaws.{after_one_way, less_from_after}
 use Rattle.srcp_info.proofs.ListingLaws.{reached_split}
 use Rattle.srcp_feed.specs.Cursor.{has_reached}
 use Rattle.srcp_feed.proofs.Steps.{passed_below}
 use Rattle.srcp_core.specs.Laws.{shown_at, IsHeld, IsStill, IsPrefixOf, IsSentListing}
-use Rattle.std.specs.Prelude.{IfSome}
 use Rattle.srcp_core.proofs.CourseLaws.Histories.{rows_after, part, cursor_by, cursor_later, cursor_done}
 use Rattle.srcp_core.proofs.CourseLaws.ShownRegistry.{shown_after}
 use Rattle.srcp_core.proofs.CourseLaws.RoomGivesWhatIsOwed.{Stands}
-use Rattle.srcp_core.proofs.CourseLaws.SessionsOfACourse.{OfSessions, stands, settled_facts, settled_both}
-use Rattle.srcp_core.proofs.CourseLaws.SessionsOfACourse.{text_tells, sent_whole, opening_in_order}
+use Rattle.srcp_core.proofs.CourseLaws.SessionsOfACourse.{OfSessions, stands, settled_facts, settled_both, text_tells, sent_whole}
+use Rattle.srcp_core.proofs.CourseLaws.SessionsOfACourse.{opening_in_order}
 use Rattle.srcp_core.proofs.CourseLaws.ClientHoldsPassedRows.{Fits, Law, untold_by, item_of, cursor_item, cursor_told, rows_push}
 use Rattle.srcp_core.proofs.CourseLaws.SessionsAreKept.{in_order_after, all_push}
 
@@ -141,9 +138,8 @@ held_law start = record {
       items f.numbers p;
   tell = λ history go items done change changes order f p e. all_push _ items _ p tt;
   list = λ history go items row left order f p e b.
-      let self : length history ≤ length history = omega arith in
       all_push _ items _ p
-      (ap (λ h. shown_at row.key (rows_after start h)) (take_all _ history self)
+      (ap (λ h. shown_at row.key (rows_after start h)) (take_all _ history (le_refl _))
       ∙ found (λ r. not _) row left _ order b);
   finish = λ history go items order f p e b. p;
 }
@@ -196,24 +192,16 @@ quiet_none : (go : ℕ) (cursors : ℕ → Cursor) (n : ℕ) (history : History)
     → flat_map (part go cursors) (enumerate_from n history) ≡ []
 quiet_none go cursors n [] q = refl
 quiet_none go cursors n (changes ∷ history) q =
-    cc (here _ refl, quiet_none go cursors (n + 1) history (λ k h. q (suc k) (later k h)))
+    cc (here, quiet_none go cursors (n + 1) history (λ k h. q (suc k) (omega (arith, h))))
   where
-    later : (k : ℕ) → go ≤ n + 1 + k → go ≤ n + suc k
-    later k h = omega arith
-
-    small : nat_le go n ≡ true → go ≤ n + 0
-    small e = grind (arith, nat_tests)
-
-    here : (t : Bool) → nat_le go n ≡ t → (if nat_le go n then filter (concerns (cursors n)) changes else []) ≡ []
-    here true e = rw e (cc (q 0 (small e)))
-    here false e = rw e refl
+    here : (if nat_le go n then filter (concerns (cursors n)) changes else []) ≡ []
+    here =
+        cond_both (nat_le go n) (filter (concerns (cursors n)) changes) [] (λ cs. cs ≡ [])
+        (λ e. cc (q 0 (let l = leb-true go n e in omega arith))) (λ e. refl)
 
 quiet_before : (go : ℕ) (history : History) (changes : List Change) → IsQuiet go (history ++ changes ∷ []) → IsQuiet go history
-quiet_before go history changes q k h = by _ refl
-  where
-    by : (t : Bool) → nat_le (length history) k ≡ t → get_or history k [] ≡ []
-    by true e = get_or_past history k [] (leb-true (length history) k e)
-    by false e = sym (get_or_append_left history _ [] k (leb-false (length history) k e)) ∙ q k h
+quiet_before go history changes q k h =
+    ⊎_elim (λ l. sym (get_or_append_left history _ [] k l) ∙ q k h) (λ l. get_or_past history k [] l) (cases_lt k (length history))
 
 still_law : (start : List Shown) → Law start (Still start)
 still_law start = record {
@@ -225,7 +213,7 @@ still_law start = record {
       cc (p (quiet_before go history changes q), cursor_later _ _ done items up f.finished f.numbers, rows_push start history changes);
   tell = λ history go items done change changes order f p e q.
       let none : untold_by go items done history ≡ [] =
-      cc (quiet_none go _ 0 history (λ k h. q k (from_zero go k h)), drop-nil _) in
+      cc (quiet_none go _ 0 history (λ k h. q k (omega (arith, h))), drop-nil _) in
       cc;
   list = λ history go items row left order f p e b q.
       let one = lists_one _ row left _ order b in
@@ -241,9 +229,6 @@ still_law start = record {
       ∙ sym (passed_done _)
       ∙ ap (λ c. passed c (rows_after start history)) (sym (cursor_done _ items)));
 }
-  where
-    from_zero : (go k : ℕ) → go ≤ 0 + k → go ≤ k
-    from_zero go k h = omega arith
 
 listing_puts : (rows : List Shown) → flat_map line (map (λ row. Put row) rows) ≡ listing rows
 listing_puts [] = refl
@@ -251,14 +236,10 @@ listing_puts (row ∷ rows) = cc (listing_puts rows)
 
 quiet_heard : (go : ℕ) (shut : Option ℕ) (history : History) → IsQuiet go history → IsQuiet go (heard shut history)
 quiet_heard go None history q = q
-quiet_heard go (Some n) history q = λ k h. by k h _ refl
-  where
-    past : (k : ℕ) → nat_le n k ≡ true → length (take n history) ≤ k
-    past k e = let l = length-take n history in let low : n ≤ k = grind (arith, nat_tests) in omega arith
-
-    by : (k : ℕ) → go ≤ k → (t : Bool) → nat_le n k ≡ t → get_or (take n history) k [] ≡ []
-    by k h true e = get_or_past _ k [] (past k e)
-    by k h false e = get_or-take n history k [] (leb-false n k e) ∙ q k h
+quiet_heard go (Some n) history q = λ k h.
+    let l = length-take n history in
+    ⊎_elim (λ low. get_or-take n history k [] low ∙ q k h) (λ high. get_or_past (take n history) k [] (omega (arith, l, high)))
+    (cases_lt k n)
 
 quiet_rows : (rows : List Shown) (history : History) → ((k : ℕ) → get_or history k [] ≡ []) → rows_after rows history ≡ rows
 quiet_rows rows [] q = refl
@@ -271,11 +252,8 @@ quiet_since first go history q =
     cc (
       take-append-drop go history,
       fold-append (λ rows changes. changed_all changes rows) first (take go history) (drop go history),
-      quiet_rows _ _ (λ k. get_or-drop go history k [] ∙ q (go + k) (from k)),
+      quiet_rows _ _ (λ k. get_or-drop go history k [] ∙ q (go + k) (omega arith)),
     )
-  where
-    from : (k : ℕ) → go ≤ go + k
-    from k = omega arith
 
 -- the parts of a session on a still registry, up to its end
 record StillFacts (conn : Connection) (heard_now : History) (held : List Shown) : Type 0 where
@@ -324,11 +302,6 @@ still_prefix conn heard_now held facts = (
       ∙ ap (λ rs. conn.out ++ listing rs) facts.whole_is,
 )
 
-still_whole : (conn : Connection) (heard_now : History) (held : List Shown) → StillFacts conn heard_now held → unsent conn ≡ []
-    → beyond (cursor_by conn.done conn.items (length heard_now)) held ≡ [] → sent conn ≡ conn.out ++ listing held
-still_whole conn heard_now held facts u b =
-    cc (sent_whole conn u, text_tells conn.items, facts.text_is, passed_all _ held b)
-
 pub lists_still : (buses : List Bus) → OfSessions buses (λ w conn. IsStill buses w conn → IsSentListing buses w conn)
 lists_still buses layout events number conn s still =
     let w = course buses events in
@@ -339,8 +312,8 @@ lists_still buses layout events number conn s still =
       whole = λ settled.
           let now = settled_facts conn (history buses w) (rows buses w) settled in
           let both = settled_both buses layout w conn s.info settled in
-          still_whole conn (heard conn.shut (history buses w)) (rows_at buses w conn.go_step) facts now.none_unsent
-          (ap (beyond (cursor_by conn.done conn.items (length (heard conn.shut (history buses w)))))
+          let none = ap (beyond (cursor_by conn.done conn.items (length (heard conn.shut (history buses w)))))
           (sym (still_same buses w conn law still))
-          ∙ rw now.open_now both.1);
+          ∙ rw now.open_now both.1 in
+          cc (sent_whole conn now.none_unsent, text_tells conn.items, facts.text_is, passed_all _ _ none);
     }

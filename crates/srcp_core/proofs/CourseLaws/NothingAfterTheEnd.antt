@@ -1,42 +1,22 @@
 -- Of a connection that overran or was shut nothing changes any more but that it may be shut.
-use Rattle.srcp_core.proofs.Names.{◌≡◌, ℕ, zero, suc, ◌+◌, ◌<◌, max, Bool, true, false, List, [], ◌∷◌, ◌++◌, length, drop, refl, ap, sym}
-use Rattle.srcp_core.proofs.Names.{◌∙◌, subst, arith, length-append, length-drop, flat_map-append, fold-append, eqb-false, lt-ltb, ltb-true}
-use Rattle.srcp_core.proofs.Names.{filter, filter_map, fold, nat_le, nat_lt, ◌==◌, ◌||◌, Option, Some, None, is_none, if◌then◌else◌, Change}
-use Rattle.srcp_core.proofs.Names.{Bus, concerns, Event, Open, Bytes, Room, At, Shut, Step, Moment, Ended, Piece, Connection, History}
-use Rattle.srcp_core.proofs.Names.{heard, told_change, cursor_at, overran, is_nil, unsent, given_room, World, fresh, start, numbered}
-use Rattle.srcp_core.proofs.Names.{with_numbered, at_connection, open_connection, did, counted, rows, history, entered, fault, absent_fault}
-use Rattle.srcp_core.proofs.Names.{shut_as, accepted, or_refused, happens, course, CoreFault, NoSuch, Busy, PieceTooLong, Closing}
-use Rattle.srcp_core.proofs.Names.{cond_both, is_open, sent}
-use Rattle.std.proofs.Common.{not}
-use Rattle.std.proofs.Common.{eqb-true}
+use Rattle.srcp_core.proofs.Names.{◌≡◌, ℕ, ◌+◌, ◌<◌, max, Bool, true, false, List, [], ◌∷◌, ◌++◌, length, drop, refl, ap, sym, ◌∙◌, subst}
+use Rattle.srcp_core.proofs.Names.{arith, length-append, length-drop, flat_map-append, fold-append, eqb-false, lt-ltb, ltb-true, filter}
+use Rattle.srcp_core.proofs.Names.{filter_map, fold, nat_le, nat_lt, ◌==◌, ◌||◌, Option, Some, None, is_none, if◌then◌else◌, Change, Bus}
+use Rattle.srcp_core.proofs.Names.{concerns, Event, Open, Bytes, Room, At, Shut, Step, Moment, Ended, Piece, Connection, History, heard}
+use Rattle.srcp_core.proofs.Names.{told_change, cursor_at, overran, given_room, World, fresh, start, numbered, at_connection}
+use Rattle.srcp_core.proofs.Names.{open_connection, did, counted, rows, history, entered, fault, absent_fault, shut_as, accepted}
+use Rattle.srcp_core.proofs.Names.{or_refused, happens, course, CoreFault, NoSuch, Closing, cond_both, is_open, sent, or-true}
+use Rattle.std.proofs.Common.{not, eqb-true}
 use Rattle.srcp_core.specs.Connection.{concerning}
 use Rattle.srcp_core.specs.Course.{bytes_fault}
 use Rattle.srcp_core.proofs.CourseLaws.Histories.{enumerate_push}
 use Rattle.srcp_core.proofs.CourseLaws.ShownRegistry.{history_push}
-use Rattle.srcp_core.proofs.Agreement.NumbersAndKeys.{numbered_with}
+use Rattle.srcp_core.proofs.Agreement.NumbersAndKeys.{numbered_other, numbered_push, numbered_with}
 use Rattle.srcp_core.proofs.CourseLaws.EventsKeep.{IsAnswered, kept_fed, kept_shut}
 
 -- it overran, or it was shut
 abbrev pub is_over : Connection → History → Bool
 is_over conn history = not (is_open conn) || overran conn history
-
--- ---- the connection of another number
-
-pub numbered_other : (n m : ℕ) (f : Connection → Connection) (xs : List Connection) → (m ≡ n → ⊥)
-    → numbered n (with_numbered m f xs) ≡ numbered n xs
-numbered_other zero m f xs d = refl
-numbered_other (suc n) m f [] d = refl
-numbered_other (suc n) zero f (x ∷ xs) d = refl
-numbered_other (suc zero) (suc zero) f (x ∷ xs) d = absurd (d refl)
-numbered_other (suc zero) (suc (suc m)) f (x ∷ xs) d = refl
-numbered_other (suc (suc n)) (suc zero) f (x ∷ xs) d = refl
-numbered_other (suc (suc n)) (suc (suc m)) f (x ∷ xs) d = numbered_other (suc n) (suc m) f xs (λ e. d (cc))
-
-pub numbered_push : (n : ℕ) (xs : List Connection) (x y : Connection) → numbered n xs ≡ Some y → numbered n (xs ++ x ∷ []) ≡ Some y
-numbered_push zero xs x y e = cc
-numbered_push (suc n) [] x y e = cc
-numbered_push (suc zero) (z ∷ xs) x y e = e
-numbered_push (suc (suc n)) (z ∷ xs) x y e = numbered_push (suc n) xs x y e
 
 -- ---- an overrun stays
 
@@ -90,7 +70,7 @@ module _ (buses : List Bus) (n : ℕ) (y : Connection) where
 
   module _ (m : ℕ) (apart : m ≡ n → ⊥) where
     lies_at : (f : Connection → Connection) (v : World) → Lies v → Lies (at_connection m f v)
-    lies_at f v l = (numbered_other n m f _ apart ∙ l.0, l.1)
+    lies_at f v l = (numbered_other m n f _ apart ∙ l.0, l.1)
 
     lies_answered : IsAnswered buses m Lies
     lies_answered = record {
@@ -143,29 +123,14 @@ module _ (buses : List Bus) (n : ℕ) (x : Connection) where
 
   stopped_bytes : (piece : Piece) (v : World) → IsStopped v → IsStopped (or_refused buses (fault buses v (Bytes n piece)) (Bytes n piece) v)
   stopped_bytes piece v s = stopped_by v s (λ o. IsStopped (or_refused buses (bytes_fault buses v o piece.bytes) (Bytes n piece) v))
-      (λ shut over. stopped_refused (Bytes n piece) v (bytes_fault buses v (Some s.y) piece.bytes) Closing (closes over) s)
+      (λ shut over.
+      stopped_refused (Bytes n piece) v (bytes_fault buses v (Some s.y) piece.bytes) Closing (rw (over, or-true s.y.ended) refl) s)
       (stopped_refused (Bytes n piece) v _ NoSuch refl s)
-    where
-      or_true : (t : Bool) (z : Option CoreFault) → (if t || true then Some Closing else z) ≡ Some Closing
-      or_true true z = refl
-      or_true false z = refl
-
-      closes : overran s.y (history buses v) ≡ true → bytes_fault buses v (Some s.y) piece.bytes ≡ Some Closing
-      closes over =
-          ap (λ t. if s.y.ended || t then Some Closing
-          else (if not (is_nil (unsent s.y)) then Some Busy
-          else (if nat_lt 256 (length piece.bytes) then Some PieceTooLong else None)))
-          over
-          ∙ or_true s.y.ended _
 
   stopped_room : (bytes : ℕ) (v : World) → IsStopped v → IsStopped (or_refused buses (fault buses v (Room n bytes)) (Room n bytes) v)
   stopped_room bytes v s = stopped_by v s (λ o. IsStopped (or_refused buses (absent_fault buses o) (Room n bytes) v))
-      (λ shut over. stopped_lies v _ s (at_room over, s.over))
+      (λ shut over. stopped_lies v _ s (cc (numbered_with n _ v.connections, s.there), s.over))
       (stopped_refused (Room n bytes) v _ NoSuch refl s)
-    where
-      at_room : overran s.y (history buses v) ≡ true → numbered n (accepted buses (Room n bytes) v).connections ≡ Some s.y
-      at_room over =
-          cc (numbered_with n _ _, s.there)
 
   stopped_closed : (v : World) → IsStopped v → IsStopped (at_connection n (λ c. record c { shut = Some (length v.steps) }) v)
   stopped_closed v s = record {

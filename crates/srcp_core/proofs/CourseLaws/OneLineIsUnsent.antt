@@ -10,6 +10,7 @@ use Rattle.srcp_core.specs.Laws.{IsSuffixOf}
 use Rattle.srcp_core.proofs.CourseLaws.EventsKeep.{IsKept, IsPlain, kept_all, numbered_after, numbered_more}
 use Rattle.srcp_core.proofs.CourseLaws.RoomGivesWhatIsOwed.{fitting_prefix, fitting_none, text_items}
 use Rattle.srcp_core.proofs.CourseLaws.SessionsOfACourse.{nil_is}
+use Rattle.srcp_core.proofs.Agreement.NumbersAndKeys.{no_connection}
 
 -- ---- the last line
 
@@ -213,24 +214,15 @@ module _ (buses : List Bus) where
       given_it bytes w conn s =
           cond_both _ _ _ IsWithinLast
           (λ _. s)
-          (λ _. within_took _ bytes all conn owes_none s)
-        where
-          all : List Next
-          all = owed conn (history buses w) (rows buses w)
-
-          owes_none : conn.info ≡ false → all ≡ []
-          owes_none e = unless _ _ _ e
+          (λ _. within_took _ bytes (owed conn (history buses w) (rows buses w)) conn (λ e. unless _ _ _ e) s)
 
   -- what is unsent of every connection of a course whose replies are all taken
   pub leaves_one_line : (events : List Event) (number : ℕ) (conn : Connection)
       → numbered number (course buses events).connections ≡ Some conn → length conn.out ≤ conn.taken
       → IsSuffixOf (unsent conn) (last_line conn.items)
-  leaves_one_line events number conn e taken = by (kept_all buses Within within_kept events start none number conn e).few
+  leaves_one_line events number conn e taken =
+      by (kept_all buses Within within_kept events start (λ n other there. absurd (no_connection n other there)) number conn e).few
     where
-      none : (number : ℕ) (conn : Connection) → numbered number [] ≡ Some conn → IsWithinLast conn
-      none zero conn e = cc
-      none (suc number) conn e = cc
-
       ends : IsSuffixOf (last_line conn.items) (text conn.items)
       ends = text_last conn.items
 

@@ -1,61 +1,38 @@
 -- A step makes a session overrun exactly where one of its changes finds 256 waiting.
 use Rattle.srcp_core.proofs.Names.{◌≡◌, ℕ, ◌+◌, ◌<◌, ◌≤◌, Bool, true, false, List, [], ◌∷◌, ◌++◌, length, drop, refl, ap, ◌∙◌, arith}
-use Rattle.srcp_core.proofs.Names.{length-append, lt-ltb, ltb-false, ltb-true, nat_tests, drop-append-le, filter-append, filter, nat_lt}
-use Rattle.srcp_core.proofs.Names.{None, Change, Bus, opening, shown_rows, concerns, IsLayout, Event, Connection, History, is_open, overran}
-use Rattle.srcp_core.proofs.Names.{waiting, course, history, IsSession}
-use Rattle.std.specs.Prelude.{suc}
+use Rattle.srcp_core.proofs.Names.{length-append, lt-ltb, ltb-false, ltb-true, drop-append-le, filter-append, filter, nat_lt}
+use Rattle.srcp_core.proofs.Names.{Change, Bus, opening, shown_rows, concerns, IsLayout, Event, Connection, is_open, overran}
+use Rattle.srcp_core.proofs.Names.{waiting, course, history, IsSession, cases_lt, inl, inr, ◌⊎◌}
 use Rattle.srcp_core.specs.Laws.{FindsFull, OverrunsIfFull}
 use Rattle.srcp_core.proofs.CourseLaws.Histories.{concerning_push, cursor_by}
 use Rattle.srcp_core.proofs.CourseLaws.ShownRegistry.{length_history}
-use Rattle.srcp_core.proofs.CourseLaws.SessionsOfACourse.{stands, anything, fits_open, open_shut, untold_open}
+use Rattle.srcp_core.proofs.CourseLaws.SessionsOfACourse.{stands, anything, fits_open, open_shut, untold_open, overran_open}
 use Rattle.srcp_core.proofs.CourseLaws.ClientHoldsPassedRows.{untold_by, tolds}
 
 -- where more than so many wait in the end, some change found as many waiting
 pub finds_full : (most : ℕ) (p : Change → Bool) (n : ℕ) (changes : List Change) → n ≤ most → most < n + length (filter p changes)
     → FindsFull most p n changes
 finds_full most p n [] low h = absurd (omega arith)
-finds_full most p n (change ∷ changes) low h = by _ refl _ refl (λ m. finds_full most p m changes)
+finds_full most p n (change ∷ changes) low h = by _ refl (cases_lt n most) (λ m. finds_full most p m changes)
   where
-    below : nat_lt n most ≡ true → n + 1 ≤ most
-    below t = grind (arith, nat_tests)
-
-    at_most : nat_lt n most ≡ false → n ≡ most
-    at_most t = let l : most ≤ n = ltb-false n most t in omega arith
-
-    one_more : (k : ℕ) → most < n + suc k → most < n + 1 + k
-    one_more k h = omega arith
-
-    back : (k : ℕ) → n + 1 + k ≡ most → n + suc k ≡ most
-    back k e = omega arith
-
-    first : n ≡ most → n + 0 ≡ most
-    first e = omega arith
-
-    skipped : p change ≡ false → FindsFull most p n changes → FindsFull most p n (change ∷ changes)
-    skipped e r = record {
+    longer : (m : ℕ) → ((cs : List Change) → n + length (filter p (change ∷ cs)) ≡ m + length (filter p cs)) → FindsFull most p m changes
+        → FindsFull most p n (change ∷ changes)
+    longer m size r = record {
       before = change ∷ r.before;
       change = r.change;
       after = r.after;
       whole = cc r.whole;
-      full = rw e r.full;
+      full = size r.before ∙ r.full;
       passes = r.passes;
     }
 
-    joined : p change ≡ true → FindsFull most p (n + 1) changes → FindsFull most p n (change ∷ changes)
-    joined e r = record {
-      before = change ∷ r.before;
-      change = r.change;
-      after = r.after;
-      whole = cc r.whole;
-      full = rw e (back (length (filter p r.before)) r.full);
-      passes = r.passes;
-    }
-
-    by : (t : Bool) → p change ≡ t → (u : Bool) → nat_lt n most ≡ u
+    by : (t : Bool) → p change ≡ t → (n < most) ⊎ (most ≤ n)
         → ((m : ℕ) → m ≤ most → most < m + length (filter p changes) → FindsFull most p m changes) → FindsFull most p n (change ∷ changes)
-    by false e u f ih = skipped e (ih n low (rw e at h))
-    by true e true f ih = joined e (ih (n + 1) (below f) (one_more _ (rw e at h)))
-    by true e false f ih = record { before = []; change = change; after = changes; whole = refl; full = first (at_most f); passes = e }
+    by false e room ih = longer n (λ cs. rw e refl) (ih n low (rw e at h))
+    by true e (inl room) ih =
+        longer (n + 1) (λ cs. rw e (omega arith)) (ih (n + 1) (omega (arith, room)) (let k = rw e at h in omega arith))
+    by true e (inr full) ih =
+        record { before = []; change = change; after = changes; whole = refl; full = omega (arith, low, full); passes = e }
 
 -- and where a change found as many, more wait in the end
 pub found_full : (most : ℕ) (p : Change → Bool) (n : ℕ) (changes : List Change) → FindsFull most p n changes
@@ -67,15 +44,8 @@ found_full most p n changes f =
     ap (filter p) f.whole ∙ filter-append p f.before _ ∙ ap (λ cs. filter p f.before ++ cs) one in
     let size : length (filter p changes) ≡ length (filter p f.before) + length (f.change ∷ filter p f.after) =
     cc (length-append _ _) in
-    count (length (filter p changes)) (length (filter p f.before)) (length (filter p f.after)) size f.full
-  where
-    count : (k b a : ℕ) → k ≡ b + suc a → n + b ≡ most → most < n + k
-    count k b a e f = omega arith
-
-pub overran_open : (history : History) (conn : Connection) → conn.shut ≡ None
-    → overran conn history ≡ nat_lt 256 (length (untold_by conn.go_step conn.items conn.done history))
-overran_open history conn shut =
-    cc
+    let full = f.full in
+    omega arith
 
 pub meets_overruns : (buses : List Bus) → IsLayout buses → (events : List Event) (number : ℕ) (conn : Connection)
     → IsSession buses events number conn → is_open conn ≡ true → overran conn (history buses (course buses events)) ≡ false

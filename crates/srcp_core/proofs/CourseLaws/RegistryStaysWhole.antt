@@ -1,20 +1,18 @@
 -- Over every course the registry stays whole: each session that began and did not end has its row, under an id of its own.
-use Rattle.srcp_core.proofs.Names.{cond_both, ◌≡◌, ℕ, ◌+◌, ◌^◌, ◌<◌, ◌≤◌, max, Bool, true, false, List, [], ◌∷◌, ◌++◌, length, refl, ap}
-use Rattle.srcp_core.proofs.Names.{sym, ◌∙◌, subst, arith, add-one, inl, inr, ◌⊎◌, ⊎_elim, le-leb, ltb-true, eqb-false, fold-append}
-use Rattle.srcp_core.proofs.Names.{pos_of_ne-zero, fold, nat_lt, ◌==◌, ◌&&◌, ◌||◌, Option, Some, None, is_some, IfOk, if◌then◌else◌, Result}
-use Rattle.srcp_core.proofs.Names.{Ok, Err, first_key, reply_line, Code, C500, Reply, Protocol, Go, Refused, Mode, Bus, IsCommandOf, Effect}
-use Rattle.srcp_core.proofs.Names.{IsLayout, IsKeyOf, is_within, session_device, IsWhole, opening, reads_fits, session_row-updated_all}
-use Rattle.srcp_core.proofs.Names.{effect_elsewhere, due_elsewhere, freed_others, row_at-put_same, Mark, Line, TooLong, Event, Open, Bytes}
-use Rattle.srcp_core.proofs.Names.{Room, At, Shut, Step, Obeyed, Began, Moment, Ended, Order, greets, Heard, Piece, Connection, overran}
-use Rattle.srcp_core.proofs.Names.{owed, took, given_room, World, updates_of, state_after, fresh, start, numbered, with_numbered}
-use Rattle.srcp_core.proofs.Names.{at_connection, open_connection, did, replied, counted, is_info, state, rows, history, entered, goes}
-use Rattle.srcp_core.proofs.Names.{greeted, ended, obeyed, commanded, answered_as, answered, command_of, order_of, fault, new_lines, fed_to}
-use Rattle.srcp_core.proofs.Names.{shut_as, accepted, or_refused, happens, course, Greeting, Speaks, Chooses, Goes, Refuses, AllMoments}
-use Rattle.srcp_core.proofs.Names.{HasMoment, CoreFault, Device, Key, owns}
-use Rattle.std.proofs.lemmas.Bool.{true≢false}
+use Rattle.srcp_core.proofs.Names.{cond_both, ◌≡◌, ℕ, ◌+◌, ◌^◌, ◌<◌, ◌≤◌, max, true, false, List, [], ◌∷◌, ◌++◌, length, refl, ap, sym, ◌∙◌}
+use Rattle.srcp_core.proofs.Names.{subst, arith, add-one, inl, inr, ◌⊎◌, ⊎_elim, ltb-true, eqb-false, fold-append, pos_of_ne-zero, fold}
+use Rattle.srcp_core.proofs.Names.{◌==◌, ◌||◌, Option, Some, None, is_some, IfOk, if◌then◌else◌, Result, Ok, Err, first_key, reply_line}
+use Rattle.srcp_core.proofs.Names.{Code, C500, Reply, Protocol, Go, Refused, Mode, Bus, IsCommandOf, Effect, IsLayout, session_device}
+use Rattle.srcp_core.proofs.Names.{IsWhole, opening, reads_fits, session_row-updated_all, effect_elsewhere, due_elsewhere, freed_others}
+use Rattle.srcp_core.proofs.Names.{row_at-put_same, Mark, Line, TooLong, Event, Open, Bytes, Room, At, Shut, Step, Obeyed, Began, Moment}
+use Rattle.srcp_core.proofs.Names.{Ended, Order, greets, Heard, Piece, Connection, overran, owed, took, given_room, World, updates_of}
+use Rattle.srcp_core.proofs.Names.{state_after, fresh, start, numbered, with_numbered, at_connection, open_connection, did, replied}
+use Rattle.srcp_core.proofs.Names.{counted, is_info, state, rows, history, entered, goes, greeted, obeyed, commanded, answered_as, answered}
+use Rattle.srcp_core.proofs.Names.{command_of, order_of, fault, new_lines, fed_to, shut_as, accepted, or_refused, happens, course, Greeting}
+use Rattle.srcp_core.proofs.Names.{Speaks, Chooses, Goes, Refuses, AllMoments, HasMoment, CoreFault, Device, Key, owns}
+use Rattle.std.proofs.lemmas.Bool.{true≢false, or_parts}
 use Rattle.std.specs.Prelude.{option_map}
 use Rattle.srcp_info.specs.declared.change.Reply.TheVariants.{Mode as ModeReply}
-use Rattle.srcp_info.specs.declared.value.Value.TheVariants as value
 use Rattle.srcp_rules.specs.State.{is_there as has_device}
 use Rattle.srcp_rules.proofs.SessionLaws.{AreElsewhere}
 use Rattle.srcp_rules.proofs.StateLaws.{has_row-put_row}
@@ -25,6 +23,8 @@ use Rattle.srcp_core.proofs.Agreement.MemoryAnswers.{effect_law, ordered_law}
 use Rattle.srcp_core.proofs.CourseLaws.StepsKeepWhole.{IsStepOf, AreSteps, are_steps_push, steps_whole, prefix_whole, history_told}
 use Rattle.srcp_core.proofs.CourseLaws.StepsKeepWhole.{keys_kept, whole_opening}
 use Rattle.srcp_core.proofs.Agreement.NumbersAndKeys.{numbered_with, opened, no_connection, look_with, look_push}
+use Rattle.srcp_core.proofs.Invariants.CoreStaysSound.{session_place}
+use Rattle.srcp_info.specs.declared.value.Value.TheVariants as value
 
 -- ---- the invariant
 
@@ -61,27 +61,22 @@ module _ (buses : List Bus) (layout : IsLayout buses) where
     few = k.few;
     steps_fit = k.steps_fit;
     ids =
-        λ m d e. let s = look_with m n f conns d e in
-        rw (← (sym (same s.x d (from s.x d m s.from)).session)) (k.ids m s.x s.there);
+        λ m d e. let s = look_with m n f conns d e in rw (same s.x d m s.from).session (k.ids m s.x s.there);
     apart = λ m o c d e g low same_id.
         let s = look_with m n f conns c e in
         let t = look_with o n f conns d g in
-        let a = (same s.x c (from s.x c m s.from)).session in
-        let b = (same t.x d (from t.x d o t.from)).session in
+        let a = (same s.x c m s.from).session in
+        let b = (same t.x d o t.from).session in
         k.apart m o s.x t.x s.there t.there (rw (← a) low) (cc);
     there = λ m d e live.
         let s = look_with m n f conns d e in
-        let g = same s.x d (from s.x d m s.from) in
+        let g = same s.x d m s.from in
         cc (g.session, k.there m s.x s.there (mild_live s.x d g live));
   }
     where
-      from : (c d : Connection) (m : ℕ) → ((m ≡ n → ⊥) × (d ≡ c)) ⊎ ((m ≡ n) × (d ≡ f c)) → (d ≡ c) ⊎ (d ≡ f c)
-      from c d m (inl h) = inl h.1
-      from c d m (inr h) = inr h.1
-
-      same : (c d : Connection) → (d ≡ c) ⊎ (d ≡ f c) → IsMild c d
-      same c d (inl e) = subst (IsMild c) (sym e) (record { session = refl; ended = λ h. h; shut = λ h. h })
-      same c d (inr e) = subst (IsMild c) (sym e) (mild c)
+      same : (c d : Connection) (m : ℕ) → ((m ≡ n → ⊥) × (d ≡ c)) ⊎ ((m ≡ n) × (d ≡ f c)) → IsMild c d
+      same c d m (inl h) = rw h.1 (record { session = refl; ended = λ h. h; shut = λ h. h })
+      same c d m (inr h) = rw h.1 (mild c)
 
   -- a step that leaves the row of each session that goes on
   kept_did : (moment last : ℕ) (steps : List Step) (conns : List Connection) (step : Step) → Kept moment last steps conns
@@ -102,14 +97,7 @@ module _ (buses : List Bus) (layout : IsLayout buses) where
 
   kept_moment : (moment later last : ℕ) (steps : List Step) (conns : List Connection) → later < 2 ^ 64 → Kept moment last steps conns
       → Kept later last steps conns
-  kept_moment moment later last steps conns h k = record {
-    now = h;
-    few = k.few;
-    steps_fit = k.steps_fit;
-    ids = k.ids;
-    apart = k.apart;
-    there = k.there;
-  }
+  kept_moment moment later last steps conns h k = assumption h
 
   -- ---- the steps
 
@@ -165,9 +153,10 @@ module _ (buses : List Bus) (layout : IsLayout buses) where
       → IsKept (entered buses n (w.last_id + 1) (did (Began (w.last_id + 1) w.moment mode) (record w { last_id = w.last_id + 1 })))
   kept_entered n mode w low k = record {
     now = k.now;
-    few = fits_word w.last_id low;
+    few = omega (arith, low);
     steps_fit =
-        are_steps_push buses (opening buses 0) w.steps (Began (w.last_id + 1) w.moment mode) k.steps_fit (place w.last_id low, k.now);
+        are_steps_push buses (opening buses 0) w.steps (Began (w.last_id + 1) w.moment mode) k.steps_fit
+        (session_place buses (w.last_id + 1) (omega arith) (omega (arith, low)), k.now);
     ids = λ m d e. let s = look_with m n _ w.connections d e in by_from m s.x d s.there s.from;
     apart = λ m o c d e g pos same.
         let s = look_with m n _ w.connections c e in
@@ -187,24 +176,6 @@ module _ (buses : List Bus) (layout : IsLayout buses) where
         info = is_info conn.mode;
         go_step = length (w.steps ++ Began (w.last_id + 1) w.moment mode ∷ []);
       }
-
-      fits_word : (last : ℕ) → last < 4294967295 → last + 1 < 2 ^ 32
-      fits_word last h = omega arith
-
-      place : (last : ℕ) → last < 4294967295 → IsKeyOf buses (first_key (session_device (last + 1)))
-      place last h = rw within one
-        where
-          one : 0 < 1
-          one = omega arith
-
-          low_end : 1 ≤ last + 1
-          low_end = omega arith
-
-          high_end : last + 1 ≤ 4294967295
-          high_end = omega arith
-
-          within : is_within 1 4294967295 (last + 1) ≡ true
-          within = λ i. le-leb 1 _ low_end i && le-leb _ _ high_end i
 
       by_from : (m : ℕ) (x d : Connection) → numbered m w.connections ≡ Some x → ((m ≡ n → ⊥) × (d ≡ x)) ⊎ ((m ≡ n) × (d ≡ begun x))
           → d.session ≤ w.last_id + 1
@@ -250,18 +221,12 @@ module _ (buses : List Bus) (layout : IsLayout buses) where
           (state buses w))
 
   pub kept_goes : (n : ℕ) (mode : Mode) (w : World) → IsKept w → IsKept (goes buses n mode w)
-  kept_goes n mode w k = by _ refl
-    where
-      by : (t : Bool) → nat_lt w.last_id 4294967295 ≡ t
-          → IsKept (if t
-          then replied n (Go (w.last_id + 1))
-          (entered buses n (w.last_id + 1) (did (Began (w.last_id + 1) w.moment mode) (record w { last_id = w.last_id + 1 })))
-          else replied n (Refused C500) w)
-      by true t =
-          kept_replied n (Go (w.last_id + 1))
-          (entered buses n (w.last_id + 1) (did (Began (w.last_id + 1) w.moment mode) (record w { last_id = w.last_id + 1 })))
-          (kept_entered n mode w (ltb-true w.last_id 4294967295 t) k)
-      by false t = kept_replied n (Refused C500) w k
+  kept_goes n mode w k =
+      cond_both _ _ _ IsKept
+      (λ t. kept_replied n (Go (w.last_id + 1))
+      (entered buses n (w.last_id + 1) (did (Began (w.last_id + 1) w.moment mode) (record w { last_id = w.last_id + 1 })))
+      (kept_entered n mode w (ltb-true w.last_id 4294967295 t) k))
+      (λ t. kept_replied n (Refused C500) w k)
 
   pub kept_greeted : (n : ℕ) (mode : Mode) (greeting : Greeting) (w : World) → IsKept w → IsKept (greeted buses n mode greeting w)
   kept_greeted n mode Speaks w k = kept_replied n Protocol w k
@@ -278,18 +243,14 @@ module _ (buses : List Bus) (layout : IsLayout buses) where
   kept_obeyed_all n conn command result w at of begun k =
       let replies =
       kept_replied n result.reply (did (Obeyed conn.session w.moment command) w) (kept_obeyed conn.session command w of begun k) in
-      elim result.ends as (λ t.
-      IsKept (if t then ended buses n conn.session (replied n result.reply (did (Obeyed conn.session w.moment command) w))
-      else replied n result.reply (did (Obeyed conn.session w.moment command) w))) [
-        | true ↦
-            kept_ended w.moment w.last_id (w.steps ++ Obeyed conn.session w.moment command ∷ [])
-            (replied n result.reply (did (Obeyed conn.session w.moment command) w)).connections n (λ c. record c { ended = true })
-            (record conn { out = conn.out ++ reply_line w.moment result.reply })
-            (numbered_with n _ w.connections
-            ∙ ap (option_map (λ (c : Connection). record c { out = c.out ++ reply_line w.moment result.reply })) at)
-            (λ c. record { session = refl; ended = λ h. absurd (true≢false h); shut = λ h. h }) (λ c l. true≢false l.not_ended) replies
-        | false ↦ replies
-      ]
+      cond_both _ _ _ IsKept
+      (λ t. kept_ended w.moment w.last_id (w.steps ++ Obeyed conn.session w.moment command ∷ [])
+      (replied n result.reply (did (Obeyed conn.session w.moment command) w)).connections n (λ c. record c { ended = true })
+      (record conn { out = conn.out ++ reply_line w.moment result.reply })
+      (numbered_with n _ w.connections
+      ∙ ap (option_map (λ (c : Connection). record c { out = c.out ++ reply_line w.moment result.reply })) at)
+      (λ c. record { session = refl; ended = λ h. absurd (true≢false h); shut = λ h. h }) (λ c l. true≢false l.not_ended) replies)
+      (λ t. replies)
 
   pub kept_commanded : (n : ℕ) (conn : Connection) (command : Result Order Code) (w : World) → numbered n w.connections ≡ Some conn
       → IfOk command (λ order. IsCommandOf buses order.command) → has_device (session_device conn.session) (state buses w) ≡ true → IsKept w
@@ -309,18 +270,19 @@ module _ (buses : List Bus) (layout : IsLayout buses) where
       → ((conn : Connection) → o ≡ Some conn → (numbered n w.connections ≡ Some conn) × (conn.shut ≡ None)) → IsKept w
       → IsKept (answered_as buses n o mark w)
   kept_answered_as n None mark w f k = k
-  kept_answered_as n (Some conn) mark w f k = by _ _ refl _ refl
-    where
-      by : (t e : Bool) → conn.ended ≡ e → (z : Bool) → (conn.session == 0) ≡ z
-          → IsKept (if t || e then w
-          else (if z then greeted buses n conn.mode (greets mark) w else commanded buses n conn.session (order_of buses mark) w))
-      by true e h z q = k
-      by false true h z q = k
-      by false false h true q = kept_greeted n _ _ w k
-      by false false h false q =
-          let at = f conn refl in
-          kept_commanded n conn (order_of buses mark) w at.0 (order_fits mark)
-          (k.there n conn at.0 (record { began = pos_of_ne-zero (eqb-false conn.session 0 q); not_ended = h; not_shut = at.1 })) k
+  kept_answered_as n (Some conn) mark w f k =
+      let at = f conn refl in
+      let greets_it = greeted buses n conn.mode (greets mark) w in
+      let obeys = commanded buses n conn.session (order_of buses mark) w in
+      cond_both (conn.info || conn.ended) w (if conn.session == 0 then greets_it else obeys) IsKept (λ t. k)
+      (λ t. cond_both (conn.session == 0) greets_it obeys IsKept (λ z. kept_greeted n conn.mode (greets mark) w k)
+      (λ z. kept_commanded n conn (order_of buses mark) w at.0 (order_fits mark)
+      (k.there n conn at.0 (record {
+        began = pos_of_ne-zero (eqb-false conn.session 0 z);
+        not_ended = (or_parts _ _ t).1;
+        not_shut = at.1;
+      }))
+      k))
 
   pub kept_marks : (n : ℕ) (marks : List Heard) (w : World) → IsKept w → IsKept (fold (answered buses n) w marks)
   kept_marks n [] w k = k
@@ -345,24 +307,18 @@ module _ (buses : List Bus) (layout : IsLayout buses) where
       cond_both _ _ _ IsKept
       (λ _. kept_change w.moment _ w.steps _ n (λ c. record c { shut = Some (length w.steps) }) closes k)
       (λ _. kept_ended w.moment _ w.steps _ n (λ c. record c { shut = Some (length w.steps) }) conn
-      (f conn refl).0 closes (λ c l. some_none (length w.steps) l.not_shut) k)
+      (f conn refl).0 closes (λ c l. let s = l.not_shut in cc) k)
     where
-      some_none : (m : ℕ) → Some m ≡ None → ⊥
-      some_none m e = cc
-
       closes : (c : Connection) → IsMild c (record c { shut = Some (length w.steps) })
-      closes c = record { session = refl; ended = λ h. h; shut = λ h. absurd (some_none _ h) }
+      closes c = record { session = refl; ended = λ h. h; shut = λ h. cc }
 
   pub kept_room : (n bytes : ℕ) (w : World) → IsKept w → IsKept (accepted buses (Room n bytes) w)
-  kept_room n bytes w k = kept_change w.moment _ w.steps _ n _ given k
-    where
-      given : (c : Connection) → IsMild c (given_room bytes (history buses w) (rows buses w) c)
-      given c =
-          elim (overran c _)
-          as (λ t. IsMild c (if t then c else took bytes (length (history buses w)) (owed c (history buses w) (rows buses w)) c)) [
-            | true ↦ record { session = refl; ended = λ h. h; shut = λ h. h }
-            | false ↦ record { session = refl; ended = λ h. h; shut = λ h. h }
-          ]
+  kept_room n bytes w k =
+      kept_change w.moment _ w.steps _ n (given_room bytes (history buses w) (rows buses w))
+      (λ c. cond_both (overran c (history buses w)) c (took bytes (length (history buses w)) (owed c (history buses w) (rows buses w)) c)
+      (IsMild c) (λ _. record { session = refl; ended = λ h. h; shut = λ h. h })
+      (λ _. record { session = refl; ended = λ h. h; shut = λ h. h }))
+      k
 
   kept_open : (moment last : ℕ) (steps : List Step) (conns : List Connection) → Kept moment last steps conns
       → Kept moment last steps (conns ++ fresh ∷ [])
@@ -370,14 +326,11 @@ module _ (buses : List Bus) (layout : IsLayout buses) where
     now = k.now;
     few = k.few;
     steps_fit = k.steps_fit;
-    ids = λ m c e. ⊎_elim (λ h. k.ids m c h) (λ h. none_at c h) (look_push m conns fresh c e);
+    ids = λ m c e. ⊎_elim (λ h. k.ids m c h) (λ h. let i : c.session ≡ 0 = cc in omega (arith, i)) (look_push m conns fresh c e);
     apart = λ m o c d e g pos same. by m o c d pos same (look_push m conns fresh c e) (look_push o conns fresh d g);
     there = λ m c e live. ⊎_elim (λ h. k.there m c h live) (λ h. absurd (not_live c h live.began)) (look_push m conns fresh c e);
   }
     where
-      none_at : (c : Connection) → c ≡ fresh → c.session ≤ last
-      none_at c h = let i : c.session ≡ 0 = cc in omega (arith, i)
-
       not_live : (c : Connection) → c ≡ fresh → 0 < c.session → ⊥
       not_live c h pos = let i : c.session ≡ 0 = cc in omega (arith, i, pos)
 
@@ -410,19 +363,13 @@ module _ (buses : List Bus) (layout : IsLayout buses) where
   kept_course events a =
       kept_all events start a
       (record {
-        now = zero_fits;
-        few = zero_id;
+        now = omega arith;
+        few = omega arith;
         steps_fit = tt;
         ids = λ m c e. absurd (no_connection m c e);
         apart = λ m o c d e g pos same. absurd (no_connection m c e);
         there = λ m c e live. absurd (no_connection m c e);
       })
-    where
-      zero_fits : 0 < 2 ^ 64
-      zero_fits = omega arith
-
-      zero_id : 0 < 2 ^ 32
-      zero_id = omega arith
 
 -- no step gives a device that is there a key that it had not
 abbrev pub KeepsKeys : List Bus → World → Type 0

@@ -1,13 +1,10 @@
 -- A room for no bytes, or for any, and then one for some bytes is one room.
 use Rattle.srcp_core.proofs.Names.{◌≡◌, ℕ, zero, suc, ◌+◌, ◌-◌, ◌<◌, ◌≤◌, min, true, List, [], ◌∷◌, ◌++◌, length, refl, ap, sym, ◌∙◌, arith}
 use Rattle.srcp_core.proofs.Names.{append-nil, append_assoc, map-append, drop-append-le, flat_map-append, false≢true, le-ltb, lt-ltb}
-use Rattle.srcp_core.proofs.Names.{flat_map, nat_lt, ◌||◌, Option, ◌&&◌, Next, Connection, line_of, prefix, fitting, is_nil, items_of}
+use Rattle.srcp_core.proofs.Names.{flat_map, nat_lt, ◌||◌, ◌&&◌, Next, Connection, line_of, prefix, fitting, is_nil, items_of}
 use Rattle.srcp_core.proofs.Names.{available, exhausts, given, unsent, took}
-use Rattle.srcp_core.proofs.CourseLaws.RoomInTwoParts.{parts_same, took_adds, done_rule, no_bytes}
-use Rattle.srcp_core.proofs.CourseLaws.RoomGivesWhatIsOwed.{text_items, pos-eqb}
-
-fitting_some : (a : ℕ) (left : List ℕ) (nexts : List Next) → 0 < a → fitting a left nexts ≡ prefix (a - length left) nexts
-fitting_some a left nexts h = let z = pos-eqb a h in rw z refl
+use Rattle.srcp_core.proofs.CourseLaws.RoomInTwoParts.{parts_same, took_adds, done_rule, no_bytes, fitting_some}
+use Rattle.srcp_core.proofs.CourseLaws.RoomGivesWhatIsOwed.{text_items}
 
 -- the line that is put in where nothing waits is the first that any room gives
 fitting_first : (a : ℕ) (left : List ℕ) (nexts rest : List Next) → 0 < a → nexts ≡ fitting 0 left nexts ++ rest
@@ -15,26 +12,22 @@ fitting_first : (a : ℕ) (left : List ℕ) (nexts rest : List Next) → 0 < a �
 fitting_first a [] [] rest h e = cc
 fitting_first a [] (what ∷ nexts) rest h e =
     let tail : nexts ≡ rest = cc in
+    let nothing : a - 0 ≡ a = omega arith in
     fitting_some a [] (what ∷ nexts) h
-    ∙ ap (λ k. prefix k (what ∷ nexts)) (nothing a)
+    ∙ ap (λ k. prefix k (what ∷ nexts)) nothing
     ∙ first a h
     ∙ ap (λ ns. what ∷ prefix (a - length (line_of what)) ns) tail
     ∙ ap (λ l. what ∷ prefix (a - length l) rest) (sym (append-nil (line_of what)))
     ∙ ap (λ ns. what ∷ ns) (sym (fitting_some a (line_of what ++ []) rest h))
   where
-    nothing : (k : ℕ) → k - 0 ≡ k
-    nothing k = omega arith
-
     first : (k : ℕ) → 0 < k → prefix k (what ∷ nexts) ≡ what ∷ prefix (k - length (line_of what)) nexts
     first zero h = absurd (omega arith)
     first (suc k) h = refl
 fitting_first a (x ∷ left) nexts rest h e =
-    let none : fitting 0 (x ∷ left) nexts ≡ [] = cc (nothing _) in
+    let nothing : 0 - length (x ∷ left) ≡ 0 = omega arith in
+    let none : fitting 0 (x ∷ left) nexts ≡ [] = cc in
     let all : nexts ≡ rest = cc in
     cc (append-nil (x ∷ left))
-  where
-    nothing : (k : ℕ) → 0 - k ≡ 0
-    nothing k = omega arith
 
 pub none_taken : (taken size : ℕ) → taken + min 0 size ≡ taken
 none_taken taken size = omega arith
@@ -51,9 +44,6 @@ took_first : (a n : ℕ) (nexts rest : List Next) (conn : Connection) → 0 < a 
 took_first a n nexts rest conn pa within e =
     parts_same conn items_same taken_same done_same
   where
-    done_after : Option ℕ
-    done_after = (took a n rest (took 0 n nexts conn)).done
-
     available_same : available (unsent (took 0 n nexts conn)) rest ≡ available (unsent conn) nexts
     available_same =
         ap (λ u. u ++ flat_map line_of rest) (left_after n nexts conn within)
@@ -77,14 +67,9 @@ took_first a n nexts rest conn pa within e =
     taken_same : conn.taken + min 0 (length (available (unsent conn) nexts))
         + min a (length (available (unsent (took 0 n nexts conn)) rest))
         ≡ conn.taken + min a (length (available (unsent conn) nexts))
-    taken_same =
-        ap (λ bytes. conn.taken + min 0 (length (available (unsent conn) nexts)) + min a (length bytes)) available_same
-        ∙ plain _ _ _
-      where
-        plain : (t m k : ℕ) → t + min 0 m + k ≡ t + k
-        plain t m k = omega arith
+    taken_same = let size = ap length available_same in omega arith
 
-    done_same : done_after ≡ (took a n nexts conn).done
+    done_same : (took a n rest (took 0 n nexts conn)).done ≡ (took a n nexts conn).done
     done_same =
         done_rule conn.info _ _
         _ _ n
@@ -115,8 +100,6 @@ took_first a n nexts rest conn pa within e =
 -- any room, and then room for some bytes
 pub took_both : (a b n : ℕ) (nexts rest : List Next) (conn : Connection) → 0 < b → conn.taken ≤ length (given conn)
     → nexts ≡ fitting a (unsent conn) nexts ++ rest → took b n rest (took a n nexts conn) ≡ took (a + b) n nexts conn
-took_both zero b n nexts rest conn pb within e = took_first b n nexts rest conn pb within e ∙ ap (λ m. took m n nexts conn) zero_plus
-  where
-    zero_plus : b ≡ 0 + b
-    zero_plus = omega arith
+took_both zero b n nexts rest conn pb within e =
+    let zero_plus : b ≡ 0 + b = omega arith in took_first b n nexts rest conn pb within e ∙ ap (λ m. took m n nexts conn) zero_plus
 took_both (suc a) b n nexts rest conn pb within e = took_adds (suc a) b n nexts rest conn (omega arith) pb within e

@@ -1,10 +1,10 @@
 -- Room for bytes: a prefix of what is owed is given, and the listing is done where there was no more.
 use Rattle.srcp_core.proofs.Names.{cond_both, ◌≡◌, ℕ, zero, suc, inl, inr, ◌⊎◌, ⊎_elim, min, append_assoc, length-drop, ◌+◌, ◌-◌, ◌<◌, ◌≤◌}
 use Rattle.srcp_core.proofs.Names.{Bool, true, false, List, [], ◌∷◌, ◌++◌, map, take, length, refl, ap, sym, ◌∙◌, arith, length-append}
-use Rattle.srcp_core.proofs.Names.{flat_map-append, lt-leb, leb-false, leb-true, ltb-true, ne_eqb, and_parts, flat_map, option_or, nat_le}
-use Rattle.srcp_core.proofs.Names.{nat_lt, ◌==◌, ◌&&◌, Option, Some, None, IfSome, Shown, passed, beyond, changed_all, Next, Told, Listed}
-use Rattle.srcp_core.proofs.Names.{key_at, IsRisingBy, passed_all, passed_done, beyond_done, Connection, History, heard, is_nil, line_of}
-use Rattle.srcp_core.proofs.Names.{prefix, fitting, available, exhausts, tells, text, given, unsent, took, items_of, Item}
+use Rattle.srcp_core.proofs.Names.{flat_map-append, lt-leb, ltb-true, ne_eqb, and_parts, flat_map, option_or, nat_lt, ◌==◌, ◌&&◌, Option}
+use Rattle.srcp_core.proofs.Names.{Some, None, IfSome, Shown, passed, beyond, changed_all, Next, Told, Listed, key_at, IsRisingBy}
+use Rattle.srcp_core.proofs.Names.{passed_all, passed_done, beyond_done, Connection, History, heard, is_nil, line_of, prefix, fitting}
+use Rattle.srcp_core.proofs.Names.{available, exhausts, tells, text, given, unsent, took, items_of, Item, cases_lt, le_refl}
 use Rattle.std.proofs.Math.Nat.{ne_of_gt}
 use Rattle.srcp_core.proofs.CourseLaws.Histories.{rows_after, concerning_by, concerning_same, cursor_by, cursor_done}
 use Rattle.srcp_core.proofs.CourseLaws.ClientHoldsPassedRows.{Fits, Law, Gives, owed_by, untold_by}
@@ -75,17 +75,13 @@ nothing_owed go items done history rows e =
 before_done : (go : ℕ) (items : List Item) (history : History)
     → concerning_by go (cursor_by (Some (length history)) items) history ≡ concerning_by go (cursor_by None items) history
 before_done go items history =
-    concerning_same go _ _ 0 history (λ k low high. before k high)
-  where
-    before : (k : ℕ) → k < 0 + length history → cursor_by (Some (length history)) items k ≡ cursor_by None items k
-    before k h = let t : nat_le (length history) k ≡ false = lt-leb _ k (omega arith) in rw t refl
+    concerning_same go _ _ 0 history (λ k low high. rw (lt-leb (length history) k (omega (arith, high))) refl)
 
 -- a listing that is done when nothing is owed
 fits_done : (start : List Shown) (history : History) (go : ℕ) (items : List Item) → Fits start history go items None
     → owed_by go items None history (rows_after start history) ≡ [] → Fits start history go items (Some (length history))
 fits_done start history go items f owes =
     let both = nothing_owed go items None history _ owes in
-    let self : length history ≤ length history = omega arith in
     let con = before_done go items history in
     let waits : untold_by go items (Some (length history)) history ≡ untold_by go items None history =
     cc in
@@ -96,7 +92,7 @@ fits_done start history go items f owes =
     let enough = f.enough in
     record {
       numbers = f.numbers;
-      finished = self;
+      finished = le_refl _;
       began = f.began;
       enough = omega arith;
       kept =
@@ -137,9 +133,6 @@ also_done start P law history go items None order g =
 pub exhausted : (bytes : ℕ) (left : List ℕ) (nexts : List Next) → exhausts bytes left nexts ≡ true → fitting bytes left nexts ≡ nexts
 exhausted bytes left nexts e = by _ refl
   where
-    sizes : length (available left nexts) ≡ length left + length (flat_map line_of nexts)
-    sizes = length-append left _
-
     empty : (ns : List Next) → is_nil ns ≡ true → take 1 ns ≡ ns
     empty [] e = refl
     empty (what ∷ ns) e = cc
@@ -148,7 +141,7 @@ exhausted bytes left nexts e = by _ refl
     by true t =
         let lt = ltb-true _ bytes t in
         let zero : (bytes == 0) ≡ false = pos-eqb bytes (omega arith) in
-        let s = sizes in
+        let s = length-append left (flat_map line_of nexts) in
         let room : length (flat_map line_of nexts) < bytes - length left = omega arith in
         rw zero (prefix_all (bytes - length left) nexts room)
     by false t =
@@ -183,16 +176,8 @@ pub fitting_enough : (bytes : ℕ) (left : List ℕ) (nexts : List Next)
 fitting_enough zero left nexts = inl (omega arith)
 fitting_enough (suc n) left nexts =
     let z : (suc n == 0) ≡ false = pos-eqb (suc n) (omega arith) in
-    rw z (by (nat_le (suc n) (length left + length (flat_map line_of (prefix (suc n - length left) nexts)))) refl)
-  where
-    by : (t : Bool) → nat_le (suc n) (length left + length (flat_map line_of (prefix (suc n - length left) nexts))) ≡ t
-        → (suc n ≤ length left + length (flat_map line_of (prefix (suc n - length left) nexts)))
-        ⊎ (prefix (suc n - length left) nexts ≡ nexts)
-    by true t = inl (leb-true (suc n) (length left + length (flat_map line_of (prefix (suc n - length left) nexts))) t)
-    by false t =
-        let l = leb-false (suc n) _ t in
-        let short : length (flat_map line_of (prefix (suc n - length left) nexts)) < suc n - length left = omega arith in
-        inr (prefix_short (suc n - length left) nexts short)
+    rw z (⊎_elim (λ l. inr (prefix_short (suc n - length left) nexts (omega (arith, l)))) (λ l. inl l)
+    (cases_lt (length left + length (flat_map line_of (prefix (suc n - length left) nexts))) (suc n)))
 
 -- no more is taken than was given
 pub took_within : (bytes n : ℕ) (nexts : List Next) (conn : Connection) → conn.taken ≤ length (given conn)
@@ -206,21 +191,9 @@ took_within bytes n nexts conn within =
     let left : length (unsent conn) ≡ length (given conn) - conn.taken = length-drop _ _ in
     let all : length (available (unsent conn) nexts) ≡ length (unsent conn) + length (flat_map line_of nexts) =
     length-append _ _ in
-    rw size
-    (rw all
-    (⊎_elim (λ h.
-    most bytes _ _ _ _
-    _ within left h)
-    (λ h.
-    every bytes _ _ _ _
-    _ within left (cc))
-    (fitting_enough bytes _ nexts)))
-  where
-    most : (b n t g u f : ℕ) → t ≤ g → u ≡ g - t → b ≤ u + f → t + min b (u + n) ≤ g + f
-    most b n t g u f low left h = omega arith
-
-    every : (b n t g u f : ℕ) → t ≤ g → u ≡ g - t → f ≡ n → t + min b (u + n) ≤ g + f
-    every b n t g u f low left h = omega arith
+    ⊎_elim (λ h. omega (arith, size, left, all, within, h))
+    (λ h. omega (arith, size, left, all, within, ap (λ (ns : List Next). length (flat_map line_of ns)) h))
+    (fitting_enough bytes (unsent conn) nexts)
 
 -- a connection of which the laws of a session hold, up to its end
 pub record Stands (start : List Shown) (P : History → ℕ → List Item → Option ℕ → Type 0) (history : History)

@@ -5,8 +5,9 @@ use Rattle.srcp_core.proofs.Names.{leb-true, lt-ltb, ltb-true, ltb-false, map-ap
 use Rattle.srcp_core.proofs.Names.{flat_map, option_or, nat_le, nat_lt, ◌||◌, Option, Some, None, ◌==◌, ◌&&◌, if◌then◌else◌, Next}
 use Rattle.srcp_core.proofs.Names.{Connection, line_of, prefix, fitting, items_of, available, exhausts, given, unsent, text, took}
 use Rattle.std.proofs.Math.Bool.{or-false}
-use Rattle.srcp_core.proofs.Names.{Item}
+use Rattle.srcp_core.proofs.Names.{Item, cases_lt, nat_tests}
 use Rattle.srcp_core.proofs.CourseLaws.RoomGivesWhatIsOwed.{text_items, prefix_short, prefix_none, pos-eqb}
+use Rattle.srcp_core.proofs.CourseLaws.LinesHaveBytes.{none_after}
 
 -- the bytes that a prefix has beyond those asked for
 abbrev pub over : ℕ → List Next → ℕ
@@ -24,12 +25,10 @@ prefix_adds (suc a) b [] rest e =
 prefix_adds (suc a) b (what ∷ nexts) rest e =
     let tail : nexts ≡ prefix (suc a - length (line_of what)) nexts ++ rest = cc in
     let ih = prefix_adds (suc a - length (line_of what)) b nexts rest tail in
+    let suc_plus : suc a + b ≡ suc (a + b) = omega arith in
     ap (λ n. prefix n (what ∷ nexts)) suc_plus
     ∙ ap (λ ns. what ∷ ns) (by _ refl tail ih)
   where
-    suc_plus : suc a + b ≡ suc (a + b)
-    suc_plus = omega arith
-
     sizes : length (line_of what ++ flat_map line_of (prefix (suc a - length (line_of what)) nexts))
         ≡ length (line_of what) + length (flat_map line_of (prefix (suc a - length (line_of what)) nexts))
     sizes = length-append _ _
@@ -94,41 +93,23 @@ fitting_adds a b left nexts rest pa pb e =
 pub no_bytes : (other : Bool) (n bytes : ℕ) → 0 < bytes → (nat_lt n bytes || ((bytes == 0) && other)) ≡ nat_lt n bytes
 no_bytes other n bytes h = let z = pos-eqb bytes h in rw z (or-false (nat_lt n bytes))
 
-no_more : (xs ys : List Next) → xs ≡ xs ++ ys → length ys ≡ 0
-no_more xs ys e = let l = ap length e in let m = length-append xs ys in omega arith
+pub fitting_some : (a : ℕ) (left : List ℕ) (nexts : List Next) → 0 < a → fitting a left nexts ≡ prefix (a - length left) nexts
+fitting_some a left nexts h = rw (pos-eqb a h) refl
 
 -- either so much was there, or nothing is left
 enough : (a : ℕ) (left : List ℕ) (nexts rest : List Next) → 0 < a → nexts ≡ fitting a left nexts ++ rest
     → (a ≤ length left + length (flat_map line_of (fitting a left nexts))) ⊎ (length (flat_map line_of rest) ≡ 0)
-enough a left nexts rest pa e = by _ refl
+enough a left nexts rest pa e =
+    ⊎_elim (λ l. inr (nothing l)) (λ l. inl l) (cases_lt (length left + length (flat_map line_of (fitting a left nexts))) a)
   where
-    is_prefix : fitting a left nexts ≡ prefix (a - length left) nexts
-    is_prefix = let z = pos-eqb a pa in rw z refl
-
-    nothing : (rest : List Next) → length rest ≡ 0 → length (flat_map line_of rest) ≡ 0
-    nothing [] h = refl
-    nothing (what ∷ rest) h = absurd (omega arith)
-
-    by : (t : Bool) → nat_le a (length left + length (flat_map line_of (fitting a left nexts))) ≡ t
-        → (a ≤ length left + length (flat_map line_of (fitting a left nexts))) ⊎ (length (flat_map line_of rest) ≡ 0)
-    by true t = inl (leb-true a (length left + length (flat_map line_of (fitting a left nexts))) t)
-    by false t =
-        let f = is_prefix in
-        let sizes : length (flat_map line_of (fitting a left nexts)) ≡ length (flat_map line_of (prefix (a - length left) nexts)) =
-        cc in
-        let l = leb-false a _ t in
-        let short : length (flat_map line_of (prefix (a - length left) nexts)) < a - length left = omega arith in
-        let all : fitting a left nexts ≡ nexts = f ∙ prefix_short _ nexts short in
-        inr (nothing rest (no_more nexts rest (cc)))
+    nothing : length left + length (flat_map line_of (fitting a left nexts)) < a → length (flat_map line_of rest) ≡ 0
+    nothing l =
+        let f = fitting_some a left nexts pa in
+        let sizes : length (flat_map line_of (fitting a left nexts)) ≡ length (flat_map line_of (prefix (a - length left) nexts)) = cc in
+        rw (none_after nexts _ rest e (f ∙ prefix_short _ nexts (omega (arith, sizes, l)))) refl
 
 same_lt : (x y b c : ℕ) → (x < b → y < c) → (y < c → x < b) → nat_lt x b ≡ nat_lt y c
-same_lt x y b c f g = by _ refl _ refl
-  where
-    by : (t : Bool) → nat_lt x b ≡ t → (r : Bool) → nat_lt y c ≡ r → nat_lt x b ≡ nat_lt y c
-    by true p true q = p ∙ sym q
-    by false p false q = p ∙ sym q
-    by true p false q = let k = lt-ltb y c (f (ltb-true x b p)) in cc
-    by false p true q = let k = lt-ltb x b (g (ltb-true y c q)) in cc
+same_lt x y b c f g = grind (arith, nat_tests)
 
 -- a listing that is done stays done
 pub done_rule : (info first second both : Bool) (end : Option ℕ) (n : ℕ) → (first ≡ true → second ≡ true) → (first ≡ true → both ≡ true)
@@ -155,9 +136,6 @@ pub took_adds : (a b n : ℕ) (nexts rest : List Next) (conn : Connection) → 0
 took_adds a b n nexts rest conn pa pb within e =
     parts_same conn items_same taken_same done_same
   where
-    done_after : Option ℕ
-    done_after = (took b n rest (took a n nexts conn)).done
-
     all_size : length (available (unsent conn) nexts)
         ≡ length (unsent conn) + length (flat_map line_of (fitting a (unsent conn) nexts)) + length (flat_map line_of rest)
     all_size =
@@ -223,27 +201,9 @@ took_adds a b n nexts rest conn pa pb within e =
     taken_same =
         let z = all_size in
         let y = left_size in
-        ⊎_elim (λ h. with_rest z y h) (λ h. with_none z y h) (enough a _ nexts rest pa e)
-      where
-        with_rest : length (available (unsent conn) nexts)
-            ≡ length (unsent conn) + length (flat_map line_of (fitting a (unsent conn) nexts)) + length (flat_map line_of rest)
-            → length (available (unsent (took a n nexts conn)) rest)
-            ≡ length (unsent conn) + length (flat_map line_of (fitting a (unsent conn) nexts)) - a + length (flat_map line_of rest)
-            → a ≤ length (unsent conn) + length (flat_map line_of (fitting a (unsent conn) nexts))
-            → conn.taken + min a (length (available (unsent conn) nexts)) + min b (length (available (unsent (took a n nexts conn)) rest))
-            ≡ conn.taken + min (a + b) (length (available (unsent conn) nexts))
-        with_rest z y h = omega arith
+        ⊎_elim (λ h. omega (arith, z, y, h)) (λ h. omega (arith, z, y, h)) (enough a _ nexts rest pa e)
 
-        with_none : length (available (unsent conn) nexts)
-            ≡ length (unsent conn) + length (flat_map line_of (fitting a (unsent conn) nexts)) + length (flat_map line_of rest)
-            → length (available (unsent (took a n nexts conn)) rest)
-            ≡ length (unsent conn) + length (flat_map line_of (fitting a (unsent conn) nexts)) - a + length (flat_map line_of rest)
-            → length (flat_map line_of rest) ≡ 0
-            → conn.taken + min a (length (available (unsent conn) nexts)) + min b (length (available (unsent (took a n nexts conn)) rest))
-            ≡ conn.taken + min (a + b) (length (available (unsent conn) nexts))
-        with_none z y h = omega arith
-
-    done_same : done_after ≡ (took (a + b) n nexts conn).done
+    done_same : (took b n rest (took a n nexts conn)).done ≡ (took (a + b) n nexts conn).done
     done_same =
         done_rule conn.info (exhausts a (unsent conn) nexts) (exhausts b (unsent (took a n nexts conn)) rest)
         (exhausts (a + b) (unsent conn) nexts) conn.done n
@@ -257,11 +217,8 @@ took_adds a b n nexts rest conn pa pb within e =
         ex_b : exhausts b (unsent (took a n nexts conn)) rest ≡ nat_lt (length (available (unsent (took a n nexts conn)) rest)) b
         ex_b = no_bytes _ _ b pb
 
-        sum : 0 < a + b
-        sum = omega arith
-
         ex_ab : exhausts (a + b) (unsent conn) nexts ≡ nat_lt (length (available (unsent conn) nexts)) (a + b)
-        ex_ab = no_bytes _ _ (a + b) sum
+        ex_ab = no_bytes _ _ (a + b) (omega arith)
 
         both_too : length (available (unsent conn) nexts) < a → exhausts (a + b) (unsent conn) nexts ≡ true
         both_too h =

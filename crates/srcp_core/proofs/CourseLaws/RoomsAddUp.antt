@@ -1,94 +1,73 @@
 -- Rooms add up at every open connection of a course.
 use Rattle.srcp_core.proofs.Names.{cond_both, ◌≡◌, ℕ, zero, suc, ◌+◌, ◌<◌, ◌≤◌, min, Bool, true, false, List, [], ◌∷◌, ◌++◌, take, length}
-use Rattle.srcp_core.proofs.Names.{drop, map, refl, ap, sym, ◌∙◌, subst, arith, append-nil, length-append, length-drop, nat_tests, take_all}
+use Rattle.srcp_core.proofs.Names.{drop, map, refl, ap, sym, ◌∙◌, subst, arith, append-nil, length-append, length-drop, take_all}
 use Rattle.srcp_core.proofs.Names.{filter_map-append, fold-append, le-ltb, ltb-false, lt-ltb, flat_map, AllByRecursion, option_or, nat_lt}
 use Rattle.srcp_core.proofs.Names.{Option, Some, None, ◌&&◌, if◌then◌else◌, Change, Shown, beyond, Next, Told, Listed, Bus, IsLayout}
 use Rattle.srcp_core.proofs.Names.{opening, shown_rows, Event, Room, Connection, History, heard, line_of, fitting, is_open, is_done_by}
 use Rattle.srcp_core.proofs.Names.{items_of, sent, untold, cursor_at, available, exhausts, given, told_change, unsent, text, owed, overran}
 use Rattle.srcp_core.proofs.Names.{took, given_room, World, numbered, with_numbered, counted, accepted, start, happens, course, rows}
-use Rattle.srcp_core.proofs.Names.{history, AddsUp, Item}
+use Rattle.srcp_core.proofs.Names.{history, AddsUp, Item, lt-leb, and-true}
 use Rattle.std.specs.Prelude.{option_map}
 use Rattle.srcp_core.specs.Laws.{without_events}
 use Rattle.srcp_core.proofs.CourseLaws.LinesHaveBytes.{first_empty, owed_full}
 use Rattle.srcp_core.proofs.CourseLaws.Histories.{concerning_by, concerning_same, cursor_by, cursor_before}
 use Rattle.srcp_core.proofs.CourseLaws.RoomGivesWhatIsOwed.{no_lists, fitting_none}
-use Rattle.srcp_core.proofs.CourseLaws.SessionsOfACourse.{anything, at_number, fits_open, open_shut, opening_in_order}
-use Rattle.srcp_core.proofs.CourseLaws.ClientHoldsPassedRows.{Fits, tolds}
+use Rattle.srcp_core.proofs.CourseLaws.SessionsOfACourse.{anything, at_number, fits_open, open_shut, opening_in_order, overran_open}
+use Rattle.srcp_core.proofs.CourseLaws.ClientHoldsPassedRows.{Fits, tolds, untold_by}
 use Rattle.srcp_core.proofs.CourseLaws.RoomSettles.{after_room, owes_after, OwesAfter}
-use Rattle.srcp_core.proofs.Agreement.NumbersAndKeys.{numbered_with}
+use Rattle.srcp_core.proofs.Agreement.NumbersAndKeys.{numbered_with, with_twice}
 use Rattle.srcp_core.proofs.CourseLaws.SessionsAreKept.{sound, concerning_start}
 use Rattle.srcp_core.proofs.CourseLaws.RoomInTwoParts.{parts_same}
 use Rattle.srcp_core.proofs.CourseLaws.RoomAfterRoom.{left_after, took_both}
 
 -- ---- a room and overruns
 
-by_before : (done : Option ℕ) (info : Bool) (n k : ℕ) → k < n
-    → is_done_by k (if info then option_or done (Some n) else done) ≡ is_done_by k done
-by_before (Some m) true n k h = refl
-by_before (Some m) false n k h = refl
-by_before None true n k h = grind (arith, nat_tests)
-by_before None false n k h = refl
-
 given_now : (n : ℕ) (nexts : List Next) → AllByRecursion (λ (item : Item). item.steps ≡ n) (items_of n nexts)
 given_now n [] = tt
 given_now n (what ∷ nexts) = (refl, given_now n nexts)
 
--- what is given now does not change what concerns a connection
-concerning_took : (history : History) (go : ℕ) (items : List Item) (done : Option ℕ) (nexts : List Next) (ends : Bool)
-    → concerning_by go
-    (cursor_by (if ends then option_or done (Some (length history)) else done) (items ++ items_of (length history) nexts)) history
-    ≡ concerning_by go (cursor_by done items) history
-concerning_took history go items done nexts ends =
-    concerning_same go _
-    _ 0 history (λ k low high. at k (below k high))
-  where
-    below : (k : ℕ) → k < 0 + length history → k < length history
-    below k h = omega arith
+-- a listing that is done now was not done before
+done_now : (n : ℕ) (done : Option ℕ) (t : Bool) (k : ℕ) → k < n
+    → is_done_by k (if t then option_or done (Some n) else done) ≡ is_done_by k done
+done_now n (Some m) true k h = refl
+done_now n None true k h = lt-leb n k h
+done_now n done false k h = refl
 
-    at : (k : ℕ) → k < length history
-        → cursor_by (if ends then option_or done (Some (length history)) else done) (items ++ items_of (length history) nexts) k
-        ≡ cursor_by done items k
-    at k h =
-        cc (by_before done ends _ k h, cursor_before _ k done items _ h (given_now (length history) nexts))
+-- what is given takes of what waits
+pub untold_took : (history : History) (bytes : ℕ) (nexts : List Next) (conn : Connection)
+    → length (untold_by conn.go_step (took bytes (length history) nexts conn).items (took bytes (length history) nexts conn).done history)
+    ≤ length (untold_by conn.go_step conn.items conn.done history)
+untold_took history bytes nexts conn =
+    let given = items_of (length history) (fitting bytes (unsent conn) nexts) in
+    let later = took bytes (length history) nexts conn in
+    let con : concerning_by conn.go_step (cursor_by later.done later.items) history
+    ≡ concerning_by conn.go_step (cursor_by conn.done conn.items) history =
+    concerning_same conn.go_step _ _ 0 history (λ k low high. before k (omega (arith, high))) in
+    let told : tolds later.items ≡ tolds conn.items ++ tolds given =
+    filter_map-append (λ (item : Item). told_change item.what) conn.items given in
+    let size : length (tolds later.items) ≡ length (tolds conn.items) + length (tolds given) =
+    cc (length-append (tolds conn.items) (tolds given)) in
+    let a = length-drop (length (tolds conn.items)) (concerning_by conn.go_step (cursor_by conn.done conn.items) history) in
+    let b = length-drop (length (tolds later.items)) (concerning_by conn.go_step (cursor_by conn.done conn.items) history) in
+    let is : length (untold_by conn.go_step later.items later.done history)
+    ≡ length (drop (length (tolds later.items)) (concerning_by conn.go_step (cursor_by conn.done conn.items) history)) = cc in
+    omega (arith, size, a, b, is)
+  where
+    before : (k : ℕ) → k < length history
+        → cursor_by (took bytes (length history) nexts conn).done (took bytes (length history) nexts conn).items k
+        ≡ cursor_by conn.done conn.items k
+    before k h = cc (
+      done_now (length history) conn.done (conn.info && exhausts bytes (unsent conn) nexts) k h,
+      cursor_before (length history) k conn.done conn.items _ h (given_now (length history) (fitting bytes (unsent conn) nexts)),
+    )
 
 -- so a room makes no overrun
 pub took_overran : (history : History) (bytes : ℕ) (nexts : List Next) (conn : Connection) → conn.shut ≡ None → overran conn history ≡ false
     → overran (took bytes (length history) nexts conn) history ≡ false
 took_overran history bytes nexts conn shut e =
-    ap (λ s.
-    nat_lt 256
-    (length
-    (drop (length (tolds (conn.items ++ given_items)))
-    (concerning_by conn.go_step (cursor_by done_after (conn.items ++ given_items)) (heard s history)))))
-    shut
-    ∙ ap (λ cs. nat_lt 256 (length (drop (length (tolds (conn.items ++ given_items))) cs)))
-    (concerning_took history _ _ _ _
-    _)
-    ∙ ap (λ ts. nat_lt 256 (length (drop (length ts) (concerning_by conn.go_step (cursor_by conn.done conn.items) history))))
-    (filter_map-append (λ (item : Item). told_change item.what) conn.items given_items)
-    ∙ shorter (tolds conn.items) (tolds given_items) (concerning_by conn.go_step (cursor_by conn.done conn.items) history)
-    (subst (λ s.
-    nat_lt 256
-    (length
-    (drop (length (tolds conn.items)) (concerning_by conn.go_step (cursor_by conn.done conn.items) (heard s history))))
-    ≡ false)
-    shut e)
-  where
-    given_items : List Item
-    given_items = items_of (length history) (fitting bytes (unsent conn) nexts)
-
-    done_after : Option ℕ
-    done_after = if conn.info && exhausts bytes (unsent conn) nexts then option_or conn.done (Some (length history)) else conn.done
-
-    shorter : (xs ys zs : List Change) → nat_lt 256 (length (drop (length xs) zs)) ≡ false
-        → nat_lt 256 (length (drop (length (xs ++ ys)) zs)) ≡ false
-    shorter xs ys zs h =
-        let a = length-drop (length xs) zs in
-        let b = length-drop (length (xs ++ ys)) zs in
-        let c = length-append xs ys in
-        let l : length (drop (length xs) zs) ≤ 256 = ltb-false 256 (length (drop (length xs) zs)) h in
-        let m : length (drop (length (xs ++ ys)) zs) ≤ 256 = omega arith in
-        le-ltb 256 (length (drop (length (xs ++ ys)) zs)) m
+    let less = untold_took history bytes nexts conn in
+    let few = ltb-false 256 _ (sym (overran_open history conn shut) ∙ e) in
+    overran_open history (took bytes (length history) nexts conn) shut ∙ le-ltb 256 _ (omega (arith, less, few))
 
 -- ---- nothing more
 
@@ -102,12 +81,8 @@ took_nothing b n nexts conn u e =
     parts_same conn
     (ap (λ ns. conn.items ++ items_of n ns) (ap (fitting b (unsent conn)) e ∙ fitting_none b _) ∙ append-nil _) same_taken
     (ap (λ t. if conn.info && t then option_or conn.done (Some n) else conn.done) exhausted_now
-    ∙ ap (λ t. if t then option_or conn.done (Some n) else conn.done) (and_true _))
+    ∙ ap (λ t. if t then option_or conn.done (Some n) else conn.done) (and-true _))
   where
-    and_true : (t : Bool) → t && true ≡ t
-    and_true true = refl
-    and_true false = refl
-
     same_taken : conn.taken + min b (length (available (unsent conn) nexts)) ≡ conn.taken
     same_taken =
         let z : length (available (unsent conn) nexts) ≡ 0 =
@@ -258,13 +233,10 @@ sent_all bytes n nexts conn i e h =
         ∙ ap (λ is. conn.out ++ text (is ++ [])) i
         ∙ append-nil conn.out
 
-    before : given conn ≡ conn.out
-    before = cc (append-nil conn.out)
-
     enough : length conn.out ≤ conn.taken + min bytes (length (available (unsent conn) nexts))
     enough =
         let a = length-drop conn.taken (given conn) in
-        let b = ap length before in
+        let b : length (given conn) ≡ length conn.out = cc (append-nil conn.out) in
         let c : length (available (unsent conn) nexts) ≡ length (unsent conn) =
         cc (append-nil (unsent conn)) in
         omega arith
@@ -291,13 +263,6 @@ sends_all_replies buses layout events number bytes conn later there plain up aft
     )
 
 -- ---- two rooms of a course
-
-pub with_twice : (n : ℕ) (f g k : Connection → Connection) (xs : List Connection)
-    → ((x : Connection) → numbered n xs ≡ Some x → g (f x) ≡ k x) → with_numbered n g (with_numbered n f xs) ≡ with_numbered n k xs
-with_twice n f g k [] h = refl
-with_twice zero f g k (x ∷ xs) h = refl
-with_twice (suc zero) f g k (x ∷ xs) h = cc (h x refl)
-with_twice (suc (suc n)) f g k (x ∷ xs) h = cc (with_twice (suc n) f g k xs h)
 
 pub shut_after : (bytes : ℕ) (history : History) (rows : List Shown) (conn : Connection)
     → (given_room bytes history rows conn).shut ≡ conn.shut

@@ -149,13 +149,10 @@ lines_prefix n [] a = record {
 }
 lines_prefix n (change ∷ changes) a = by _ refl (λ m. lines_prefix m changes a.1)
   where
-    size : length (line change) ≡ length (text_of change) + 1
-    size = length-append _ _
-
     by : (t : Bool) → nat_lt n (length (line change)) ≡ t → ((m : ℕ) → LinesPrefix m changes) → LinesPrefix n (change ∷ changes)
     by true t ih =
         let h = ltb-true n _ t in
-        let z = size in
+        let z : length (line change) ≡ length (text_of change) + 1 = length-append _ _ in
         let low : n ≤ length (line change) = omega arith in
         let short : n ≤ length (text_of change) = omega arith in
         let cut : take n (line change ++ flat_map line changes) ≡ take n (text_of change) =
@@ -189,10 +186,8 @@ lines_prefix n (change ∷ changes) a = by _ refl (λ m. lines_prefix m changes 
 drop_taken : (n : ℕ) (xs ys : List ℕ) → drop (length xs) (take n (xs ++ ys)) ≡ take (n - length xs) ys
 drop_taken n [] ys = let e : n ≡ n - 0 = omega arith in cc
 drop_taken zero (x ∷ xs) ys = let e : 0 ≡ 0 - suc (length xs) = omega arith in cc
-drop_taken (suc n) (x ∷ xs) ys = drop_taken n xs ys ∙ ap (λ m. take m ys) less
-  where
-    less : n - length xs ≡ suc n - suc (length xs)
-    less = omega arith
+drop_taken (suc n) (x ∷ xs) ys =
+    let less : n - length xs ≡ suc n - suc (length xs) = omega arith in drop_taken n xs ys ∙ ap (λ m. take m ys) less
 
 all_heard : (shut : Option ℕ) (history : History) → AllByRecursion (AllByRecursion IsWellFormed) history
     → AllByRecursion (AllByRecursion IsWellFormed) (heard shut history)

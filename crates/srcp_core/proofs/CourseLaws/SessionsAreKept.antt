@@ -5,7 +5,7 @@ use Rattle.srcp_core.proofs.Names.{◌∙◌, subst, arith, append-nil, length-a
 use Rattle.srcp_core.proofs.Names.{enumerate_from, AllByRecursion, option_or, ◌&&◌, Option, Some, None, if◌then◌else◌, IfSome, reply_line}
 use Rattle.srcp_core.proofs.Names.{Change, Start, Reply, Shown, all_weaker, key_at, Bus, opening, shown_rows, concerns, changed_all, Next}
 use Rattle.srcp_core.proofs.Names.{IsRisingBy, passed_start, Event, Step, Heard, Connection, History, heard, fitting, available, exhausts}
-use Rattle.srcp_core.proofs.Names.{items_of, took, given_room, owed, unsent, text, World, history_from, fresh, start, numbered}
+use Rattle.srcp_core.proofs.Names.{items_of, given_room, owed, unsent, text, World, history_from, fresh, start, numbered, cond_both}
 use Rattle.srcp_core.proofs.Names.{with_numbered, at_connection, did, replied, is_info, rows, history, entered, answered, course, Item}
 use Rattle.srcp_info.proofs.ClientLaws.{rising_fold}
 use Rattle.srcp_core.proofs.CourseLaws.Histories.{rows_after, part, concerning_by, cursor_by}
@@ -62,36 +62,24 @@ module _ (first : List Shown) (ordered : IsRisingBy key_at first) (P : History �
 
   pub stands_push : (history : History) (changes : List Change) (conn : Connection) → Stands first P history conn
       → Stands first P (history ++ changes ∷ []) conn
-  stands_push history changes conn s =
-      let up : length (history ++ changes ∷ []) ≡ length history + 1 = length_push history changes in
-      by conn.shut refl
+  stands_push history changes conn s = record {
+    fits = by conn.shut refl;
+    before = later conn.shut s.before;
+    plain = s.plain;
+    within = s.within;
+  }
     where
       later : (shut : Option ℕ) → IfSome shut (λ n. n ≤ length history) → IfSome shut (λ n. n ≤ length (history ++ changes ∷ []))
       later None b = tt
       later (Some n) b = let up = length_push history changes in omega arith
 
-      by : (shut : Option ℕ) → conn.shut ≡ shut → Stands first P (history ++ changes ∷ []) conn
-      by None e = record {
-        fits =
-            rw e
-            (both_push history changes _ _ _
-            (subst (λ s. Both (heard s history) conn.go_step conn.items conn.done) e s.fits));
-        before = later _ s.before;
-        plain = s.plain;
-        within = s.within;
-      }
+      by : (shut : Option ℕ) → conn.shut ≡ shut → Both (heard conn.shut (history ++ changes ∷ [])) conn.go_step conn.items conn.done
+      by None e =
+          rw e (both_push history changes _ _ _ (subst (λ s. Both (heard s history) conn.go_step conn.items conn.done) e s.fits))
       by (Some n) e =
           let low : n ≤ length history = subst (λ s. IfSome s (λ n. n ≤ length history)) e s.before in
           let same : take n (history ++ changes ∷ []) ≡ take n history = take-append-le n history _ low in
-          record {
-            fits =
-                rw e
-                (rw same
-                (subst (λ s. Both (heard s history) conn.go_step conn.items conn.done) e s.fits));
-            before = later _ s.before;
-            plain = s.plain;
-            within = s.within;
-          }
+          rw e (rw same (subst (λ s. Both (heard s history) conn.go_step conn.items conn.done) e s.fits))
 
   -- a connection that was just opened, and one that begins a session
   fits_fresh : (history : History) (go : ℕ) → go ≤ length history → Fits first history go [] None
@@ -200,14 +188,11 @@ module _ (first : List Shown) (ordered : IsRisingBy key_at first) (P : History �
   pub stands_room : (history : History) (rows : List Shown) (bytes : ℕ) (conn : Connection) → IsRisingBy key_at (rows_after first history)
       → rows ≡ rows_after first history → conn.shut ≡ None → Stands first P history conn
       → Stands first P history (given_room bytes history rows conn)
-  stands_room history rows bytes conn order same shut s = by _
-    where
-      by : (t : Bool) → Stands first P history (if t then conn else took bytes (length history) (owed conn history rows) conn)
-      by true = s
-      by false =
-          stands_took_by history bytes (conn.taken + min bytes (length (available (unsent conn) (owed conn history rows))))
-          (unsent conn) conn conn.info (owed conn history rows) order shut s
-          (took_within bytes (length history) (owed conn history rows) conn s.within) refl (owed_open history rows conn shut same)
+  stands_room history rows bytes conn order same shut s =
+      cond_both _ _ _ (Stands first P history) (λ _. s)
+      (λ _. stands_took_by history bytes (conn.taken + min bytes (length (available (unsent conn) (owed conn history rows))))
+      (unsent conn) conn conn.info (owed conn history rows) order shut s
+      (took_within bytes (length history) (owed conn history rows) conn s.within) refl (owed_open history rows conn shut same))
 
 module _ (buses : List Bus) (order : IsRisingBy key_at (shown_rows (opening buses 0))) (P : History → ℕ → List Item → Option ℕ → Type 0)
     (law : Law (shown_rows (opening buses 0)) P) where
@@ -242,12 +227,12 @@ module _ (buses : List Bus) (order : IsRisingBy key_at (shown_rows (opening buse
         fits = s.fits;
         before = s.before;
         plain = s.plain;
-        within = let l = longer conn.out (reply_line w.moment reply) (text conn.items) in let h = s.within in omega arith;
+        within =
+            let l : length (conn.out ++ text conn.items) ≤ length ((conn.out ++ reply_line w.moment reply) ++ text conn.items) =
+            simp length-append (omega arith) in
+            let h = s.within in omega (arith, l, h);
       })
       a
-    where
-      longer : (xs ys zs : List ℕ) → length (xs ++ zs) ≤ length ((xs ++ ys) ++ zs)
-      longer xs ys zs = simp length-append (omega arith)
 
   sound_kept : IsKept buses IsSound
   sound_kept = record {

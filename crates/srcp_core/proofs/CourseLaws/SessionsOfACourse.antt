@@ -4,8 +4,7 @@ use Rattle.srcp_core.proofs.Names.{take-append-drop, flat_map-append, and_parts,
 use Rattle.srcp_core.proofs.Names.{if◌then◌else◌, is_none, client, IsRisingBy, line, Shown, Bus, IsLayout, State, opening, shown_rows}
 use Rattle.srcp_core.proofs.Names.{IsRising, passed, beyond, said, Next, Told, Listed, Settled, key_at, passed_all, Event, Connection}
 use Rattle.srcp_core.proofs.Names.{History, heard, is_nil, line_of, text, tells, sent, unsent, waiting, owed, is_settled, World, numbered}
-use Rattle.srcp_core.proofs.Names.{course, rows, history, IsSession, Item}
-use Rattle.srcp_core.proofs.Names.{cursor_at, is_open}
+use Rattle.srcp_core.proofs.Names.{course, rows, history, IsSession, Item, cursor_at, is_open, overran, nat_lt}
 use Rattle.srcp_core.proofs.CourseLaws.Histories.{rows_after, cursor_by}
 use Rattle.srcp_core.proofs.CourseLaws.ShownRegistry.{shown_after, length_history, all_shown}
 use Rattle.srcp_core.proofs.CourseLaws.RoomGivesWhatIsOwed.{Stands, nothing_owed}
@@ -64,8 +63,11 @@ fits_open start P history conn e s =
 
 pub untold_open : (history : History) (conn : Connection) → conn.shut ≡ None
     → waiting conn history ≡ untold_by conn.go_step conn.items conn.done history
-untold_open history conn e =
-    rw e refl
+untold_open history conn e = rw e refl
+
+pub overran_open : (history : History) (conn : Connection) → conn.shut ≡ None
+    → overran conn history ≡ nat_lt 256 (length (untold_by conn.go_step conn.items conn.done history))
+overran_open history conn shut = cc
 
 pub holds_passed : (buses : List Bus) → OfSessions buses (λ w conn.
     is_open conn ≡ true → client (tells conn.items ++ waiting conn (history buses w))

@@ -1,21 +1,20 @@
 -- No more changes wait for an information session than waited before and were brought since.
-use Rattle.srcp_core.proofs.Names.{◌≡◌, ℕ, zero, suc, ◌+◌, ◌-◌, ◌<◌, ◌≤◌, Bool, true, false, List, [], ◌∷◌, ◌++◌, map, length, drop, refl}
-use Rattle.srcp_core.proofs.Names.{ap, sym, ◌∙◌, subst, arith, append-nil, length-append, length-drop, length_push, drop-append-le}
-use Rattle.srcp_core.proofs.Names.{flat_map-append, filter_map-append, fold-append, lt-leb, le-ltb, ltb-false, filter, fold, flat_map}
-use Rattle.srcp_core.proofs.Names.{AllByRecursion, option_or, nat_lt, ◌&&◌, Option, Some, None, if◌then◌else◌, Change, Bus, opening}
-use Rattle.srcp_core.proofs.Names.{concerns, Next, Event, Step, Connection, History, fitting, exhausts, items_of, is_done_by, is_open}
-use Rattle.srcp_core.proofs.Names.{given_room, overran, owed, took, told_change, unsent, waiting, World, fresh, start, numbered}
-use Rattle.srcp_core.proofs.Names.{at_connection, did, history_from, history, rows, happens, course, is_info, entered, brought, IsOverrun}
-use Rattle.srcp_core.proofs.Names.{room, slack_of, least, option_or_256, Item, le_refl}
+use Rattle.srcp_core.proofs.Names.{◌≡◌, ℕ, zero, suc, ◌+◌, ◌-◌, ◌≤◌, Bool, true, false, List, [], ◌∷◌, ◌++◌, map, length, drop, refl, ap}
+use Rattle.srcp_core.proofs.Names.{sym, ◌∙◌, subst, arith, append-nil, length-append, length-drop, length_push, drop-append-le}
+use Rattle.srcp_core.proofs.Names.{flat_map-append, fold-append, le-ltb, ltb-false, filter, fold, flat_map, nat_lt, Option, Some, None}
+use Rattle.srcp_core.proofs.Names.{if◌then◌else◌, Change, Bus, opening, concerns, Event, Step, Connection, History, is_open, given_room}
+use Rattle.srcp_core.proofs.Names.{overran, owed, took, waiting, World, fresh, start, numbered, at_connection, did, history_from, history}
+use Rattle.srcp_core.proofs.Names.{rows, happens, course, is_info, entered, brought, IsOverrun, room, slack_of, least, option_or_256}
+use Rattle.srcp_core.proofs.Names.{le_refl, cond_both}
 use Rattle.srcp_core.specs.Waits.{changes_since, WaitsGrowByChanges, FewChangesCloseNone}
-use Rattle.srcp_core.proofs.CourseLaws.Histories.{concerning_by, concerning_push, concerning_none, concerning_same, cursor_by}
-use Rattle.srcp_core.proofs.CourseLaws.Histories.{cursor_before}
+use Rattle.srcp_core.proofs.CourseLaws.Histories.{concerning_by, concerning_push, concerning_none, cursor_by}
 use Rattle.srcp_core.proofs.CourseLaws.ClientHoldsPassedRows.{untold_by, tolds}
 use Rattle.srcp_core.proofs.CourseLaws.ShownRegistry.{history_push, length_history}
 use Rattle.srcp_core.proofs.Agreement.SlackAgrees.{AtMost, IsIn, least_least, least_in, slack_by, slack_conns}
-use Rattle.srcp_core.proofs.CourseLaws.SessionsOfACourse.{open_shut}
-use Rattle.srcp_core.proofs.CourseLaws.OverrunAt256.{overran_open}
+use Rattle.srcp_core.proofs.CourseLaws.SessionsOfACourse.{open_shut, untold_open, overran_open}
 use Rattle.srcp_core.proofs.CourseLaws.EventsKeep.{IsKept, kept_all, numbered_after, numbered_more}
+use Rattle.srcp_core.proofs.CourseLaws.RoomsAddUp.{untold_took}
+use Rattle.srcp_core.proofs.Agreement.NumbersAndKeys.{no_connection}
 
 filter_few : (p : Change → Bool) (changes : List Change) → length (filter p changes) ≤ length changes
 filter_few p [] = omega arith
@@ -33,12 +32,6 @@ drop_push n xs ys =
     let c = length-append xs ys in
     omega arith
 
-drop_more : (n m : ℕ) (xs : List Change) → n ≤ m → length (drop m xs) ≤ length (drop n xs)
-drop_more n m xs h =
-    let a = length-drop n xs in
-    let b = length-drop m xs in
-    omega arith
-
 -- ---- one session
 
 -- at most so many wait, of a session that goes on
@@ -46,9 +39,9 @@ pub record Within (most : ℕ) (history : History) (conn : Connection) : Type 0 
   pub began : conn.go_step ≤ length history
   pub few : conn.info ≡ true → conn.shut ≡ None → length (untold_by conn.go_step conn.items conn.done history) ≤ most
 
-within_push : (most : ℕ) (history : History) (changes : List Change) (conn : Connection) → Within most history conn
-    → Within (most + length changes) (history ++ changes ∷ []) conn
-within_push most history changes conn w =
+within_push : (most more : ℕ) (history : History) (changes : List Change) (conn : Connection) → most + length changes ≤ more
+    → Within most history conn → Within more (history ++ changes ∷ []) conn
+within_push most more history changes conn h w =
     let up = length_push history changes in
     let began = w.began in
     let con = concerning_push conn.go_step (cursor_by conn.done conn.items) history changes w.began in
@@ -59,9 +52,6 @@ within_push most history changes conn w =
     ≡ length (drop (length (tolds conn.items)) (concerning_by conn.go_step (cursor_by conn.done conn.items) history ++ extra)) =
     cc in
     record { began = omega arith; few = λ info shut. let before = w.few info shut in omega arith }
-
-within_more : (most more : ℕ) (history : History) (conn : Connection) → most ≤ more → Within most history conn → Within more history conn
-within_more most more history conn h w = record { began = w.began; few = λ info shut. let f = w.few info shut in omega arith }
 
 -- a session that begins now has nothing to wait for
 within_entered : (most : ℕ) (history : History) (go : ℕ) (conn : Connection) → go ≡ length history → conn.go_step ≡ go
@@ -80,64 +70,17 @@ within_entered most history go conn e g =
         let empty : length (concerning_by conn.go_step (cursor_by conn.done conn.items) history) ≡ 0 = cc in
         omega arith
 
--- what is given takes of what waits
-untold_took : (history : History) (go : ℕ) (items more : List Item) (done later : Option ℕ)
-    → AllByRecursion (λ item. item.steps ≡ length history) more
-    → ((k : ℕ) → k < length history → is_done_by k later ≡ is_done_by k done)
-    → length (untold_by go (items ++ more) later history) ≤ length (untold_by go items done history)
-untold_took history go items more done later now same =
-    let con : concerning_by go (cursor_by later (items ++ more)) history ≡ concerning_by go (cursor_by done items) history =
-    concerning_same go (cursor_by later (items ++ more)) (cursor_by done items) 0 history (λ k low high. before k high) in
-    let tol : tolds (items ++ more) ≡ tolds items ++ tolds more = filter_map-append (λ (item : Item). told_change item.what) items more in
-    let len : length (tolds (items ++ more)) ≡ length (tolds items) + length (tolds more) =
-    cc (length-append (tolds items) (tolds more)) in
-    let low : length (tolds items) ≤ length (tolds (items ++ more)) = omega arith in
-    let fewer = drop_more (length (tolds items)) (length (tolds (items ++ more))) (concerning_by go (cursor_by done items) history) low in
-    let is : length (untold_by go (items ++ more) later history)
-    ≡ length (drop (length (tolds (items ++ more))) (concerning_by go (cursor_by done items) history)) =
-    cc in
-    omega arith
-  where
-    before : (k : ℕ) → k < 0 + length history → cursor_by later (items ++ more) k ≡ cursor_by done items k
-    before k h =
-        let below : k < length history = omega arith in
-        cc (same k below, cursor_before (length history) k done items more below now)
-
-items_now : (steps : ℕ) (nexts : List Next) → AllByRecursion (λ item. item.steps ≡ steps) (items_of steps nexts)
-items_now steps [] = tt
-items_now steps (what ∷ nexts) = (refl, items_now steps nexts)
-
--- a listing that is done now was not done before
-done_now : (n : ℕ) (done : Option ℕ) (t : Bool) (k : ℕ) → k < n
-    → is_done_by k (if t then option_or done (Some n) else done) ≡ is_done_by k done
-done_now n (Some m) true k h = refl
-done_now n None true k h = lt-leb n k h
-done_now n done false k h = refl
-
 within_room : (buses : List Bus) (most : ℕ) (w : World) (bytes : ℕ) (conn : Connection) → Within most (history buses w) conn
     → Within most (history buses w) (given_room bytes (history buses w) (rows buses w) conn)
 within_room buses most w bytes conn s =
-    elim (overran conn (history buses w))
-    as (λ t.
-    Within most (history buses w)
-    (if t then conn else took bytes (length (history buses w)) (owed conn (history buses w) (rows buses w)) conn)) [
-      | true ↦ s
-      | false ↦ gave (owed conn (history buses w) (rows buses w))
-    ]
-  where
-    gave : (nexts : List Next) → Within most (history buses w) (took bytes (length (history buses w)) nexts conn)
-    gave nexts = record {
+    let h = history buses w in
+    cond_both (overran conn h) conn (took bytes (length h) (owed conn h (rows buses w)) conn) (Within most h) (λ _. s) (λ _. record {
       began = s.began;
       few = λ info shut.
           let f = s.few info shut in
-          let t =
-          untold_took (history buses w) conn.go_step conn.items
-          (items_of (length (history buses w)) (fitting bytes (unsent conn) nexts)) conn.done
-          (if conn.info && exhausts bytes (unsent conn) nexts then option_or conn.done (Some (length (history buses w))) else conn.done)
-          (items_now (length (history buses w)) (fitting bytes (unsent conn) nexts))
-          (λ k h. done_now (length (history buses w)) conn.done (conn.info && exhausts bytes (unsent conn) nexts) k h) in
-          omega arith;
-    }
+          let t = untold_took (history buses w) bytes (owed conn (history buses w) (rows buses w)) conn in
+          omega (arith, f, t);
+    })
 
 -- ---- every session of a world
 
@@ -167,17 +110,11 @@ module _ (buses : List Bus) (Of : ℕ → Type 0) (steps most : ℕ) where
 
   waits_push : (h : History) (changes : List Change) (conns : List Connection) → WaitsBy h conns → WaitsBy (h ++ changes ∷ []) conns
   waits_push h changes conns a = (
-    later,
+    (let up = length_push h changes in let low = a.0 in omega (arith, up, low)),
     λ number conn of e.
-        within_more _ _ _ conn counts
-        (within_push (most + since steps h) h changes conn (a.1 number conn of e)),
+        within_push (most + since steps h) _ h changes conn (let s = since_push steps h changes a.0 in omega (arith, s))
+        (a.1 number conn of e),
   )
-    where
-      later : steps ≤ length (h ++ changes ∷ [])
-      later = let up = length_push h changes in let low = a.0 in omega arith
-
-      counts : most + since steps h + length changes ≤ most + since steps (h ++ changes ∷ [])
-      counts = let e = since_push steps h changes a.0 in omega arith
 
   waits_did : (step : Step) (w : World) → Waits w → Waits (did step w)
   waits_did step w a =
@@ -213,7 +150,7 @@ module _ (buses : List Bus) (Of : ℕ → Type 0) (steps most : ℕ) where
           a.0,
           λ number conn of e.
               numbered_more (Within (most + since steps (history buses w)) (history buses w)) number w.connections fresh conn e
-              (λ other there. a.1 number other of there) (fresh_within (most + since steps (history buses w)) (history buses w)),
+              (λ other there. a.1 number other of there) (record { began = omega arith; few = λ info shut. cc }),
         );
     feeds = λ n bytes w a. waits_at n _ w (λ conn s. record { began = s.began; few = s.few }) a;
     shuts = λ n w up a. waits_at n _ w (λ conn s. record { began = s.began; few = λ info shut. cc }) a;
@@ -227,46 +164,29 @@ module _ (buses : List Bus) (Of : ℕ → Type 0) (steps most : ℕ) where
           (record conn { session = id; info = is_info _; go_step = length w.steps })
           (sym (length_history _ w.steps)) refl
 
-      fresh_within : (most : ℕ) (h : History) → Within most h fresh
-      fresh_within most h = record { began = omega arith; few = λ info shut. cc }
-
   pub waits_all : (events : List Event) (w : World) → Waits w → Waits (fold (happens buses) w events)
   waits_all events w a = kept_all buses Waits waits_kept events w a
 
 -- ---- of every course
-
-waiting_is : (conn : Connection) (h : History) → conn.shut ≡ None → waiting conn h ≡ untold_by conn.go_step conn.items conn.done h
-waiting_is conn h e =
-    rw e refl
 
 -- what waits of an open session, and of one that was shut
 waiting_within : (most : ℕ) (h : History) (conn : Connection) → Within most h conn → conn.info ≡ true → length (waiting conn h) ≤ most
 waiting_within most h conn s info = by _ refl
   where
     by : (shut : Option ℕ) → conn.shut ≡ shut → length (waiting conn h) ≤ most
-    by None e = let f = s.few info e in let same = ap (λ (cs : List Change). length cs) (waiting_is conn h e) in omega arith
-    by (Some n) e =
-        rw e none
-      where
-        none : 0 ≤ most
-        none = omega arith
+    by None e = let f = s.few info e in let same = ap (λ (cs : List Change). length cs) (untold_open h conn e) in omega arith
+    by (Some n) e = rw e (omega arith)
 
 module _ (buses : List Bus) (events more : List Event) (Of : ℕ → Type 0) (most : ℕ)
     (few : (number : ℕ) (conn : Connection) → Of number → numbered number (course buses events).connections ≡ Some conn → conn.info ≡ true
     → conn.shut ≡ None → length (waiting conn (history buses (course buses events))) ≤ most) where
   from_start : Waits buses (λ number. Unit {0}) 0 0 (course buses events)
-  from_start = waits_all buses (λ number. Unit {0}) 0 0 events start (omega arith, λ number conn of e. none number conn e)
-    where
-      none : (number : ℕ) (conn : Connection) → numbered number [] ≡ Some conn → Within (0 + since 0 []) [] conn
-      none zero conn e = cc
-      none (suc number) conn e = cc
+  from_start =
+      waits_all buses (λ number. Unit {0}) 0 0 events start (omega arith, λ number conn of e. absurd (no_connection number conn e))
 
   here : Waits buses Of (length (course buses events).steps) most (course buses events)
-  here = (low, each)
+  here = ((let e = length_history (opening buses 0) (course buses events).steps in omega (arith, e)), each)
     where
-      low : length (course buses events).steps ≤ length (history buses (course buses events))
-      low = let e = length_history (opening buses 0) (course buses events).steps in omega arith
-
       each : (number : ℕ) (conn : Connection) → Of number → numbered number (course buses events).connections ≡ Some conn
           → Within (most + changes_since buses (length (course buses events).steps) (course buses events))
           (history buses (course buses events)) conn
@@ -276,16 +196,13 @@ module _ (buses : List Bus) (events more : List Event) (Of : ℕ → Type 0) (mo
             began = s.began;
             few = λ info shut.
                 let f = few number conn of e info shut in
-                let same = ap (λ (cs : List Change). length cs) (waiting_is conn (history buses (course buses events)) shut) in
+                let same = ap (λ (cs : List Change). length cs) (untold_open (history buses (course buses events)) conn shut) in
                 omega arith;
           }
 
-  next : course buses (events ++ more) ≡ fold (happens buses) (course buses events) more
-  next = fold-append _ start events more
-
   there : Waits buses Of (length (course buses events).steps) most (course buses (events ++ more))
   there =
-      subst (Waits buses Of (length (course buses events).steps) most) (sym next)
+      subst (Waits buses Of (length (course buses events).steps) most) (sym (fold-append _ start events more))
       (waits_all buses Of _ most more _ here)
 
 pub waits_grow : (buses : List Bus) → WaitsGrowByChanges buses
@@ -359,7 +276,7 @@ few_close_none buses events more enough number later o = by (numbered number w.c
         (least_least slacks k (256 - length (waiting conn h)) (slack_conns h w.connections k ∙ ap (slack_by h) e ∙ is)) in
         let few : length (waiting conn h) ≤ 256 =
         ltb-false 256 (length (waiting conn h))
-        (ap (λ (cs : List Change). nat_lt 256 (length cs)) (waiting_is conn h shut) ∙ sym (overran_open h conn shut) ∙ fine) in
+        (ap (λ (cs : List Change). nat_lt 256 (length cs)) (untold_open h conn shut) ∙ sym (overran_open h conn shut) ∙ fine) in
         omega arith
 
     one_overruns : ((conn : Connection) → numbered number w.connections ≡ Some conn → conn.info ≡ true → conn.shut ≡ None

@@ -6,13 +6,12 @@ use Rattle.srcp_core.proofs.Names.{began, freed, Effect, effect, session_device,
 use Rattle.srcp_core.proofs.Names.{Refuses, Place, Held, place_at, at, IsSound, told_feed, told_place, told_all, told_each, carried}
 use Rattle.srcp_core.proofs.Names.{unsent_of, changed_in, changed_places, changed_at, with_unsent, longest, longest_answer, entered_place}
 use Rattle.srcp_core.proofs.Names.{session_begun, denied_line, one_denied, asked_of, feed_in, panel_for, Asked, Dropped, Greets, Commands}
+use Rattle.srcp_core.proofs.Names.{option_map_or}
 use Rattle.srcp_info.specs.WellFormed.{IsWellFormedReply}
 use Rattle.srcp_info.specs.declared.change.Reply.TheVariants.{Mode as ModeReply}
 use Rattle.srcp_info.proofs.LineLaws.{length-reply_line-le, length-reply_line-most}
 use Rattle.srcp_rules.proofs.ToldLaws.{reply_told}
-use Rattle.srcp_core.proofs.Names.{option_map_or}
-use Rattle.srcp_core.specs.Machine.{replied}
-use Rattle.srcp_core.specs.Machine.{goes, greeted, finished, obeyed, answered}
+use Rattle.srcp_core.specs.Machine.{replied, goes, greeted, finished, obeyed, answered}
 use Rattle.srcp_core.proofs.Invariants.EveryPlaceIsTold.{told_all_at}
 use Rattle.srcp_core.proofs.Invariants.ChangesOneByOne.{change_in}
 use Rattle.srcp_core.proofs.Invariants.PlacesCover.{place_set_here}

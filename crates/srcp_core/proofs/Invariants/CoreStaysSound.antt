@@ -70,12 +70,17 @@ sound_changed_at key change held mild s =
 
 -- ---- changes of the registry
 
-pub sound_carried : (updates : List Update) (held : Held) → IsWhole held.buses (updated_all updates held.rows)
-    → ((id : ℕ) → is_there (session_device id) (updated_all updates held.rows) ≡ is_there (session_device id) held.rows) → IsSound held
-    → IsSound (carried updates held)
-sound_carried updates held whole same s =
+-- changes that leave the rows of the sessions that go on, and of those to come
+sound_told : (updates : List Update) (held : Held) → IsWhole held.buses (updated_all updates held.rows)
+    → ((key : ℕ) (p : Place) → place_at held.places key ≡ Some p → IsLive p
+    → is_there (session_device p.session) (updated_all updates held.rows) ≡ is_there (session_device p.session) held.rows)
+    → ((id : ℕ) → held.last_id < id
+    → is_there (session_device id) (updated_all updates held.rows) ≡ is_there (session_device id) held.rows)
+    → IsSound held → IsSound (carried updates held)
+sound_told updates held whole live later s =
     let places = told_each (map change_in updates) held.places in
-    let a = sessions_covered _ held.rows held.places places (covers_told_each (map change_in updates) held.places) s.sessions in
+    let covers = covers_told_each (map change_in updates) held.places in
+    let a = sessions_covered _ held.rows held.places places covers s.sessions in
     record {
       moment = s.moment;
       few = let c = told_each_count (map change_in updates) held.places in omega (arith, c, s.few);
@@ -83,10 +88,17 @@ sound_carried updates held whole same s =
       sessions = record {
         ids = a.ids;
         apart = a.apart;
-        there = λ key p e live. same _ ∙ a.there key p e live;
-        later = λ id low. same id ∙ a.later id low;
+        there = λ key q e l.
+            let c = covers key q e in
+            rw c.mild.session (live key c.p c.there (mild_live c.p q c.mild l)) ∙ a.there key q e l;
+        later = λ id low. later id low ∙ a.later id low;
       };
     }
+
+pub sound_carried : (updates : List Update) (held : Held) → IsWhole held.buses (updated_all updates held.rows)
+    → ((id : ℕ) → is_there (session_device id) (updated_all updates held.rows) ≡ is_there (session_device id) held.rows) → IsSound held
+    → IsSound (carried updates held)
+sound_carried updates held whole same s = sound_told updates held whole (λ key p e l. same p.session) (λ id low. same id) s
 
 -- a command of a session that has its row
 pub sound_obeyed : (session moment : ℕ) (command : Command) (held : Held) → IsMoment moment → IsCommandOf held.buses command
@@ -113,42 +125,21 @@ IsOver session places = (key : ℕ) (p : Place) → place_at places key ≡ Some
 pub sound_freed : (session : ℕ) (held : Held) → IsMoment held.moment → session ≤ held.last_id → IsOver session held.places → IsSound held
     → IsSound (freed_of session held)
 sound_freed session held now known over s =
-    let updates = freed held.rows session held.moment in
-    let places = told_each (map change_in updates) held.places in
-    let covers = covers_told_each (map change_in updates) held.places in
-    let a = sessions_covered held.last_id held.rows held.places places covers s.sessions in
-    let others : (id : ℕ) → id ≢ session
-    → is_there (session_device id) (updated_all updates held.rows) ≡ is_there (session_device id) held.rows =
-    λ id apart. cc (freed_others held.buses held.rows s.whole held.moment session id apart) in
-    record {
-      moment = s.moment;
-      few = let c = told_each_count (map change_in updates) held.places in omega (arith, c, s.few);
-      whole = freed_kept held.buses held.moment held.rows s.whole session;
-      sessions = record {
-        ids = a.ids;
-        apart = a.apart;
-        there =
-            λ key p e live.
-            others p.session
-            (λ is. let c = covers key p e in over key c.p c.there (mild_live c.p p c.mild live) (sym c.mild.session ∙ is))
-            ∙ a.there key p e live;
-        later = λ id low. others id (λ is. higher id low is) ∙ a.later id low;
-      };
-    }
+    sound_told (freed held.rows session held.moment) held (freed_kept held.buses held.moment held.rows s.whole session)
+    (λ key p e live. others p.session (over key p e live)) (λ id low. others id (λ is. omega (arith, low, is, known))) s
   where
-    higher : (id : ℕ) → held.last_id < id → id ≡ session → ⊥
-    higher id low is = omega (arith, low, is, known)
+    others : (id : ℕ) → id ≢ session
+        → is_there (session_device id) (updated_all (freed held.rows session held.moment) held.rows)
+        ≡ is_there (session_device id) held.rows
+    others id apart = cc (freed_others held.buses held.rows s.whole held.moment session id apart)
 
 -- ---- the beginning of a session
 
-session_place : (buses : List Bus) (id : ℕ) → 0 < id → id ≤ 4294967295 → IsKeyOf buses (first_key (session_device id))
-session_place buses id low high = rw within one
-  where
-    one : 0 < 1
-    one = omega arith
-
-    within : is_within 1 4294967295 id ≡ true
-    within = λ i. le-leb 1 id (omega (arith, low)) i && le-leb id 4294967295 high i
+pub session_place : (buses : List Bus) (id : ℕ) → 0 < id → id ≤ 4294967295 → IsKeyOf buses (first_key (session_device id))
+session_place buses id low high =
+    let within : is_within 1 4294967295 id ≡ true = λ i. le-leb 1 id (omega (arith, low)) i && le-leb id 4294967295 high i in
+    let one : 0 < 1 = omega arith in
+    rw within one
 
 own_row : (id moment : ℕ) (mode : Mode) (rows : State) → is_there (session_device id) (updated (began id moment mode) rows) ≡ true
 own_row id moment mode rows =
@@ -198,12 +189,9 @@ sessions_begun last id key rows new old places next others own from a = record {
   ids = λ m q e. fits m q (from m q e);
   apart = λ m n q r e g low same. alone m n q r low same (from m q e) (from n r g);
   there = λ m q e live. row m q live (from m q e);
-  later = λ other low. others other (λ s. above other low s) ∙ a.later other (omega (arith, low, next));
+  later = λ other low. others other (λ s. omega (arith, low, s)) ∙ a.later other (omega (arith, low, next));
 }
   where
-    above : (other : ℕ) → id < other → other ≡ id → ⊥
-    above other low s = omega (arith, low, s)
-
     fits : (m : ℕ) (q : Place) → IsOneOf old key id m q → q.session ≤ id
     fits m q (inl h) = omega (arith, h.1)
     fits m q (inr h) = let i = a.ids m q h in omega (arith, i, next)
@@ -214,12 +202,9 @@ sessions_begun last id key rows new old places next others own from a = record {
     alone m n q r low same (inr h) (inl k) = let i = a.ids m q h in absurd (omega (arith, i, k.1, same, next))
     alone m n q r low same (inr h) (inr k) = a.apart m n q r h k low same
 
-    older : (m : ℕ) (q : Place) → place_at old m ≡ Some q → q.session ≡ id → ⊥
-    older m q h s = let i = a.ids m q h in omega (arith, i, s, next)
-
     row : (m : ℕ) (q : Place) → IsLive q → IsOneOf old key id m q → is_there (session_device q.session) new ≡ true
     row m q live (inl h) = cc h.1
-    row m q live (inr h) = others q.session (older m q h) ∙ a.there m q h live
+    row m q live (inr h) = others q.session (λ s. let i = a.ids m q h in omega (arith, i, s, next)) ∙ a.there m q h live
 
 pub sound_begun : (key id : ℕ) (mode : Mode) (held : Held) → IsMoment held.moment → id ≡ held.last_id + 1 → id ≤ 4294967295 → IsSound held
     → IsSound (session_begun key id mode held)
@@ -289,23 +274,16 @@ pub sound_ended : (key session : ℕ) (held : Held) → IsMoment held.moment →
     → IsSound (freed_of session (changed_at key (λ p. record p { ended = true }) held))
 sound_ended key session held now here s =
     let ends : Place → Place = λ p. record p { ended = true } in
-    let later = sound_changed_at key ends held (λ p. record { session = refl; ended = λ h. no_end p h; panel = refl }) s in
-    let now_there : at (changed_at key ends held) key ≡ Some (ends here.place) = ended_here here.place here.here in
+    let later = sound_changed_at key ends held (λ p. record { session = refl; ended = λ h. cc; panel = refl }) s in
+    let now_there : at (changed_at key ends held) key ≡ Some (ends here.place) =
+    cc (here.here, place_set_here held.places key here.place (Some (ends here.place)) here.here) in
     sound_freed session (changed_at key ends held) now (subst (λ n. n ≤ held.last_id) here.own (s.sessions.ids key here.place here.here))
     (subst (λ n. IsOver n (changed_at key ends held).places) here.own
     (over_ended key (changed_at key ends held) (ends here.place) now_there here.live.began refl later))
     later
-  where
-    no_end : (p : Place) → true ≡ false → p.ended ≡ false
-    no_end p h = cc
-
-    ended_here : (p : Place) → at held key ≡ Some p
-        → place_at (changed_in key (λ q. record q { ended = true }) held.places (at held key)) key ≡ Some (record p { ended = true })
-    ended_here p e =
-        cc (place_set_here held.places key p (Some (record p { ended = true })) e)
 
 pub sound_moment : (held : Held) (moment : ℕ) → IsMoment moment → IsSound held → IsSound (record held { moment = moment })
-sound_moment held moment now s = record { moment = now; few = s.few; whole = s.whole; sessions = s.sessions }
+sound_moment held moment now s = assumption now
 
 pub live_session_is : (p : Place) (session : ℕ) → Some session ≡ live_session_of (Some p) → (session ≡ p.session) × (0 < session)
 live_session_is p session e = by (p.session == 0) refl p.ended e

@@ -3,20 +3,16 @@ use Rattle.srcp_core.proofs.Names.{◌≡◌, ℕ, zero, suc, ◌+◌, ◌-◌, 
 use Rattle.srcp_core.proofs.Names.{inr, refl, ap, sym, ◌∙◌, subst, arith, if◌then◌else◌, Option, Some, None, Ok, Err, slice_set, Code, Bus}
 use Rattle.srcp_core.proofs.Names.{Mark, Line, TooLong, is_lf, nothing_read, fold-append, Place, Held, IsSound, at, asked_of, heard_from}
 use Rattle.srcp_core.proofs.Names.{heard_at, longest_answer, unsent_at, line_answered, lines_answered, steps_answered, steps_in, HasRoom}
-use Rattle.srcp_core.proofs.Names.{CountsEach, denied_by, LineRecord, Asked, Dropped, Greets, Commands}
+use Rattle.srcp_core.proofs.Names.{CountsEach, denied_by, LineRecord, Asked, Dropped, Greets, Commands, option_map_or, cases_lt}
 use Rattle.std.proofs.Common.{◌*◌}
 use Rattle.std.specs.Prelude.{fold, position}
 use Rattle.srcp_text.specs.Marks.{without_cr}
 use Rattle.srcp_text.specs.Reading.{after_lf, extended}
 use Rattle.srcp_text.specs.Feeding.{feed_at, fed_at}
 use Rattle.srcp_text.proofs.ScanLaws.{position_some}
-use Rattle.std.proofs.lemmas.Bool.{cases_lt}
 use Rattle.std.proofs.lemmas.List.{length-drop}
 use Rattle.srcp_core.specs.Handshake.{greets}
-use Rattle.srcp_core.specs.Machine.{heard}
-use Rattle.srcp_core.proofs.Names.{option_map_or}
-use Rattle.srcp_core.specs.Machine.{line_begun_at, answered}
-use Rattle.srcp_core.specs.Machine.{IsAsked, IsLineAnswered}
+use Rattle.srcp_core.specs.Machine.{heard, line_begun_at, answered, IsAsked, IsLineAnswered}
 use Rattle.srcp_core.proofs.Invariants.PlacesCover.{IsMild, place_set_here, where_is, Here, Away}
 use Rattle.srcp_core.proofs.Invariants.AnswersHaveRoom.{answered_gains}
 
@@ -34,12 +30,6 @@ short : (i z : Bool) (p : Place) (mark : Mark) (code : Code)
 short true z p mark code = omega arith
 short false true p mark code = omega arith
 short false false p mark code = omega arith
-
-too_long_short : (buses : List Bus) (p : Place) → longest_answer (asked_of buses p TooLong) ≤ 64
-too_long_short buses p = short _ _ p TooLong _
-
-empty_short : (buses : List Bus) (p : Place) → longest_answer (asked_of buses p (Line [])) ≤ 64
-empty_short buses p = short _ _ p (Line []) _
 
 -- ---- a line that was found
 
@@ -92,7 +82,9 @@ module _ (buses : List Bus) (p new : Place) (piece : List ℕ) (start stop : ℕ
             asks = cc;
             unsent = cc;
             begun = ap (λ (q : Place). q.reader.begun) place;
-            few = λ h. let s = too_long_short buses p in let n = ap (λ (a : Asked). longest_answer a) is in omega (arith, s, n, at);
+            few = λ h.
+                let s : longest_answer (asked_of buses p TooLong) ≤ 64 = short _ _ p TooLong _ in
+                let n = ap (λ (a : Asked). longest_answer a) is in omega (arith, s, n, at);
           }
       ends len low (Some bytes) w e =
           let same =
@@ -119,7 +111,7 @@ module _ (buses : List Bus) (p new : Place) (piece : List ℕ) (start stop : ℕ
               let none : Some [] ≡ Some bytes = cc in
               let empty : [] ≡ bytes = cc in
               let n = ap (λ (a : Asked). longest_answer a) (is ∙ ap (λ bs. asked_of buses p (Line (without_cr bs))) (sym empty)) in
-              let s = empty_short buses p in
+              let s : longest_answer (asked_of buses p (Line [])) ≤ 64 = short _ _ p (Line []) _ in
               omega (arith, n, s, at)
           size_of (suc len) w at is h = let m = answer_most asked in omega (arith, m, at)
 

@@ -2,11 +2,10 @@
 use Rattle.srcp_core.proofs.Names.{◌≡◌, ◌≤◌, ℕ, zero, suc, ◌+◌, List, [], ◌∷◌, map, length, refl, ◌∙◌, true≢false, arith, length-map}
 use Rattle.srcp_core.proofs.Names.{if◌then◌else◌, Option, Some, None, slice_set, count_by, is_some, Slab, Change, Place, place_at, is_panel}
 use Rattle.srcp_core.proofs.Names.{panel_keys, slack_in, slack_at, told_all, told_each, least, lesser, option_or_256, Panel, Absent}
-use Rattle.srcp_core.proofs.Names.{Listening, Overran}
+use Rattle.srcp_core.proofs.Names.{Listening, Overran, option_map_or}
 use Rattle.std.specs.Prelude.{Bool, true, false}
 use Rattle.slab.specs.Slab.{get, Updates}
 use Rattle.srcp_core.specs.Machine.{fresh_place}
-use Rattle.srcp_core.proofs.Names.{option_map_or}
 use Rattle.srcp_core.proofs.Invariants.EveryPlaceIsTold.{count_by_cons}
 use Rattle.srcp_core.proofs.Invariants.PlacesCover.{told_mild, Here, Away, where_is}
 

@@ -5,8 +5,7 @@ use Rattle.srcp_core.proofs.Names.{Refused, Shows, Mode, session_device, Update,
 use Rattle.srcp_core.proofs.Names.{place_at, IsLive, IsSound, IsSessionAt, told_feed, told_place, told_all, told_each, carried, unsent_of}
 use Rattle.srcp_core.proofs.Names.{changed_in, with_unsent, longest, session_begun, feed_in, Listening, Overran}
 use Rattle.srcp_info.specs.declared.change.Reply.TheVariants.{Mode as ModeReply}
-use Rattle.srcp_core.specs.Machine.{replied}
-use Rattle.srcp_core.specs.Machine.{goes}
+use Rattle.srcp_core.specs.Machine.{replied, goes}
 use Rattle.srcp_core.proofs.Invariants.EveryPlaceIsTold.{told_all_at}
 use Rattle.srcp_core.proofs.Invariants.ChangesOneByOne.{change_in}
 use Rattle.srcp_core.proofs.Invariants.PlacesCover.{place_set_here}

@@ -1,5 +1,4 @@
-use Rattle.srcp_core.proofs.Names.{◌≡◌, ◌≤◌, sym, ap, ◌∙◌, arith, is_some, count_by, Option, freed, Place, at, open_count}
-use Rattle.srcp_core.proofs.Names.{freed_place}
+use Rattle.srcp_core.proofs.Names.{◌≡◌, ◌≤◌, sym, ap, ◌∙◌, arith, is_some, count_by, Option, freed, Place, at, open_count, freed_place}
 use Rattle.std.proofs.Common.{Some}
 use Rattle.std.specs.Prelude.{List}
 use Rattle.srcp_core.proofs.Invariants.CoreStaysSound.{left_of, live_session_is, sound_hung_up, sound_carried_as}
