@@ -62,14 +62,14 @@ with_apart (suc (suc n)) (suc zero) f g (x ∷ xs) d = refl
 with_apart (suc (suc n)) (suc (suc m)) f g (x ∷ xs) d = cc (with_apart (suc n) (suc m) f g xs (λ e. d (cc)))
 
 -- the connection of another number
-pub numbered_other : (n m : ℕ) (f : Connection → Connection) (xs : List Connection) → n ≢ m
-    → numbered m (with_numbered n f xs) ≡ numbered m xs
-numbered_other n zero f xs d = refl
-numbered_other n (suc m) f [] d = refl
-numbered_other zero (suc m) f (x ∷ xs) d = refl
+pub numbered_other : (n m : ℕ) (f : Connection → Connection) (xs : List Connection) → (m ≡ n → ⊥)
+    → numbered n (with_numbered m f xs) ≡ numbered n xs
+numbered_other zero m f xs d = refl
+numbered_other (suc n) m f [] d = refl
+numbered_other (suc n) zero f (x ∷ xs) d = refl
 numbered_other (suc zero) (suc zero) f (x ∷ xs) d = absurd (d refl)
-numbered_other (suc (suc n)) (suc zero) f (x ∷ xs) d = refl
 numbered_other (suc zero) (suc (suc m)) f (x ∷ xs) d = refl
+numbered_other (suc (suc n)) (suc zero) f (x ∷ xs) d = refl
 numbered_other (suc (suc n)) (suc (suc m)) f (x ∷ xs) d = numbered_other (suc n) (suc m) f xs (λ e. d (cc))
 
 pub numbered_push : (n : ℕ) (xs : List Connection) (x y : Connection) → numbered n xs ≡ Some y → numbered n (xs ++ x ∷ []) ≡ Some y

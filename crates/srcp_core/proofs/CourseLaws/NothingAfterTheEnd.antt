@@ -11,7 +11,8 @@ use Rattle.srcp_core.specs.Connection.{concerning}
 use Rattle.srcp_core.specs.Course.{bytes_fault}
 use Rattle.srcp_core.proofs.CourseLaws.Histories.{enumerate_push}
 use Rattle.srcp_core.proofs.CourseLaws.ShownRegistry.{history_push}
-use Rattle.srcp_core.proofs.Agreement.NumbersAndKeys.{numbered_other, numbered_push, numbered_with}
+pub use Rattle.srcp_core.proofs.Agreement.NumbersAndKeys.{numbered_other, numbered_push}
+use Rattle.srcp_core.proofs.Agreement.NumbersAndKeys.{numbered_with}
 use Rattle.srcp_core.proofs.CourseLaws.EventsKeep.{IsAnswered, kept_fed, kept_shut}
 
 -- it overran, or it was shut
@@ -70,7 +71,7 @@ module _ (buses : List Bus) (n : ℕ) (y : Connection) where
 
   module _ (m : ℕ) (apart : m ≡ n → ⊥) where
     lies_at : (f : Connection → Connection) (v : World) → Lies v → Lies (at_connection m f v)
-    lies_at f v l = (numbered_other m n f _ apart ∙ l.0, l.1)
+    lies_at f v l = (numbered_other n m f _ apart ∙ l.0, l.1)
 
     lies_answered : IsAnswered buses m Lies
     lies_answered = record {

@@ -53,7 +53,7 @@ alike_open n xs ys a = ap (λ zs. length (filter is_open zs)) a.is ∙ opens_sam
 
 -- any other is the same
 pub alike_other : (n m : ℕ) (xs ys : List Connection) → m ≢ n → Alike n xs ys → numbered m ys ≡ numbered m xs
-alike_other n m xs ys d a = ap (numbered m) a.is ∙ numbered_other n m _ xs (λ e. d (sym e))
+alike_other n m xs ys d a = ap (numbered m) a.is ∙ numbered_other m n _ xs (λ e. d (sym e))
 
 -- the one of that number is the twin
 pub alike_there : (n : ℕ) (xs ys : List Connection) (a : Alike n xs ys) → numbered n ys ≡ option_map (λ _. a.other) (numbered n xs)
@@ -75,5 +75,5 @@ pub alike_away : (n m : ℕ) (f : Connection → Connection) (xs ys : List Conne
 alike_away n m f xs ys d a = record {
   other = a.other;
   is = ap (with_numbered m f) a.is ∙ with_apart n m f (λ _. a.other) xs d;
-  twins = λ x e. a.twins x (sym (numbered_other m n f xs d) ∙ e);
+  twins = λ x e. a.twins x (sym (numbered_other n m f xs d) ∙ e);
 }
