@@ -19,11 +19,7 @@ use Rattle.srcp_core.proofs.CourseLaws.SessionsOfACourse.{anything, at_number, o
 use Rattle.srcp_core.proofs.Agreement.StandsAfterAChange.{Anything, Fine, Found, found_at}
 use Rattle.srcp_core.proofs.Invariants.EveryPlaceIsTold.{count_by_cons}
 use Rattle.srcp_core.proofs.CourseLaws.SessionsAreKept.{sound}
-
--- every course has sound connections
-fine : (buses : List Bus) (layout : IsLayout buses) (events : List Event)
-    → IsFine buses (opening_in_order buses layout) (course buses events)
-fine buses layout events = sound buses (opening_in_order buses layout) Anything (anything (shown_rows (opening buses 0))) events
+use Rattle.srcp_core.proofs.Agreement.RunsAnEvent.{fine_course}
 
 -- ---- a connection is opened
 
@@ -79,27 +75,13 @@ module _ (buses : List Bus) (layout : IsLayout buses) (events : List Event) (key
   its_over : overran its.conn (history buses w) ≡ is_over_place (history buses w) its.conn
   its_over =
       over_is buses _ its.conn its.shut
-      (at_number (Fine buses (history buses w)) n w.connections its.conn (fine buses layout events) its.there)
-
-  fault_is : (piece : Piece) → bytes_fault key piece.bytes held ≡ fault buses w (Bytes n piece)
-  fault_is piece =
-      fault_same buses (opening_in_order buses layout) (λ n fed. fed) keys held w n key _ (fine buses layout events) s named
-
-  there_is : absent_fault buses (open_connection w n) ≡ None
-  there_is = cc its.opened
-
-  is_there : at held key ≡ None → ⊥
-  is_there gone = none-some _ (sym gone ∙ its.place)
+      (at_number (Fine buses (history buses w)) n w.connections its.conn (fine_course buses layout events) its.there)
 
   abbrev its_place : Place
   its_place = place_of its.reader (history buses w) its.conn
 
   unsent_is : overran its.conn (history buses w) ≡ false → its_place.unsent ≡ unsent its.conn
   unsent_is still = place_unsent its.reader (history buses w) its.conn (sym its_over ∙ still)
-
-  closing_is : is_last (finish_at key held) ≡ closes buses w n
-  closing_is =
-      cc (finish_is buses layout keys held events s n key its.reader its.conn its.there its.up its.place, its.opened)
 
   lent_is : unsent_at key held ≡ lent buses w n
   lent_is =
@@ -112,15 +94,13 @@ module _ (buses : List Bus) (layout : IsLayout buses) (events : List Event) (key
 -- ---- what is held of a connection
 
 pub there_agrees : (key : ℕ) (held : Held) → OfConnection key held (λ buses events n. IsSome (at held key))
-there_agrees key held buses events keys n layout named s = by _ (is_there buses layout events keys n key named held s)
-  where
-    by : (o : Option Place) → (o ≡ None → ⊥) → IsSome o
-    by None h = absurd (h refl)
-    by (Some p) h = refl
+there_agrees key held buses events keys n layout named s =
+    rw (found_at buses (λ n fed. fed) keys held (course buses events) n key s named).place refl
 
 pub bytes_agree : (key : ℕ) (piece : Piece) (held : Held)
     → OfConnection key held (λ buses events n. bytes_fault key piece.bytes held ≡ fault buses (course buses events) (Bytes n piece))
-bytes_agree key piece held buses events keys n layout named s = fault_is buses layout events keys n key named held s piece
+bytes_agree key piece held buses events keys n layout named s =
+    fault_same buses (opening_in_order buses layout) (λ n fed. fed) keys held _ n key _ (fine_course buses layout events) s named
 
 -- where a piece of no bytes is accepted, so is any of at most 256
 pub takes_agrees : (key : ℕ) (held : Held) → is_none (bytes_fault key [] held) ≡ true
@@ -143,7 +123,9 @@ takes_agrees key held accepts buses events keys n layout named s piece few =
 
 pub closes_agrees : (key : ℕ) (held : Held)
     → OfConnection key held (λ buses events n. is_last (finish_at key held) ≡ closes buses (course buses events) n)
-closes_agrees key held buses events keys n layout named s = closing_is buses layout events keys n key named held s
+closes_agrees key held buses events keys n layout named s =
+    let its = found_at buses (λ n fed. fed) keys held (course buses events) n key s named in
+    cc (finish_is buses layout keys held events s n key its.reader its.conn its.there its.up its.place, its.opened)
 
 pub lends_agrees : (key : ℕ) (held : Held)
     → OfConnection key held (λ buses events n. unsent_at key (let_out key held) ≡ lent buses (course buses (events ++ Room n 0 ∷ [])) n)
@@ -153,4 +135,5 @@ lends_agrees key held buses events keys n layout named s =
 
 pub shuts_agrees : (key : ℕ) (held : Held)
     → OfConnection key held (λ buses events n. fault buses (course buses events) (Shut n) ≡ None)
-shuts_agrees key held buses events keys n layout named s = there_is buses layout events keys n key named held s
+shuts_agrees key held buses events keys n layout named s =
+    cc (found_at buses (λ n fed. fed) keys held (course buses events) n key s named).opened

@@ -20,7 +20,6 @@ effect_law P state session moment order e r =
     (λ _. e)
     (λ _. r)
 
--- what holds of the command holds of the order
 -- a command that another rule refuses has that refusal
 pub refusals_stand : (state : State) (session moment : ℕ) (order : Order) (code : Code)
     → (effect_of state session moment order.command).reply ≡ Refused code
@@ -155,15 +154,13 @@ gives_as_if buses grants events a = course_all buses grants events start a
 
 -- ---- a line before the session, by what it does
 
-greeting_law : (P : World → Type 0) (buses : List Bus) (n : ℕ) (mode : Mode) (greeting : Greeting) (w : World) → P (replied n Protocol w)
-    → ((chosen : Mode) → P (replied n ModeReply (at_connection n (λ conn. record conn { mode = chosen }) w)))
-    → P (goes buses n mode w) → ((code : Code) → P (replied n (Refused code) w)) → P (greeted buses n mode greeting w)
-greeting_law P buses n mode Speaks w speaks chooses begins refuses = speaks
-greeting_law P buses n mode (Chooses chosen) w speaks chooses begins refuses = chooses chosen
-greeting_law P buses n mode Goes w speaks chooses begins refuses = begins
-greeting_law P buses n mode (Refuses code) w speaks chooses begins refuses = refuses code
-
 pub line_law : (P : World → Type 0) (buses : List Bus) (n : ℕ) (mode : Mode) (line : Heard) (w : World) → P (replied n Protocol w)
     → ((chosen : Mode) → P (replied n ModeReply (at_connection n (λ conn. record conn { mode = chosen }) w)))
     → P (goes buses n mode w) → ((code : Code) → P (replied n (Refused code) w)) → P (greeted buses n mode (greets line) w)
-line_law P buses n mode line w speaks chooses begins refuses = greeting_law P buses n mode _ w speaks chooses begins refuses
+line_law P buses n mode line w speaks chooses begins refuses = by (greets line)
+  where
+    by : (greeting : Greeting) → P (greeted buses n mode greeting w)
+    by Speaks = speaks
+    by (Chooses chosen) = chooses chosen
+    by Goes = begins
+    by (Refuses code) = refuses code

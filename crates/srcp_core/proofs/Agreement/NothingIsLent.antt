@@ -4,13 +4,13 @@ use Rattle.srcp_core.proofs.Names.{append-nil, length-append, length-drop, le-le
 use Rattle.srcp_core.proofs.Names.{not, ◌&&◌, ◌||◌, if◌then◌else◌, Some, None, Bus, IsLayout, Event, Room, OfConnection, lent, Connection}
 use Rattle.srcp_core.proofs.Names.{fitting, given, given_room, is_nil, is_open, is_settled, line_of, overran, owed, text, took, unsent}
 use Rattle.srcp_core.proofs.Names.{World, accepted, counted, course, history, if_open, numbered, open_connection, rows, start, Held}
-use Rattle.srcp_core.proofs.Names.{let_out, unsent_at}
+use Rattle.srcp_core.proofs.Names.{let_out, unsent_at, and-false}
 use Rattle.std.specs.Prelude.{option_map}
 use Rattle.srcp_feed.specs.declared.Next.{Next}
 use Rattle.srcp_core.specs.Agrees.{lends_none}
 use Rattle.srcp_core.proofs.Agreement.AnswersAgree.{lends_agrees}
 use Rattle.srcp_core.proofs.CourseLaws.RoomAfterRoom.{left_after}
-use Rattle.srcp_core.proofs.CourseLaws.RoomsAddUp.{rooms_add_up, takes_within}
+use Rattle.srcp_core.proofs.CourseLaws.RoomsAddUp.{rooms_add_up, takes_within, shut_after}
 use Rattle.srcp_core.proofs.CourseLaws.LinesHaveBytes.{AreFull, owed_full}
 use Rattle.srcp_core.proofs.Agreement.NumbersAndKeys.{numbered_with}
 use Rattle.srcp_core.proofs.CourseLaws.RoomSettles.{sends_replies}
@@ -64,17 +64,13 @@ module _ (buses : List Bus) (w : World) (conn : Connection) (up : is_open conn �
       is_nil (unsent conn ++ flat_map line_of (fitting 0 (unsent conn) nexts))
       ≡ (nat_le (length conn.out) conn.taken && (not conn.info || settled))
 
-  and_false : (t : Bool) → false ≡ t && false
-  and_false true = refl
-  and_false false = refl
-
   some_left : (conn.info ≡ false → conn.items ≡ []) → (byte : ℕ) (bytes : List ℕ) → unsent conn ≡ byte ∷ bytes → Rests
   some_left plain byte bytes u =
       cc (by _ refl)
     where
       by : (info : Bool) → conn.info ≡ info → false ≡ (nat_le (length conn.out) conn.taken && (not conn.info || settled))
       by true i =
-          and_false (nat_le (length conn.out) conn.taken)
+          sym (and-false (nat_le (length conn.out) conn.taken))
           ∙ ap (λ t. nat_le (length conn.out) conn.taken && (false || t))
           (sym
           (ap (λ left. is_open conn && (conn.info && (is_nil left && is_nil nexts))) u ∙ ap (λ t. t && (conn.info && false)) up
@@ -108,12 +104,7 @@ module _ (buses : List Bus) (layout : IsLayout buses) (events : List Event) (n :
   room = given_room 0 (history buses w) (rows buses w)
 
   stays_open : is_open (room conn) ≡ true
-  stays_open = by _ ∙ up
-    where
-      by : (t : Bool)
-          → is_open (if t then conn else took 0 (length (history buses w)) (owed conn (history buses w) (rows buses w)) conn) ≡ is_open conn
-      by true = refl
-      by false = refl
+  stays_open = cc (shut_after 0 (history buses w) (rows buses w) conn)
 
   pub opened : open_connection w n ≡ Some conn
   opened = cc

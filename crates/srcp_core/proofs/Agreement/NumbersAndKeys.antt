@@ -90,11 +90,11 @@ abbrev pub one_if : Bool → ℕ
 one_if t = cond t 1 0
 
 pub opens_cons : (x : Connection) (xs : List Connection) → opens (x ∷ xs) ≡ one_if (is_open x) + opens xs
-opens_cons x xs = by _ refl
-  where
-    by : (t : Bool) → is_open x ≡ t → length (cond (is_open x) (x ∷ filter is_open xs) (filter is_open xs)) ≡ one_if (is_open x) + opens xs
-    by true e = rw e (omega arith)
-    by false e = rw e (omega arith)
+opens_cons x xs =
+    elim (is_open x) as (λ t. length (cond t (x ∷ filter is_open xs) (filter is_open xs)) ≡ one_if t + opens xs) [
+      | true ↦ omega arith
+      | false ↦ omega arith
+    ]
 
 pub opens_with : (n : ℕ) (f : Connection → Connection) (xs : List Connection) (x : Connection) → numbered n xs ≡ Some x
     → opens (with_numbered n f xs) + one_if (is_open x) ≡ opens xs + one_if (is_open (f x))

@@ -2,7 +2,7 @@
 use Rattle.srcp_core.proofs.Names.{◌≡◌, ℕ, ◌≤◌, Bool, true, false, List, [], ◌∷◌, ◌++◌, length, refl, ap, arith, length-append, leb-true}
 use Rattle.srcp_core.proofs.Names.{AllByRecursion, nat_le, Some, if◌then◌else◌, IsWellFormed, Put, Bus, IsLayout, said, OfConnection, lent}
 use Rattle.srcp_core.proofs.Names.{Connection, History, is_open, line_of, overran, owed, tells, took, unsent, course, history, numbered}
-use Rattle.srcp_core.proofs.Names.{rows, Held, AllMoments, HasMoment, last_line, let_out, unsent_at, Event, Room, Item}
+use Rattle.srcp_core.proofs.Names.{rows, Held, AllMoments, HasMoment, last_line, let_out, unsent_at, Event, Room, Item, cond_both}
 use Rattle.srcp_info.proofs.LineLaws.{length-line-le}
 use Rattle.srcp_feed.specs.declared.Next.TheVariants.{Told, Listed, Settled}
 use Rattle.srcp_feed.specs.declared.Next.{Next}
@@ -61,26 +61,15 @@ module _ (buses : List Bus) (layout : IsLayout buses) (events : List Event) (mom
     (there : numbered n (course buses events).connections ≡ Some conn) (up : is_open conn ≡ true) where
   lent_short : IsTaken conn → length (lent buses (course buses (events ++ Room n 0 ∷ [])) n) ≤ 126
   lent_short taken =
+      let w = course buses events in
+      let h = history buses w in
+      let after = room buses layout events n conn there up conn in
+      let later =
+      cond_both (overran conn h) conn (took 0 (length h) (owed conn h (rows buses w)) conn) IsTaken (λ _. taken) (λ _. omega arith) in
       rw (lent_is buses layout events n conn there up)
-      (by (overran after (history buses (course buses events))))
-    where
-      after : Connection
-      after = room buses layout events n conn there up conn
-
-      later : IsTaken after
-      later = same (overran conn h)
-        where
-          h : History
-          h = history buses (course buses events)
-
-          same : (t : Bool) → IsTaken (if t then conn else took 0 (length h) (owed conn h (rows buses (course buses events))) conn)
-          same true = taken
-          same false = omega arith
-
-      by : (t : Bool) → length (if t then [] else unsent after) ≤ 126
-      by true = omega arith
-      by false = unsent_short buses layout (events ++ Room n 0 ∷ []) (all_push HasMoment events (Room n 0) moments tt) n after
-          (found buses layout events n conn there up) later
+      (cond_both (overran after h) [] (unsent after) (λ bytes. length bytes ≤ 126) (λ _. omega arith)
+      (λ _. unsent_short buses layout (events ++ Room n 0 ∷ []) (all_push HasMoment events (Room n 0) moments tt) n after
+      (found buses layout events n conn there up) later))
 
 pub line_agrees : (key : ℕ) (held : Held)
     → OfConnection key held

@@ -5,7 +5,7 @@ use Rattle.srcp_core.proofs.Names.{le_refl, fold, option_map, Option, Some, None
 use Rattle.srcp_core.proofs.Names.{Reading, StandsAt, Bus, opening, shown_rows, key_at, IsRisingBy, Heard, lines_under, Connection, World}
 use Rattle.srcp_core.proofs.Names.{numbered, at_connection, history, entered, open_connection, new_marks, wants_as, denied_lines, Place}
 use Rattle.srcp_core.proofs.Names.{Held, at, place_at, asked_of, heard_from, heard_at, line_answered, steps_of_line, steps_answered}
-use Rattle.srcp_core.proofs.Names.{Recording, key_of, noted, StandsBy, StandsFor, place_of, Asked, IsAt, is_open}
+use Rattle.srcp_core.proofs.Names.{Recording, key_of, noted, StandsBy, StandsFor, place_of, Asked, IsAt, is_open, ne_eqb}
 use Rattle.std.proofs.lemmas.Bool.{eq-eqb}
 use Rattle.std.specs.Prelude.{slice_range}
 use Rattle.srcp_text.specs.Marks.{marks}
@@ -41,11 +41,7 @@ partly_here : (n : ℕ) (bytes fed : List ℕ) → partly n bytes n fed ≡ byte
 partly_here n bytes fed = cc (eq-eqb n n refl)
 
 partly_other : (n m : ℕ) (bytes fed : List ℕ) → m ≢ n → partly n bytes m fed ≡ fed
-partly_other n m bytes fed d = by (m == n) refl
-  where
-    by : (t : Bool) → (m == n) ≡ t → (if t then bytes else fed) ≡ fed
-    by true e = absurd (d (eqb-true m n e))
-    by false e = refl
+partly_other n m bytes fed d = rw (ne_eqb m n d) refl
 
 module _ (buses : List Bus) (keys : List (Option ℕ)) (n key : ℕ) (named : key_of n keys ≡ Some key) where
   -- the reader reads on

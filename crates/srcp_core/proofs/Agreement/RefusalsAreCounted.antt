@@ -47,21 +47,14 @@ denied_commanded granted key session (Ok command) held = by granted _
 
 denied_goes : (granted : Bool) (key : ℕ) (mode : Mode) (held : Held)
     → (goes granted key mode held).denied ≡ after held.denied granted (nat_lt held.last_id 4294967295)
-denied_goes true key mode held =
-    elim (nat_lt _ _)
-    as (λ t.
-    (if t then replied key (Go (held.last_id + 1)) (session_begun key (held.last_id + 1) mode held)
-    else replied key (Refused C500) held).denied
-    ≡ after held.denied true t) [
-      | true ↦ refl
-      | false ↦ refl
-    ]
-denied_goes false key mode held =
-    elim (nat_lt _ _)
-    as (λ t. (if t then denied_line key held else replied key (Refused C500) held).denied ≡ after held.denied false t) [
-      | true ↦ refl
-      | false ↦ refl
-    ]
+denied_goes granted key mode held = by granted _
+  where
+    by : (g t : Bool)
+        → (if t then (if g then replied key (Go (held.last_id + 1)) (session_begun key (held.last_id + 1) mode held)
+        else denied_line key held) else replied key (Refused C500) held).denied ≡ after held.denied g t
+    by true true = refl
+    by false true = refl
+    by g false = unwanted _ g
 
 denied_greeted : (granted : Bool) (key : ℕ) (mode : Mode) (greeting : Greeting) (held : Held)
     → (greeted granted key mode greeting held).denied ≡ after held.denied granted (greeting_wants held.last_id greeting)

@@ -26,11 +26,8 @@ told_map : (f : Connection → ConnRecord) (number : ℕ) (conns : List Connecti
 told_map f zero conns one e = cc
 told_map f (suc n) [] one e = cc
 told_map f (suc zero) (conn ∷ conns) one e = let same : f conn ≡ one = cc in record { conn = conn; there = refl; is = sym same }
-told_map f (suc (suc n)) (conn ∷ conns) one e = let t = told_map f (suc n) conns one e in record {
-  conn = t.conn;
-  there = t.there;
-  is = t.is;
-}
+told_map f (suc (suc n)) (conn ∷ conns) one e =
+    let t = told_map f (suc n) conns one e in record { conn = t.conn; there = t.there; is = t.is }
 
 pub told_connections : (buses : List Bus) (events : List Event) (told : Record) → IsLayout buses → AllMoments events
     → IsRecordOf buses (course buses events) told

@@ -4,19 +4,20 @@ use Rattle.srcp_core.proofs.Names.{sym, ◌∙◌, subst, arith, take_all, take-
 use Rattle.srcp_core.proofs.Names.{AllByRecursion, is_eq, Less, Equal, ◌||◌, Option, None, IsRisingBy, key_cmp, owns, Change, Cursor, Start}
 use Rattle.srcp_core.proofs.Names.{After, Done, Shown, Device, Key, Bus, opening, shown_rows, beyond, Listed, key_cmp_total, key_at}
 use Rattle.srcp_core.proofs.Names.{lists_one, IsLayout, Event, Connection, History, is_settled, World, start, happens, course, rows}
-use Rattle.srcp_core.proofs.Names.{history, listed, has_key, rows_at, listed_row, IsSession, AllMoments, Item, cond_both, le_refl}
+use Rattle.srcp_core.proofs.Names.{history, listed, has_key, rows_at, listed_row, IsSession, AllMoments, Item, cond_both, le_refl, or-true}
 use Rattle.std.specs.Ordering.{eq_by_cmp}
 use Rattle.std.specs.declared.cmp.Ordering.{Ordering}
 use Rattle.std.specs.declared.cmp.Ordering.TheVariants.{Greater}
 use Rattle.srcp_feed.specs.Cursor.{has_reached}
 use Rattle.srcp_core.specs.Laws.{IsThereFrom, times_listed}
-use Rattle.srcp_core.proofs.CourseLaws.ItemsOnlyGrow.{Grows, grown_at, grown_since}
+use Rattle.srcp_core.proofs.CourseLaws.ItemsOnlyGrow.{Grows, grown_since}
 use Rattle.srcp_core.proofs.CourseLaws.Histories.{rows_after, cursor_by, cursor_later}
 use Rattle.srcp_core.proofs.CourseLaws.ListedInOrder.{listed_told, listed_more, rows_of_course, lists_rising}
 use Rattle.srcp_core.proofs.CourseLaws.ShownRegistry.{shown_after, length_history}
 use Rattle.srcp_core.proofs.CourseLaws.SessionsOfACourse.{OfSessions, stands, settled_facts, settled_both, fits_open}
 use Rattle.srcp_core.proofs.CourseLaws.ClientHoldsPassedRows.{Fits, Law, cursor_item, cursor_told}
 use Rattle.srcp_core.proofs.CourseLaws.RegistryStaysWhole.{KeepsKeys, keeps_keys}
+use Rattle.std.proofs.lemmas.List.Folds.{list_any-append}
 
 -- ---- at most once
 
@@ -96,20 +97,10 @@ key_not_beyond cursor key (row ∷ rows) p =
     differs k true e = let s = same_passed cursor row.key key (is_equal row.key key e) in cc
 
 has_left : (key : Key) (xs ys : List Shown) → has_key key xs ≡ true → has_key key (xs ++ ys) ≡ true
-has_left key [] ys h = cc
-has_left key (x ∷ xs) ys h =
-    let by : (t : Bool) → eq_by_cmp key_cmp x.key key ≡ t → has_key key (x ∷ (xs ++ ys)) ≡ true = elim [
-      | true ↦ λ e. rw e refl
-      | false ↦ λ e. rw e (has_left key xs ys (rw e at h))
-    ] in
-    by (eq_by_cmp key_cmp x.key key) refl
+has_left key xs ys h = cc (list_any-append (λ row. eq_by_cmp key_cmp row.key key) xs ys)
 
 has_last : (key : Key) (xs : List Shown) (y : Shown) → eq_by_cmp key_cmp y.key key ≡ true → has_key key (xs ++ y ∷ []) ≡ true
-has_last key [] y e = rw e refl
-has_last key (x ∷ xs) y e = elim (eq_by_cmp key_cmp x.key key) as (λ t. t || has_key key (xs ++ y ∷ []) ≡ true) [
-  | true ↦ refl
-  | false ↦ has_last key xs y e
-]
+has_last key xs y e = cc (list_any-append (λ row. eq_by_cmp key_cmp row.key key) xs (y ∷ []), or-true (has_key key xs))
 
 -- a key that was there since the session's beginning, and that the listing has passed, was listed
 abbrev Met : List Shown → History → ℕ → List Item → Option ℕ → Type 0
@@ -213,9 +204,7 @@ lists_each_once buses layout events more number conn later s t moments settled d
     let here : has_key key (listed conn.items) ≡ true =
     law.1 key (λ k low high. cc (rows_of_course buses w k, before keeps k high low))
     (passed_now w conn (has_reached (cursor_by conn.done conn.items (length (history buses w))) key) refl both.1) in
-    let g : Grows conn later = grown_at number w.connections (course buses (events ++ more)).connections conn later
-    (rw (fold-append (happens buses) start events more) (grown_since buses more w))
-    s.there t.there in
+    let g : Grows conn later = grown_since buses events more number conn later s.there t.there in
     let still : has_key key (listed later.items) ≡ true =
     cc (
       g.is,

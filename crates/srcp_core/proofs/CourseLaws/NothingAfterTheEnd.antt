@@ -14,6 +14,7 @@ use Rattle.srcp_core.proofs.CourseLaws.ShownRegistry.{history_push}
 pub use Rattle.srcp_core.proofs.Agreement.NumbersAndKeys.{numbered_other, numbered_push}
 use Rattle.srcp_core.proofs.Agreement.NumbersAndKeys.{numbered_with}
 use Rattle.srcp_core.proofs.CourseLaws.EventsKeep.{IsAnswered, kept_fed, kept_shut}
+use Rattle.srcp_core.proofs.Invariants.PlacesCover.{where_is, Here, Away}
 
 -- it overran, or it was shut
 abbrev pub is_over : Connection → History → Bool
@@ -167,36 +168,29 @@ module _ (buses : List Bus) (n : ℕ) (x : Connection) where
   stopped_event : (event : Event) (v : World) → IsStopped v → IsStopped (or_refused buses (fault buses v event) event v)
   stopped_event (Open granted) v s =
       stopped_other (Open granted) v (fault buses v (Open granted)) s (numbered_push n v.connections fresh s.y s.there, s.over)
-  stopped_event (Bytes m piece) v s = by (m == n) refl
-    where
-      by : (t : Bool) → (m == n) ≡ t → IsStopped (or_refused buses (fault buses v (Bytes m piece)) (Bytes m piece) v)
-      by true e =
-          rw (eqb-true m n e)
-          (stopped_bytes piece v s)
-      by false e =
-          stopped_other (Bytes m piece) v (fault buses v (Bytes m piece)) s
-          (kept_fed buses m (Lies buses n s.y) (lies_answered buses n s.y m (eqb-false m n e)) piece (open_connection v m) v (lies v s)
-          (lies_at buses n s.y m (eqb-false m n e) _ v (lies v s)))
-  stopped_event (Room m bytes) v s = by (m == n) refl
-    where
-      by : (t : Bool) → (m == n) ≡ t → IsStopped (or_refused buses (fault buses v (Room m bytes)) (Room m bytes) v)
-      by true e =
-          rw (eqb-true m n e)
-          (stopped_room bytes v s)
-      by false e =
-          stopped_other (Room m bytes) v (fault buses v (Room m bytes)) s
-          (lies_at buses n s.y m (eqb-false m n e) (given_room bytes (history buses v) (rows buses v)) v (lies v s))
+  stopped_event (Bytes m piece) v s = elim (where_is m n) [
+    | Here e ↦ rw e (stopped_bytes piece v s)
+    | Away d ↦
+        stopped_other (Bytes m piece) v (fault buses v (Bytes m piece)) s
+        (kept_fed buses m (Lies buses n s.y) (lies_answered buses n s.y m d) piece (open_connection v m) v (lies v s)
+        (lies_at buses n s.y m d _ v (lies v s)))
+  ]
+  stopped_event (Room m bytes) v s = elim (where_is m n) [
+    | Here e ↦ rw e (stopped_room bytes v s)
+    | Away d ↦
+        stopped_other (Room m bytes) v (fault buses v (Room m bytes)) s
+        (lies_at buses n s.y m d (given_room bytes (history buses v) (rows buses v)) v (lies v s))
+  ]
   stopped_event (At moment) v s =
       stopped_other (At moment) v (fault buses v (At moment)) s
       (lies_did buses n s.y (Moment (max v.moment moment)) (record v { moment = max v.moment moment }) (lies v s))
-  stopped_event (Shut m) v s = by (m == n) refl
-    where
-      by : (t : Bool) → (m == n) ≡ t → IsStopped (or_refused buses (fault buses v (Shut m)) (Shut m) v)
-      by true e = rw (eqb-true m n e) (stopped_shut v s)
-      by false e =
-          stopped_other (Shut m) v (fault buses v (Shut m)) s
-          (kept_shut buses m (Lies buses n s.y) (lies_answered buses n s.y m (eqb-false m n e)) (open_connection v m) v (lies v s)
-          (λ conn is. lies_at buses n s.y m (eqb-false m n e) _ v (lies v s)))
+  stopped_event (Shut m) v s = elim (where_is m n) [
+    | Here e ↦ rw e (stopped_shut v s)
+    | Away d ↦
+        stopped_other (Shut m) v (fault buses v (Shut m)) s
+        (kept_shut buses m (Lies buses n s.y) (lies_answered buses n s.y m d) (open_connection v m) v (lies v s)
+        (λ conn is. lies_at buses n s.y m d _ v (lies v s)))
+  ]
 
   stopped_all : (events : List Event) (v : World) → IsStopped v → IsStopped (fold (happens buses) v events)
   stopped_all [] v s = s

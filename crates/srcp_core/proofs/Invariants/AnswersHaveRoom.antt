@@ -6,16 +6,16 @@ use Rattle.srcp_core.proofs.Names.{began, freed, Effect, effect, session_device,
 use Rattle.srcp_core.proofs.Names.{Refuses, Place, Held, place_at, at, IsSound, told_feed, told_place, told_all, told_each, carried}
 use Rattle.srcp_core.proofs.Names.{unsent_of, changed_in, changed_places, changed_at, with_unsent, longest, longest_answer, entered_place}
 use Rattle.srcp_core.proofs.Names.{session_begun, denied_line, one_denied, asked_of, feed_in, panel_for, Asked, Dropped, Greets, Commands}
-use Rattle.srcp_core.proofs.Names.{option_map_or}
+use Rattle.srcp_core.proofs.Names.{option_map_or, ltb-true, ap}
 use Rattle.srcp_info.specs.WellFormed.{IsWellFormedReply}
 use Rattle.srcp_info.specs.declared.change.Reply.TheVariants.{Mode as ModeReply}
 use Rattle.srcp_info.proofs.LineLaws.{length-reply_line-le, length-reply_line-most}
 use Rattle.srcp_rules.proofs.ToldLaws.{reply_told}
-use Rattle.srcp_core.specs.Machine.{replied, goes, greeted, finished, obeyed, answered}
+use Rattle.srcp_core.specs.Machine.{replied, goes, greeted, finished, obeyed, answered, is_obeyed}
 use Rattle.srcp_core.proofs.Invariants.EveryPlaceIsTold.{told_all_at}
 use Rattle.srcp_core.proofs.Invariants.ChangesOneByOne.{change_in}
 use Rattle.srcp_core.proofs.Invariants.PlacesCover.{place_set_here}
-use Rattle.srcp_core.proofs.Invariants.RepliesStayUnsent.{told_shorter, longest_most}
+use Rattle.srcp_core.proofs.Invariants.RepliesStayUnsent.{told_shorter, longest_most, told_keeps}
 use Rattle.srcp_core.proofs.Invariants.LinesAsk.{asked_by}
 
 -- what is known of the line that has begun
@@ -36,20 +36,9 @@ both m n a b c g h = record { few = omega (arith, g.few, h.few); begun = h.begun
 most : (m n : ℕ) (a b : Option Place) → m ≤ n → Gains m a b → Gains n a b
 most m n a b le g = record { few = omega (arith, le, g.few); begun = g.begun }
 
-told_begun : (change : Change) (p : Place) → (told_place change p).reader.begun ≡ p.reader.begun
-told_begun change p = by (feed_in p.panel)
-  where
-    by : (feed : Option Feed) → (told_feed change p feed).reader.begun ≡ p.reader.begun
-    by None = refl
-    by (Some feed) =
-        cond_both _ _ _ (λ (it : Place). it.reader.begun
-        ≡ p.reader.begun)
-        (λ _. refl)
-        (λ _. refl)
-
 told_slot : (change : Change) (o : Option Place) → Gains 0 o (option_map (told_place change) o)
 told_slot change None = record { few = omega arith; begun = refl }
-told_slot change (Some p) = record { few = let t = told_shorter change p in omega (arith, t); begun = told_begun change p }
+told_slot change (Some p) = record { few = let t = told_shorter change p in omega (arith, t); begun = ap (λ (q : Place). q.reader.begun) (told_keeps change p) }
 
 told_gains : (key : ℕ) (changes : List Change) (places : List (Option Place))
     → Gains 0 (place_at places key) (place_at (told_each changes places) key)
@@ -103,24 +92,17 @@ begun_gains key id mode held =
 
 goes_gains : (granted : Bool) (key : ℕ) (mode : Mode) (held : Held) → IsMoment held.moment
     → Gains 64 (at held key) (at (goes granted key mode held) key)
-goes_gains granted key mode held now = by _ refl granted
-  where
-    low : nat_lt held.last_id 4294967295 ≡ true → held.last_id + 1 < 2 ^ 32
-    low t = grind (arith, nat_tests)
-
-    by : (t : Bool) → nat_lt held.last_id 4294967295 ≡ t → (granted : Bool)
-        → Gains 64 (at held key)
-        (at
-        (if t
-        then (if granted then replied key (Go (held.last_id + 1)) (session_begun key (held.last_id + 1) mode held)
-        else denied_line key held)
-        else replied key (Refused C500) held)
-        key)
-    by true e true =
-        both 0 64 (at held key) (at (session_begun key (held.last_id + 1) mode held) key) _ (begun_gains key (held.last_id + 1) mode held)
-        (replied_gains key (Go (held.last_id + 1)) (session_begun key (held.last_id + 1) mode held) now (low e))
-    by true e false = denied_gains key held now
-    by false e granted = replied_gains key (Refused C500) held now tt
+goes_gains granted key mode held now =
+    let begun = session_begun key (held.last_id + 1) mode held in
+    let begins = replied key (Go (held.last_id + 1)) begun in
+    cond_both (nat_lt held.last_id 4294967295) (if granted then begins else denied_line key held) (replied key (Refused C500) held)
+    (λ it. Gains 64 (at held key) (at it key))
+    (λ e. let l = ltb-true held.last_id 4294967295 e in
+    cond_both granted begins (denied_line key held) (λ it. Gains 64 (at held key) (at it key))
+    (λ _. both 0 64 (at held key) (at begun key) _ (begun_gains key (held.last_id + 1) mode held)
+    (replied_gains key (Go (held.last_id + 1)) begun now (omega (arith, l))))
+    (λ _. denied_gains key held now))
+    (λ _. replied_gains key (Refused C500) held now tt)
 
 greeted_gains : (granted : Bool) (key : ℕ) (mode : Mode) (greeting : Greeting) (held : Held) → IsMoment held.moment
     → Gains 64 (at held key) (at (greeted granted key mode greeting held) key)
@@ -164,15 +146,12 @@ answered_gains granted key asked held p mark there is s = by asked is
     by Dropped is = most 0 64 _ _ (omega arith) (nothing (at held key))
     by (Greets mode greeting) is = greeted_gains granted key mode greeting held s.moment
     by (Commands session (Err code)) is = replied_gains key (Refused code) held s.moment tt
-    by (Commands session (Ok command)) is = given _
-      where
-        given : (t : Bool)
-            → Gains 126 (at held key)
-            (at (cond t (obeyed key session (effect held.rows session held.moment command) held) (denied_line key held)) key)
-        given false = most 64 126 _ _ (omega arith) (denied_gains key held s.moment)
-        given true =
-            let a = asked_by _ s.whole.laid_out p mark session _ is in
-            let row : is_there (session_device session) held.rows ≡ true =
-            rw (← a.own) (s.sessions.there key p there a.live) in
-            obeyed_gains key session (effect held.rows session held.moment command) held s.moment
-            (reply_told held.buses held.rows s.whole session held.moment row s.moment command)
+    by (Commands session (Ok command)) is =
+        let a = asked_by _ s.whole.laid_out p mark session _ is in
+        let row : is_there (session_device session) held.rows ≡ true = rw (← a.own) (s.sessions.there key p there a.live) in
+        let result = effect held.rows session held.moment command in
+        cond_both (is_obeyed granted session command held) (obeyed key session result held) (denied_line key held)
+        (λ it. Gains 126 (at held key) (at it key))
+        (λ _. obeyed_gains key session result held s.moment
+        (reply_told held.buses held.rows s.whole session held.moment row s.moment command))
+        (λ _. most 64 126 _ _ (omega arith) (denied_gains key held s.moment))

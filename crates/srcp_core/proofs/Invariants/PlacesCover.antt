@@ -85,25 +85,17 @@ covers_set places key p q at mild m r e = by (where_is m key)
         record { p = p; there = rw s at; mild = subst (IsMild p) same mild }
     by (Away f) = record { p = r; there = sym (place_set places key m _ f) ∙ e; mild = mild_itself r }
 
-pub covers_free : (places : List (Option Place)) (key : ℕ) (p : Place) → place_at places key ≡ Some p
-    → Covers places (slice_set places key None)
-covers_free places key p at m r e = by (where_is m key)
-  where
-    by : Where m key → Source places m r
-    by (Here s) =
-        let here : place_at (slice_set places key None) m ≡ None =
-        rw s (place_set_here places key p None at) in
-        let bad : Some r ≡ None = cc in
-        cc
-    by (Away f) = record { p = r; there = sym (place_set places key m None f) ∙ e; mild = mild_itself r }
-
 pub free_other : (places : List (Option Place)) (key : ℕ) (p : Place) → place_at places key ≡ Some p → (m : ℕ) (r : Place)
     → place_at (slice_set places key None) m ≡ Some r → m ≢ key
 free_other places key p at m r e s =
-    let here : place_at (slice_set places key None) m ≡ None =
-    rw s (place_set_here places key p None at) in
+    let here : place_at (slice_set places key None) m ≡ None = rw s (place_set_here places key p None at) in
     let bad : Some r ≡ None = cc in
     cc
+
+pub covers_free : (places : List (Option Place)) (key : ℕ) (p : Place) → place_at places key ≡ Some p
+    → Covers places (slice_set places key None)
+covers_free places key p at m r e =
+    record { p = r; there = sym (place_set places key m None (free_other places key p at m r e)) ∙ e; mild = mild_itself r }
 
 -- ---- a change is told
 

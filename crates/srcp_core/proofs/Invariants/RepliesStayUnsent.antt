@@ -3,7 +3,7 @@ use Rattle.srcp_core.proofs.Names.{◌≡◌, ℕ, ◌+◌, ◌<◌, ◌≤◌, 
 use Rattle.srcp_core.proofs.Names.{option_map, ◌&&◌, if◌then◌else◌, Option, Some, None, lt-ltb, C500, Change, Reply, Accepted, Protocol, Go}
 use Rattle.srcp_core.proofs.Names.{Refused, Shows, Mode, session_device, Update, is_there, concerns, Feed, is_full, told, Place, Held}
 use Rattle.srcp_core.proofs.Names.{place_at, IsLive, IsSound, IsSessionAt, told_feed, told_place, told_all, told_each, carried, unsent_of}
-use Rattle.srcp_core.proofs.Names.{changed_in, with_unsent, longest, session_begun, feed_in, Listening, Overran}
+use Rattle.srcp_core.proofs.Names.{changed_in, with_unsent, longest, session_begun, feed_in, Listening, Overran, cond_both}
 use Rattle.srcp_info.specs.declared.change.Reply.TheVariants.{Mode as ModeReply}
 use Rattle.srcp_core.specs.Machine.{replied, goes}
 use Rattle.srcp_core.proofs.Invariants.EveryPlaceIsTold.{told_all_at}
@@ -48,21 +48,18 @@ longest_most (Refused code) = omega arith
 
 -- ---- the session that goes on
 
-told_live : (change : Change) (p : Place) → ((told_place change p).session ≡ p.session) × ((told_place change p).ended ≡ p.ended)
-told_live change p = by (feed_in p.panel)
+-- a change that is told changes what is unsent and the panel alone
+pub told_keeps : (change : Change) (p : Place)
+    → told_place change p ≡ record p { unsent = (told_place change p).unsent; panel = (told_place change p).panel }
+told_keeps change p = by (feed_in p.panel)
   where
-    by : (feed : Option Feed) → ((told_feed change p feed).session ≡ p.session) × ((told_feed change p feed).ended ≡ p.ended)
-    by None = (refl, refl)
+    by : (feed : Option Feed)
+        → told_feed change p feed ≡ record p { unsent = (told_feed change p feed).unsent; panel = (told_feed change p feed).panel }
+    by None = refl
     by (Some feed) =
-        elim (concerns _ change && is_full feed)
-        as (λ t.
-        ((cond t (record p { unsent = []; panel = Overran }) (record p { panel = Listening (told change feed) })).session
-        ≡ p.session)
-        × ((cond t (record p { unsent = []; panel = Overran }) (record p { panel = Listening (told change feed) })).ended
-        ≡ p.ended)) [
-          | true ↦ (refl, refl)
-          | false ↦ (refl, refl)
-        ]
+        cond_both (concerns feed.cursor change && is_full feed) (record p { unsent = []; panel = Overran })
+        (record p { panel = Listening (told change feed) }) (λ (it : Place). it ≡ record p { unsent = it.unsent; panel = it.panel })
+        (λ _. refl) (λ _. refl)
 
 -- the connection at the place of these, with its session
 pub record IsSessionIn (session key : ℕ) (places : List (Option Place)) : Type 0 where
@@ -75,12 +72,15 @@ told_session : (session key : ℕ) (changes : List Change) (places : List (Optio
     → IsSessionIn session key (told_each changes places)
 told_session session key [] places s = s
 told_session session key (change ∷ changes) places s =
-    let l = told_live change s.place in
+    let l = told_keeps change s.place in
     told_session session key changes (told_all change places) (record {
       place = told_place change s.place;
       here = told_all_at change places key ∙ ap (option_map (told_place change)) s.here;
-      own = l.0 ∙ s.own;
-      live = record { began = subst (λ n. 0 < n) (sym l.0) s.live.began; not_ended = l.1 ∙ s.live.not_ended };
+      own = ap (λ (q : Place). q.session) l ∙ s.own;
+      live = record {
+        began = subst (λ n. 0 < n) (sym (ap (λ (q : Place). q.session) l)) s.live.began;
+        not_ended = ap (λ (q : Place). q.ended) l ∙ s.live.not_ended;
+      };
     })
 
 pub session_replied : (session key : ℕ) (reply : Reply) (updates : List Update) (held : Held) → IsSessionAt session key held
