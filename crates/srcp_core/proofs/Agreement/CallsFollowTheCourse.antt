@@ -142,8 +142,7 @@ lent_leads key count old new held few is lent buses events keys n layout named s
     let first_r = telling keys w in
     let now : min (length (unsent_at key (let_out key held))) count ≡ count =
     let most = subst (λ (x : Held). count ≤ length (unsent_at key x)) lent few in omega (arith, most) in
-    let taken : new ≡ taken_at key count held =
-    cc in
+    let taken : new ≡ taken_at key count held = cc in
     let all : count - count_at key count held ≡ 0 = omega (arith, now) in
     let h =
     ((room_happens n key count first_r held count first_r held (inl all) refl

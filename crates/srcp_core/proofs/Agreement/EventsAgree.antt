@@ -76,8 +76,7 @@ module _ (buses : List Bus) where
           else (if not (is_nil other) then Some Busy else (if nat_lt 256 (length piece) then Some PieceTooLong else None)))
       by true over h e = refl
       by false true h e = refl
-      by false false h e =
-          cc (h refl)
+      by false false h e = cc (h refl)
 
   pub full_fault : (keys : List (Option ℕ)) (held : Held) (w : World) → StandsFor buses keys held w → open_count held ≡ 64
       → (granted : Bool) → fault buses w (Open granted) ≡ Some Full
@@ -91,8 +90,7 @@ module _ (buses : List Bus) where
 
   pub free_fault : (keys : List (Option ℕ)) (held : Held) (w : World) → StandsFor buses keys held w → open_count held < 64
       → (granted : Bool) → fault buses w (Open granted) ≡ (if granted then None else Some MemoryFault)
-  free_fault keys held w s e granted =
-      cc (free_room keys held w s e)
+  free_fault keys held w s e granted = cc (free_room keys held w s e)
 
   -- ---- one more event, and what is refused
 
@@ -106,8 +104,7 @@ module _ (buses : List Bus) where
       → StandsFor buses keys (advanced moment held) (accepted buses (At moment) w)
   stands_advanced keys held w moment fine s =
       rw (← s.moment)
-      (stands_did buses (λ n fed. fed) keys _ _
-      _ fine
+      (stands_did buses (λ n fed. fed) keys _ _ _ fine
       (stands_as buses (λ n fed. fed) keys held w _ _ _ _ _ _ _ refl s.last_id s))
 
   -- ---- a connection is opened
@@ -268,8 +265,7 @@ module _ (buses : List Bus) where
       owner : (other : ℕ) (p : Place) → place_at (slice_set held.places key None) other ≡ Some p → Where other key
           → IsOwned (without_key n keys) other
       owner other p e (Here z) =
-          let bad : None ≡ Some p =
-          cc (place_set_here _ key old None there) in
+          let bad : None ≡ Some p = cc (place_set_here _ key old None there) in
           cc
       owner other p e (Away d) =
           let o = s.owned other p (sym (place_set _ key other None d) ∙ e) in

@@ -71,8 +71,7 @@ module _ (buses : List Bus) (order : IsRisingBy key_at (shown_rows (opening buse
       stands_at buses read keys held w n key f change s named
       (λ other reader e shut.
       let same : conn ≡ other = let both : Some conn ≡ Some other = cc in cc in
-      rw (← same)
-      (up, (fed, law reader (cc))))
+      rw (← same) (up, (fed, law reader (cc))))
 
   numbered_at : (w : World) (conn : Connection) (f : Connection → Connection) → numbered n w.connections ≡ Some conn
       → numbered n (at_connection n f w).connections ≡ Some (f conn)

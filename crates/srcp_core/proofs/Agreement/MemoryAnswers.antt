@@ -15,10 +15,7 @@ use Rattle.srcp_info.specs.declared.change.Reply.TheVariants.{Mode as ModeReply}
 -- what holds of the command's effect and of a refusal holds of what the order does
 pub effect_law : (P : Effect → Type 0) (state : State) (session moment : ℕ) (order : Order)
     → P (effect_of state session moment order.command) → P (refused C500) → P (effect state session moment order)
-effect_law P state session moment order e r =
-    cond_both _ _ _ P
-    (λ _. e)
-    (λ _. r)
+effect_law P state session moment order e r = cond_both _ _ _ P (λ _. e) (λ _. r)
 
 -- a command that another rule refuses has that refusal
 pub refusals_stand : (state : State) (session moment : ℕ) (order : Order) (code : Code)
@@ -115,14 +112,12 @@ all_first (g ∷ grants) a = a.0
 pub lines_all : (grants : List Bool) (marks : List Mark) → AllByRecursion IsTrue grants → lines_under grants marks ≡ lines_under [] marks
 lines_all [] marks a = refl
 lines_all (g ∷ grants) [] a = refl
-lines_all (g ∷ grants) (mark ∷ marks) a =
-    cc (a.0, lines_all grants marks a.1)
+lines_all (g ∷ grants) (mark ∷ marks) a = cc (a.0, lines_all grants marks a.1)
 
 fed_all : (buses : List Bus) (n : ℕ) (bytes : List ℕ) (grants : List Bool) (o : Option Connection) (w : World)
     → AllByRecursion IsTrue grants → fed_to buses n (record { bytes = bytes; grants = grants }) o w ≡ fed_to buses n (giving bytes) o w
 fed_all buses n bytes grants None w a = refl
-fed_all buses n bytes grants (Some conn) w a =
-    cc (lines_all grants _ a)
+fed_all buses n bytes grants (Some conn) w a = cc (lines_all grants _ a)
 
 -- an event happens as where memory gives all
 pub happens_all : (buses : List Bus) (w : World) (grants : List Bool) (event : PlainEvent) → AllByRecursion IsTrue grants

@@ -83,10 +83,8 @@ module _ (buses : List Bus) (w : World) (conn : Connection) (up : is_open conn �
       cc (next_nil nexts (owed_full conn (history buses w) (rows buses w)), by _ refl, replies_taken conn u)
     where
       by : (info : Bool) → conn.info ≡ info → is_nil nexts ≡ (not conn.info || settled)
-      by true i =
-          cc
-      by false i =
-          cc
+      by true i = cc
+      by false i = cc
 
   rests : (conn.info ≡ false → conn.items ≡ []) → Rests
   rests plain = by _ refl
@@ -111,8 +109,7 @@ module _ (buses : List Bus) (layout : IsLayout buses) (events : List Event) (n :
 
   -- after a room for no bytes
   next_is : course buses (events ++ Room n 0 ∷ []) ≡ accepted buses (Room n 0) (counted w)
-  next_is =
-      cc (fold-append _ start events _)
+  next_is = cc (fold-append _ start events _)
 
   pub found : numbered n (course buses (events ++ Room n 0 ∷ [])).connections ≡ Some (room conn)
   found = ap (λ (v : World). numbered n v.connections) next_is ∙ numbered_with n room _ ∙ ap (option_map room) there

@@ -106,8 +106,7 @@ module _ (first : List Shown) (history : History) (conn : Connection) (shut : co
 
   owed_is : conn.info ≡ true
       → owed conn history rows_now ≡ map Told (untold conn history) ++ map Listed (beyond (cursor_at conn n) rows_now)
-  owed_is info =
-      cc
+  owed_is info = cc
 
   abbrev after : List Next → Connection
   after nexts = record conn {
@@ -121,42 +120,33 @@ module _ (first : List Shown) (history : History) (conn : Connection) (shut : co
   gave_one info none (change ∷ changes) u b e =
       let one = fits_told first history _ _ _ change changes fits (sym (untold_shut conn history shut) ∙ u) in
       let later : Connection = record conn { items = conn.items ++ items_of n (Told change ∷ []); done = conn.done } in
-      let is : after (map Told (change ∷ changes) ++ map Listed b) ≡ later =
-      cc (and-false _) in
+      let is : after (map Told (change ∷ changes) ++ map Listed b) ≡ later = cc (and-false _) in
       rw is (record {
-        unsent_is =
-            cc (unsent_more conn n (Told change ∷ []) conn.done within, append-nil _);
+        unsent_is = cc (unsent_more conn n (Told change ∷ []) conn.done within, append-nil _);
         cursor_is = cursor_told history _ _ change fits.numbers;
         untold_is = cc (untold_shut later history shut, one.waiting);
-        told_is =
-            cc (sent_more conn n (Told change ∷ []) conn.done within);
+        told_is = cc (sent_more conn n (Told change ∷ []) conn.done within);
       })
   gave_one info none [] u (row ∷ left) e =
       let bare = sym (untold_shut conn history shut) ∙ u in
       let one = fits_listed first history _ _ _ row left order fits bare e in
       let undone : conn.done ≡ None = not_done first history _ _ _ row left fits e in
       let later : Connection = record conn { items = conn.items ++ items_of n (Listed row ∷ []); done = conn.done } in
-      let is : after (map Told [] ++ map Listed (row ∷ left)) ≡ later =
-      cc (and-false _) in
+      let is : after (map Told [] ++ map Listed (row ∷ left)) ≡ later = cc (and-false _) in
       rw is (record {
-        unsent_is =
-            cc (unsent_more conn n (Listed row ∷ []) conn.done within, append-nil _);
-        cursor_is =
-            cc (cursor_item history _ _ fits.numbers);
+        unsent_is = cc (unsent_more conn n (Listed row ∷ []) conn.done within, append-nil _);
+        cursor_is = cc (cursor_item history _ _ fits.numbers);
         untold_is = cc (untold_shut later history shut, one.waiting);
-        told_is =
-            cc (sent_more conn n (Listed row ∷ []) conn.done within);
+        told_is = cc (sent_more conn n (Listed row ∷ []) conn.done within);
       })
   gave_one info none [] u [] e =
       let bare : untold_by conn.go_step conn.items conn.done history ≡ [] = sym (untold_shut conn history shut) ∙ u in
-      let owes : owed_by conn.go_step conn.items conn.done history rows_now ≡ [] =
-      cc in
+      let owes : owed_by conn.go_step conn.items conn.done history rows_now ≡ [] = cc in
       let both =
       nothing_owed conn.go_step conn.items (option_or conn.done (Some n)) history rows_now
       (done_owes first history conn.go_step conn.items conn.done owes) in
       let later : Connection = record conn { done = option_or conn.done (Some n) } in
-      let is : after [] ≡ later =
-      cc (append-nil _) in
+      let is : after [] ≡ later = cc (append-nil _) in
       rw is (record {
         unsent_is = none;
         cursor_is = done_now conn.done fits.finished;
@@ -166,8 +156,7 @@ module _ (first : List Shown) (history : History) (conn : Connection) (shut : co
     where
       done_now : (end : Option ℕ) → IfSome end (λ m. m ≤ length history)
           → cursor_by (option_or end (Some (length history))) conn.items (length history) ≡ Done
-      done_now None h =
-          cc (le-leb _ _ (le_refl (length history)))
+      done_now None h = cc (le-leb _ _ (le_refl (length history)))
       done_now (Some m) h = cc (le-leb m _ h)
 
   -- a room for no bytes puts in what the code puts in
@@ -181,10 +170,8 @@ module _ (first : List Shown) (history : History) (conn : Connection) (shut : co
       → unsent conn ≡ bytes → IsFilled reader (took 0 n (owed conn history rows_now) conn)
   fills_info reader info still (byte ∷ bytes) e =
       subst (λ (c : Connection). IsFilled reader c) (sym (took_still n _ conn byte bytes e)) (record {
-        place =
-            cc (info_is reader history conn info still);
-        told =
-            cc (info_is reader history conn info still);
+        place = cc (info_is reader history conn info still);
+        told = cc (info_is reader history conn info still);
       })
   fills_info reader info still [] e =
       let what : Next = next_of rows_now feed_now in
@@ -202,8 +189,7 @@ module _ (first : List Shown) (history : History) (conn : Connection) (shut : co
               g.untold_is,
               info_is reader history later info (ap (λ q. nat_lt 256 (length q)) g.untold_is ∙ fewer _ still),
             );
-        told =
-            cc (g.told_is, info_is reader history conn info still);
+        told = cc (g.told_is, info_is reader history conn info still);
       })
     where
       fewer : (q : List Change) → nat_lt 256 (length q) ≡ false → nat_lt 256 (length (drop 1 q)) ≡ false
@@ -223,10 +209,8 @@ module _ (first : List Shown) (history : History) (conn : Connection) (shut : co
 
   fills_plain : (reader : Reading) → conn.info ≡ false → (bytes : List ℕ) → unsent conn ≡ bytes → IsFilled reader conn
   fills_plain reader plain bytes e = record {
-    place =
-        cc (plain_is reader history conn plain, same bytes);
-    told =
-        cc (plain_is reader history conn plain, nothing bytes);
+    place = cc (plain_is reader history conn plain, same bytes);
+    told = cc (plain_is reader history conn plain, nothing bytes);
   }
     where
       same : (bytes : List ℕ)
@@ -266,12 +250,8 @@ module _ (first : List Shown) (history : History) (conn : Connection) (shut : co
     where
       by : (info over : Bool) → conn.info ≡ info → nat_lt 256 (length (untold conn history)) ≡ over
           → IsFilled reader (given_room 0 history rows_now conn)
-      by true true i o =
-          rw o (fills_over reader i o)
-      by true false i o =
-          rw o
-          (fills_info reader i o _ refl)
+      by true true i o = rw o (fills_over reader i o)
+      by true false i o = rw o (fills_info reader i o _ refl)
       by false over i o =
           let still : overran conn history ≡ false = cc in
-          rw still
-          (rw (took_plain i) (fills_plain reader i (unsent conn) refl))
+          rw still (rw (took_plain i) (fills_plain reader i (unsent conn) refl))

@@ -111,14 +111,12 @@ with_connections r tolds = record { keys = r.keys; steps = []; connections = tol
 
 pub shut_kept : (n : ℕ) (in_full : Bool) (r : Recording) → shut n (kept in_full r) ≡ kept in_full (shut n r)
 shut_kept n true r = refl
-shut_kept n false r = cc (changed_kept n (λ one. record one { finish = ShutFinish }) (λ one. refl)
-    _)
+shut_kept n false r = cc (changed_kept n (λ one. record one { finish = ShutFinish }) (λ one. refl) _)
 
 pub took_kept : (n : ℕ) (bytes : List ℕ) (in_full : Bool) (r : Recording)
     → took n bytes (kept in_full r) ≡ kept in_full (took n bytes r)
 took_kept n bytes true r = refl
-took_kept n bytes false r = cc (changed_kept n (λ one. record one { sent = one.sent ++ bytes }) (λ one. refl)
-    _)
+took_kept n bytes false r = cc (changed_kept n (λ one. record one { sent = one.sent ++ bytes }) (λ one. refl) _)
 
 pub began_aside : (n : ℕ) (step : Step) (r : Recording) → recording_outline (began n step r) ≡ recording_outline r
 began_aside n (recorded.Obeyed session moment command) r = refl

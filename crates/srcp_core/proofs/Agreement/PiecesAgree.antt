@@ -197,12 +197,8 @@ module _ (buses : List Bus) (order : IsRisingBy key_at (shown_rows (opening buse
       let both =
       line_is_answered grants granted start s mark held p reading r (subst (λ k. start < k) stop_is onward) here adds moves u t in
       record {
-        upto =
-            rw stop_is
-            (rw (ap (λ (x : ℕ × Held). x.1) is) both.0);
-        tells =
-            rw stop_is
-            (rw (ap (steps_of_line granted) finding) both.1);
+        upto = rw stop_is (rw (ap (λ (x : ℕ × Held). x.1) is) both.0);
+        tells = rw stop_is (rw (ap (steps_of_line granted) finding) both.1);
       }
     where
       stop_is : stop ≡ s
@@ -249,8 +245,7 @@ module _ (buses : List Bus) (order : IsRisingBy key_at (shown_rows (opening buse
     where
       read_is : (m : ℕ) (conn : Connection) → numbered m v.connections ≡ Some conn → Where m n → partly n bytes m conn.fed ≡ conn.fed
       read_is m conn e (Here same) =
-          let its : Some conn.fed ≡ Some bytes =
-          cc in
+          let its : Some conn.fed ≡ Some bytes = cc in
           let equal : conn.fed ≡ bytes = cc in
           cc (partly_here n bytes conn.fed)
       read_is m conn e (Away d) = partly_other n m bytes conn.fed d
@@ -294,8 +289,7 @@ module _ (buses : List Bus) (order : IsRisingBy key_at (shown_rows (opening buse
               fed_to_end fed piece start [] p.reader reading
               (λ bytes stood. marks-fed bytes p.reader reading piece start More (sym e) stood)
               (λ bytes stood. stands-fed bytes p.reader reading piece start More (sym e) stood) stood in
-              let last : new_marks buses fed piece ≡ marks_upto start =
-              later_marks fed _ _ [] both.0 ∙ append-nil _ in
+              let last : new_marks buses fed piece ≡ marks_upto start = later_marks fed _ _ [] both.0 ∙ append-nil _ in
               let world : world_upto grants start ≡ fold (course_answered buses n) w (lines_under grants (new_marks buses fed piece)) =
               cc in
               let reads : StandsBy buses (partly n (fed ++ piece)) keys
@@ -312,8 +306,7 @@ module _ (buses : List Bus) (order : IsRisingBy key_at (shown_rows (opening buse
                     (stands_all (record held { places = slice_set held.places key (Some (record p { reader = reading })) })
                     (world_upto grants start) (fed ++ piece) u.fed_is reads));
                 world_is = world;
-                counts =
-                    cc u.counts;
+                counts = cc u.counts;
               }
 
 -- ---- the beginning of a piece
@@ -340,8 +333,7 @@ piece_begun buses order keys n key named piece held w conn a s there =
     cc (append-nil conn.fed, drop_all (length (marks conn.fed)) (marks conn.fed) (le_refl (length (marks conn.fed)))) in
     let world : fold (course_answered buses n) (accepting n piece w)
     (lines_under [] (drop (length (marks conn.fed)) (marks (conn.fed ++ []))))
-    ≡ accepting n piece w =
-    cc in
+    ≡ accepting n piece w = cc in
     let p = place_of h.reader _ h.conn in
     let changed : StandsBy buses (partly n (conn.fed ++ [])) keys (record held { places = slice_set held.places key (Some p) })
     (accepting n piece w) =
@@ -356,8 +348,7 @@ piece_begun buses order keys n key named piece held w conn a s there =
       record {
         count = cc;
         fine = rw world fine;
-        fed_is =
-            cc (numbered_with n f _);
+        fed_is = cc (numbered_with n f _);
         stands = rw world stands;
         counts = sym (denied_none buses n (accepting n piece w) _ (drop (length (marks conn.fed)) (marks (conn.fed ++ []))));
       },

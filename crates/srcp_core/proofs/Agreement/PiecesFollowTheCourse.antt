@@ -101,8 +101,7 @@ accepted_leads key piece old new free received =
           let h =
           bytes_with a.grants n key piece first_r old reached.0 i.told reached.1 new received.rest i.reads buses events layout
           (runs_telling buses keys old (course buses events) s) in
-          rw (← i.keys)
-          (runs_on buses events (Bytes n p) None (length events + 1) i.told new refl h).stands;
+          rw (← i.keys) (runs_on buses events (Bytes n p) None (length events + 1) i.told new refl h).stands;
     }
 
 pub refused_leads : (key : ℕ) (piece : List ℕ) (old new : Held) (cause : CoreFault) → bytes_fault key piece old ≡ Some cause → new ≡ old

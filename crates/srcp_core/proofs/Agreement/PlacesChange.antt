@@ -77,8 +77,7 @@ told_places_placed : (changes : List Change) (reader : Reading) (mode : Mode) (s
     (cursor : Cursor) (queue : List Change)
     → told_places changes (placed reader mode session info ended bytes cursor queue)
     ≡ placed reader mode session info ended bytes cursor (queue ++ filter (concerns cursor) changes)
-told_places_placed [] reader mode session info ended bytes cursor queue =
-    cc (append-nil queue)
+told_places_placed [] reader mode session info ended bytes cursor queue = cc (append-nil queue)
 told_places_placed (change ∷ changes) reader mode session info ended bytes cursor queue =
     cc (
       told_placed change reader mode session info ended bytes cursor queue,
@@ -96,8 +95,7 @@ told_places_placed (change ∷ changes) reader mode session info ended bytes cur
 
 pub untold_shut : (conn : Connection) (history : History) → conn.shut ≡ None
     → untold conn history ≡ untold_by conn.go_step conn.items conn.done history
-untold_shut conn history e =
-    cc
+untold_shut conn history e = cc
 
 untold_push : (first : List Shown) (conn : Connection) (history : History) (changes : List Change) → conn.shut ≡ None
     → Fits first history conn.go_step conn.items conn.done
@@ -139,8 +137,7 @@ plain_place reader mode session ended bytes = record {
 
 pub plain_is : (reader : Reading) (history : History) (conn : Connection) → conn.info ≡ false
     → place_of reader history conn ≡ plain_place reader conn.mode conn.session conn.ended (unsent conn)
-plain_is reader history conn e =
-    cc
+plain_is reader history conn e = cc
 
 -- a reply to a connection that was given no lines is put at the end of what was given to it
 pub given_reply : (conn : Connection) (line : List ℕ) → conn.items ≡ []
@@ -224,5 +221,4 @@ module _ (reader : Reading) (history : History) (conn : Connection) where
   -- a reply to one that did not overrun
   pub replied_still : (line : List ℕ) → is_over_place history conn ≡ false → conn.items ≡ [] → conn.taken ≤ length (given conn)
       → with_unsent line (place_of reader history conn) ≡ place_of reader history (record conn { out = conn.out ++ line })
-  replied_still line still none within =
-      cc (unsent_reply conn line none within)
+  replied_still line still none within = cc (unsent_reply conn line none within)

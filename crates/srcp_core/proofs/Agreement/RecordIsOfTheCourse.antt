@@ -107,8 +107,7 @@ module _ (buses : List Bus) (layout : IsLayout buses) (keys : List (Option ℕ))
   one_finished n conn e = by _ refl
     where
       by : (o : Bool) → is_open conn ≡ o → finished_by held (key_of n keys) (record_of conn) ≡ recorded (history buses w) conn
-      by false o =
-          cc (s.closed n conn e o)
+      by false o = cc (s.closed n conn e o)
       by true o =
           let a = s.opens n conn e o in
           cc (a.named, finish_is n a.key a.reader conn e o a.place)
@@ -165,8 +164,7 @@ pub runs_on : (buses : List Bus) (events : List Event) (event : Event) (refusal 
     → Runs buses (with_fault number refusal r) held (course buses (events ++ event ∷ []))
 runs_on buses events event None number r held e h =
     let w = counted _ in
-    let is : course buses (events ++ event ∷ []) ≡ accepted buses event w =
-    cc (fold-append _ start events _, h.0) in
+    let is : course buses (events ++ event ∷ []) ≡ accepted buses event w = cc (fold-append _ start events _, h.0) in
     rw is h.1
 runs_on buses events event (Some cause) number r held e h =
     let w = counted _ in
@@ -180,8 +178,7 @@ runs_on buses events event (Some cause) number r held e h =
       stands = stands_as buses (λ n fed. fed) r.keys held w _ _ _ _ _ _ _ s.moment s.last_id s;
       tells = record {
         steps = t.steps;
-        refused =
-            cc t.refused;
+        refused = cc t.refused;
         connections = t.connections;
       };
     })
@@ -239,9 +236,7 @@ follows_more buses events index event r later_r held later layout at f u =
       asked = one.0 ∙ ap (λ k. denied_in buses k (counted (course buses all)) (under f.grants event)) u.asked
           ∙ sym (ap (denied_over buses 0 start) (under_push u.grants _ f.grants event u.count)
           ∙ denied_over_push buses 0 start all _);
-      runs =
-          rw (under_push u.grants _ f.grants event u.count)
-          (one.1 (cc));
+      runs = rw (under_push u.grants _ f.grants event u.count) (one.1 (cc));
     })
 
 -- before all events

@@ -26,11 +26,7 @@ unwanted denied false = refl
 -- ---- the answer to a line
 
 denied_obeyed : (key session : ℕ) (did : Effect) (held : Held) → (obeyed key session did held).denied ≡ held.denied
-denied_obeyed key session did held =
-    cond_both _ _ _ (λ (it : Held). it.denied
-    ≡ held.denied)
-    (λ _. refl)
-    (λ _. refl)
+denied_obeyed key session did held = cond_both _ _ _ (λ (it : Held). it.denied ≡ held.denied) (λ _. refl) (λ _. refl)
 
 denied_commanded : (granted : Bool) (key session : ℕ) (command : Result Command Code) (held : Held)
     → (commanded granted key session command held).denied ≡ after held.denied granted (reading_wants held.rows session held.moment command)

@@ -65,8 +65,7 @@ room_unsent count history rows conn still some few =
 
 taken_place : (reader : Reading) (history : History) (conn : Connection) (count : ℕ) → is_over_place history conn ≡ false
     → without_sent count (place_of reader history conn) ≡ place_of reader history (with_taken count conn)
-taken_place reader history conn count still =
-    rw still (cc (drop-drop count conn.taken (given conn)))
+taken_place reader history conn count still = rw still (cc (drop-drop count conn.taken (given conn)))
 
 taken_told : (conn : Connection) (count : ℕ) → record_of (with_taken count conn) ≡ record (record_of conn) {
   sent = sent conn ++ take count (unsent conn);
@@ -75,10 +74,7 @@ taken_told conn count = cc (take_plus _ count _)
 
 -- room leaves the bytes that were accepted
 fed_room : (bytes : ℕ) (history : History) (rows : List Shown) (conn : Connection) → (given_room bytes history rows conn).fed ≡ conn.fed
-fed_room bytes history rows conn =
-    cond_both _ _ _ (λ (it : Connection). it.fed ≡ conn.fed)
-    (λ _. refl)
-    (λ _. refl)
+fed_room bytes history rows conn = cond_both _ _ _ (λ (it : Connection). it.fed ≡ conn.fed) (λ _. refl) (λ _. refl)
 
 -- ---- the core and the course
 
@@ -103,8 +99,7 @@ module _ (buses : List Bus) (layout : IsLayout buses) (order : IsRisingBy key_at
       sound_at buses order Anything _ n _ w
       (λ other e g.
       let same : conn ≡ other = let both : Some conn ≡ Some other = cc in cc in
-      stands_room _ order Anything _ _
-      _ bytes other
+      stands_room _ order Anything _ _ _ bytes other
       (in_order_after (shown_rows (opening buses 0)) (history buses w) order) (shown_after (opening buses 0) w.steps)
       (cc) g)
       a
@@ -125,10 +120,8 @@ module _ (buses : List Bus) (layout : IsLayout buses) (order : IsRisingBy key_at
       let fill : (reader : Reading)
       → IsFilled (shown_rows (opening buses 0)) (history buses w) h.conn h.shut
       (in_order_after (shown_rows (opening buses 0)) (history buses w) order) fits f.within reader
-      (given_room 0 (history buses w) (rows_after (shown_rows (opening buses 0)) (history buses w)) h.conn) =
-      λ reader.
-      fills _ _ h.conn h.shut
-      _ fits f.within reader
+      (given_room 0 (history buses w) (rows_after (shown_rows (opening buses 0)) (history buses w)) h.conn) = λ reader.
+      fills _ _ h.conn h.shut _ fits f.within reader
       (over_is buses (history buses w) h.conn h.shut f) in
       let held_rows : shown_rows held.rows ≡ rows buses w = cc s.rows in
       let told : record_of (given_room 0 (history buses w) (rows buses w) h.conn)
@@ -147,8 +140,7 @@ module _ (buses : List Bus) (layout : IsLayout buses) (order : IsRisingBy key_at
       record {
         fine = fine_roomed 0 w h.conn k.fine h.there h.shut;
         stands =
-            stands_of buses order (λ n fed. fed) keys n key named held w h.conn _
-            _ s h.there
+            stands_of buses order (λ n fed. fed) keys n key named held w h.conn _ _ s h.there
             (open_room 0 w h.conn) (fed_room 0 (history buses w) (rows buses w) h.conn)
             (λ reader shut.
             cc (fill reader).place);
@@ -169,10 +161,8 @@ module _ (buses : List Bus) (layout : IsLayout buses) (order : IsRisingBy key_at
           → record_of (given_room 0 (history buses w) (rows buses w) conn) ≡ with_given (length r.steps) item (record_of conn) → Tells r w
           → Tells (gave n item r) (roomed 0 w)
       noted_item None conn e t all = nothing_noted conn e t all
-      noted_item (Some (Told change)) conn e t all =
-          tells_changed r w n conn _ _ e t all
-      noted_item (Some (Listed row)) conn e t all =
-          tells_changed r w n conn _ _ e t all
+      noted_item (Some (Told change)) conn e t all = tells_changed r w n conn _ _ e t all
+      noted_item (Some (Listed row)) conn e t all = tells_changed r w n conn _ _ e t all
       noted_item (Some Settled) conn e t all = nothing_noted conn e t all
 
   -- bytes are taken
@@ -193,8 +183,7 @@ module _ (buses : List Bus) (layout : IsLayout buses) (order : IsRisingBy key_at
       record {
         fine = fine_roomed count w h.conn k.fine h.there h.shut;
         stands =
-            stands_of buses order (λ n fed. fed) keys n key named held w h.conn _
-            _ s h.there
+            stands_of buses order (λ n fed. fed) keys n key named held w h.conn _ _ s h.there
             (open_room count w h.conn) (fed_room count (history buses w) (rows buses w) h.conn)
             (λ reader shut. cc (taken_place reader _ h.conn count still));
         tells =
@@ -243,8 +232,7 @@ module _ (buses : List Bus) (layout : IsLayout buses) (order : IsRisingBy key_at
       → roomed b (roomed a w) ≡ roomed c w
   roomed_twice a b c w conn there e =
       ap (λ (conns : List Connection). record w { connections = conns })
-      (with_twice n _ _
-      _ _
+      (with_twice n _ _ _ _
       (λ other o. let is : conn ≡ other = let both : Some conn ≡ Some other = sym there ∙ o in cc in
       rw (← is) e))
 
@@ -288,8 +276,7 @@ module _ (buses : List Bus) (layout : IsLayout buses) (order : IsRisingBy key_at
           → (overran conn (history buses w) ≡ false
           → given_room 0 (history buses w) (rows buses w) conn ≡ given_room left (history buses w) (rows buses w) conn)
           → given_room 0 (history buses w) (rows buses w) conn ≡ given_room left (history buses w) (rows buses w) conn
-      by conn true o h =
-          cc
+      by conn true o h = cc
       by conn false o h = h o
 
   -- after some of a room was taken, what is left to take leads to the same

@@ -66,9 +66,7 @@ happens_by event refusal r held later_r later grants counted asked happens = rec
 -- the same of recordings and cores that are the same
 pub told_as : (event : PlainEvent) (refusal : Option CoreFault) (r : Recording) (held : Held) (x y : Recording) (later new : Held) → y ≡ x
     → new ≡ later → HappensAs event refusal r held x later → HappensAs event refusal r held y new
-told_as event refusal r held x y later new e f h =
-    rw f
-    (rw e h)
+told_as event refusal r held x y later new e f h = rw f (rw e h)
 
 -- nothing is asked for where the count stays
 pub none_asked : (event : PlainEvent) (r : Recording) (held later : Held) → later.denied ≡ held.denied
@@ -90,8 +88,7 @@ open_with key r old new a buses events layout s =
         tells = record {
           steps = s.tells.steps;
           refused = s.tells.refused;
-          connections =
-              cc (s.tells.connections, map-append _ _ _);
+          connections = cc (s.tells.connections, map-append _ _ _);
         };
       },
     )
@@ -161,12 +158,9 @@ at_happens moment r old new now is now_is =
     let same : now ≡ max w.moment moment = cc c.stands.moment in (
       refl,
       record {
-        stands =
-            rw is
-            (stands_advanced buses r.keys old w moment fine c.stands);
+        stands = rw is (stands_advanced buses r.keys old w moment fine c.stands);
         tells = record {
-          steps =
-              cc (c.tells.steps, map-append _ w.steps _);
+          steps = cc (c.tells.steps, map-append _ w.steps _);
           refused = c.tells.refused;
           connections = c.tells.connections;
         };
@@ -241,15 +235,13 @@ shut_happens n key r old new now named is now_is =
     subst (λ (x : Held). StandsFor buses (without_key n r.keys) x (accepted buses (Shut n) w)) (sym is)
     (stands_hung_up buses order r.keys old w n key (fine_course buses layout events) c.stands named) in
     let told = shut_told buses w h.conn h.there (cc ((hung_up_keeps key old (at old key)).0, c.stands.moment)) c.tells in
-    let live : live_session key old ≡ (if (h.conn.session == 0) || h.conn.ended then None else Some h.conn.session) =
-    cc h.place in
+    let live : live_session key old ≡ (if (h.conn.session == 0) || h.conn.ended then None else Some h.conn.session) = cc h.place in
     let tells : Tells (with_end (live_session key old) now (shut n r)) (accepted buses (Shut n) w) =
     rw live
     (rw h.opened told) in (
       cc h.opened,
       record {
-        stands =
-            rw (shut_keys n (live_session key old) now r) stands;
+        stands = rw (shut_keys n (live_session key old) now r) stands;
         tells = tells;
       },
     ))
@@ -354,8 +346,7 @@ room_happens n key bytes first_r first left r held ends same gives =
     by buses events layout i (count_at key left held) refl ends in (
       i.free,
       record {
-        stands =
-            rw (taking_keys n key left held r ∙ i.keys) k.stands;
+        stands = rw (taking_keys n key left held r ∙ i.keys) k.stands;
         tells = k.tells;
       },
     ))
@@ -395,8 +386,7 @@ changed_same (suc n) f law tolds = by _ refl
 pub taking_none : (n key most : ℕ) (held : Held) (r : Recording) → at held key ≡ None
     → (taking n key most held r ≡ r) × ((taken_at key most held ≡ held) × (count_at key most held ≡ 0))
 taking_none n key most held r e =
-    let gone : let_out key held ≡ held =
-    cc in
+    let gone : let_out key held ≡ held = cc in
     let bytes : unsent_at key (let_out key held) ≡ [] = cc in
     let none : count_at key most held ≡ 0 = cc (zero-min most) in (
       ap (λ k. took n (take k (unsent_at key (let_out key held))) (gave n (item_at key held) r)) none

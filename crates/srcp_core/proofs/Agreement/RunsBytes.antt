@@ -86,8 +86,7 @@ reads_with_none n key piece r held named free buses events layout s =
       free = cc (fault_same buses order (λ n fed. fed) r.keys held w n key piece (fine_course buses layout events) c.stands named);
       keys = refl;
       upto = b.0;
-      tells =
-          rw b.1 (tells_same r w n (λ c. record c { fed = c.fed ++ piece }) (λ conn e. refl) c.tells);
+      tells = rw b.1 (tells_same r w n (λ c. record c { fed = c.fed ++ piece }) (λ conn e. refl) c.tells);
     }
 
 pub reads_first : (n key : ℕ) (piece : List ℕ) (r : Recording) (held : Held) → key_of n r.keys ≡ Some key
@@ -113,8 +112,7 @@ reads_with_more grants n key piece first_r first start stop granted steps r held
     let order = opening_in_order buses layout in
     let w = counted _ in
     let l =
-    lined buses order _ n key i.named _ piece
-    _ _ grants start stop granted held new r onward is i.upto i.tells in
+    lined buses order _ n key i.named _ piece _ _ grants start stop granted held new r onward is i.upto i.tells in
     record {
       named = i.named;
       conn = i.conn;
@@ -153,17 +151,14 @@ bytes_with grants n key piece first_r first start r held new is reads buses even
     let i = reads buses events layout s in
     let order = opening_in_order buses layout in
     let w = counted _ in
-    let e =
-    lines_ended buses order _ n key i.named _ piece
-    _ _ grants start held new is i.upto in
+    let e = lines_ended buses order _ n key i.named _ piece _ _ grants start held new is i.upto in
     let p : Piece = record { bytes = piece; grants = grants } in
     let world : accepted buses (Bytes n p) w
     ≡ fold (course_answered buses n) (accepting n piece w) (lines_under grants (new_marks buses i.conn.fed piece)) =
     ap (λ o. fed_to buses n p o w) i.opened in (
       i.free,
       subst (λ (v : World). Runs buses r new v) (sym world) (record {
-        stands =
-            rw i.keys e.stands;
+        stands = rw i.keys e.stands;
         tells = rw (← e.world_is) i.tells;
       }),
     )
@@ -178,8 +173,7 @@ bytes_asked grants n key piece first_r first start r held new is reads buses eve
     let i = reads buses events layout s in
     let w = counted _ in
     let p : Piece = record { bytes = piece; grants = grants } in
-    (lines_ended buses _ _ n key i.named _ piece
-    _ _ grants start held new is i.upto).counts
+    (lines_ended buses _ _ n key i.named _ piece _ _ grants start held new is i.upto).counts
     ∙ sym (ap (λ (cause : Option CoreFault). denied_fed buses n p w first.denied cause (open_connection w n)) i.free
     ∙ ap (denied_fed buses n p w first.denied None) i.opened)
 

@@ -148,8 +148,7 @@ slack_agrees held buses events keys layout s = least_same _ _ to from
                 let a = s.opens (suc i.0) conn e up in
                 (a.key, cc (slack_places _ a.key, a.place, slack_place a.reader h conn up))
             go false up =
-                let bad : None ≡ Some n =
-                cc in
+                let bad : None ≡ Some n = cc in
                 cc
 
 -- ---- what falls due

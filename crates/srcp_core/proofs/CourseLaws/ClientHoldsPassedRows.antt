@@ -124,8 +124,7 @@ fits_told start history go items done change changes f e =
     let len : length (tolds (items ++ item_of history (Told change) ∷ [])) ≡ length (tolds items) + 1 =
     cc (length_push _ change) in
     let before : List Change = concerning_by go _ history in
-    let room : length before - length (tolds items) ≡ length (change ∷ changes) =
-    cc (length-drop _ before) in
+    let room : length before - length (tolds items) ≡ length (change ∷ changes) = cc (length-drop _ before) in
     let lencon : length (concerning_by go (cursor_by done (items ++ item_of history (Told change) ∷ [])) history) ≡ length before =
     cc in
     let waits : untold_by go (items ++ item_of history (Told change) ∷ []) done history ≡ changes =
@@ -176,8 +175,7 @@ fits_listed start history go items None row left order f e b =
     filter_map-append (λ (item : Item). told_change item.what) items (item_of history (Listed row) ∷ []) ∙ append-nil (tolds items) in
     let len : length (tolds (items ++ item_of history (Listed row) ∷ [])) ≡ length (tolds items) = ap length tol in
     let lencon : length (concerning_by go (cursor_by None (items ++ item_of history (Listed row) ∷ [])) history)
-    ≡ length (concerning_by go (cursor_by None items) history) =
-    ap length con in
+    ≡ length (concerning_by go (cursor_by None items) history) = ap length con in
     let enough = f.enough in
     let one : ListsOne (cursor_by None items (length history)) row left (rows_after start history) =
     lists_one (cursor_by None items (length history)) row left (rows_after start history) order b in
@@ -237,8 +235,7 @@ module _ (start : List Shown) (P : History → ℕ → List Item → Option ℕ 
       → IsRisingBy key_at (rows_after start history) → Fits start history go items done → P history go items done
       → owed_by go items done history (rows_after start history) ≡ nexts ++ rest
       → Gives history go (items ++ items_of (length history) nexts) done rest
-  gives history go items done [] rest order f p e =
-      rw (append-nil items) (record { fits = f; also = p; owes = e })
+  gives history go items done [] rest order f p e = rw (append-nil items) (record { fits = f; also = p; owes = e })
   gives history go items done (what ∷ nexts) rest order f p e =
       by (untold_by go items done history) refl (beyond (cursor_by done items (length history)) (rows_after start history)) refl
       (λ item f p e. gives history go (items ++ item ∷ []) done nexts rest order f p e)
@@ -269,12 +266,10 @@ module _ (start : List Shown) (P : History → ℕ → List Item → Option ℕ 
           → Gives history go ((items ++ item ∷ []) ++ items_of (length history) nexts) done rest)
           → Gives history go (items ++ items_of (length history) (what ∷ nexts)) done rest
       by [] u [] b next =
-          let bad : map Told [] ++ map Listed [] ≡ what ∷ (nexts ++ rest) =
-          cc in
+          let bad : map Told [] ++ map Listed [] ≡ what ∷ (nexts ++ rest) = cc in
           cc
       by [] u (row ∷ left) b next =
-          let is : Listed row ∷ map Listed left ≡ what ∷ (nexts ++ rest) =
-          cc in
+          let is : Listed row ∷ map Listed left ≡ what ∷ (nexts ++ rest) = cc in
           let head : Listed row ≡ what = cc in
           let tail : map Listed left ≡ nexts ++ rest = cc in
           let one = fits_listed start history go items done row left order f u b in
@@ -287,8 +282,7 @@ module _ (start : List Shown) (P : History → ℕ → List Item → Option ℕ 
           one.waiting
           ∙ ap (λ b. map Told [] ++ map Listed b) one.listing ∙ tail))
       by (change ∷ changes) u left b next =
-          let is : Told change ∷ (map Told changes ++ map Listed left) ≡ what ∷ (nexts ++ rest) =
-          cc in
+          let is : Told change ∷ (map Told changes ++ map Listed left) ≡ what ∷ (nexts ++ rest) = cc in
           let head : Told change ≡ what = cc in
           let tail : map Told changes ++ map Listed left ≡ nexts ++ rest = cc in
           let one = fits_told start history go items done change changes f u in

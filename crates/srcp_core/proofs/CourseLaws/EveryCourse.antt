@@ -59,8 +59,7 @@ module _ (buses : List Bus) (events : List Event) (number : ℕ) (conn : Connect
 
   sent_no_more : IsSentNoMoreSince buses events number conn
   sent_no_more first more early whole began over =
-      rw whole
-      (sends_no_more buses first more number early conn began (there_by _ whole) over)
+      rw whole (sends_no_more buses first more number early conn began (there_by _ whole) over)
 
 pub served_rightly : (buses : List Bus) → ServedRightly buses
 served_rightly buses = record {

@@ -289,8 +289,7 @@ module _ (buses : List Bus) where
 
     pub lines_bring : (events more : List Event) → brought buses events more ≤ may_bring buses events more
     lines_bring events more =
-        rw is
-        (rw rest c.few)
+        rw is (rw rest c.few)
       where
         w : World
         w = course buses events

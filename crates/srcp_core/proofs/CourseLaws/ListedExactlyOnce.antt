@@ -140,8 +140,7 @@ met_law start = record {
     now : (history : History) (go : ℕ) (key : Key) → go ≤ length history
         → ((k : ℕ) → go ≤ k → k ≤ length history → has_key key (rows_after start (take k history)) ≡ true)
         → has_key key (rows_after start history) ≡ true
-    now history go key h there =
-        cc (take_all _ history (le_refl _), there _ h (le_refl _))
+    now history go key h there = cc (take_all _ history (le_refl _), there _ h (le_refl _))
 
     by_passed : (history : History) (go : ℕ) (items : List Item) (row : Shown) (left : List Shown)
         → IsRisingBy key_at (rows_after start history) → Fits start history go items None → Met start history go items None
@@ -152,8 +151,7 @@ met_law start = record {
     by_passed history go items row left order f m b key there p true e = has_left key (listed items) _ (m key there e)
     by_passed history go items row left order f m b key there p false e =
         let one = lists_one _ row left _ order b in
-        let here : has_key key (row ∷ left) ≡ true =
-        cc (key_beyond _ key _ e (now history go key f.began there)) in
+        let here : has_key key (row ∷ left) ≡ true = cc (key_beyond _ key _ e (now history go key f.began there)) in
         let away : has_key key left ≡ false =
         cc (one.left, key_not_beyond (After row.key) key (rows_after start history) p) in
         has_last key (listed items) row (first here away (eq_by_cmp key_cmp row.key key) refl)
@@ -169,8 +167,7 @@ met_law start = record {
         → has_reached (cursor_by None items (length history)) key ≡ t → has_reached (cursor_by None items (length history)) key ≡ true
     all_passed history go items f b key there true e = e
     all_passed history go items f b key there false e =
-        let h : has_key key [] ≡ true =
-        cc (key_beyond _ key _ e (now history go key f.began there)) in
+        let h : has_key key [] ≡ true = cc (key_beyond _ key _ e (now history go key f.began there)) in
         cc
 
 -- a key that a device has at the end it had all the time
@@ -231,6 +228,5 @@ lists_each_once buses layout events more number conn later s t moments settled d
     passed_now w c true e b = e
     passed_now w c false e b =
         let h : has_key key [] ≡ true =
-        cc (key_beyond _ key
-        _ e
+        cc (key_beyond _ key _ e
         (ap (has_key key) (sym (shown_after _ (course buses events).steps)) ∙ last)) in cc

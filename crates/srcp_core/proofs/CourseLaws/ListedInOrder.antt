@@ -29,8 +29,7 @@ use Rattle.srcp_core.proofs.CourseLaws.SessionsAreKept.{in_order_after, all_push
 
 pub listed_told : (history : History) (items : List Item) (change : Change)
     → listed (items ++ item_of history (Told change) ∷ []) ≡ listed items
-listed_told history items change =
-    filter_map-append (λ (item : Item). listed_row _) items _ ∙ append-nil _
+listed_told history items change = filter_map-append (λ (item : Item). listed_row _) items _ ∙ append-nil _
 
 pub listed_more : (history : History) (items : List Item) (row : Shown)
     → listed (items ++ item_of history (Listed row) ∷ []) ≡ listed items ++ row ∷ []
@@ -61,8 +60,7 @@ rising_law start = record {
   tell = λ history go items done change changes order f p e. (
     rw (listed_told history items change) p.0,
     rw (listed_told history items change)
-        (all_weaker _ _ (λ row k. cc (cursor_told history items done change f.numbers))
-        _ p.1),
+        (all_weaker _ _ (λ row k. cc (cursor_told history items done change f.numbers)) _ p.1),
   );
   list = λ history go items row left order f p e b.
       let one = lists_one _ row left _ order b in
@@ -71,8 +69,7 @@ rising_law start = record {
         rw (listed_more history items row) (rising_push _ row p.0 above),
         rw (listed_more history items row)
             (all_push _ _ row
-            (all_weaker _ _ (λ r k. cc (cursor_item history items _ f.numbers, after_one_way row.key r.key k))
-            _ above)
+            (all_weaker _ _ (λ r k. cc (cursor_item history items _ f.numbers, after_one_way row.key r.key k)) _ above)
             (cc (cursor_item history items _ f.numbers, after_not_itself row.key))),
       );
   finish =
@@ -116,8 +113,7 @@ found q row left (other ∷ rows) r e =
       | true ↦ λ k.
           let e' : other ∷ filter q rows ≡ row ∷ left = rw k at e in
           let same : other ≡ row = cc in
-          let tied : key_cmp other.key row.key ≡ Equal =
-          cc (tied_itself key_cmp_total other.key) in
+          let tied : key_cmp other.key row.key ≡ Equal = cc (tied_itself key_cmp_total other.key) in
           rw (ap is_eq tied) (cc)
       | false ↦ λ k.
           let e' : filter q rows ≡ row ∷ left = rw k at e in
@@ -147,13 +143,11 @@ held_law start = record {
 history_take : (k : ℕ) (state : State) (steps : List Step) → take k (history_from state steps) ≡ history_from state (take k steps)
 history_take zero state steps = refl
 history_take (suc k) state [] = refl
-history_take (suc k) state (step ∷ steps) =
-    cc (history_take k _ steps)
+history_take (suc k) state (step ∷ steps) = cc (history_take k _ steps)
 
 pub rows_of_course : (buses : List Bus) (w : World) (k : ℕ)
     → rows_after (shown_rows (opening buses 0)) (take k (history buses w)) ≡ rows_at buses w k
-rows_of_course buses w k =
-    cc (history_take k _ w.steps, shown_after (opening buses 0) (take k w.steps))
+rows_of_course buses w k = cc (history_take k _ w.steps, shown_after (opening buses 0) (take k w.steps))
 
 -- what was heard until the end begins as all that happened
 heard_prefix : (shut : Option ℕ) (history : History) (k : ℕ) → k ≤ length (heard shut history)
@@ -175,8 +169,7 @@ lists_held buses layout events number conn s =
         → HeldIn (rows_after (shown_rows (opening buses 0)) (take item.steps (heard conn.shut (history buses (course buses events))))) what
         → IfSome (listed_row what) (λ row. shown_at row.key (rows_at buses (course buses events) item.steps) ≡ Some row)
     at (Told change) item n k = tt
-    at (Listed row) item n k =
-        cc (rows_of_course buses (course buses events) item.steps, heard_prefix _ _ _ n)
+    at (Listed row) item n k = cc (rows_of_course buses (course buses events) item.steps, heard_prefix _ _ _ n)
     at Settled item n k = tt
 
 -- ---- a registry that stands still
@@ -282,8 +275,7 @@ still_facts buses layout w conn s still =
     record {
       text_is =
           cc (text_tells conn.items, s.fits.1 (quiet_heard conn.go_step conn.shut (history buses w) still), listing_puts _);
-      whole_is =
-          reached_split _ _ order;
+      whole_is = reached_split _ _ order;
     }
 
 still_prefix : (conn : Connection) (heard_now : History) (held : List Shown) → StillFacts conn heard_now held

@@ -137,8 +137,7 @@ module _ (buses : List Bus) (n : ℕ) (x : Connection) where
   stopped_closed : (v : World) → IsStopped v → IsStopped (at_connection n (λ c. record c { shut = Some (length v.steps) }) v)
   stopped_closed v s = record {
     y = record s.y { shut = Some (length v.steps) };
-    there =
-        cc (numbered_with n (λ c. record c { shut = Some (length v.steps) }) _, s.there);
+    there = cc (numbered_with n (λ c. record c { shut = Some (length v.steps) }) _, s.there);
     over = refl;
     items = s.items;
     out = s.out;
@@ -208,7 +207,6 @@ sends_no_more buses events more number conn later there after over =
     let s =
     stopped_all buses number conn more w (record { y = conn; there = there; over = over; items = refl; out = refl; taken = refl }) in
     let at = s.there in
-    let e : numbered number (fold (happens buses) w more).connections ≡ Some later =
-    cc in
+    let e : numbered number (fold (happens buses) w more).connections ≡ Some later = cc in
     let same : s.y ≡ later = cc in
     (cc s.items, cc (s.out, s.items, s.taken), cc s.over)

@@ -85,8 +85,7 @@ module _ (n bytes : ℕ) (nexts : List Next) (conn : Connection) where
   later = took bytes n nexts conn
 
   size : length (given later) ≡ length (given conn) + length (flat_map line_of fits)
-  size =
-      cc (text_items n conn.items fits, append_assoc conn.out _ _, length-append _ _)
+  size = cc (text_items n conn.items fits, append_assoc conn.out _ _, length-append _ _)
 
   -- where some lines are given
   few_given : (what : Next) (more : List Next) → fits ≡ what ∷ more → IsFew later
@@ -121,8 +120,7 @@ module _ (n bytes : ℕ) (nexts : List Next) (conn : Connection) where
       by : (t : Bool) → ((bytes == 0) && is_nil (unsent conn)) ≡ t → IsFew later
       by true t =
           let none : length (unsent conn) ≡ 0 = ap length (nil_is _ (and_parts _ _ t).1) in
-          let near : length (flat_map line_of fits) ≤ length (last_of fits) =
-          rw (is true t) (one nexts) in
+          let near : length (flat_map line_of fits) ≤ length (last_of fits) = rw (is true t) (one nexts) in
           let a = size in
           let b = left in
           let c = last in

@@ -61,16 +61,13 @@ meets_overruns buses layout events number conn s up fine changes =
     let before = untold_by conn.go_step conn.items conn.done h in
     let more : untold_by conn.go_step conn.items conn.done (h ++ changes ∷ []) ≡ before ++ filter p changes =
     ap (drop (length (tolds conn.items))) (concerning_push _ _ h changes f.began)
-    ∙ drop-append-le _ _
-    _ f.enough
+    ∙ drop-append-le _ _ _ f.enough
     ∙ ap (λ n. before ++ filter (concerns (cursor_by conn.done conn.items n)) changes) (length_history (opening buses 0) w.steps) in
     let now = untold_open h conn shut in
     let size : length (untold_by conn.go_step conn.items conn.done (h ++ changes ∷ []))
-    ≡ length (waiting conn h) + length (filter p changes) =
-    cc (length-append before (filter p changes)) in
+    ≡ length (waiting conn h) + length (filter p changes) = cc (length-append before (filter p changes)) in
     let after = overran_open _ conn shut ∙ ap (nat_lt 256) size in
-    let low : length (waiting conn h) ≤ 256 =
-    ltb-false 256 _ (cc (overran_open h conn shut)) in
+    let low : length (waiting conn h) ≤ 256 = ltb-false 256 _ (cc (overran_open h conn shut)) in
     record {
       waits = cc (untold_open _ conn shut);
       full = (

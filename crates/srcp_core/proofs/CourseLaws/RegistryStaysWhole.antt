@@ -91,8 +91,7 @@ module _ (buses : List Bus) (layout : IsLayout buses) where
     steps_fit = are_steps_push buses _ steps step k.steps_fit fits;
     ids = k.ids;
     apart = k.apart;
-    there =
-        λ m c e live. cc (fold-append stepped _ steps _, stays m c e live (k.there m c e live));
+    there = λ m c e live. cc (fold-append stepped _ steps _, stays m c e live (k.there m c e live));
   }
 
   kept_moment : (moment later last : ℕ) (steps : List Step) (conns : List Connection) → later < 2 ^ 64 → Kept moment last steps conns

@@ -56,12 +56,10 @@ took_first a n nexts rest conn pa within e =
     items_same =
         ap (λ u. (conn.items ++ items_of n (fitting 0 (unsent conn) nexts)) ++ items_of n (fitting a u rest))
         (left_after n nexts conn within)
-        ∙ append_assoc conn.items _
-        _
+        ∙ append_assoc conn.items _ _
         ∙ ap (λ is. conn.items ++ is)
         (sym
-        (map-append (λ what. record { steps = n; what = what }) _
-        _))
+        (map-append (λ what. record { steps = n; what = what }) _ _))
         ∙ ap (λ ns. conn.items ++ items_of n ns) (sym (fitting_first a _ nexts rest pa e))
 
     taken_same : conn.taken + min 0 (length (available (unsent conn) nexts))
@@ -71,8 +69,7 @@ took_first a n nexts rest conn pa within e =
 
     done_same : (took a n rest (took 0 n nexts conn)).done ≡ (took a n nexts conn).done
     done_same =
-        done_rule conn.info _ _
-        _ _ n
+        done_rule conn.info _ _ _ _ n
         (λ t. second ∙ nothing_there t) (λ t. nothing_there t) (λ t. second)
       where
         second : exhausts a (unsent (took 0 n nexts conn)) rest ≡ exhausts a (unsent conn) nexts

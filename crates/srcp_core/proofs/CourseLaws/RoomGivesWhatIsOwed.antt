@@ -32,9 +32,7 @@ prefix_first (what ∷ nexts) = record { rest = nexts; whole = refl }
 
 pub fitting_prefix : (bytes : ℕ) (left : List ℕ) (nexts : List Next) → IsPrefix (fitting bytes left nexts) nexts
 fitting_prefix bytes left nexts =
-    cond_both _ _ _ (λ it. IsPrefix it nexts)
-    (λ _. prefix_first nexts)
-    (λ _. is_prefix (bytes - length left) nexts)
+    cond_both _ _ _ (λ it. IsPrefix it nexts) (λ _. prefix_first nexts) (λ _. is_prefix (bytes - length left) nexts)
 
 pub prefix_none : (bytes : ℕ) → prefix bytes [] ≡ []
 prefix_none zero = refl
@@ -83,12 +81,10 @@ fits_done : (start : List Shown) (history : History) (go : ℕ) (items : List It
 fits_done start history go items f owes =
     let both = nothing_owed go items None history _ owes in
     let con = before_done go items history in
-    let waits : untold_by go items (Some (length history)) history ≡ untold_by go items None history =
-    cc in
+    let waits : untold_by go items (Some (length history)) history ≡ untold_by go items None history = cc in
     let cur = cursor_done _ items in
     let lencon : length (concerning_by go (cursor_by (Some (length history)) items) history)
-    ≡ length (concerning_by go (cursor_by None items) history) =
-    cc in
+    ≡ length (concerning_by go (cursor_by None items) history) = cc in
     let enough = f.enough in
     record {
       numbers = f.numbers;
@@ -110,8 +106,7 @@ done_owes start history go items (Some m) owes = owes
 done_owes start history go items None owes =
     let both = nothing_owed go items None history _ owes in
     let con = before_done go items history in
-    let waits : untold_by go items (Some (length history)) history ≡ untold_by go items None history =
-    cc in
+    let waits : untold_by go items (Some (length history)) history ≡ untold_by go items None history = cc in
     let cur = cursor_done _ items in
     ap (λ u. map Told u ++ map Listed (beyond (cursor_by (Some (length history)) items (length history)) (rows_after start history)))
     (waits ∙ both.0)
@@ -186,11 +181,9 @@ took_within bytes n nexts conn within =
     let whole : given (took bytes n nexts conn) ≡ given conn ++ flat_map line_of (fitting bytes (unsent conn) nexts) =
     cc (text_items n conn.items (fitting bytes (unsent conn) nexts), append_assoc conn.out _ _) in
     let size : length (given (took bytes n nexts conn))
-    ≡ length (given conn) + length (flat_map line_of (fitting bytes (unsent conn) nexts)) =
-    cc (length-append _ _) in
+    ≡ length (given conn) + length (flat_map line_of (fitting bytes (unsent conn) nexts)) = cc (length-append _ _) in
     let left : length (unsent conn) ≡ length (given conn) - conn.taken = length-drop _ _ in
-    let all : length (available (unsent conn) nexts) ≡ length (unsent conn) + length (flat_map line_of nexts) =
-    length-append _ _ in
+    let all : length (available (unsent conn) nexts) ≡ length (unsent conn) + length (flat_map line_of nexts) = length-append _ _ in
     ⊎_elim (λ h. omega (arith, size, left, all, within, h))
     (λ h. omega (arith, size, left, all, within, ap (λ (ns : List Next). length (flat_map line_of ns)) h))
     (fitting_enough bytes (unsent conn) nexts)

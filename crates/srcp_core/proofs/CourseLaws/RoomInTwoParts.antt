@@ -49,8 +49,7 @@ prefix_adds (suc a) b (what ∷ nexts) rest e =
         let z = sizes in
         let none : suc a - length (line_of what) ≡ 0 = omega arith in
         let first : prefix (suc a - length (line_of what)) nexts ≡ [] = cc in
-        let nothing : length (flat_map line_of (prefix (suc a - length (line_of what)) nexts)) ≡ 0 =
-        cc in
+        let nothing : length (flat_map line_of (prefix (suc a - length (line_of what)) nexts)) ≡ 0 = cc in
         let all : nexts ≡ rest = cc in
         let x : suc (a + b) - length (line_of what) ≡ b - over (suc a) (what ∷ nexts) = omega arith in
         cc
@@ -67,8 +66,7 @@ fitting_adds a b left nexts rest pa pb e =
   where
     size : length (drop a (left ++ flat_map line_of (prefix (a - length left) nexts)))
         ≡ length left + length (flat_map line_of (prefix (a - length left) nexts)) - a
-    size =
-        cc (length-drop a _, length-append left _)
+    size = cc (length-drop a _, length-append left _)
 
     by : (t : Bool) → nat_le a (length left) ≡ t → nexts ≡ prefix (a - length left) nexts ++ rest
         → prefix (a + b - length left) nexts
@@ -164,8 +162,7 @@ took_adds a b n nexts rest conn pa pb within e =
             let z = all_size in
             let y = length-append (unsent conn) (flat_map line_of (fitting a (unsent conn) nexts)) in
             let low : length (unsent conn ++ flat_map line_of (fitting a (unsent conn) nexts))
-            ≤ min a (length (available (unsent conn) nexts)) =
-            omega arith in
+            ≤ min a (length (available (unsent conn) nexts)) = omega arith in
             let high : length (unsent conn ++ flat_map line_of (fitting a (unsent conn) nexts)) ≤ a = omega arith in
             drop_all (min a (length (available (unsent conn) nexts))) (unsent conn ++ flat_map line_of (fitting a (unsent conn) nexts)) low
             ∙ sym (drop_all a (unsent conn ++ flat_map line_of (fitting a (unsent conn) nexts)) high)
@@ -187,12 +184,10 @@ took_adds a b n nexts rest conn pa pb within e =
         ≡ conn.items ++ items_of n (fitting (a + b) (unsent conn) nexts)
     items_same =
         ap (λ u. (conn.items ++ items_of n (fitting a (unsent conn) nexts)) ++ items_of n (fitting b u rest)) left_is
-        ∙ append_assoc conn.items _
-        _
+        ∙ append_assoc conn.items _ _
         ∙ ap (λ is. conn.items ++ is)
         (sym
-        (map-append (λ what. record { steps = n; what = what }) _
-        _))
+        (map-append (λ what. record { steps = n; what = what }) _ _))
         ∙ ap (λ ns. conn.items ++ items_of n ns) (sym (fitting_adds a b _ nexts rest pa pb e))
 
     taken_same : conn.taken + min a (length (available (unsent conn) nexts))

@@ -50,8 +50,7 @@ owes_rest first history go items done bytes left nexts order f e = by _ refl
         record {
           rest = [];
           whole = cc (append-nil _);
-          owes =
-              cc (done_owes first history go (items ++ items_of (length history) nexts) done g.owes);
+          owes = cc (done_owes first history go (items ++ items_of (length history) nexts) done g.owes);
           fully = λ _. refl;
         }
     by false t =
@@ -60,8 +59,7 @@ owes_rest first history go items done bytes left nexts order f e = by _ refl
         record {
           rest = prefix.rest;
           whole = prefix.whole;
-          owes =
-              cc g.owes;
+          owes = cc g.owes;
           fully = λ no_more. let bad : true ≡ false = cc in cc;
         }
 
@@ -71,16 +69,14 @@ none_left : (bytes n taken : ℕ) (out : List ℕ) (items : List Item) (nexts : 
     → drop (taken + min bytes (length (available (drop taken (out ++ text items)) nexts))) (out ++ text (items ++ items_of n nexts)) ≡ []
 none_left bytes n taken out items nexts h =
     let l : length (available (drop taken (out ++ text items)) nexts)
-    ≡ length (drop taken (out ++ text items)) + length (flat_map line_of nexts) =
-    length-append _ _ in
+    ≡ length (drop taken (out ++ text items)) + length (flat_map line_of nexts) = length-append _ _ in
     let d : length (drop taken (out ++ text items)) ≡ length (out ++ text items) - taken = length-drop taken _ in
     let whole : out ++ text (items ++ items_of n nexts) ≡ (out ++ text items) ++ flat_map line_of nexts =
     cc (text_items n items nexts, append_assoc out _ _) in
     let size : length (out ++ text (items ++ items_of n nexts)) ≡ length (out ++ text items) + length (flat_map line_of nexts) =
     cc (length-append _ _) in
     let most : length (out ++ text (items ++ items_of n nexts))
-    ≤ taken + min bytes (length (available (drop taken (out ++ text items)) nexts)) =
-    omega arith in
+    ≤ taken + min bytes (length (available (drop taken (out ++ text items)) nexts)) = omega arith in
     drop_all _ _ most
 
 -- the connection after its room
@@ -90,8 +86,7 @@ pub after_room : (buses : List Bus) (w : World) (number bytes : ℕ) (conn later
     → later ≡ took bytes (length (history buses w)) (owed conn (history buses w) (rows buses w)) conn
 after_room buses w number bytes conn later e shut over l =
     let up : open_connection w number ≡ Some conn = cc in
-    let world : happens buses w (Room number bytes) ≡ accepted buses (Room number bytes) (counted w) =
-    cc in
+    let world : happens buses w (Room number bytes) ≡ accepted buses (Room number bytes) (counted w) = cc in
     let at : numbered number (happens buses w (Room number bytes)).connections
     ≡ Some (given_room bytes (history buses w) (rows buses w) conn) =
     ap (λ (v : World). numbered number v.connections) world
@@ -199,15 +194,12 @@ gives_owed buses layout w bytes conn shut info fits =
               );
           settles = λ h.
               let all : fitting bytes (unsent conn) (owed conn (history buses w) (rows buses w))
-              ≡ owed conn (history buses w) (rows buses w) =
-              fitting_full bytes _ _
+              ≡ owed conn (history buses w) (rows buses w) = fitting_full bytes _ _
               (owed_full conn (history buses w) (rows buses w)) h in
               let o : owed (took bytes (length (history buses w)) (owed conn (history buses w) (rows buses w)) conn) (history buses w)
               (rows buses w)
-              ≡ [] =
-              r.owes
-              ∙ none_after _
-              _ r.rest r.whole all in
+              ≡ [] = r.owes
+              ∙ none_after _ _ r.rest r.whole all in
               let u : unsent (took bytes (length (history buses w)) (owed conn (history buses w) (rows buses w)) conn) ≡ [] =
               ap (λ ns.
               drop (conn.taken + min bytes (length (available (unsent conn) (owed conn (history buses w) (rows buses w)))))

@@ -85,8 +85,7 @@ took_nothing b n nexts conn u e =
   where
     same_taken : conn.taken + min b (length (available (unsent conn) nexts)) ≡ conn.taken
     same_taken =
-        let z : length (available (unsent conn) nexts) ≡ 0 =
-        cc in
+        let z : length (available (unsent conn) nexts) ≡ 0 = cc in
         omega arith
 
     at_nothing : (b : ℕ) → exhausts b [] [] ≡ true
@@ -123,8 +122,7 @@ rests buses layout w bytes conn shut fits = by _ refl
               ∙ sym (append-nil _
               ∙ ap (fitting bytes (unsent conn)) none ∙ fitting_none bytes _);
           owes =
-              owed_plain (took bytes (length (history buses w)) (owed conn (history buses w) (rows buses w)) conn) _
-              _ e;
+              owed_plain (took bytes (length (history buses w)) (owed conn (history buses w) (rows buses w)) conn) _ _ e;
           fully = λ _. refl;
         }
 
@@ -237,8 +235,7 @@ sent_all bytes n nexts conn i e h =
     enough =
         let a = length-drop conn.taken (given conn) in
         let b : length (given conn) ≡ length conn.out = cc (append-nil conn.out) in
-        let c : length (available (unsent conn) nexts) ≡ length (unsent conn) =
-        cc (append-nil (unsent conn)) in
+        let c : length (available (unsent conn) nexts) ≡ length (unsent conn) = cc (append-nil (unsent conn)) in
         omega arith
 
 pub sends_all_replies : (buses : List Bus) → IsLayout buses → (events : List Event) (number bytes : ℕ) (conn later : Connection)
@@ -266,16 +263,12 @@ sends_all_replies buses layout events number bytes conn later there plain up aft
 
 pub shut_after : (bytes : ℕ) (history : History) (rows : List Shown) (conn : Connection)
     → (given_room bytes history rows conn).shut ≡ conn.shut
-shut_after bytes history rows conn =
-    cond_both _ _ _ (λ (it : Connection). it.shut ≡ conn.shut)
-    (λ _. refl)
-    (λ _. refl)
+shut_after bytes history rows conn = cond_both _ _ _ (λ (it : Connection). it.shut ≡ conn.shut) (λ _. refl) (λ _. refl)
 
 -- room of an open connection
 room_happens : (buses : List Bus) (w : World) (number bytes : ℕ) (conn : Connection) → numbered number w.connections ≡ Some conn
     → conn.shut ≡ None → happens buses w (Room number bytes) ≡ accepted buses (Room number bytes) (counted w)
-room_happens buses w number bytes conn there shut =
-    cc
+room_happens buses w number bytes conn there shut = cc
 
 pub rooms_are_one : (buses : List Bus) → IsLayout buses → (events : List Event) (number a b : ℕ) (conn : Connection)
     → numbered number (course buses events).connections ≡ Some conn → is_open conn ≡ true → 0 < b
@@ -287,8 +280,7 @@ rooms_are_one buses layout events number a b conn there up pb =
     let sums = rooms_add_up buses layout events number conn there up in
     let f = given_room a _ _ in
     let one : course buses (events ++ Room number a ∷ Room number b ∷ [])
-    ≡ happens buses (happens buses w (Room number a)) (Room number b) =
-    fold-append _ start events _ in
+    ≡ happens buses (happens buses w (Room number a)) (Room number b) = fold-append _ start events _ in
     let two : course buses (events ++ Room number (a + b) ∷ []) ≡ happens buses w (Room number (a + b)) =
     fold-append _ start events _ in
     let first = room_happens buses w number a conn there shut in

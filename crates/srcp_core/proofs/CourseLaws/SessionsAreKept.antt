@@ -143,8 +143,7 @@ module _ (first : List Shown) (ordered : IsRisingBy key_at first) (P : History �
       by true t =
           let all : fitting bytes left nexts ≡ nexts = exhausted bytes left nexts t in
           let g = gives first P law history go items done nexts [] order f.0 f.1 (e ∙ sym (append-nil nexts)) in
-          rw all
-          (also_done first P law history go _ done order g)
+          rw all (also_done first P law history go _ done order g)
       by false t =
           let prefix = fitting_prefix bytes left nexts in
           let g = gives first P law history go items done _ _ order f.0 f.1 (e ∙ prefix.whole) in
@@ -181,9 +180,7 @@ module _ (first : List Shown) (ordered : IsRisingBy key_at first) (P : History �
 
   pub owed_open : (history : History) (rows : List Shown) (conn : Connection) → conn.shut ≡ None → rows ≡ rows_after first history
       → owed conn history rows ≡ (if conn.info then owed_by conn.go_step conn.items conn.done history (rows_after first history) else [])
-  owed_open history rows conn shut same =
-      rw shut
-      (cc)
+  owed_open history rows conn shut same = rw shut (cc)
 
   pub stands_room : (history : History) (rows : List Shown) (bytes : ℕ) (conn : Connection) → IsRisingBy key_at (rows_after first history)
       → rows ≡ rows_after first history → conn.shut ≡ None → Stands first P history conn

@@ -136,8 +136,7 @@ settled_both buses layout w conn info settled =
     else [])
     ≡ [])
     info
-    (sym (owed_open _ (opening_in_order buses layout) _ (anything (shown_rows (opening buses 0)))
-    _ _ conn facts.open_now same)
+    (sym (owed_open _ (opening_in_order buses layout) _ (anything (shown_rows (opening buses 0))) _ _ conn facts.open_now same)
     ∙ facts.none_owed))
 
 -- a client that was told all that a settled session was given holds the registry
@@ -155,7 +154,6 @@ client_settled buses layout events number conn s settled =
       append-nil _,
       both.0,
       f.kept,
-      passed_all _
-          _ both.1,
+      passed_all _ _ both.1,
       shown_after _ w.steps,
     )

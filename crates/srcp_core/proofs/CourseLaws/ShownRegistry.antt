@@ -24,8 +24,7 @@ pub history_push : (state : State) (steps : List Step) (step : Step)
     → history_from state (steps ++ step ∷ [])
     ≡ history_from state steps ++ map (λ update. update.change) (updates_of (state_after state steps) step) ∷ []
 history_push state [] step = refl
-history_push state (other ∷ steps) step =
-    cc (history_push (stepped state other) steps step)
+history_push state (other ∷ steps) step = cc (history_push (stepped state other) steps step)
 
 pub length_history : (state : State) (steps : List Step) → length (history_from state steps) ≡ length steps
 length_history state [] = refl

@@ -269,8 +269,7 @@ few_close_none buses events more enough number later o = by (numbered number w.c
     waits zero conn e info shut fine = cc
     waits (suc k) conn e info shut fine =
         let up : is_open conn ≡ true = cc in
-        let is : slack_of h conn ≡ Some (256 - length (waiting conn h)) =
-        cc in
+        let is : slack_of h conn ≡ Some (256 - length (waiting conn h)) = cc in
         let low : r ≤ 256 - length (waiting conn h) =
         room_most (least slacks) (256 - length (waiting conn h))
         (least_least slacks k (256 - length (waiting conn h)) (slack_conns h w.connections k ∙ ap (slack_by h) e ∙ is)) in

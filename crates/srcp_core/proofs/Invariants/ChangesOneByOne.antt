@@ -34,8 +34,7 @@ module _ (buses : List Bus) (brings : State → List Update)
             record {
               whole = subst (IsWhole buses) (sym after) l.0;
               rows = cc;
-              slots =
-                  cc;
+              slots = cc;
               fewer = let a = ap (λ us. length us) left in let b = ap (λ us. length us) e in omega (arith, a, b);
               told = subst IsWellFormed (sym same) t.0;
             }

@@ -155,8 +155,7 @@ other_row id other moment mode rows apart =
     (by (same_key (first_key (session_device id)) (first_key (session_device other))) refl))
   where
     by : (t : Bool) → same_key (first_key (session_device id)) (first_key (session_device other)) ≡ t → t ≡ false
-    by true e =
-        absurd (apart (cc (same_key-true (first_key (session_device id)) (first_key (session_device other)) e)))
+    by true e = absurd (apart (cc (same_key-true (first_key (session_device id)) (first_key (session_device other)) e)))
     by false e = refl
 
 -- a place is the one whose session begins, or it was there
@@ -259,15 +258,12 @@ pub begun_is : (held : Held) (key id : ℕ) (mode : Mode) (panel : Panel) (rows 
     → panel ≡ panel_for mode → rows ≡ updated (began id held.moment mode) held.rows → change ≡ (began id held.moment mode).change
     → told ≡ told_all change held.places → places ≡ changed_places key (entered_place id panel) told
     → record held { rows = rows; last_id = id; places = places } ≡ session_begun key id mode held
-begun_is held key id mode panel rows change told places e r c t p =
-    cc
+begun_is held key id mode panel rows change told places e r c t p = cc
 
 pub sound_carried_as : (held : Held) (updates : List Update) (rows : State) (places : List (Option Place))
     → rows ≡ updated_all updates held.rows → places ≡ told_each (map change_in updates) held.places → IsSound (carried updates held)
     → IsSound (record held { rows = rows; places = places })
-sound_carried_as held updates rows places r p s =
-    rw p
-    (rw r s)
+sound_carried_as held updates rows places r p s = rw p (rw r s)
 
 -- a connection's session ends by its own command
 pub sound_ended : (key session : ℕ) (held : Held) → IsMoment held.moment → IsSessionAt session key held → IsSound held

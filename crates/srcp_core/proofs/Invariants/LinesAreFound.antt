@@ -257,8 +257,7 @@ module _ (key : ℕ) (piece : List ℕ) (start stop : ℕ) (asked : Asked) (held
   line_is_answered did new is steps counted s t = record {
     onward = (line_found key piece start stop asked held mid e).onward;
     room = subst (HasRoom key piece stop) (sym is) (room_after _ s t);
-    is =
-        cc;
+    is = cc;
     steps = cc;
     counted =
         counted
@@ -278,8 +277,7 @@ counts_push : (key : ℕ) (piece : List ℕ) (grants : List Bool) (before : ℕ 
     (granted ∷ [])
     → CountsEach key piece before (grants ++ granted ∷ [])
 counts_push key piece [] before granted a e = e
-counts_push key piece (g ∷ grants) before granted a e =
-    (a.0, counts_push key piece grants _ granted a.1 e)
+counts_push key piece (g ∷ grants) before granted a e = (a.0, counts_push key piece grants _ granted a.1 e)
 
 pub line_added : (key : ℕ) (piece : List ℕ) (first : Held) (start stop : ℕ) (did : LineRecord) (held new : Held)
     → IsLineAnswered key piece start stop did held new

@@ -35,8 +35,7 @@ map_made : (moment bus : ℕ) (ports : List ℕ)
     → map (stamped moment) (map (λ port. first_row 0 (fb_device bus port) (value.Fb false)) ports)
     ≡ map (λ port. first_row moment (fb_device bus port) (value.Fb false)) ports
 map_made moment bus [] = refl
-map_made moment bus (port ∷ ports) =
-    cc (map_made moment bus ports)
+map_made moment bus (port ∷ ports) = cc (map_made moment bus ports)
 
 map_power : (moment bus : ℕ) (on : Bool)
     → map (stamped moment) (cond on (first_row 0 (power_device bus) (value.Power false []) ∷ []) [])

@@ -47,8 +47,7 @@ no_slack (Some place ∷ places) none = by _ refl none (no_slack places)
     by : (is : Bool) → is_panel place.panel ≡ is → with_key is (panel_keys places) ≡ []
         → (panel_keys places ≡ [] → least (map slack_at places) ≡ None) → least (map slack_at (Some place ∷ places)) ≡ None
     by true e none rest = cc
-    by false e none rest =
-        cc (slack_none _ e, rest (unlisted _ none))
+    by false e none rest = cc (slack_none _ e, rest (unlisted _ none))
 
 -- with one there is
 pub some_slack : (places : List (Option Place)) → (panel_keys places ≡ [] → ⊥)
@@ -61,8 +60,7 @@ some_slack (Some place ∷ places) some = by _ refl (some_slack places)
         → ((panel_keys places ≡ [] → ⊥) → least (map slack_at places) ≡ Some (option_or_256 (least (map slack_at places))))
         → lesser (slack_in panel) (least (map slack_at places))
         ≡ Some (option_or_256 (lesser (slack_in panel) (least (map slack_at places))))
-    by Absent e rest =
-        rest (λ none. some (cc))
+    by Absent e rest = rest (λ none. some (cc))
     by (Listening feed) e rest = lesser_some _ _
     by Overran e rest = lesser_some _ _
 

@@ -79,8 +79,7 @@ covers_set places key p q at mild m r e = by (where_is m key)
   where
     by : Where m key → Source places m r
     by (Here s) =
-        let here : place_at (slice_set places key (Some q)) m ≡ Some q =
-        rw s (place_set_here places key p _ at) in
+        let here : place_at (slice_set places key (Some q)) m ≡ Some q = rw s (place_set_here places key p _ at) in
         let same : q ≡ r = cc in
         record { p = p; there = rw s at; mild = subst (IsMild p) same mild }
     by (Away f) = record { p = r; there = sym (place_set places key m _ f) ∙ e; mild = mild_itself r }

@@ -102,8 +102,7 @@ session_replied session key reply updates held s =
 -- its row is there
 pub session_row : (session key : ℕ) (held : Held) → IsSound held → IsSessionAt session key held
     → is_there (session_device session) held.rows ≡ true
-session_row session key held s h =
-    rw (← h.own) (s.sessions.there key h.place h.here h.live)
+session_row session key held s h = rw (← h.own) (s.sessions.there key h.place h.here h.live)
 
 -- a session that was given memory begins
 pub goes_granted : (held : Held) (key : ℕ) (mode : Mode) (last : ℕ) (mid new : Held) → last < 4294967295 → last ≡ held.last_id

@@ -15,8 +15,7 @@ beyond_start (row ∷ state) = cc (beyond_start state)
 -- the row that is found is the next to be listed
 pub one_listed : (told : State) (at : Cursor) (state : State) (row : Row) → IsRising state → row_after at state ≡ Some row
     → told ++ beyond at state ≡ state → (told ++ row ∷ []) ++ beyond (After row.shown.key) state ≡ state
-one_listed told at state row rising next all =
-    cc (append_assoc told _ _, beyond-next at row state rising next)
+one_listed told at state row rising next all = cc (append_assoc told _ _, beyond-next at row state rising next)
 
 -- and where none is found, all are listed
 pub all_listed : (told : State) (at : Cursor) (state : State) → row_after at state ≡ None → told ++ beyond at state ≡ state → told ≡ state

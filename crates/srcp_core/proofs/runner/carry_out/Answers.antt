@@ -59,8 +59,7 @@ loop-index-preserved g c =
       runs = (
         next.0,
         next.1,
-        follows_more _ _ _ _ i.runs.0 next.0
-            _ _ c.buses.ensures.laid_out at next.2 i.runs.2,
+        follows_more _ _ _ _ i.runs.0 next.0 _ _ c.buses.ensures.laid_out at next.2 i.runs.2,
       );
       moments = moments_more _ _ _ at c.follow.ensures.moment i.moments;
     }

@@ -10,10 +10,8 @@ stamp_all-requires g c = record {
 
 pub invariant_of-result : goal.invariant_of-result
 invariant_of-result g c = (
-  sound_opening _ c.buses.ensures.laid_out _ c.ranges.moment.fits _
-      _
-      (cc (c.stamp_all.ensures.rows, c.in_ok-rows.ensures.layout))
-      _ c.in_ok-connections.ensures.empty,
+  sound_opening _ c.buses.ensures.laid_out _ c.ranges.moment.fits _ _
+      (cc (c.stamp_all.ensures.rows, c.in_ok-rows.ensures.layout)) _ c.in_ok-connections.ensures.empty,
   c.stamp_all.ensures.layout ∙ c.in_ok-rows.ensures.layout,
   c.in_ok-connections.ensures.capacity,
   cc (c.new.ensures, c.in_ok-connections.ensures.empty),

@@ -13,5 +13,4 @@ returns g c =
     let some : panel_keys c.self.inside.connections.slots ≡ [] → ⊥ = λ none.
     true≢false (sym (ap (λ (keys : List ℕ). length keys == 0) (c.self.invariant.3 ∙ none))
     ∙ sym c.is_empty.ensures ∙ c.if-is_empty.false) in
-    rw (← c.self.view_is)
-    (cc (c.least_slack.ensures, some_slack c.self.inside.connections.slots some))
+    rw (← c.self.view_is) (cc (c.least_slack.ensures, some_slack c.self.inside.connections.slots some))

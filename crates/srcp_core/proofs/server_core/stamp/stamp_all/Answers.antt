@@ -46,11 +46,8 @@ loop-row-preserved g c =
     record {
       layout = c.set.ensures.layout ∙ inv.layout;
       rising = rw c.set.ensures.rows (stamped_rising _ state row inv.rising);
-      each =
-          rw c.set.ensures.rows
-          (stamped_each buses _ state of inv.each);
-      stamps =
-          cc (c.set.ensures.rows, stamped_next _ _ state row inv.rising next, inv.stamps);
+      each = rw c.set.ensures.rows (stamped_each buses _ state of inv.each);
+      stamps = cc (c.set.ensures.rows, stamped_next _ _ state row inv.rising next, inv.stamps);
     }
 
 pub returns : goal.returns

@@ -33,8 +33,7 @@ pub loop-change-preserved : goal.loop-change-preserved
 loop-change-preserved g c =
     let s =
     due_goes_on _ _ c.ranges.moment.fits
-    (g.R.Rows.state c.loop-change.rows) c.loop-change.at c.loop-change.invariant.ahead c.loop-change.invariant.whole
-    _ _ _
+    (g.R.Rows.state c.loop-change.rows) c.loop-change.at c.loop-change.invariant.ahead c.loop-change.invariant.whole _ _ _
     (sym c.in-Some.is ∙ c.due_next.ensures.change) c.due_next.ensures.rows in
     record {
       layout = c.due_next.ensures.layout ∙ c.loop-change.invariant.layout;
@@ -54,8 +53,7 @@ loop-change-preserved g c =
 pub returns-clause-rows : goal.returns-clause-rows
 returns-clause-rows g c =
     let e =
-    due_stops (g.R.Rows.buses c.args.rows.now) _ c.ranges.moment.fits
-    _ _ c.loop-change.invariant.ahead
+    due_stops (g.R.Rows.buses c.args.rows.now) _ c.ranges.moment.fits _ _ c.loop-change.invariant.ahead
     _ (sym c.in_default.is ∙ c.due_next.ensures.change) c.due_next.ensures.rows in
     e.same ∙ ap (λ us. updated_all us (g.R.Rows.state c.loop-change.rows)) (sym e.nothing) ∙ c.loop-change.invariant.rows
 

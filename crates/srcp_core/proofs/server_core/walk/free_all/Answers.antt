@@ -28,16 +28,14 @@ loop-change-preserved g c =
     goes_on _ (λ state. freed state c.args.session c.args.moment)
     (λ state whole. freed_later _ state whole _ _)
     (λ state whole. freed_told _ state whole _ c.ranges.moment.fits _)
-    (g.R.Rows.state c.loop-change.rows) c.loop-change.invariant.whole _
-    _ c.loop-change.connections.slots
+    (g.R.Rows.state c.loop-change.rows) c.loop-change.invariant.whole _ _ c.loop-change.connections.slots
     (sym c.in-Some.is ∙ c.free_next.ensures.change) (c.free_next.ensures.rows) in
     record {
       layout = c.free_next.ensures.layout ∙ c.loop-change.invariant.layout;
       whole = s.whole;
       rows = s.rows ∙ c.loop-change.invariant.rows;
       panels = rw (c.tell_all.ensures.slots, panels_told) c.loop-change.invariant.panels;
-      slots =
-          cc (c.tell_all.ensures.slots, s.slots, c.loop-change.invariant.slots);
+      slots = cc (c.tell_all.ensures.slots, s.slots, c.loop-change.invariant.slots);
       capacity = c.tell_all.ensures.capacity ∙ c.loop-change.invariant.capacity;
     }
 
@@ -46,8 +44,7 @@ returns-clause-rows g c =
     let e =
     stops (g.R.Rows.buses c.args.rows.now) (λ state. freed state c.args.session c.args.moment)
     (λ state whole. freed_later _ state whole _ _)
-    (λ state whole. freed_told _ state whole _ c.ranges.moment.fits _)
-    _ _ (sym c.in_default.is ∙ c.free_next.ensures.change)
+    (λ state whole. freed_told _ state whole _ c.ranges.moment.fits _) _ _ (sym c.in_default.is ∙ c.free_next.ensures.change)
     (c.free_next.ensures.rows) in
     e.same ∙ ap (λ us. updated_all us (g.R.Rows.state c.loop-change.rows)) (sym e.nothing) ∙ c.loop-change.invariant.rows
 
