@@ -1,24 +1,22 @@
 -- What the answers of a core's calls say of the course that it stands for.
-use Rattle.srcp_core.proofs.Names.{◌≡◌, ℕ, suc, ◌+◌, Bool, true, false, List, [], ◌∷◌, ◌++◌, length, refl, sym, ◌∙◌, arith, none-some}
+use Rattle.srcp_core.proofs.Names.{◌≡◌, ℕ, suc, ◌+◌, Bool, true, false, List, [], ◌∷◌, ◌++◌, length, refl, sym, ◌∙◌, arith}
 use Rattle.srcp_core.proofs.Names.{le-ltb, filter, Option, Some, None, is_none, is_some, count_by, nat_lt, slice_get, slice_index_or, not}
-use Rattle.srcp_core.proofs.Names.{if◌then◌else◌, Bus, IsLayout, opening, shown_rows, Event, Open, Bytes, Room, Shut, Piece, OfCourse}
-use Rattle.srcp_core.proofs.Names.{OfConnection, lent, Connection, is_open, overran, unsent, World, course, fault, absent_fault, history}
-use Rattle.srcp_core.proofs.Names.{open_connection, Place, Held, at, IsAdmitted, IsNotAdmitted, bytes_fault, bytes_fault_from, finish_at}
+use Rattle.srcp_core.proofs.Names.{if◌then◌else◌, Bus, IsLayout, Event, Open, Bytes, Room, Shut, Piece, OfCourse}
+use Rattle.srcp_core.proofs.Names.{OfConnection, lent, Connection, is_open, overran, unsent, World, course, fault, history}
+use Rattle.srcp_core.proofs.Names.{Place, Held, at, IsAdmitted, IsNotAdmitted, bytes_fault, bytes_fault_from, finish_at}
 use Rattle.srcp_core.proofs.Names.{unsent_at, let_out, key_of, StandsFor, place_of, CoreFault, Full, Busy, PieceTooLong, open_count, ◌≤◌}
 use Rattle.std.specs.Prelude.{IsSome}
 use Rattle.srcp_core.specs.Agrees.{closes}
 use Rattle.srcp_core.specs.Connection.{is_last}
 use Rattle.srcp_core.specs.declared.record.CoreFault.TheVariants.{Memory as MemoryFault, Closing as ClosingFault}
-use Rattle.srcp_core.proofs.Agreement.LinesAgree.{IsFine}
 use Rattle.srcp_core.proofs.Agreement.EventsAgree.{over_is, fault_same, full_fault, free_fault}
 use Rattle.srcp_core.proofs.Agreement.CallsFollowTheCourse.{out_stands}
 use Rattle.srcp_core.proofs.Agreement.RecordIsOfTheCourse.{finish_is}
 use Rattle.srcp_core.proofs.Agreement.NumbersAndKeys.{key_push_last, opens_cons}
 use Rattle.srcp_core.proofs.Agreement.PlacesChange.{is_over_place, place_unsent, place_given_up}
-use Rattle.srcp_core.proofs.CourseLaws.SessionsOfACourse.{anything, at_number, opening_in_order}
-use Rattle.srcp_core.proofs.Agreement.StandsAfterAChange.{Anything, Fine, Found, found_at}
+use Rattle.srcp_core.proofs.CourseLaws.SessionsOfACourse.{at_number, opening_in_order}
+use Rattle.srcp_core.proofs.Agreement.StandsAfterAChange.{Fine, Found, found_at}
 use Rattle.srcp_core.proofs.Invariants.EveryPlaceIsTold.{count_by_cons}
-use Rattle.srcp_core.proofs.CourseLaws.SessionsAreKept.{sound}
 use Rattle.srcp_core.proofs.Agreement.RunsAnEvent.{fine_course}
 
 -- ---- a connection is opened

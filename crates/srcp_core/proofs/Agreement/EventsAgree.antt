@@ -4,7 +4,7 @@ use Rattle.srcp_core.proofs.Names.{length, length-append, refl, ap, sym, ◌∙�
 use Rattle.srcp_core.proofs.Names.{None, not, ◌&&◌, ◌||◌, nat_lt, slice_set, is_some, count_by, if◌then◌else◌, nothing_read, Bus, opening}
 use Rattle.srcp_core.proofs.Names.{shown_rows, key_at, IsRisingBy, Open, At, Shut, Ended, Connection, History, is_open, is_nil, overran}
 use Rattle.srcp_core.proofs.Names.{unsent, untold, World, numbered, at_connection, open_connection, if_open, did, history, fresh, counted}
-use Rattle.srcp_core.proofs.Names.{fault, accepted, Place, Held, at, place_at, open_count, IsAdmitted, bytes_fault, bytes_fault_from}
+use Rattle.srcp_core.proofs.Names.{fault, accepted, Place, Held, at, place_at, open_count, IsAdmitted, bytes_fault}
 use Rattle.srcp_core.proofs.Names.{freed_place, freed_of, hung_up, advanced, key_of, without_key, StandsBy, StandsFor, IsAt, IsOwned}
 use Rattle.srcp_core.proofs.Names.{place_of, Full, Busy, PieceTooLong, Closing, if_two, le-ltb}
 use Rattle.srcp_core.specs.Course.{bytes_fault as course_fault}
@@ -57,26 +57,21 @@ module _ (buses : List Bus) where
   fault_same order read keys held w n key piece a s k =
       let h = found_at buses read keys held w n key s k in
       let f : Fine buses (history buses w) h.conn = at_number _ n _ h.conn a h.there in
-      let over = over_is buses _ h.conn h.shut f in
-      let p = place_of h.reader _ h.conn in
-      ap (bytes_fault_from piece) h.place
-      ∙ ap (λ t. if h.conn.ended || t then Some Closing
-      else (if not (is_nil p.unsent) then Some Busy else (if nat_lt 256 (length piece) then Some PieceTooLong else None)))
-      (place_overran h.reader _ h.conn)
-      ∙ by h.conn.ended (is_over_place (history buses w) h.conn) (λ e. place_unsent h.reader (history buses w) h.conn e) refl
+      let over = over_is buses (history buses w) h.conn h.shut f in
+      rw (h.place, h.opened, place_overran h.reader (history buses w) h.conn)
+      (by h.conn.ended (is_over_place (history buses w) h.conn) (λ e. place_unsent h.reader (history buses w) h.conn e)
       ∙ ap (λ t. if h.conn.ended || t then Some Closing
       else (if not (is_nil (unsent h.conn)) then Some Busy else (if nat_lt 256 (length piece) then Some PieceTooLong else None)))
-      (sym over)
-      ∙ ap (λ o. course_fault buses w o piece) (sym h.opened)
+      (sym over))
     where
-      by : {bytes other : List ℕ} (ended over : Bool) → (over ≡ false → bytes ≡ other) → over ≡ over
+      by : {bytes other : List ℕ} (ended over : Bool) → (over ≡ false → bytes ≡ other)
           → (if ended || over then Some Closing
           else (if not (is_nil bytes) then Some Busy else (if nat_lt 256 (length piece) then Some PieceTooLong else None)))
           ≡ (if ended || over then Some Closing
           else (if not (is_nil other) then Some Busy else (if nat_lt 256 (length piece) then Some PieceTooLong else None)))
-      by true over h e = refl
-      by false true h e = refl
-      by false false h e = cc (h refl)
+      by true over h = refl
+      by false true h = refl
+      by false false h = cc (h refl)
 
   pub full_fault : (keys : List (Option ℕ)) (held : Held) (w : World) → StandsFor buses keys held w → open_count held ≡ 64
       → (granted : Bool) → fault buses w (Open granted) ≡ Some Full

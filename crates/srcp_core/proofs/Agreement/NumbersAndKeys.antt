@@ -2,8 +2,11 @@
 use Rattle.srcp_core.proofs.Names.{◌≡◌, ◌≢◌, ℕ, zero, suc, ◌+◌, ◌<◌, ◌≤◌, ⊎_elim, inl, inr, ◌⊎◌, Bool, true, false, cond, List, [], ◌∷◌}
 use Rattle.srcp_core.proofs.Names.{◌++◌, length, length-append, refl, ap, sym, ◌∙◌, arith, subst, filter-append, suc-ne-zero, suc_inj}
 use Rattle.srcp_core.proofs.Names.{filter, Option, Some, None, is_none, if◌then◌else◌, Connection, is_open, numbered, with_numbered}
-use Rattle.srcp_core.proofs.Names.{if_open, key_of, without_key}
+use Rattle.srcp_core.proofs.Names.{if_open, key_of, without_key, cases_lt}
 use Rattle.std.specs.Prelude.{option_map}
+use Rattle.std.proofs.lemmas.List.{length-set, get_or-set_other, get_or_append_left, get_or_past}
+use Rattle.std.proofs.Math.Seq.{get_or-append_seam}
+use Rattle.std.proofs.lemmas.Option.{slice_get_within}
 
 -- ---- connections
 
@@ -132,9 +135,7 @@ opens_push xs x o =
 
 pub numbered_within : (n : ℕ) (xs : List Connection) (x : Connection) → numbered n xs ≡ Some x → (0 < n) × (n ≤ length xs)
 numbered_within zero xs x e = cc
-numbered_within (suc n) [] x e = cc
-numbered_within (suc zero) (y ∷ xs) x e = (omega arith, omega arith)
-numbered_within (suc (suc n)) (y ∷ xs) x e = let ih = numbered_within (suc n) xs x e in let k = ih.1 in (omega arith, omega (arith, k))
+numbered_within (suc n) xs x e = (omega arith, slice_get_within xs n x e)
 
 pub numbered_none : (n : ℕ) (xs : List Connection) → 0 < n → numbered n xs ≡ None → length xs < n
 numbered_none zero xs p e = absurd (omega (arith, p))
@@ -151,15 +152,12 @@ no_key (suc (suc n)) key e = cc
 
 pub key_within : (n : ℕ) (keys : List (Option ℕ)) (key : ℕ) → key_of n keys ≡ Some key → (0 < n) × (n ≤ length keys)
 key_within zero keys key e = cc
-key_within (suc n) [] key e = absurd (no_key (suc n) key e)
-key_within (suc zero) (k ∷ keys) key e = (omega arith, omega arith)
-key_within (suc (suc n)) (k ∷ keys) key e = let ih = key_within (suc n) keys key e in let l = ih.1 in (omega arith, omega (arith, l))
+key_within (suc n) keys key e =
+    ⊎_elim (λ l. (omega arith, l)) (λ h. let none = get_or_past keys n None h in cc) (cases_lt n (length keys))
 
 pub length_without : (n : ℕ) (keys : List (Option ℕ)) → length (without_key n keys) ≡ length keys
 length_without zero keys = refl
-length_without (suc n) [] = refl
-length_without (suc zero) (k ∷ keys) = refl
-length_without (suc (suc n)) (k ∷ keys) = cc (length_without (suc n) keys)
+length_without (suc n) keys = length-set keys n None
 
 pub without_here : (n : ℕ) (keys : List (Option ℕ)) → key_of n (without_key n keys) ≡ None
 without_here zero keys = refl
@@ -171,22 +169,15 @@ without_here (suc (suc n)) (k ∷ keys) = without_here (suc n) keys
 pub without_other : (n m : ℕ) (keys : List (Option ℕ)) → m ≢ n → key_of m (without_key n keys) ≡ key_of m keys
 without_other zero m keys d = refl
 without_other (suc n) zero keys d = refl
-without_other (suc n) (suc m) [] d = refl
-without_other (suc zero) (suc zero) (k ∷ keys) d = absurd (d refl)
-without_other (suc zero) (suc (suc m)) (k ∷ keys) d = refl
-without_other (suc (suc n)) (suc zero) (k ∷ keys) d = refl
-without_other (suc (suc n)) (suc (suc m)) (k ∷ keys) d = without_other (suc n) (suc m) keys (λ e. d (cc))
+without_other (suc n) (suc m) keys d = get_or-set_other keys n m None None (λ e. d (cc))
 
 -- a key that is put at the end
 pub key_push : (n : ℕ) (keys : List (Option ℕ)) (key : Option ℕ) → n ≤ length keys → key_of n (keys ++ key ∷ []) ≡ key_of n keys
 key_push zero keys key h = refl
-key_push (suc n) [] key h = absurd (omega (arith, h))
-key_push (suc zero) (k ∷ keys) key h = refl
-key_push (suc (suc n)) (k ∷ keys) key h = let l : suc n ≤ length keys = omega arith in key_push (suc n) keys key l
+key_push (suc n) keys key h = get_or_append_left keys (key ∷ []) None n h
 
 pub key_push_last : (keys : List (Option ℕ)) (key : Option ℕ) → key_of (suc (length keys)) (keys ++ key ∷ []) ≡ key
-key_push_last [] key = refl
-key_push_last (k ∷ keys) key = key_push_last keys key
+key_push_last keys key = get_or-append_seam keys key [] None
 
 pub key_push_is : (n : ℕ) (keys : List (Option ℕ)) (key other : ℕ) → key_of n (keys ++ Some key ∷ []) ≡ Some other
     → (key_of n keys ≡ Some other) ⊎ ((n ≡ suc (length keys)) × (other ≡ key))
@@ -240,11 +231,7 @@ look_with (suc (suc m)) (suc (suc n)) f (x ∷ xs) y e =
 
 -- and after one more was opened
 pub look_push : (m : ℕ) (xs : List Connection) (x y : Connection) → numbered m (xs ++ x ∷ []) ≡ Some y → (numbered m xs ≡ Some y) ⊎ (y ≡ x)
-look_push zero xs x y e = cc
-look_push (suc zero) [] x y e = let same : x ≡ y = cc in inr (sym same)
-look_push (suc (suc m)) [] x y e = cc
-look_push (suc zero) (z ∷ xs) x y e = inl e
-look_push (suc (suc m)) (z ∷ xs) x y e = look_push (suc m) xs x y e
+look_push m xs x y e = ⊎_elim (λ h. inl h) (λ h. inr (sym h.1)) (numbered_push_is m xs x y e)
 
 -- an open connection of that number
 pub opened : (o : Option Connection) (conn : Connection) → if_open o ≡ Some conn → (o ≡ Some conn) × (conn.shut ≡ None)

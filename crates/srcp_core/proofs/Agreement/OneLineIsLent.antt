@@ -1,7 +1,7 @@
 -- Once all replies of a connection are taken, at most one line is lent of it.
 use Rattle.srcp_core.proofs.Names.{◌≡◌, ℕ, ◌≤◌, Bool, true, false, List, [], ◌∷◌, ◌++◌, length, refl, ap, arith, length-append, leb-true}
-use Rattle.srcp_core.proofs.Names.{AllByRecursion, nat_le, Some, if◌then◌else◌, IsWellFormed, Put, Bus, IsLayout, said, OfConnection, lent}
-use Rattle.srcp_core.proofs.Names.{Connection, History, is_open, line_of, overran, owed, tells, took, unsent, course, history, numbered}
+use Rattle.srcp_core.proofs.Names.{AllByRecursion, nat_le, Some, IsWellFormed, Put, Bus, IsLayout, said, OfConnection, lent}
+use Rattle.srcp_core.proofs.Names.{Connection, is_open, line_of, overran, owed, tells, took, unsent, course, history, numbered}
 use Rattle.srcp_core.proofs.Names.{rows, Held, AllMoments, HasMoment, last_line, let_out, unsent_at, Event, Room, Item, cond_both}
 use Rattle.srcp_info.proofs.LineLaws.{length-line-le}
 use Rattle.srcp_feed.specs.declared.Next.TheVariants.{Told, Listed, Settled}

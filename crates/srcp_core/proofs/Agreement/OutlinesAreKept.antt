@@ -1,9 +1,9 @@
 -- A recorder that keeps an outline keeps of each change what that makes of the outline.
 use Rattle.srcp_core.proofs.Names.{◌≡◌, ℕ, zero, suc, Bool, true, false, List, [], ◌∷◌, ◌++◌, map, refl, ap, sym, ◌∙◌, option_map, Option}
-use Rattle.srcp_core.proofs.Names.{Some, None, Result, Ok, Err, IfOk, slice_get, slice_set, Next, Told, Listed, Settled, Bus, IsLayout}
+use Rattle.srcp_core.proofs.Names.{Some, None, Result, Ok, Err, IfOk, slice_get, Next, Told, Listed, Settled, Bus, IsLayout}
 use Rattle.srcp_core.proofs.Names.{Held, IsPromised, Recording, Keeps, kept, changed_record, shut, gave, finished, finished_by}
 use Rattle.srcp_core.proofs.Names.{nothing_recorded, PlainMoments, ConnRecord, Record}
-use Rattle.std.proofs.lemmas.Option.{slice_get-map}
+use Rattle.std.proofs.lemmas.Option.{slice_get-map, get_or_from_slice_get}
 use Rattle.srcp_core.specs.Promised.{connection_outline, IsPromisedOutline}
 use Rattle.srcp_core.specs.Recording.{Becomes, recording_outline, began, took}
 use Rattle.srcp_core.proofs.Agreement.LinesAreNoted.{changed_in}
@@ -13,6 +13,8 @@ use Rattle.srcp_core.specs.declared.record.Finish.TheVariants.{Shut as ShutFinis
 use Rattle.srcp_core.specs.declared.record.Step.{Step}
 use Rattle.srcp_core.proofs.Agreement.RunPromises.{promised}
 use Rattle.srcp_core.specs.declared.record.Step.TheVariants as recorded
+use Rattle.std.proofs.lemmas.List.{map-set}
+use Rattle.std.proofs.Math.Seq.{map-set_same}
 
 -- ---- what a recorder keeps
 
@@ -71,12 +73,6 @@ becomes_as change same old new law was = record {
 
 -- ---- each change
 
-set_kept : (tolds : List ConnRecord) (n : ℕ) (one : ConnRecord)
-    → slice_set (map connection_outline tolds) n (connection_outline one) ≡ map connection_outline (slice_set tolds n one)
-set_kept [] n one = refl
-set_kept (x ∷ tolds) zero one = refl
-set_kept (x ∷ tolds) (suc n) one = cc (set_kept tolds n one)
-
 changed_kept : (n : ℕ) (f : ConnRecord → ConnRecord) → ((one : ConnRecord) → f (connection_outline one) ≡ connection_outline (f one))
     → (tolds : List ConnRecord)
     → changed_record n f (map connection_outline tolds) ≡ map connection_outline (changed_record n f tolds)
@@ -87,7 +83,7 @@ changed_kept (suc n) f law tolds = cc (slice_get-map _ tolds n, by _)
         → changed_in n f (map connection_outline tolds) (option_map connection_outline o) ≡ map connection_outline (changed_in n f tolds
         o)
     by None = refl
-    by (Some one) = cc (law one, set_kept tolds n (f one))
+    by (Some one) = cc (law one, map-set connection_outline tolds n (f one))
 
 changed_aside : (n : ℕ) (f : ConnRecord → ConnRecord) → ((one : ConnRecord) → connection_outline (f one) ≡ connection_outline one)
     → (tolds : List ConnRecord)
@@ -95,16 +91,11 @@ changed_aside : (n : ℕ) (f : ConnRecord → ConnRecord) → ((one : ConnRecord
 changed_aside zero f law tolds = refl
 changed_aside (suc n) f law tolds = by _ refl
   where
-    same : (tolds : List ConnRecord) (k : ℕ) (one : ConnRecord) → slice_get tolds k ≡ Some one
-        → map connection_outline (slice_set tolds k (f one)) ≡ map connection_outline tolds
-    same [] k one e = refl
-    same (x ∷ tolds) zero one e = let is : x ≡ one = cc in cc (law one)
-    same (x ∷ tolds) (suc k) one e = cc (same tolds k one e)
-
     by : (o : Option ConnRecord) → slice_get tolds n ≡ o
         → map connection_outline (changed_in n f tolds o) ≡ map connection_outline tolds
     by None e = refl
-    by (Some one) e = same tolds n one e
+    by (Some one) e =
+        map-set_same connection_outline tolds n (f one) one (law one ∙ ap connection_outline (sym (get_or_from_slice_get tolds n one one e)))
 
 abbrev with_connections : Recording → List ConnRecord → Recording
 with_connections r tolds = record { keys = r.keys; steps = []; connections = tolds; refused = r.refused }

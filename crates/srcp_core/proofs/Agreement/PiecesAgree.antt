@@ -1,6 +1,6 @@
 -- A core that stands for a course takes a piece as the course does.
-use Rattle.srcp_core.proofs.Names.{◌≡◌, ◌≢◌, ℕ, zero, suc, ◌+◌, ◌<◌, ◌≤◌, Bool, true, false, List, [], ◌∷◌, ◌++◌, take, drop, length, refl}
-use Rattle.srcp_core.proofs.Names.{ap, sym, ◌∙◌, subst, arith, append-nil, length-append, eqb-true, drop_all, fold-append, none-some}
+use Rattle.srcp_core.proofs.Names.{◌≡◌, ◌≢◌, ℕ, ◌+◌, ◌<◌, ◌≤◌, Bool, true, List, [], ◌∷◌, ◌++◌, take, drop, length, refl}
+use Rattle.srcp_core.proofs.Names.{ap, sym, ◌∙◌, subst, arith, append-nil, length-append, drop_all, fold-append, none-some}
 use Rattle.srcp_core.proofs.Names.{le_refl, fold, option_map, Option, Some, None, ◌==◌, slice_set, if◌then◌else◌, Mark, Line, TooLong}
 use Rattle.srcp_core.proofs.Names.{Reading, StandsAt, Bus, opening, shown_rows, key_at, IsRisingBy, Heard, lines_under, Connection, World}
 use Rattle.srcp_core.proofs.Names.{numbered, at_connection, history, entered, open_connection, new_marks, wants_as, denied_lines, Place}
@@ -25,6 +25,7 @@ use Rattle.srcp_core.proofs.Agreement.NumbersAndKeys.{numbered_with, with_itself
 use Rattle.srcp_core.proofs.Agreement.StandsAfterAChange.{Anything, found_at, stands_changed}
 use Rattle.srcp_core.proofs.CourseLaws.SessionsAreKept.{sound_answered, sound_at}
 use Rattle.srcp_core.proofs.CourseLaws.EventsKeep.{IsAnswered, kept_answered}
+use Rattle.std.proofs.lemmas.List.{set-get_or}
 
 -- ---- the bytes that were accepted
 
@@ -312,9 +313,7 @@ module _ (buses : List Bus) (order : IsRisingBy key_at (shown_rows (opening buse
 -- ---- the beginning of a piece
 
 pub set_same : (places : List (Option Place)) (key : ℕ) (p : Place) → place_at places key ≡ Some p → slice_set places key (Some p) ≡ places
-set_same [] key p h = refl
-set_same (x ∷ places) zero p h = cc
-set_same (x ∷ places) (suc key) p h = cc (set_same places key p h)
+set_same places key p h = rw h at (set-get_or places key None)
 
 -- the world with all of the piece accepted
 abbrev pub accepting : ℕ → List ℕ → World → World

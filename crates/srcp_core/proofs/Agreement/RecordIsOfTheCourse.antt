@@ -24,6 +24,7 @@ use Rattle.srcp_core.proofs.CourseLaws.SessionsAreKept.{sound}
 use Rattle.srcp_core.proofs.CourseLaws.EventsKeep.{IsAnswered, kept_fed, kept_shut}
 use Rattle.srcp_core.proofs.Agreement.NumbersAndKeys.{no_connection, no_key}
 use Rattle.srcp_core.proofs.Invariants.PlacesCover.{no_place}
+use Rattle.srcp_core.proofs.Agreement.RunPromises.{take_one}
 
 -- ---- how each connection stands in the end
 
@@ -209,15 +210,6 @@ follows number event refusal r mid later_r held later h e = record {
       let one = h.each buses events layout s in
       (one.0, λ n. rw e (runs_on buses events _ refusal number mid later n one.1));
 }
-
-take_one : (events : List PlainEvent) (index : ℕ) (event : PlainEvent) → slice_get events index ≡ Some event
-    → (take (index + 1) events ≡ take index events ++ event ∷ []) × (length (take index events) ≡ index)
-take_one [] index event e = cc
-take_one (x ∷ events) zero event e = let same : x ≡ event = cc in (cc, refl)
-take_one (x ∷ events) (suc index) event e =
-    let ih = take_one events index event e in
-    let one : suc index + 1 ≡ suc (index + 1) = omega arith in
-    (cc ih.0, cc ih.1)
 
 -- one event more of a list
 pub follows_more : (buses : List Bus) (events : List PlainEvent) (index : ℕ) (event : PlainEvent) (r later_r : Recording)

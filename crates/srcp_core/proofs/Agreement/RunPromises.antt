@@ -2,12 +2,14 @@
 use Rattle.srcp_core.proofs.Names.{◌≡◌, ℕ, zero, suc, List, [], ◌∷◌, map, ◌+◌, ◌≤◌, length, take, refl, ap, sym, ◌∙◌, subst, arith}
 use Rattle.srcp_core.proofs.Names.{take_all, le_refl, AllByRecursion, Some, slice_get, Result, Ok, Err, IfOk, Bus, IsLayout, IsWhole, Event}
 use Rattle.srcp_core.proofs.Names.{all_under, HasPlainMoment, PlainMoments, Connection, World, course, numbered, state, IsPromised}
-use Rattle.srcp_core.proofs.Names.{IsRecordOf, IsSession, AllMoments, ConnRecord, Record, true}
+use Rattle.srcp_core.proofs.Names.{IsRecordOf, IsSession, AllMoments, ConnRecord, Record, true, all_append, ◌++◌}
 use Rattle.srcp_core.proofs.Agreement.MemoryAnswers.{all_moments, none_of_all}
 use Rattle.srcp_core.specs.declared.event.Event.{Event as PlainEvent}
 use Rattle.srcp_core.specs.Promised.{IsRecordedConnection, RunsRecord}
 use Rattle.srcp_core.specs.Laws.{IsWholeWorld}
 use Rattle.srcp_core.proofs.CourseLaws.EveryCourse.{told_rightly, served_rightly}
+use Rattle.std.proofs.lemmas.Option.{slice_get_within, get_or_from_slice_get}
+use Rattle.std.proofs.lemmas.List.{take_more, length-take-le}
 
 -- the registry as it is
 whole_now : (buses : List Bus) (w : World) → IsWholeWorld buses w → IsWhole buses (state buses w)
@@ -66,14 +68,19 @@ promised buses events (Ok told) r plain_moments layout =
     }
 promised buses events (Err fault) r moments layout = tt
 
--- one moment more
+-- one event more
+pub take_one : (events : List PlainEvent) (index : ℕ) (event : PlainEvent) → slice_get events index ≡ Some event
+    → (take (index + 1) events ≡ take index events ++ event ∷ []) × (length (take index events) ≡ index)
+take_one events index event at =
+    let low = slice_get_within events index event at in (
+      take_more events index event low ∙ ap (λ x. take index events ++ x ∷ []) (get_or_from_slice_get events index event event at),
+      length-take-le index events (omega arith),
+    )
+
 pub moments_more : (events : List PlainEvent) (index : ℕ) (event : PlainEvent) → slice_get events index ≡ Some event → HasPlainMoment event
     → AllByRecursion HasPlainMoment (take index events) → AllByRecursion HasPlainMoment (take (index + 1) events)
-moments_more [] index event e h all = cc
-moments_more (x ∷ events) zero event e h all = let same : x ≡ event = cc in (subst HasPlainMoment (sym same) h, tt)
-moments_more (x ∷ events) (suc index) event e h all =
-    let one : suc index + 1 ≡ suc (index + 1) = omega arith in
-    rw one (all.0, moments_more events index event e h all.1)
+moments_more events index event e h all =
+    rw (take_one events index event e).0 (all_append HasPlainMoment (take index events) (event ∷ []) all (h, tt))
 
 pub moments_all : (events : List PlainEvent) (index : ℕ) → length events ≤ index → AllByRecursion HasPlainMoment (take index events)
     → PlainMoments events

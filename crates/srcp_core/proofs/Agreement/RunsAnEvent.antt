@@ -1,7 +1,7 @@
 -- A run over one more event.
 use Rattle.srcp_core.proofs.Names.{cond_both, ◌≡◌, ◌≢◌, ℕ, zero, suc, max, ◌-◌, ◌<◌, ◌≤◌, Bool, true, false, List, [], ◌∷◌, ◌++◌, take}
 use Rattle.srcp_core.proofs.Names.{length, refl, ap, sym, ◌∙◌, subst, arith, append-nil, ◌⊎◌, inl, inr, Option, Some, None, ◌||◌, ◌==◌}
-use Rattle.srcp_core.proofs.Names.{slice_get, slice_set, if◌then◌else◌, map-append, none-some, pos_of_ne-zero, Bus, IsLayout, opening}
+use Rattle.srcp_core.proofs.Names.{slice_get, if◌then◌else◌, map-append, none-some, pos_of_ne-zero, Bus, IsLayout, opening}
 use Rattle.srcp_core.proofs.Names.{shown_rows, Next, Told, Listed, Settled, Event, Open, Room, Shut, Ended, under, Connection, World}
 use Rattle.srcp_core.proofs.Names.{numbered, at_connection, open_connection, did, history, counted, fault, accepted, shut_as, course, Place}
 use Rattle.srcp_core.proofs.Names.{Held, at, open_count, IsAdmitted, IsNotAdmitted, one_denied, hung_up, hung_up_from, advanced}
@@ -26,6 +26,8 @@ use Rattle.srcp_core.proofs.CourseLaws.SessionsOfACourse.{anything, at_number, o
 use Rattle.srcp_core.proofs.Agreement.StandsAfterAChange.{stands_as, Anything, Fine, AllFine, found_at}
 use Rattle.srcp_core.proofs.Agreement.RoomsAgree.{Kept, IsRooming, room_goes_on, room_taken, room_empty}
 use Rattle.srcp_core.proofs.CourseLaws.SessionsAreKept.{sound}
+use Rattle.std.proofs.lemmas.List.{set-get_or}
+use Rattle.std.proofs.lemmas.Option.{get_or_from_slice_get}
 
 -- every course has sound connections
 pub fine_course : (buses : List Bus) (layout : IsLayout buses) (events : List Event)
@@ -374,14 +376,9 @@ changed_same : (n : ℕ) (f : ConnRecord → ConnRecord) → ((told : ConnRecord
 changed_same zero f law tolds = refl
 changed_same (suc n) f law tolds = by _ refl
   where
-    same : (tolds : List ConnRecord) (k : ℕ) (told : ConnRecord) → slice_get tolds k ≡ Some told → slice_set tolds k (f told) ≡ tolds
-    same [] k told e = refl
-    same (x ∷ tolds) zero told e = let is : x ≡ told = cc in cc (law told)
-    same (x ∷ tolds) (suc k) told e = cc (same tolds k told e)
-
     by : (o : Option ConnRecord) → slice_get tolds n ≡ o → changed_in n f tolds o ≡ tolds
     by None e = refl
-    by (Some told) e = same tolds n told e
+    by (Some told) e = rw (law told) (rw (get_or_from_slice_get tolds n told told e) at (set-get_or tolds n told))
 
 pub taking_none : (n key most : ℕ) (held : Held) (r : Recording) → at held key ≡ None
     → (taking n key most held r ≡ r) × ((taken_at key most held ≡ held) × (count_at key most held ≡ 0))

@@ -8,6 +8,7 @@ use Rattle.srcp_core.proofs.Names.{panel_at, place_of, least, lesser, slack_of, 
 use Rattle.srcp_index.specs.Earliest.{IsEarliestDue}
 use Rattle.srcp_core.specs.Waits.{slack, due_next}
 use Rattle.srcp_core.proofs.Agreement.StandsAfterAChange.{found_at}
+use Rattle.std.proofs.Math.ListN.{get_or-map}
 
 -- ---- the least of some numbers
 
@@ -75,9 +76,7 @@ least_same xs ys to from = by _ refl _ refl
 -- ---- slack
 
 slack_places : (places : List (Option Place)) (k : ℕ) → slice_index_or (map slack_at places) k None ≡ slack_at (place_at places k)
-slack_places [] k = refl
-slack_places (place ∷ places) zero = refl
-slack_places (place ∷ places) (suc k) = slack_places places k
+slack_places places k = get_or-map slack_at places k None
 
 -- of the connection of that number, if there is one
 abbrev pub slack_by : History → Option Connection → Option ℕ

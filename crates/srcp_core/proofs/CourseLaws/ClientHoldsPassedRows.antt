@@ -8,6 +8,7 @@ use Rattle.srcp_info.specs.Client.{changed}
 use Rattle.srcp_feed.proofs.Steps.{ListsOne, passed_changed}
 use Rattle.srcp_core.proofs.CourseLaws.Histories.{rows_after, concerning_by, concerning_push, concerning_same, cursor_by, AreBy, IsDoneBy}
 use Rattle.srcp_core.proofs.CourseLaws.Histories.{by_all, by_more, done_more, cursor_later, cursor_before}
+use Rattle.srcp_core.proofs.Names.{all_append}
 
 -- the changes that were told
 abbrev pub tolds : List Item → List Change
@@ -79,10 +80,6 @@ pub record OneMore (start : List Shown) (history : History) (go : ℕ) (items : 
   pub waiting : untold_by go items done history ≡ waits
   pub listing : beyond (cursor_by done items (length history)) (rows_after start history) ≡ left
 
-all_push : (n : ℕ) (items : List Item) (item : Item) → AreBy n items → item.steps ≤ n → AreBy n (items ++ item ∷ [])
-all_push n [] item a h = (h, tt)
-all_push n (i ∷ items) item a h = (a.0, all_push n items item a.1 h)
-
 -- what is given now does not change what concerns the session
 pub concerning_item : (history : History) (go : ℕ) (items : List Item) (done : Option ℕ) (what : Next)
     → concerning_by go (cursor_by done (items ++ item_of history what ∷ [])) history ≡ concerning_by go (cursor_by done items) history
@@ -94,7 +91,7 @@ pub cursor_item : (history : History) (items : List Item) (what : Next) → AreB
     → cursor_by None (items ++ item_of history what ∷ []) (length history) ≡ moved (cursor_by None items (length history)) what
 cursor_item history items what a =
     cc (
-      by_all (length history) _ (all_push (length history) items (item_of history what) a (le_refl _)),
+      by_all (length history) _ (all_append (λ item. item.steps ≤ length history) items (item_of history what ∷ []) a (le_refl _, tt)),
       fold-append (λ cursor item. moved cursor item.what) Start items (item_of history what ∷ []),
       by_all _ items a,
     )
@@ -134,7 +131,7 @@ fits_told start history go items done change changes f e =
     ∙ ap (drop 1) e in
     record {
       fits = record {
-        numbers = all_push _ items _ f.numbers (le_refl _);
+        numbers = all_append _ items _ f.numbers (le_refl _, tt);
         finished = f.finished;
         began = f.began;
         enough = omega arith;
@@ -186,7 +183,7 @@ fits_listed start history go items None row left order f e b =
     ap (λ u. changed_all u []) (sym (append-nil (tells items)) ∙ ap (λ u. tells items ++ u) (sym e)) ∙ f.kept in
     record {
       fits = record {
-        numbers = all_push _ items _ f.numbers (le_refl _);
+        numbers = all_append _ items _ f.numbers (le_refl _, tt);
         finished = f.finished;
         began = f.began;
         enough = omega arith;

@@ -1,10 +1,10 @@
 -- Each row of a device that is there all the time is listed exactly once.
 use Rattle.srcp_core.proofs.Names.{◌≡◌, ℕ, zero, suc, ◌+◌, ◌-◌, ◌<◌, ◌≤◌, Bool, true, false, List, [], ◌∷◌, ◌++◌, take, length, refl, ap}
-use Rattle.srcp_core.proofs.Names.{sym, ◌∙◌, subst, arith, take_all, take-append-le, length_push, filter_map-append, fold-append, filter}
-use Rattle.srcp_core.proofs.Names.{AllByRecursion, is_eq, Less, Equal, ◌||◌, Option, None, IsRisingBy, key_cmp, owns, Change, Cursor, Start}
-use Rattle.srcp_core.proofs.Names.{After, Done, Shown, Device, Key, Bus, opening, shown_rows, beyond, Listed, key_cmp_total, key_at}
-use Rattle.srcp_core.proofs.Names.{lists_one, IsLayout, Event, Connection, History, is_settled, World, start, happens, course, rows}
-use Rattle.srcp_core.proofs.Names.{history, listed, has_key, rows_at, listed_row, IsSession, AllMoments, Item, cond_both, le_refl, or-true}
+use Rattle.srcp_core.proofs.Names.{sym, ◌∙◌, subst, arith, take_all, take-append-le, length_push, filter_map-append, filter, AllByRecursion}
+use Rattle.srcp_core.proofs.Names.{is_eq, Less, Equal, Option, None, IsRisingBy, key_cmp, owns, Change, Cursor, Start, After, Done, Shown}
+use Rattle.srcp_core.proofs.Names.{Device, Key, Bus, opening, shown_rows, beyond, Listed, key_cmp_total, key_at, lists_one, IsLayout, Event}
+use Rattle.srcp_core.proofs.Names.{Connection, History, is_settled, World, start, course, rows, history, listed, has_key, rows_at}
+use Rattle.srcp_core.proofs.Names.{listed_row, IsSession, AllMoments, Item, cond_both, le_refl, or-true, not, ◌&&◌}
 use Rattle.std.specs.Ordering.{eq_by_cmp}
 use Rattle.std.specs.declared.cmp.Ordering.{Ordering}
 use Rattle.std.specs.declared.cmp.Ordering.TheVariants.{Greater}
@@ -18,6 +18,7 @@ use Rattle.srcp_core.proofs.CourseLaws.SessionsOfACourse.{OfSessions, stands, se
 use Rattle.srcp_core.proofs.CourseLaws.ClientHoldsPassedRows.{Fits, Law, cursor_item, cursor_told}
 use Rattle.srcp_core.proofs.CourseLaws.RegistryStaysWhole.{KeepsKeys, keeps_keys}
 use Rattle.std.proofs.lemmas.List.Folds.{list_any-append}
+use Rattle.std.proofs.lemmas.Map.Views.{any-filter_same}
 
 -- ---- at most once
 
@@ -62,39 +63,22 @@ same_passed Start a b e = refl
 same_passed (After last) a b e = cc (key_cmp_total.congr a b last e)
 same_passed Done a b e = refl
 
+-- of the rows that are left, those that the listing has not come to have the keys that they had
+has_beyond : (cursor : Cursor) (key : Key) (rows : List Shown)
+    → has_key key (beyond cursor rows) ≡ not (has_reached cursor key) && has_key key rows
+has_beyond cursor key rows =
+    any-filter_same (λ row. eq_by_cmp key_cmp row.key key) (λ row. not (has_reached cursor row.key)) (not (has_reached cursor key))
+    (λ row e. ap not (same_passed cursor row.key key (is_equal row.key key e))) rows
+
 -- a key that was not passed is among those that are left
 key_beyond : (cursor : Cursor) (key : Key) (rows : List Shown) → has_reached cursor key ≡ false → has_key key rows ≡ true
     → has_key key (beyond cursor rows) ≡ true
-key_beyond cursor key [] f h = h
-key_beyond cursor key (row ∷ rows) f h =
-    let by : (t : Bool) → eq_by_cmp key_cmp row.key key ≡ t → has_key key (beyond cursor (row ∷ rows)) ≡ true = elim [
-      | true ↦
-          λ e. let out : has_reached cursor row.key ≡ false = same_passed cursor row.key key (is_equal row.key key e) ∙ f in
-          rw (out, e) refl
-      | false ↦ λ e. let ih = key_beyond cursor key rows f (rw e at h) in kept e ih _ refl
-    ] in
-    by (eq_by_cmp key_cmp row.key key) refl
-  where
-    kept : eq_by_cmp key_cmp row.key key ≡ false → has_key key (beyond cursor rows) ≡ true → (t : Bool) → has_reached cursor row.key ≡ t
-        → has_key key (beyond cursor (row ∷ rows)) ≡ true
-    kept e ih true k = rw k ih
-    kept e ih false k = rw (k, e) ih
+key_beyond cursor key rows f h = cc (has_beyond cursor key rows)
 
 -- a key that was passed is not
 key_not_beyond : (cursor : Cursor) (key : Key) (rows : List Shown) → has_reached cursor key ≡ true
     → has_key key (beyond cursor rows) ≡ false
-key_not_beyond cursor key [] p = refl
-key_not_beyond cursor key (row ∷ rows) p =
-    let ih = key_not_beyond cursor key rows p in
-    let by : (t : Bool) → has_reached cursor row.key ≡ t → has_key key (beyond cursor (row ∷ rows)) ≡ false = elim [
-      | true ↦ λ k. rw k ih
-      | false ↦ λ k. rw (k, differs k (eq_by_cmp key_cmp row.key key) refl) ih
-    ] in
-    by (has_reached cursor row.key) refl
-  where
-    differs : has_reached cursor row.key ≡ false → (t : Bool) → eq_by_cmp key_cmp row.key key ≡ t → eq_by_cmp key_cmp row.key key ≡ false
-    differs k false e = e
-    differs k true e = let s = same_passed cursor row.key key (is_equal row.key key e) in cc
+key_not_beyond cursor key rows p = cc (has_beyond cursor key rows)
 
 has_left : (key : Key) (xs ys : List Shown) → has_key key xs ≡ true → has_key key (xs ++ ys) ≡ true
 has_left key xs ys h = cc (list_any-append (λ row. eq_by_cmp key_cmp row.key key) xs ys)

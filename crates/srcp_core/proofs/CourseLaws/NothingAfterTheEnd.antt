@@ -1,12 +1,12 @@
 -- Of a connection that overran or was shut nothing changes any more but that it may be shut.
-use Rattle.srcp_core.proofs.Names.{◌≡◌, ℕ, ◌+◌, ◌<◌, max, Bool, true, false, List, [], ◌∷◌, ◌++◌, length, drop, refl, ap, sym, ◌∙◌, subst}
-use Rattle.srcp_core.proofs.Names.{arith, length-append, length-drop, flat_map-append, fold-append, eqb-false, lt-ltb, ltb-true, filter}
-use Rattle.srcp_core.proofs.Names.{filter_map, fold, nat_le, nat_lt, ◌==◌, ◌||◌, Option, Some, None, is_none, if◌then◌else◌, Change, Bus}
+use Rattle.srcp_core.proofs.Names.{◌≡◌, ℕ, ◌+◌, ◌<◌, max, Bool, true, List, [], ◌∷◌, ◌++◌, length, drop, refl, ap, sym, ◌∙◌, subst}
+use Rattle.srcp_core.proofs.Names.{arith, length-append, length-drop, flat_map-append, fold-append, lt-ltb, ltb-true, filter}
+use Rattle.srcp_core.proofs.Names.{filter_map, fold, nat_le, nat_lt, ◌||◌, Option, Some, None, is_none, if◌then◌else◌, Change, Bus}
 use Rattle.srcp_core.proofs.Names.{concerns, Event, Open, Bytes, Room, At, Shut, Step, Moment, Ended, Piece, Connection, History, heard}
 use Rattle.srcp_core.proofs.Names.{told_change, cursor_at, overran, given_room, World, fresh, start, numbered, at_connection}
 use Rattle.srcp_core.proofs.Names.{open_connection, did, counted, rows, history, entered, fault, absent_fault, shut_as, accepted}
 use Rattle.srcp_core.proofs.Names.{or_refused, happens, course, CoreFault, NoSuch, Closing, cond_both, is_open, sent, or-true}
-use Rattle.std.proofs.Common.{not, eqb-true}
+use Rattle.std.proofs.Common.{not}
 use Rattle.srcp_core.specs.Connection.{concerning}
 use Rattle.srcp_core.specs.Course.{bytes_fault}
 use Rattle.srcp_core.proofs.CourseLaws.Histories.{enumerate_push}

@@ -13,6 +13,7 @@ use Rattle.srcp_core.proofs.CourseLaws.ShownRegistry.{shown_after, history_push,
 use Rattle.srcp_core.proofs.CourseLaws.RoomGivesWhatIsOwed.{Stands, fitting_prefix, exhausted, also_done, took_within, fitting_none}
 use Rattle.srcp_core.proofs.CourseLaws.EventsKeep.{IsKept, kept_all, kept_answered}
 use Rattle.srcp_core.proofs.CourseLaws.ClientHoldsPassedRows.{Fits, Law, gives, owed_by, fits_push}
+use Rattle.srcp_core.proofs.Names.{all_append}
 
 -- ---- one connection among all
 
@@ -26,8 +27,7 @@ all_numbered P (suc zero) change (conn ∷ conns) f a = (f conn refl a.0, a.1)
 all_numbered P (suc (suc n)) change (conn ∷ conns) f a = (a.0, all_numbered P (suc n) change conns f a.1)
 
 pub all_push : {X : Type 0} (P : X → Type 0) (xs : List X) (x : X) → AllByRecursion P xs → P x → AllByRecursion P (xs ++ x ∷ [])
-all_push P [] x a p = (p, tt)
-all_push P (y ∷ xs) x a p = (a.0, all_push P xs x a.1 p)
+all_push P xs x a p = all_append P xs (x ∷ []) a (p, tt)
 
 -- ---- what keeps the law of one connection
 

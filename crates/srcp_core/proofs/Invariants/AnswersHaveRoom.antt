@@ -1,12 +1,11 @@
 -- What the answer to a line leaves of its connection: the line that has begun, and how many bytes are unsent.
-use Rattle.srcp_core.proofs.Names.{cond_both, ◌≡◌, ℕ, ◌+◌, ◌<◌, ◌≤◌, ◌^◌, Bool, true, false, cond, List, [], ◌∷◌, map, length}
-use Rattle.srcp_core.proofs.Names.{length-append, refl, sym, ◌∙◌, subst, arith, option_map, nat_lt, if◌then◌else◌, Option, Some, None, Ok}
-use Rattle.srcp_core.proofs.Names.{Err, nat_tests, reply_line, IsMoment, Change, C500, Reply, Accepted, Protocol, Go, Refused, Shows, Mode}
-use Rattle.srcp_core.proofs.Names.{began, freed, Effect, effect, session_device, is_there, Mark, Feed, Greeting, Speaks, Chooses, Goes}
-use Rattle.srcp_core.proofs.Names.{Refuses, Place, Held, place_at, at, IsSound, told_feed, told_place, told_all, told_each, carried}
-use Rattle.srcp_core.proofs.Names.{unsent_of, changed_in, changed_places, changed_at, with_unsent, longest, longest_answer, entered_place}
-use Rattle.srcp_core.proofs.Names.{session_begun, denied_line, one_denied, asked_of, feed_in, panel_for, Asked, Dropped, Greets, Commands}
-use Rattle.srcp_core.proofs.Names.{option_map_or, ltb-true, ap}
+use Rattle.srcp_core.proofs.Names.{cond_both, ◌≡◌, ℕ, ◌+◌, ◌≤◌, Bool, true, false, List, [], ◌∷◌, map, length, length-append, refl, sym}
+use Rattle.srcp_core.proofs.Names.{◌∙◌, subst, arith, option_map, nat_lt, if◌then◌else◌, Option, Some, None, Ok, Err, reply_line, IsMoment}
+use Rattle.srcp_core.proofs.Names.{Change, C500, Reply, Accepted, Protocol, Go, Refused, Shows, Mode, began, freed, Effect, effect}
+use Rattle.srcp_core.proofs.Names.{session_device, is_there, Mark, Greeting, Speaks, Chooses, Goes, Refuses, Place, Held, place_at, at}
+use Rattle.srcp_core.proofs.Names.{IsSound, told_place, told_all, told_each, carried, unsent_of, changed_in, changed_places, changed_at}
+use Rattle.srcp_core.proofs.Names.{with_unsent, longest, longest_answer, entered_place, session_begun, denied_line, one_denied, asked_of}
+use Rattle.srcp_core.proofs.Names.{panel_for, Asked, Dropped, Greets, Commands, option_map_or, ltb-true, ap}
 use Rattle.srcp_info.specs.WellFormed.{IsWellFormedReply}
 use Rattle.srcp_info.specs.declared.change.Reply.TheVariants.{Mode as ModeReply}
 use Rattle.srcp_info.proofs.LineLaws.{length-reply_line-le, length-reply_line-most}

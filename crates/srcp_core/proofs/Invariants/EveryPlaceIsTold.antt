@@ -1,8 +1,9 @@
 -- The walk that tells every connection a change.
-use Rattle.srcp_core.proofs.Names.{◌≡◌, ℕ, zero, suc, ◌+◌, List, [], ◌∷◌, map, refl, ap, sym, ◌∙◌, true≢false, Option, Some, None}
+use Rattle.srcp_core.proofs.Names.{◌≡◌, ℕ, suc, ◌+◌, List, [], ◌∷◌, map, refl, ap, sym, ◌∙◌, true≢false, Option, Some, None}
 use Rattle.srcp_core.proofs.Names.{slice_index_or, count_by, is_some, if◌then◌else◌, option_map, sum_by-cons, Change, Place, told_place}
 use Rattle.srcp_core.proofs.Names.{told_all, panel_keys, is_panel, changed_places, changed_in, Panel, Absent, Listening, Overran}
 use Rattle.std.specs.Prelude.{fold, Bool, true, false}
+use Rattle.std.proofs.Math.ListN.{get_or-map}
 
 -- the connection of that key is told the change
 abbrev pub told_key : Change → List (Option Place) → ℕ → List (Option Place)
@@ -60,6 +61,4 @@ told_all_count change (Some place ∷ places) =
 
 pub told_all_at : (change : Change) (places : List (Option Place)) (key : ℕ)
     → slice_index_or (told_all change places) key None ≡ option_map (told_place change) (slice_index_or places key None)
-told_all_at change [] key = refl
-told_all_at change (place ∷ places) zero = refl
-told_all_at change (place ∷ places) (suc key) = told_all_at change places key
+told_all_at change places key = get_or-map (option_map (told_place change)) places key None

@@ -3,7 +3,7 @@ use Rattle.srcp_core.proofs.Names.{◌≡◌, ℕ, zero, suc, ◌+◌, ◌-◌, 
 use Rattle.srcp_core.proofs.Names.{inr, refl, ap, sym, ◌∙◌, subst, arith, if◌then◌else◌, Option, Some, None, Ok, Err, slice_set, Code, Bus}
 use Rattle.srcp_core.proofs.Names.{Mark, Line, TooLong, is_lf, nothing_read, fold-append, Place, Held, IsSound, at, asked_of, heard_from}
 use Rattle.srcp_core.proofs.Names.{heard_at, longest_answer, unsent_at, line_answered, lines_answered, steps_answered, steps_in, HasRoom}
-use Rattle.srcp_core.proofs.Names.{CountsEach, denied_by, LineRecord, Asked, Dropped, Greets, Commands, option_map_or, cases_lt}
+use Rattle.srcp_core.proofs.Names.{CountsEach, denied_by, LineRecord, Asked, Dropped, Greets, Commands, option_map_or, cases_lt, Reading}
 use Rattle.std.proofs.Common.{◌*◌}
 use Rattle.std.specs.Prelude.{fold, position}
 use Rattle.srcp_text.specs.Marks.{without_cr}
@@ -64,56 +64,47 @@ module _ (buses : List Bus) (p new : Place) (piece : List ℕ) (start stop : ℕ
       → IsFound buses p new piece start stop asked
   found e = by _ refl e
     where
+      found_as : (mark : Mark) (reader : Reading) (len : ℕ) → len < length (drop start piece) → reader.begun ≡ Some []
+          → (p.reader.begun ≡ Some [] → longest_answer (asked_of buses p mark) ≤ 64 * suc len)
+          → AreSame stop (start + len + 1) asked (asked_of buses p mark) new (record p { reader = reader })
+          → IsFound buses p new piece start stop asked
+      found_as mark reader len low none most same =
+          let place : new ≡ record p { reader = reader } = same.place in
+          let at : stop ≡ start + len + 1 = same.stops in
+          let is : asked ≡ asked_of buses p mark = same.asks in
+          let size = length-drop start piece in
+          record {
+            onward = omega (arith, at);
+            within = omega (arith, at, low, size);
+            mark = mark;
+            asks = cc;
+            unsent = cc;
+            begun = ap (λ (q : Place). q.reader.begun) place ∙ none;
+            few = λ h. let n = ap (λ (a : Asked). longest_answer a) is in let m = most h in omega (arith, m, n, at);
+          }
+
       ends : (len : ℕ) → len < length (drop start piece) → (whole : Option (List ℕ))
           → extended p.reader.begun (take len (drop start piece)) ≡ whole
           → ◌≡◌ {A = Option (ℕ × Asked) × Place} (Some (stop, asked), new)
           (heard_from buses p (fed_at whole (start + len + 1), after_lf whole))
           → IsFound buses p new piece start stop asked
       ends len low None w e =
-          let same = are_same stop _ asked _ new _ e in
-          let place : new ≡ record p { reader = nothing_read } = same.place in
-          let at : stop ≡ start + len + 1 = same.stops in
-          let is : asked ≡ asked_of buses p TooLong = same.asks in
-          let size = length-drop start piece in
-          record {
-            onward = omega (arith, at);
-            within = omega (arith, at, low, size);
-            mark = TooLong;
-            asks = cc;
-            unsent = cc;
-            begun = ap (λ (q : Place). q.reader.begun) place;
-            few = λ h.
-                let s : longest_answer (asked_of buses p TooLong) ≤ 64 = short _ _ p TooLong _ in
-                let n = ap (λ (a : Asked). longest_answer a) is in omega (arith, s, n, at);
-          }
+          found_as TooLong nothing_read len low refl
+          (λ h. let s : longest_answer (asked_of buses p TooLong) ≤ 64 = short _ _ p TooLong _ in omega (arith, s))
+          (are_same stop _ asked _ new _ e)
       ends len low (Some bytes) w e =
-          let same =
-          are_same stop (start + len + 1) asked (asked_of buses p (Line (without_cr bytes))) new
-          (record p { reader = after_lf (Some bytes) }) e in
-          let place : new ≡ record p { reader = after_lf (Some bytes) } = same.place in
-          let at : stop ≡ start + len + 1 = same.stops in
-          let is : asked ≡ asked_of buses p (Line (without_cr bytes)) = same.asks in
-          let size = length-drop start piece in
-          record {
-            onward = omega (arith, at);
-            within = omega (arith, at, low, size);
-            mark = Line (without_cr bytes);
-            asks = cc;
-            unsent = cc;
-            begun = ap (λ (q : Place). q.reader.begun) place;
-            few = λ h. size_of len w at is h;
-          }
+          found_as (Line (without_cr bytes)) (after_lf (Some bytes)) len low refl (size_of len w)
+          (are_same stop (start + len + 1) asked (asked_of buses p (Line (without_cr bytes))) new
+          (record p { reader = after_lf (Some bytes) }) e)
         where
-          size_of : (len : ℕ) → extended p.reader.begun (take len (drop start piece)) ≡ Some bytes → stop ≡ start + len + 1
-              → asked ≡ asked_of buses p (Line (without_cr bytes))
-              → p.reader.begun ≡ Some [] → longest_answer asked ≤ 64 * (stop - start)
-          size_of zero w at is h =
+          size_of : (len : ℕ) → extended p.reader.begun (take len (drop start piece)) ≡ Some bytes → p.reader.begun ≡ Some []
+              → longest_answer (asked_of buses p (Line (without_cr bytes))) ≤ 64 * suc len
+          size_of zero w h =
               let none : Some [] ≡ Some bytes = cc in
               let empty : [] ≡ bytes = cc in
-              let n = ap (λ (a : Asked). longest_answer a) (is ∙ ap (λ bs. asked_of buses p (Line (without_cr bs))) (sym empty)) in
               let s : longest_answer (asked_of buses p (Line [])) ≤ 64 = short _ _ p (Line []) _ in
-              omega (arith, n, s, at)
-          size_of (suc len) w at is h = let m = answer_most asked in omega (arith, m, at)
+              rw (← empty) (omega (arith, s))
+          size_of (suc len) w h = let m = answer_most (asked_of buses p (Line (without_cr bytes))) in omega (arith, m)
 
       by : (o : Option ℕ) → position is_lf (drop start piece) ≡ o
           → ◌≡◌ {A = Option (ℕ × Asked) × Place} (Some (stop, asked), new)

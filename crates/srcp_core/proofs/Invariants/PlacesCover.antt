@@ -4,6 +4,7 @@ use Rattle.srcp_core.proofs.Names.{Option, Some, None, is_some, slice_set, count
 use Rattle.srcp_core.proofs.Names.{place_at, IsLive, AreSessions, is_panel, told_feed, told_place, told_all, told_each, feed_in}
 use Rattle.srcp_core.proofs.Names.{changed_places, Panel, Absent, Listening, Overran}
 use Rattle.srcp_core.proofs.Invariants.EveryPlaceIsTold.{count_by_cons, told_all_count, told_all_at}
+use Rattle.std.proofs.lemmas.List.{get_or-set_other}
 
 -- the session is the same, an end is not undone, and a panel stays one
 pub record IsMild (p q : Place) : Type 0 where
@@ -51,11 +52,7 @@ no_place (suc key) p e = cc
 
 pub place_set : (places : List (Option Place)) (key m : ℕ) (slot : Option Place) → m ≢ key
     → place_at (slice_set places key slot) m ≡ place_at places m
-place_set [] key m slot h = refl
-place_set (x ∷ places) zero zero slot h = absurd (h refl)
-place_set (x ∷ places) zero (suc m) slot h = refl
-place_set (x ∷ places) (suc key) zero slot h = refl
-place_set (x ∷ places) (suc key) (suc m) slot h = place_set places key m slot (λ e. h (cc))
+place_set places key m slot h = get_or-set_other places key m slot None h
 
 pub place_set_here : (places : List (Option Place)) (key : ℕ) (p : Place) (slot : Option Place) → place_at places key ≡ Some p
     → place_at (slice_set places key slot) key ≡ slot
