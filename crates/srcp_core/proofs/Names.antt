@@ -11,20 +11,18 @@ pub use Rattle.srcp_core.specs.Course.{obeyed, open_connection, or_refused, orde
 pub use Rattle.srcp_core.specs.Course.{state_after, updates_of, wants_as, with_numbered}
 pub use Rattle.srcp_core.specs.Handshake.{Chooses, Goes, Greeting, Refuses, Speaks}
 pub use Rattle.srcp_core.specs.Held.{AreSessions, Held, IsLive, IsSessionAt, IsSound, Place, at, open_count, place_at}
-pub use Rattle.srcp_core.specs.Laws.{AddsUp, AllMoments, HasMoment, IsRecordOf, IsSession, has_key, last_line}
-pub use Rattle.srcp_core.specs.Laws.{listed, listed_row, rows_at}
-pub use Rattle.srcp_core.specs.Machine.{CountsEach, HasRoom, IsAdmitted, IsNotAdmitted, advanced, asked_of, bytes_fault}
-pub use Rattle.srcp_core.specs.Machine.{bytes_fault_from, carried, changed_at, changed_in, changed_places, denied_line, entered_place}
-pub use Rattle.srcp_core.specs.Machine.{feed_in, filled, finish_at, freed_of, freed_place, has_overrun, heard_at, heard_from, hung_up}
-pub use Rattle.srcp_core.specs.Machine.{hung_up_from, is_panel, item_at, item_from, item_of, let_out, line_answered, lines_answered}
-pub use Rattle.srcp_core.specs.Machine.{live_session, longest, longest_answer, one_denied, opening_held, panel_for, panel_keys}
-pub use Rattle.srcp_core.specs.Machine.{session_begun, slack_at, slack_in, steps_answered, steps_in, steps_of_line, told_all, told_each}
-pub use Rattle.srcp_core.specs.Machine.{told_feed, told_place, unsent_at, unsent_of, with_unsent, without_sent}
+pub use Rattle.srcp_core.specs.Laws.{AddsUp, AllMoments, HasMoment, IsRecordOf, IsSession, has_key, last_line, listed, listed_row, rows_at}
+pub use Rattle.srcp_core.specs.Machine.{CountsEach, HasRoom, IsAdmitted, IsNotAdmitted, advanced, asked_of, bytes_fault, bytes_fault_from}
+pub use Rattle.srcp_core.specs.Machine.{carried, changed_at, changed_in, changed_places, denied_line, entered_place, feed_in, filled}
+pub use Rattle.srcp_core.specs.Machine.{finish_at, freed_of, freed_place, has_overrun, heard_at, heard_from, hung_up, hung_up_from}
+pub use Rattle.srcp_core.specs.Machine.{is_panel, item_at, item_from, item_of, let_out, line_answered, lines_answered, live_session}
+pub use Rattle.srcp_core.specs.Machine.{longest, longest_answer, one_denied, opening_held, panel_for, panel_keys, session_begun, slack_at}
+pub use Rattle.srcp_core.specs.Machine.{slack_in, steps_answered, steps_in, steps_of_line, told_all, told_each, told_feed, told_place}
+pub use Rattle.srcp_core.specs.Machine.{unsent_at, unsent_of, with_unsent, without_sent}
 pub use Rattle.srcp_core.specs.Promised.{IsPromised}
 pub use Rattle.srcp_core.specs.Recording.{Keeps, Recording, changed_record, finished, finished_by, gave, kept, key_of, noted}
 pub use Rattle.srcp_core.specs.Recording.{nothing_recorded, record_of, shut, stepped, without_key}
-pub use Rattle.srcp_core.specs.Run.{Happened, HasPlainMoment, PlainMoments, Runs, Tells, count_at}
-pub use Rattle.srcp_core.specs.Run.{taken_at, taking}
+pub use Rattle.srcp_core.specs.Run.{Happened, HasPlainMoment, PlainMoments, Runs, Tells, count_at, taken_at, taking}
 pub use Rattle.srcp_core.specs.Stands.{IsAt, IsOwned, StandsBy, StandsFor, panel_at, place_of}
 pub use Rattle.srcp_core.specs.Under.{At, Began, Bytes, Ended, Event, Heard, Moment, Obeyed, Open, Order, Piece, Room, Shut, Step}
 pub use Rattle.srcp_core.specs.Under.{all_under, denied_by, giving, greeting_under, greets, lines_under, recorded_step, under, wants_memory}
@@ -92,9 +90,8 @@ pub use Rattle.std.proofs.Common.{length-append, length-drop, map, max, min, ref
 pub use Rattle.std.proofs.Common.{◌++◌, ◌+◌, ◌-◌, ◌<◌, ◌^◌, ◌∙◌, ◌∷◌, ◌≡◌, ◌≢◌, ◌≤◌, ◌⊎◌}
 pub use Rattle.std.proofs.Math.Bool.{and-false, and-true, or-true}
 pub use Rattle.std.proofs.Math.Nat.{le_refl, pos_of_ne-zero, suc-ne-zero, suc_inj}
-pub use Rattle.std.proofs.lemmas.Bool.{and_parts, cases_lt, cond_both, eqb-false, eqb-true, false≢true, le-leb, le-ltb, leb-false, leb-true}
-pub use Rattle.std.proofs.lemmas.Bool.{lt-leb}
-pub use Rattle.std.proofs.lemmas.Bool.{lt-ltb, ltb-false, ltb-true, ne_eqb}
+pub use Rattle.std.proofs.lemmas.Bool.{and_parts, cases_Bool, cases_lt, cond_both, eqb-false, eqb-true, false≢true, le-leb, le-ltb}
+pub use Rattle.std.proofs.lemmas.Bool.{leb-false, leb-true, lt-leb, lt-ltb, ltb-false, ltb-true, ne_eqb}
 pub use Rattle.std.proofs.lemmas.Bool.Decides.{nat_tests}
 pub use Rattle.std.proofs.lemmas.List.{drop-append-le, drop-drop, drop_all, length-map, length_push, map-append, nil_from_length}
 pub use Rattle.std.proofs.lemmas.List.{take-append-drop, take-append-le, take_all}

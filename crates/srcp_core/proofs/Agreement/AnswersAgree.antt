@@ -3,7 +3,7 @@ use Rattle.srcp_core.proofs.Names.{◌≡◌, ℕ, suc, ◌+◌, Bool, true, fal
 use Rattle.srcp_core.proofs.Names.{le-ltb, filter, Option, Some, None, is_none, is_some, count_by, nat_lt, slice_get, slice_index_or, not}
 use Rattle.srcp_core.proofs.Names.{if◌then◌else◌, Bus, IsLayout, Event, Open, Bytes, Room, Shut, Piece, OfCourse}
 use Rattle.srcp_core.proofs.Names.{OfConnection, lent, Connection, is_open, overran, unsent, World, course, fault, history}
-use Rattle.srcp_core.proofs.Names.{Place, Held, at, IsAdmitted, IsNotAdmitted, bytes_fault, bytes_fault_from, finish_at}
+use Rattle.srcp_core.proofs.Names.{Place, Held, at, IsAdmitted, IsNotAdmitted, bytes_fault, bytes_fault_from, finish_at, cases_Bool, ⊎_elim}
 use Rattle.srcp_core.proofs.Names.{unsent_at, let_out, key_of, StandsFor, place_of, CoreFault, Full, Busy, PieceTooLong, open_count, ◌≤◌}
 use Rattle.std.specs.Prelude.{IsSome}
 use Rattle.srcp_core.specs.Agrees.{closes}
@@ -53,12 +53,9 @@ count_keys (key ∷ keys) (conn ∷ conns) l law =
 pub counts_open : (held : Held) (buses : List Bus) (events : List Event) (keys : List (Option ℕ))
     → StandsFor buses keys held (course buses events) → count_by is_some keys ≡ open_count held
 counts_open held buses events keys s =
-    count_keys keys (course buses events).connections s.long (λ k conn e. by k conn e (is_open conn) refl) ∙ sym s.count
-  where
-    by : (k : ℕ) (conn : Connection) → slice_get (course buses events).connections k ≡ Some conn → (o : Bool) → is_open conn ≡ o
-        → is_some (key_of (suc k) keys) ≡ is_open conn
-    by k conn e true o = cc (s.opens (suc k) conn e o).named
-    by k conn e false o = cc (s.closed (suc k) conn e o)
+    count_keys keys (course buses events).connections s.long (λ k conn e.
+    ⊎_elim (λ o. cc (s.opens (suc k) conn e o).named) (λ o. cc (s.closed (suc k) conn e o)) (cases_Bool (is_open conn)))
+    ∙ sym s.count
 
 -- ---- a connection that has a key
 

@@ -1,12 +1,12 @@
 -- A core that stands for a course, and the events of connections and moments.
-use Rattle.srcp_core.proofs.Names.{◌≡◌, ◌≢◌, ⊎_elim, inl, inr, ◌⊎◌, ℕ, zero, suc, ◌+◌, ◌<◌, Bool, true, false, cond, List, [], ◌∷◌, ◌++◌}
+use Rattle.srcp_core.proofs.Names.{◌≡◌, ◌≢◌, ⊎_elim, inl, inr, ◌⊎◌, ℕ, zero, suc, ◌+◌, ◌<◌, Bool, true, false, List, [], ◌∷◌, ◌++◌}
 use Rattle.srcp_core.proofs.Names.{length, length-append, refl, ap, sym, ◌∙◌, subst, arith, nat_tests, false≢true, filter, Option, Some}
-use Rattle.srcp_core.proofs.Names.{None, not, ◌&&◌, ◌||◌, nat_lt, slice_set, is_some, count_by, if◌then◌else◌, nothing_read, Bus, opening}
+use Rattle.srcp_core.proofs.Names.{None, not, ◌||◌, nat_lt, slice_set, is_some, count_by, if◌then◌else◌, nothing_read, Bus, opening}
 use Rattle.srcp_core.proofs.Names.{shown_rows, key_at, IsRisingBy, Open, At, Shut, Ended, Connection, History, is_open, is_nil, overran}
-use Rattle.srcp_core.proofs.Names.{unsent, untold, World, numbered, at_connection, open_connection, if_open, did, history, fresh, counted}
+use Rattle.srcp_core.proofs.Names.{unsent, World, numbered, at_connection, open_connection, if_open, did, history, fresh, counted}
 use Rattle.srcp_core.proofs.Names.{fault, accepted, Place, Held, at, place_at, open_count, IsAdmitted, bytes_fault}
 use Rattle.srcp_core.proofs.Names.{freed_place, freed_of, hung_up, advanced, key_of, without_key, StandsBy, StandsFor, IsAt, IsOwned}
-use Rattle.srcp_core.proofs.Names.{place_of, Full, Busy, PieceTooLong, Closing, if_two, le-ltb}
+use Rattle.srcp_core.proofs.Names.{place_of, Full, Busy, PieceTooLong, Closing, if_two, le-ltb, cases_Bool}
 use Rattle.srcp_core.specs.Course.{bytes_fault as course_fault}
 use Rattle.srcp_core.specs.declared.record.CoreFault.TheVariants.{Memory as MemoryFault}
 use Rattle.srcp_core.proofs.Agreement.LinesAgree.{IsFine}
@@ -26,13 +26,9 @@ use Rattle.srcp_core.proofs.CourseLaws.SessionsAreKept.{sound_at, stands_shut, c
 -- a connection that is no information session never overran
 pub over_is : (buses : List Bus) (history : History) (conn : Connection) → conn.shut ≡ None → Fine buses history conn
     → overran conn history ≡ is_over_place history conn
-over_is buses history conn shut f = by _ refl
-  where
-    by : (info : Bool) → conn.info ≡ info → nat_lt 256 (length (untold conn history)) ≡ (info && nat_lt 256 (length (untold conn history)))
-    by true e = refl
-    by false e =
-        let p = f.plain e in
-        cc (untold_shut conn history shut, p.1, p.0, concerning_start _ 0 history)
+over_is buses history conn shut f =
+    ⊎_elim (λ e. rw e refl)
+    (λ e. let p = f.plain e in cc (untold_shut conn history shut, p.1, p.0, concerning_start _ 0 history)) (cases_Bool conn.info)
 
 module _ (buses : List Bus) where
   -- ---- what is refused
@@ -42,13 +38,11 @@ module _ (buses : List Bus) where
       → key_of n keys ≡ None → open_connection w n ≡ None
   absent_at read keys held w n s k = by _ refl
     where
-      with : (conn : Connection) (o : Bool) → numbered n w.connections ≡ Some conn → is_open conn ≡ o → cond o (Some conn) None ≡ None
-      with conn true e o = let a = s.opens n conn e o in let bad : Some a.key ≡ None = sym a.named ∙ k in cc
-      with conn false e o = refl
-
       by : (o : Option Connection) → numbered n w.connections ≡ o → if_open o ≡ None
       by None e = refl
-      by (Some conn) e = with conn _ e refl
+      by (Some conn) e =
+          ⊎_elim (λ o. let a = s.opens n conn e o in let bad : Some a.key ≡ None = sym a.named ∙ k in cc) (λ o. rw o refl)
+          (cases_Bool (is_open conn))
 
   pub fault_same : (order : IsRisingBy key_at (shown_rows (opening buses 0))) (read : ℕ → List ℕ → List ℕ) (keys : List (Option ℕ))
       (held : Held) (w : World) (n key : ℕ) (piece : List ℕ)

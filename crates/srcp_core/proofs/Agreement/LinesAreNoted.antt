@@ -7,7 +7,7 @@ use Rattle.srcp_core.proofs.Names.{greeting_under, recorded_step, wants_memory, 
 use Rattle.srcp_core.proofs.Names.{at_connection, did, is_info, state, history, command_of, ordered, replied, entered, goes, greeted, ended}
 use Rattle.srcp_core.proofs.Names.{obeyed, commanded, answered, Greeting, Speaks, Chooses, Goes, Refuses, Place, Held, at, asked_of}
 use Rattle.srcp_core.proofs.Names.{steps_answered, Recording, key_of, record_of, changed_record, noted, stepped, StandsBy, Dropped, Greets}
-use Rattle.srcp_core.proofs.Names.{Commands, ConnRecord, option_map_or, slice_set}
+use Rattle.srcp_core.proofs.Names.{Commands, ConnRecord, option_map_or, slice_set, and-false}
 use Rattle.srcp_info.specs.declared.change.Reply.TheVariants.{Mode as ModeReply}
 use Rattle.srcp_rules.specs.Effect.{effect as effect_of}
 use Rattle.srcp_core.specs.declared.record.Step.{Step as PlainStep}
@@ -151,13 +151,7 @@ module _ (buses : List Bus) (n : ℕ) (r : Recording) where
   tells_greeted_under false w conn held (Chooses chosen) m l p t = tells_greeted w conn held (Chooses chosen) m l p t
   tells_greeted_under false w conn held (Refuses code) m l p t = tells_greeted w conn held (Refuses code) m l p t
   tells_greeted_under false w conn held Goes m l p t =
-      elim (nat_lt _ _)
-      as (λ b.
-      Tells (noted n (if b && false then recorded.Began (held.last_id + 1) held.moment conn.mode ∷ [] else []) r)
-      (replied n (Refused C500) w)) [
-        | true ↦ tells_replied r w (Refused C500) (plain_at w conn p) t
-        | false ↦ tells_replied r w (Refused C500) (plain_at w conn p) t
-      ]
+      rw (and-false (nat_lt held.last_id 4294967295)) (tells_replied r w (Refused C500) (plain_at w conn p) t)
 
   tells_commanded : (granted : Bool) (w : World) (conn : Connection) (held : Held) (session : ℕ) (command : Result Command Code)
       → held.moment ≡ w.moment → held.rows ≡ state buses w → IsPlain w conn → Tells r w

@@ -4,7 +4,7 @@ use Rattle.srcp_core.proofs.Names.{append-nil, length-append, length-drop, le-le
 use Rattle.srcp_core.proofs.Names.{not, ◌&&◌, ◌||◌, if◌then◌else◌, Some, None, Bus, IsLayout, Event, Room, OfConnection, lent, Connection}
 use Rattle.srcp_core.proofs.Names.{fitting, given, given_room, is_nil, is_open, is_settled, line_of, overran, owed, text, took, unsent}
 use Rattle.srcp_core.proofs.Names.{World, accepted, counted, course, history, if_open, numbered, open_connection, rows, start, Held}
-use Rattle.srcp_core.proofs.Names.{let_out, unsent_at, and-false}
+use Rattle.srcp_core.proofs.Names.{let_out, unsent_at, and-false, cases_Bool, ⊎_elim}
 use Rattle.std.specs.Prelude.{option_map}
 use Rattle.srcp_feed.specs.declared.Next.{Next}
 use Rattle.srcp_core.specs.Agrees.{lends_none}
@@ -80,11 +80,8 @@ module _ (buses : List Bus) (w : World) (conn : Connection) (up : is_open conn �
 
   none_left : unsent conn ≡ [] → Rests
   none_left u =
-      cc (next_nil nexts (owed_full conn (history buses w) (rows buses w)), by _ refl, replies_taken conn u)
-    where
-      by : (info : Bool) → conn.info ≡ info → is_nil nexts ≡ (not conn.info || settled)
-      by true i = cc
-      by false i = cc
+      let rest : is_nil nexts ≡ (not conn.info || settled) = ⊎_elim (λ i. cc) (λ i. cc) (cases_Bool conn.info) in
+      cc (next_nil nexts (owed_full conn (history buses w) (rows buses w)), rest, replies_taken conn u)
 
   rests : (conn.info ≡ false → conn.items ≡ []) → Rests
   rests plain = by _ refl

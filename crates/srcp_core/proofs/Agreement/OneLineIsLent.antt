@@ -1,8 +1,8 @@
 -- Once all replies of a connection are taken, at most one line is lent of it.
-use Rattle.srcp_core.proofs.Names.{◌≡◌, ℕ, ◌≤◌, Bool, true, false, List, [], ◌∷◌, ◌++◌, length, refl, ap, arith, length-append, leb-true}
-use Rattle.srcp_core.proofs.Names.{AllByRecursion, nat_le, Some, IsWellFormed, Put, Bus, IsLayout, said, OfConnection, lent}
-use Rattle.srcp_core.proofs.Names.{Connection, is_open, line_of, overran, owed, tells, took, unsent, course, history, numbered}
-use Rattle.srcp_core.proofs.Names.{rows, Held, AllMoments, HasMoment, last_line, let_out, unsent_at, Event, Room, Item, cond_both}
+use Rattle.srcp_core.proofs.Names.{◌≡◌, ℕ, ◌≤◌, true, List, [], ◌∷◌, ◌++◌, length, ap, arith, length-append, leb-true, AllByRecursion}
+use Rattle.srcp_core.proofs.Names.{nat_le, Some, IsWellFormed, Put, Bus, IsLayout, said, OfConnection, lent, Connection, is_open, line_of}
+use Rattle.srcp_core.proofs.Names.{overran, owed, tells, took, unsent, course, history, numbered, rows, Held, AllMoments, HasMoment}
+use Rattle.srcp_core.proofs.Names.{last_line, let_out, unsent_at, Event, Room, Item, cond_both, cases_Bool, ⊎_elim}
 use Rattle.srcp_info.proofs.LineLaws.{length-line-le}
 use Rattle.srcp_feed.specs.declared.Next.TheVariants.{Told, Listed, Settled}
 use Rattle.srcp_feed.specs.declared.Next.{Next}
@@ -40,13 +40,9 @@ module _ (buses : List Bus) (layout : IsLayout buses) (events : List Event) (mom
     (there : numbered number (course buses events).connections ≡ Some conn) where
   -- no line that it was given is longer
   lines_short : length (last_line conn.items) ≤ 126
-  lines_short = by _ refl
-    where
-      by : (t : Bool) → conn.info ≡ t → length (last_line conn.items) ≤ 126
-      by true e = last_short conn.items (given_told buses layout events number conn (record { there = there; info = e }) moments)
-      by false e =
-          let none = (sends_replies buses layout events number conn there e).0 in
-          rw none (omega arith)
+  lines_short =
+      ⊎_elim (λ e. last_short conn.items (given_told buses layout events number conn (record { there = there; info = e }) moments))
+      (λ e. rw (sends_replies buses layout events number conn there e).0 (omega arith)) (cases_Bool conn.info)
 
   -- so what is unsent of it is short
   unsent_short : IsTaken conn → length (unsent conn) ≤ 126

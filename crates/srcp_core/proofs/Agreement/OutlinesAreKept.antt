@@ -95,7 +95,8 @@ changed_aside (suc n) f law tolds = by _ refl
         → map connection_outline (changed_in n f tolds o) ≡ map connection_outline tolds
     by None e = refl
     by (Some one) e =
-        map-set_same connection_outline tolds n (f one) one (law one ∙ ap connection_outline (sym (get_or_from_slice_get tolds n one one e)))
+        map-set_same connection_outline tolds n (f one) one
+        (law one ∙ ap connection_outline (sym (get_or_from_slice_get tolds n one one e)))
 
 abbrev with_connections : Recording → List ConnRecord → Recording
 with_connections r tolds = record { keys = r.keys; steps = []; connections = tolds; refused = r.refused }

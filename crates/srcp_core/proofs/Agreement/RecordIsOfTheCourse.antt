@@ -6,7 +6,7 @@ use Rattle.srcp_core.proofs.Names.{At, Shut, under, all_under, denied_by, Connec
 use Rattle.srcp_core.proofs.Names.{World, start, numbered, history, counted, open_connection, accepted, or_refused, happens, course}
 use Rattle.srcp_core.proofs.Names.{denied_in, denied_over, Reading, Held, at, IsRecordOf, opening_held, finish_at, Recording, key_of}
 use Rattle.srcp_core.proofs.Names.{record_of, changed_record, finished, finished_by, nothing_recorded, Runs, Happened}
-use Rattle.srcp_core.proofs.Names.{StandsFor, place_of, ConnRecord, CoreFault, Record}
+use Rattle.srcp_core.proofs.Names.{StandsFor, place_of, ConnRecord, CoreFault, Record, cases_Bool, ⊎_elim}
 use Rattle.srcp_core.specs.declared.event.Event.{Event as PlainEvent}
 use Rattle.srcp_core.specs.Connection.{recorded}
 use Rattle.srcp_core.specs.Recording.{with_refusal}
@@ -105,13 +105,9 @@ module _ (buses : List Bus) (layout : IsLayout buses) (keys : List (Option ℕ))
 
   one_finished : (n : ℕ) (conn : Connection) → numbered n w.connections ≡ Some conn
       → finished_by held (key_of n keys) (record_of conn) ≡ recorded (history buses w) conn
-  one_finished n conn e = by _ refl
-    where
-      by : (o : Bool) → is_open conn ≡ o → finished_by held (key_of n keys) (record_of conn) ≡ recorded (history buses w) conn
-      by false o = cc (s.closed n conn e o)
-      by true o =
-          let a = s.opens n conn e o in
-          cc (a.named, finish_is n a.key a.reader conn e o a.place)
+  one_finished n conn e =
+      ⊎_elim (λ o. let a = s.opens n conn e o in cc (a.named, finish_is n a.key a.reader conn e o a.place))
+      (λ o. cc (s.closed n conn e o)) (cases_Bool (is_open conn))
 
   pub all_finished : finished held keys (map record_of w.connections) ≡ map (recorded (history buses w)) w.connections
   all_finished = finished_is _ held keys _ s.long (λ k conn e. one_finished (suc k) conn e)

@@ -4,7 +4,7 @@ use Rattle.srcp_core.proofs.Names.{◌≡◌, ℕ, zero, suc, ◌-◌, ◌<◌, 
 use Rattle.srcp_core.proofs.Names.{subst, arith, nat_tests, AllByRecursion, ◌&&◌, Option, Some, None, IfSome, nat_lt, slice_index_or}
 use Rattle.srcp_core.proofs.Names.{if◌then◌else◌, Change, Cursor, Row, State, OfCourse, Connection, History, cursor_at, is_open, overran}
 use Rattle.srcp_core.proofs.Names.{untold, World, course, history, numbered, Place, Held, place_at, slack_at, slack_in, Listening, Overran}
-use Rattle.srcp_core.proofs.Names.{panel_at, place_of, least, lesser, slack_of, Reading}
+use Rattle.srcp_core.proofs.Names.{panel_at, place_of, least, lesser, slack_of, Reading, cases_Bool, ⊎_elim}
 use Rattle.srcp_index.specs.Earliest.{IsEarliestDue}
 use Rattle.srcp_core.specs.Waits.{slack, due_next}
 use Rattle.srcp_core.proofs.Agreement.StandsAfterAChange.{found_at}
@@ -140,15 +140,12 @@ slack_agrees held buses events keys layout s = least_same _ _ to from
         by : (conn : Option Connection) → numbered (suc i.0) w.connections ≡ conn → slack_by h conn ≡ Some n
             → IsIn (map slack_at held.places) n
         by None e is = cc
-        by (Some conn) e is = go _ refl
-          where
-            go : (t : Bool) → is_open conn ≡ t → IsIn (map slack_at held.places) n
-            go true up =
-                let a = s.opens (suc i.0) conn e up in
-                (a.key, cc (slack_places _ a.key, a.place, slack_place a.reader h conn up))
-            go false up =
-                let bad : None ≡ Some n = cc in
-                cc
+        by (Some conn) e is =
+            ⊎_elim
+            (λ up.
+            let a = s.opens (suc i.0) conn e up in
+            (a.key, cc (slack_places _ a.key, a.place, slack_place a.reader h conn up)))
+            (λ up. let bad : None ≡ Some n = cc in cc) (cases_Bool (is_open conn))
 
 -- ---- what falls due
 

@@ -1,9 +1,9 @@
 -- A core that stands for a course, after the place of one connection changed, and after a step.
-use Rattle.srcp_core.proofs.Names.{◌≡◌, ◌≢◌, ℕ, ⊎_elim, Bool, true, false, List, [], ◌∷◌, ◌++◌, map, refl, ap, sym, ◌∙◌, arith, fold-append}
+use Rattle.srcp_core.proofs.Names.{◌≡◌, ◌≢◌, ℕ, ⊎_elim, true, false, List, [], ◌∷◌, ◌++◌, map, refl, ap, sym, ◌∙◌, arith, fold-append}
 use Rattle.srcp_core.proofs.Names.{option_map, Option, Some, None, slice_set, Change, Reading, StandsAt, Bus, Update, opening, shown_rows}
 use Rattle.srcp_core.proofs.Names.{Refusal, Step, Connection, History, is_open, World, numbered, at_connection, open_connection, did}
 use Rattle.srcp_core.proofs.Names.{updates_of, state, history, Place, Held, at, place_at, told_each, carried, changed_at, key_of, StandsBy}
-use Rattle.srcp_core.proofs.Names.{IsAt, IsOwned, place_of, Item}
+use Rattle.srcp_core.proofs.Names.{IsAt, IsOwned, place_of, Item, cases_Bool}
 use Rattle.srcp_core.specs.Course.{stepped}
 use Rattle.srcp_core.proofs.Invariants.PlacesCover.{Where, Here, Away, where_is, place_set, place_set_here, set_count, told_each_count}
 use Rattle.srcp_core.proofs.Agreement.NumbersAndKeys.{opens_same, length_with, key_within, numbered_none, look_with}
@@ -38,9 +38,16 @@ module _ (buses : List Bus) where
       → StandsBy buses read keys held w → key_of n keys ≡ Some key → Found read held w n key
   found_at read keys held w n key s k = by _ refl
     where
-      with : (conn : Connection) (o : Bool) → numbered n w.connections ≡ Some conn → is_open conn ≡ o → Found read held w n key
-      with conn false e o = let bad : Some key ≡ None = sym k ∙ s.closed n conn e o in cc
-      with conn true e o =
+      by : (c : Option Connection) → numbered n w.connections ≡ c → Found read held w n key
+      by None e =
+          let within = key_within n keys key k in
+          let short = numbered_none n _ within.0 e in
+          let long = s.long in
+          let most = within.1 in
+          absurd (omega (arith, short, long, most))
+      by (Some conn) e =
+          ⊎_elim
+          (λ o.
           let a = s.opens n conn e o in
           let same : a.key ≡ key = let both : Some a.key ≡ Some key = sym a.named ∙ k in cc in
           record {
@@ -52,16 +59,8 @@ module _ (buses : List Bus) where
             opened = cc;
             place = cc a.place;
             reads = a.reads;
-          }
-
-      by : (c : Option Connection) → numbered n w.connections ≡ c → Found read held w n key
-      by None e =
-          let within = key_within n keys key k in
-          let short = numbered_none n _ within.0 e in
-          let long = s.long in
-          let most = within.1 in
-          absurd (omega (arith, short, long, most))
-      by (Some conn) e = with conn _ e refl
+          })
+          (λ o. let bad : Some key ≡ None = sym k ∙ s.closed n conn e o in cc) (cases_Bool (is_open conn))
 
   -- a world and a core of which something else changes than the rows, the slots and the connections
   pub stands_as : (read : ℕ → List ℕ → List ℕ) (keys : List (Option ℕ)) (held : Held) (w : World) (moment last denied m l events : ℕ)

@@ -1,5 +1,5 @@
 -- What an information session was given and what waits for it: together they are the rows that its listing has passed.
-use Rattle.srcp_core.proofs.Names.{◌≡◌, ℕ, ◌+◌, ◌-◌, ◌≤◌, Bool, true, false, List, [], ◌∷◌, ◌++◌, map, length, drop, refl, ap, sym, ◌∙◌}
+use Rattle.srcp_core.proofs.Names.{◌≡◌, ℕ, ◌+◌, ◌-◌, ◌≤◌, true, List, [], ◌∷◌, ◌++◌, map, length, drop, refl, ap, sym, ◌∙◌}
 use Rattle.srcp_core.proofs.Names.{subst, arith, append-nil, append_assoc, length-append, length-drop, le-leb, length_push, drop-append-le}
 use Rattle.srcp_core.proofs.Names.{drop-drop, flat_map-append, filter_map-append, fold-append, filter, filter_map, nat_le, Option, Some}
 use Rattle.srcp_core.proofs.Names.{None, IsRisingBy, Change, Put, Start, After, Done, Shown, passed, beyond, moved, said, changed_all, Next}
@@ -8,7 +8,7 @@ use Rattle.srcp_info.specs.Client.{changed}
 use Rattle.srcp_feed.proofs.Steps.{ListsOne, passed_changed}
 use Rattle.srcp_core.proofs.CourseLaws.Histories.{rows_after, concerning_by, concerning_push, concerning_same, cursor_by, AreBy, IsDoneBy}
 use Rattle.srcp_core.proofs.CourseLaws.Histories.{by_all, by_more, done_more, cursor_later, cursor_before}
-use Rattle.srcp_core.proofs.Names.{all_append}
+use Rattle.srcp_core.proofs.Names.{all_append, cases_Bool, ⊎_elim}
 
 -- the changes that were told
 abbrev pub tolds : List Item → List Change
@@ -99,12 +99,8 @@ cursor_item history items what a =
 pub cursor_told : (history : History) (items : List Item) (done : Option ℕ) (change : Change) → AreBy (length history) items
     → cursor_by done (items ++ item_of history (Told change) ∷ []) (length history) ≡ cursor_by done items (length history)
 cursor_told history items None change a = cursor_item history items _ a
-cursor_told history items (Some m) change a = by _ refl
-  where
-    by : (t : Bool) → nat_le m (length history) ≡ t
-        → cursor_by (Some m) (items ++ item_of history (Told change) ∷ []) (length history) ≡ cursor_by (Some m) items (length history)
-    by true e = rw e refl
-    by false e = rw e (cursor_item history items (Told change) a)
+cursor_told history items (Some m) change a =
+    ⊎_elim (λ e. rw e refl) (λ e. rw e (cursor_item history items (Told change) a)) (cases_Bool (nat_le m (length history)))
 
 pub fits_told : (start : List Shown) (history : History) (go : ℕ) (items : List Item) (done : Option ℕ) (change : Change)
     (changes : List Change)

@@ -8,7 +8,7 @@ use Rattle.srcp_core.proofs.Names.{history_from, state_after, updates_of, entere
 use Rattle.srcp_core.proofs.Names.{ordered, answered_as, answered, order_of, new_marks, fed_to, shut_as, accepted, or_refused, happens}
 use Rattle.srcp_core.proofs.Names.{course, Greeting, Speaks, Chooses, Goes, Refuses, IsLayout, Event, Open, Bytes, Room, At, Shut, Piece}
 use Rattle.srcp_core.proofs.Names.{Step, Obeyed, Began, Moment, Ended, Heard, Order, greets, greeting_under, lines_under, brought, room}
-use Rattle.srcp_core.proofs.Names.{IsOverrun, CoreFault}
+use Rattle.srcp_core.proofs.Names.{IsOverrun, CoreFault, cond_both}
 use Rattle.std.proofs.Math.Seq.{drop-append_seam}
 use Rattle.std.specs.List.{sum_by}
 use Rattle.std.specs.Prelude.{max}
@@ -68,10 +68,7 @@ protocol_brings : (words : List (List ℕ)) → brings (greets_protocol words) �
 protocol_brings [] = refl
 protocol_brings (name ∷ []) = refl
 protocol_brings (name ∷ version ∷ []) =
-    elim (is_keyword (codes "SRCP") name && is_version version) as (λ t. brings (if t then Speaks else Refuses C400) ≡ 0) [
-      | true ↦ refl
-      | false ↦ refl
-    ]
+    cond_both (is_keyword (codes "SRCP") name && is_version version) Speaks (Refuses C400) (λ g. brings g ≡ 0) (λ _. refl) (λ _. refl)
 protocol_brings (name ∷ version ∷ more ∷ words) = refl
 
 mode_brings : (words : List (List ℕ)) → brings (greets_mode words) ≡ 0
@@ -123,10 +120,9 @@ module _ (buses : List Bus) where
 
   comes_goes : (n : ℕ) (mode : Mode) (w : World) → ComesOf 1 w (goes buses n mode w)
   comes_goes n mode w =
-      elim (nat_lt _ _) as (λ t. ComesOf 1 w (if t then replied n (Go id) begun else replied n (Refused C500) w)) [
-        | true ↦ record { steps = Began id w.moment mode ∷ []; longer = refl; few = omega arith }
-        | false ↦ record { steps = []; longer = sym (append-nil w.steps); few = omega arith }
-      ]
+      cond_both (nat_lt w.last_id 4294967295) (replied n (Go id) begun) (replied n (Refused C500) w) (ComesOf 1 w)
+      (λ _. record { steps = Began id w.moment mode ∷ []; longer = refl; few = omega arith })
+      (λ _. record { steps = []; longer = sym (append-nil w.steps); few = omega arith })
     where
       id : ℕ
       id = w.last_id + 1
@@ -208,15 +204,11 @@ module _ (buses : List Bus) where
         → ComesOf (weight_of_mark line.mark) w (answered_as buses n conn line w)
     comes_answered n None line w = idle _ w w refl
     comes_answered n (Some conn) line w =
-        elim (conn.info || conn.ended) as
-        (λ t. ComesOf (weight_of_mark line.mark) w (if t then w else (if conn.session == 0 then greets_it else obeys))) [
-          | true ↦ idle _ w w refl
-          | false ↦ elim (conn.session == 0) as (λ t. ComesOf (weight_of_mark line.mark) w (if t then greets_it else obeys)) [
-            | true ↦ within (brings (greets line)) _ w _ (brings_enough line.granted line.mark)
-                (comes_greeted n conn.mode (greets line) w)
-            | false ↦ comes_commanded n conn.session line.granted line.mark w
-          ]
-        ]
+        cond_both (conn.info || conn.ended) w (if conn.session == 0 then greets_it else obeys) (ComesOf (weight_of_mark line.mark) w)
+        (λ _. idle _ w w refl)
+        (λ _. cond_both (conn.session == 0) greets_it obeys (ComesOf (weight_of_mark line.mark) w)
+        (λ _. within (brings (greets line)) _ w _ (brings_enough line.granted line.mark) (comes_greeted n conn.mode (greets line) w))
+        (λ _. comes_commanded n conn.session line.granted line.mark w))
       where
         greets_it : World
         greets_it = greeted buses n conn.mode (greets line) w
@@ -256,10 +248,8 @@ module _ (buses : List Bus) where
     comes_shut : (n : ℕ) (o : Option Connection) (w : World) → ComesOf 0 w (shut_as buses n o w)
     comes_shut n None w = same w w refl
     comes_shut n (Some conn) w =
-        elim ((conn.session == 0) || conn.ended) as (λ t. ComesOf 0 w (if t then shut else did (Ended conn.session w.moment) shut)) [
-          | true ↦ same w shut refl
-          | false ↦ record { steps = Ended _ w.moment ∷ []; longer = refl; few = omega arith }
-        ]
+        cond_both ((conn.session == 0) || conn.ended) shut (did (Ended conn.session w.moment) shut) (ComesOf 0 w) (λ _. same w shut refl)
+        (λ _. record { steps = Ended conn.session w.moment ∷ []; longer = refl; few = omega arith })
       where
         shut : World
         shut = at_connection n (λ c. record c { shut = Some (length w.steps) }) w

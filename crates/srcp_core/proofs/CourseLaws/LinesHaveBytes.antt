@@ -2,7 +2,7 @@
 use Rattle.srcp_core.proofs.Names.{◌≡◌, ℕ, zero, suc, ◌+◌, ◌-◌, ◌<◌, ◌≤◌, Bool, true, false, List, [], ◌∷◌, ◌++◌, map, take, length, refl}
 use Rattle.srcp_core.proofs.Names.{ap, arith, append-nil, length-append, and_parts, eqb-true, AllByRecursion, flat_map, ◌==◌, ◌&&◌}
 use Rattle.srcp_core.proofs.Names.{if◌then◌else◌, codes, line, Change, Put, Shown, beyond, Connection, History, available, cursor_at}
-use Rattle.srcp_core.proofs.Names.{fitting, prefix, is_nil, is_open, line_of, owed, untold}
+use Rattle.srcp_core.proofs.Names.{fitting, prefix, is_nil, is_open, line_of, owed, untold, cond_both}
 use Rattle.std.specs.List.{join_with_byte}
 use Rattle.srcp_info.specs.Line.{change_words}
 use Rattle.srcp_feed.specs.declared.Next.{Next}
@@ -27,13 +27,9 @@ told_full (change ∷ changes) nexts a = (line_full change, told_full changes ne
 -- each line that is owed has bytes
 pub owed_full : (conn : Connection) (history : History) (rows : List Shown) → AreFull (owed conn history rows)
 owed_full conn history rows =
-    elim (is_open conn && conn.info)
-    as (λ t. AreFull (if t then map Told (untold conn history) ++ map Listed (beyond (cursor_at conn (length history)) rows) else [])) [
-      | true ↦
-          told_full (untold conn history) (map Listed (beyond (cursor_at conn (length history)) rows))
-          (listed_full (beyond (cursor_at conn (length history)) rows))
-      | false ↦ tt
-    ]
+    cond_both (is_open conn && conn.info)
+    (map Told (untold conn history) ++ map Listed (beyond (cursor_at conn (length history)) rows)) [] AreFull
+    (λ _. told_full (untold conn history) _ (listed_full (beyond (cursor_at conn (length history)) rows))) (λ _. tt)
 
 -- where the first has none, there is no line
 pub first_empty : (nexts : List Next) → AreFull nexts → flat_map line_of (take 1 nexts) ≡ [] → nexts ≡ []

@@ -1,5 +1,5 @@
 -- What a session lists: rows in key order, each as the registry held it, and on a still registry the listing.
-use Rattle.srcp_core.proofs.Names.{◌≡◌, ℕ, zero, suc, ◌+◌, ◌≤◌, Bool, true, false, List, [], ◌∷◌, ◌++◌, map, take, length, drop, refl, ap}
+use Rattle.srcp_core.proofs.Names.{◌≡◌, ℕ, zero, suc, ◌+◌, ◌≤◌, Bool, true, List, [], ◌∷◌, ◌++◌, map, take, length, drop, refl, ap}
 use Rattle.srcp_core.proofs.Names.{sym, ◌∙◌, subst, arith, append-nil, append_assoc, leb-true, take-append-drop, take_all, take-append-le}
 use Rattle.srcp_core.proofs.Names.{length_push, map-append, flat_map-append, filter_map-append, fold-append, filter, flat_map}
 use Rattle.srcp_core.proofs.Names.{enumerate_from, AllByRecursion, is_eq, Less, Equal, nat_le, Option, Some, None, if◌then◌else◌}
@@ -7,7 +7,7 @@ use Rattle.srcp_core.proofs.Names.{IsRisingBy, key_cmp, is_after, line, Change, 
 use Rattle.srcp_core.proofs.Names.{all_weaker, key_at, Bus, IsLayout, State, opening, shown_rows, concerns, passed, beyond, said}
 use Rattle.srcp_core.proofs.Names.{changed_all, Next, Told, Listed, Settled, key_cmp_total, lists_one, passed_all, passed_done}
 use Rattle.srcp_core.proofs.Names.{passed_start, Step, Connection, History, heard, tells, sent, unsent, text, World, course, rows, history}
-use Rattle.srcp_core.proofs.Names.{history_from, listed_row, listed, rows_at, Item, cond_both, cases_lt, ⊎_elim, le_refl}
+use Rattle.srcp_core.proofs.Names.{history_from, listed_row, listed, rows_at, Item, cond_both, cases_lt, ⊎_elim, le_refl, cases_Bool}
 use Rattle.std.proofs.Common.{not, get_or, length-take}
 use Rattle.std.proofs.lemmas.Cmp.{tied_itself}
 use Rattle.std.proofs.lemmas.List.{take-take, get_or_past, get_or_append_left, get_or_push, get_or-take, get_or-drop}
@@ -108,21 +108,19 @@ found : (q : Shown → Bool) (row : Shown) (left rows : List Shown) → IsRising
     → shown_at row.key rows ≡ Some row
 found q row left [] r e = cc
 found q row left (other ∷ rows) r e =
-    let ih = found q row left rows r.1 in
-    let by : (t : Bool) → q other ≡ t → shown_at row.key (other ∷ rows) ≡ Some row = elim [
-      | true ↦ λ k.
-          let e' : other ∷ filter q rows ≡ row ∷ left = rw k at e in
-          let same : other ≡ row = cc in
-          let tied : key_cmp other.key row.key ≡ Equal = cc (tied_itself key_cmp_total other.key) in
-          rw (ap is_eq tied) (cc)
-      | false ↦ λ k.
-          let e' : filter q rows ≡ row ∷ left = rw k at e in
-          let above : AllByRecursion (λ (y : Shown). key_cmp other.key y.key ≡ Less) (row ∷ left) =
-          subst (λ ys. AllByRecursion (λ (y : Shown). key_cmp other.key y.key ≡ Less) ys) e'
-          (all_filter (λ y. key_cmp _ y.key ≡ Less) q rows r.0) in
-          rw (ap is_eq above.0) (ih e')
-    ] in
-    by (q other) refl
+    ⊎_elim
+    (λ k.
+    let e' : other ∷ filter q rows ≡ row ∷ left = rw k at e in
+    let same : other ≡ row = cc in
+    let tied : key_cmp other.key row.key ≡ Equal = cc (tied_itself key_cmp_total other.key) in
+    rw (ap is_eq tied) (cc))
+    (λ k.
+    let e' : filter q rows ≡ row ∷ left = rw k at e in
+    let above : AllByRecursion (λ (y : Shown). key_cmp other.key y.key ≡ Less) (row ∷ left) =
+    subst (λ ys. AllByRecursion (λ (y : Shown). key_cmp other.key y.key ≡ Less) ys) e'
+    (all_filter (λ y. key_cmp _ y.key ≡ Less) q rows r.0) in
+    rw (ap is_eq above.0) (found q row left rows r.1 e'))
+    (cases_Bool (q other))
 
 held_law : (start : List Shown) → Law start (Held start)
 held_law start = record {

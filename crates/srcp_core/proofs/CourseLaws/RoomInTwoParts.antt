@@ -1,11 +1,10 @@
 -- Room for a bytes and then for b more gives what room for both gives at once.
 use Rattle.srcp_core.proofs.Names.{◌≡◌, ℕ, zero, suc, inl, inr, ◌⊎◌, ⊎_elim, ◌+◌, ◌-◌, ◌<◌, ◌≤◌, min, Bool, true, false, List, [], ◌∷◌}
-use Rattle.srcp_core.proofs.Names.{◌++◌, length, drop, refl, ap, sym, ◌∙◌, arith, append_assoc, length-append, length-drop, leb-false}
-use Rattle.srcp_core.proofs.Names.{leb-true, lt-ltb, ltb-true, ltb-false, map-append, drop-append-le, drop-drop, drop_all, flat_map-append}
-use Rattle.srcp_core.proofs.Names.{flat_map, option_or, nat_le, nat_lt, ◌||◌, Option, Some, None, ◌==◌, ◌&&◌, if◌then◌else◌, Next}
-use Rattle.srcp_core.proofs.Names.{Connection, line_of, prefix, fitting, items_of, available, exhausts, given, unsent, text, took}
+use Rattle.srcp_core.proofs.Names.{◌++◌, length, drop, refl, ap, sym, ◌∙◌, arith, append_assoc, length-append, length-drop, lt-ltb}
+use Rattle.srcp_core.proofs.Names.{ltb-true, ltb-false, map-append, drop-append-le, drop-drop, drop_all, flat_map-append, flat_map}
+use Rattle.srcp_core.proofs.Names.{option_or, nat_lt, ◌||◌, Option, Some, None, ◌==◌, ◌&&◌, if◌then◌else◌, Next, Connection, line_of}
+use Rattle.srcp_core.proofs.Names.{prefix, fitting, items_of, available, exhausts, given, unsent, text, took, Item, cases_lt, nat_tests}
 use Rattle.std.proofs.Math.Bool.{or-false}
-use Rattle.srcp_core.proofs.Names.{Item, cases_lt, nat_tests}
 use Rattle.srcp_core.proofs.CourseLaws.RoomGivesWhatIsOwed.{text_items, prefix_short, prefix_none, pos-eqb}
 use Rattle.srcp_core.proofs.CourseLaws.LinesHaveBytes.{none_after}
 
@@ -26,33 +25,23 @@ prefix_adds (suc a) b (what ∷ nexts) rest e =
     let tail : nexts ≡ prefix (suc a - length (line_of what)) nexts ++ rest = cc in
     let ih = prefix_adds (suc a - length (line_of what)) b nexts rest tail in
     let suc_plus : suc a + b ≡ suc (a + b) = omega arith in
-    ap (λ n. prefix n (what ∷ nexts)) suc_plus
-    ∙ ap (λ ns. what ∷ ns) (by _ refl tail ih)
-  where
-    sizes : length (line_of what ++ flat_map line_of (prefix (suc a - length (line_of what)) nexts))
-        ≡ length (line_of what) + length (flat_map line_of (prefix (suc a - length (line_of what)) nexts))
-    sizes = length-append _ _
-
-    by : (t : Bool) → nat_le (length (line_of what)) (suc a) ≡ t → nexts ≡ prefix (suc a - length (line_of what)) nexts ++ rest
-        → prefix (suc a - length (line_of what) + b) nexts
-        ≡ prefix (suc a - length (line_of what)) nexts ++ prefix (b - over (suc a - length (line_of what)) nexts) rest
-        → prefix (suc (a + b) - length (line_of what)) nexts
-        ≡ prefix (suc a - length (line_of what)) nexts ++ prefix (b - over (suc a) (what ∷ nexts)) rest
-    by true t tail ih =
-        let l = leb-true _ (suc a) t in
-        let z = sizes in
-        let x : suc (a + b) - length (line_of what) ≡ suc a - length (line_of what) + b = omega arith in
-        let y : b - over (suc a - length (line_of what)) nexts ≡ b - over (suc a) (what ∷ nexts) = omega arith in
-        cc
-    by false t tail ih =
-        let l = leb-false _ (suc a) t in
-        let z = sizes in
-        let none : suc a - length (line_of what) ≡ 0 = omega arith in
-        let first : prefix (suc a - length (line_of what)) nexts ≡ [] = cc in
-        let nothing : length (flat_map line_of (prefix (suc a - length (line_of what)) nexts)) ≡ 0 = cc in
-        let all : nexts ≡ rest = cc in
-        let x : suc (a + b) - length (line_of what) ≡ b - over (suc a) (what ∷ nexts) = omega arith in
-        cc
+    let size = length-append (line_of what) (flat_map line_of (prefix (suc a - length (line_of what)) nexts)) in
+    let step : prefix (suc (a + b) - length (line_of what)) nexts
+    ≡ prefix (suc a - length (line_of what)) nexts ++ prefix (b - over (suc a) (what ∷ nexts)) rest =
+    ⊎_elim
+    (λ l.
+    let none : suc a - length (line_of what) ≡ 0 = omega arith in
+    let first : prefix (suc a - length (line_of what)) nexts ≡ [] = cc in
+    let nothing : length (flat_map line_of (prefix (suc a - length (line_of what)) nexts)) ≡ 0 = cc in
+    let all : nexts ≡ rest = cc in
+    let x : suc (a + b) - length (line_of what) ≡ b - over (suc a) (what ∷ nexts) = omega arith in
+    cc)
+    (λ l.
+    let x : suc (a + b) - length (line_of what) ≡ suc a - length (line_of what) + b = omega arith in
+    let y : b - over (suc a - length (line_of what)) nexts ≡ b - over (suc a) (what ∷ nexts) = omega arith in
+    cc)
+    (cases_lt (suc a) (length (line_of what))) in
+    ap (λ n. prefix n (what ∷ nexts)) suc_plus ∙ ap (λ ns. what ∷ ns) step
 
 -- the same with bytes that were not taken before
 pub fitting_adds : (a b : ℕ) (left : List ℕ) (nexts rest : List Next) → 0 < a → 0 < b → nexts ≡ fitting a left nexts ++ rest
@@ -62,31 +51,23 @@ fitting_adds a b left nexts rest pa pb e =
     let zb : (b == 0) ≡ false = pos-eqb b pb in
     let zab : (a + b == 0) ≡ false = pos-eqb (a + b) (omega arith) in
     let e' : nexts ≡ prefix (a - length left) nexts ++ rest = rw za at e in
-    rw (za, zb, zab) (by (nat_le a (length left)) refl e')
-  where
-    size : length (drop a (left ++ flat_map line_of (prefix (a - length left) nexts)))
-        ≡ length left + length (flat_map line_of (prefix (a - length left) nexts)) - a
-    size = cc (length-drop a _, length-append left _)
-
-    by : (t : Bool) → nat_le a (length left) ≡ t → nexts ≡ prefix (a - length left) nexts ++ rest
-        → prefix (a + b - length left) nexts
-        ≡ prefix (a - length left) nexts ++ prefix (b - length (drop a (left ++ flat_map line_of (prefix (a - length left) nexts)))) rest
-    by true t e =
-        let l = leb-true a _ t in
-        let z = size in
-        let none : a - length left ≡ 0 = omega arith in
-        let first : prefix (a - length left) nexts ≡ [] = cc in
-        let nothing : length (flat_map line_of (prefix (a - length left) nexts)) ≡ 0 = cc in
-        let all : nexts ≡ rest = cc in
-        let x : a + b - length left ≡ b - length (drop a (left ++ flat_map line_of (prefix (a - length left) nexts))) = omega arith in
-        cc
-    by false t e =
-        let l = leb-false a _ t in
-        let z = size in
-        let x : a + b - length left ≡ a - length left + b = omega arith in
-        let y : b - over (a - length left) nexts ≡ b - length (drop a (left ++ flat_map line_of (prefix (a - length left) nexts))) =
-        omega arith in
-        cc (prefix_adds _ b nexts rest e)
+    let size : length (drop a (left ++ flat_map line_of (prefix (a - length left) nexts)))
+    ≡ length left + length (flat_map line_of (prefix (a - length left) nexts)) - a = cc (length-drop a _, length-append left _) in
+    rw (za, zb, zab)
+    (⊎_elim
+    (λ l.
+    let x : a + b - length left ≡ a - length left + b = omega arith in
+    let y : b - over (a - length left) nexts ≡ b - length (drop a (left ++ flat_map line_of (prefix (a - length left) nexts))) =
+    omega arith in
+    cc (prefix_adds (a - length left) b nexts rest e'))
+    (λ l.
+    let none : a - length left ≡ 0 = omega arith in
+    let first : prefix (a - length left) nexts ≡ [] = cc in
+    let nothing : length (flat_map line_of (prefix (a - length left) nexts)) ≡ 0 = cc in
+    let all : nexts ≡ rest = cc in
+    let x : a + b - length left ≡ b - length (drop a (left ++ flat_map line_of (prefix (a - length left) nexts))) = omega arith in
+    cc)
+    (cases_lt (length left) a))
 
 pub no_bytes : (other : Bool) (n bytes : ℕ) → 0 < bytes → (nat_lt n bytes || ((bytes == 0) && other)) ≡ nat_lt n bytes
 no_bytes other n bytes h = let z = pos-eqb bytes h in rw z (or-false (nat_lt n bytes))

@@ -6,7 +6,7 @@ use Rattle.srcp_core.proofs.Names.{Option, Some, None, ◌&&◌, if◌then◌els
 use Rattle.srcp_core.proofs.Names.{opening, shown_rows, Event, Room, Connection, History, heard, line_of, fitting, is_open, is_done_by}
 use Rattle.srcp_core.proofs.Names.{items_of, sent, untold, cursor_at, available, exhausts, given, told_change, unsent, text, owed, overran}
 use Rattle.srcp_core.proofs.Names.{took, given_room, World, numbered, with_numbered, counted, accepted, start, happens, course, rows}
-use Rattle.srcp_core.proofs.Names.{history, AddsUp, Item, lt-leb, and-true}
+use Rattle.srcp_core.proofs.Names.{history, AddsUp, Item, lt-leb, and-true, cases_Bool, ⊎_elim}
 use Rattle.std.specs.Prelude.{option_map}
 use Rattle.srcp_core.specs.Laws.{without_events}
 use Rattle.srcp_core.proofs.CourseLaws.LinesHaveBytes.{first_empty, owed_full}
@@ -109,22 +109,15 @@ owed_plain conn history rows e =
 -- what is owed to any open connection after room
 rests : (buses : List Bus) (layout : IsLayout buses) (w : World) (bytes : ℕ) (conn : Connection) → conn.shut ≡ None
     → Fits (shown_rows (opening buses 0)) (history buses w) conn.go_step conn.items conn.done → OwesAfter buses w bytes conn
-rests buses layout w bytes conn shut fits = by _ refl
-  where
-    by : (info : Bool) → conn.info ≡ info → OwesAfter buses w bytes conn
-    by true e = owes_after buses layout w bytes conn shut e fits
-    by false e =
-        let none = owed_plain conn _ _ e in
-        record {
-          rest = [];
-          whole =
-              none
-              ∙ sym (append-nil _
-              ∙ ap (fitting bytes (unsent conn)) none ∙ fitting_none bytes _);
-          owes =
-              owed_plain (took bytes (length (history buses w)) (owed conn (history buses w) (rows buses w)) conn) _ _ e;
-          fully = λ _. refl;
-        }
+rests buses layout w bytes conn shut fits =
+    ⊎_elim (λ e. owes_after buses layout w bytes conn shut e fits)
+    (λ e. let none = owed_plain conn (history buses w) (rows buses w) e in record {
+      rest = [];
+      whole = none ∙ sym (append-nil _ ∙ ap (fitting bytes (unsent conn)) none ∙ fitting_none bytes _);
+      owes = owed_plain (took bytes (length (history buses w)) (owed conn (history buses w) (rows buses w)) conn) _ _ e;
+      fully = λ _. refl;
+    })
+    (cases_Bool conn.info)
 
 module _ (buses : List Bus) (layout : IsLayout buses) (w : World) (conn : Connection) (shut : conn.shut ≡ None)
     (fits : Fits (shown_rows (opening buses 0)) (history buses w) conn.go_step conn.items conn.done)

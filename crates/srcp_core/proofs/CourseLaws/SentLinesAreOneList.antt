@@ -1,11 +1,10 @@
 -- Each line of an information session tells a change that can be told, so the bytes sent hold one list of changes alone.
 use Rattle.srcp_core.proofs.Names.{◌≡◌, ℕ, zero, suc, ◌-◌, ◌≤◌, take, append_assoc, length-append, ◌+◌, Bool, true, false, List, [], ◌∷◌}
 use Rattle.srcp_core.proofs.Names.{◌++◌, length, drop, refl, ap, sym, ◌∙◌, subst, arith, append-nil, take-append-le, flat_map-append}
-use Rattle.srcp_core.proofs.Names.{AllByRecursion, filter, flat_map, enumerate_from, nat_le, nat_lt, ◌||◌, Option, Some, None}
-use Rattle.srcp_core.proofs.Names.{if◌then◌else◌, ltb-false, ltb-true, is_lf, client, line, IsWellFormed, IsWellFormedShown, Change, Cursor}
-use Rattle.srcp_core.proofs.Names.{Shown, all_append, all_filter, Bus, IsLayout, opening, shown_rows, concerns, said, changed_all, Told}
-use Rattle.srcp_core.proofs.Names.{Listed, Event, Connection, History, heard, is_settled, tells, text, course, rows, history, AllMoments}
-use Rattle.srcp_core.proofs.Names.{IsSession, Item}
+use Rattle.srcp_core.proofs.Names.{AllByRecursion, filter, flat_map, enumerate_from, nat_le, Option, Some, None, if◌then◌else◌, is_lf}
+use Rattle.srcp_core.proofs.Names.{client, line, IsWellFormed, IsWellFormedShown, Change, Cursor, Shown, all_append, all_filter, Bus}
+use Rattle.srcp_core.proofs.Names.{IsLayout, opening, shown_rows, concerns, said, changed_all, Told, Listed, Event, Connection, History}
+use Rattle.srcp_core.proofs.Names.{heard, is_settled, tells, text, course, rows, history, AllMoments, IsSession, Item, cases_lt, ⊎_elim}
 use Rattle.std.proofs.Math.Seq.{take-append-add, take-nil}
 use Rattle.std.proofs.lemmas.List.{drop_at}
 use Rattle.std.specs.List.{list_any}
@@ -21,6 +20,7 @@ use Rattle.srcp_core.proofs.CourseLaws.RegistryStaysWhole.{keeps_whole}
 use Rattle.srcp_core.proofs.CourseLaws.SessionsAreKept.{all_push}
 use Rattle.srcp_core.proofs.Invariants.RowLists.{shown_tellable}
 use Rattle.srcp_core.proofs.CourseLaws.StepsKeepWhole.{whole_opening}
+use Rattle.std.proofs.lemmas.Bool.{or_parts}
 
 -- ---- parts of lists
 
@@ -132,12 +132,7 @@ record LinesPrefix (n : ℕ) (changes : List Change) : Type 0 where
 free_take : (n : ℕ) (xs : List ℕ) → list_any is_lf xs ≡ false → list_any is_lf (take n xs) ≡ false
 free_take zero xs e = refl
 free_take (suc n) [] e = refl
-free_take (suc n) (x ∷ xs) e = by _ e (λ h. free_take n xs h)
-  where
-    by : (t : Bool) → t || list_any is_lf xs ≡ false → (list_any is_lf xs ≡ false → list_any is_lf (take n xs) ≡ false)
-        → t || list_any is_lf (take n xs) ≡ false
-    by true e ih = e
-    by false e ih = ih e
+free_take (suc n) (x ∷ xs) e = let p = or_parts (is_lf x) (list_any is_lf xs) e in rw (p.0, free_take n xs p.1) refl
 
 lines_prefix : (n : ℕ) (changes : List Change) → AllByRecursion IsWellFormed changes → LinesPrefix n changes
 lines_prefix n [] a = record {
@@ -147,40 +142,38 @@ lines_prefix n [] a = record {
   whole = refl;
   holds = record { each = tt; whole = take-nil n; no_more = refl };
 }
-lines_prefix n (change ∷ changes) a = by _ refl (λ m. lines_prefix m changes a.1)
-  where
-    by : (t : Bool) → nat_lt n (length (line change)) ≡ t → ((m : ℕ) → LinesPrefix m changes) → LinesPrefix n (change ∷ changes)
-    by true t ih =
-        let h = ltb-true n _ t in
-        let z : length (line change) ≡ length (text_of change) + 1 = length-append _ _ in
-        let low : n ≤ length (line change) = omega arith in
-        let short : n ≤ length (text_of change) = omega arith in
-        let cut : take n (line change ++ flat_map line changes) ≡ take n (text_of change) =
-        take-append-le n _ _ low ∙ take-append-le n _ _ short in
-        record {
-          prefix = [];
-          later = change ∷ changes;
-          begun = take n _;
-          whole = refl;
-          holds = record { each = tt; whole = cut; no_more = free_take n _ (line_free change a.0) };
-        }
-    by false t ih =
-        let h = ltb-false n _ t in
-        let r = ih _ in
-        let sum : n ≡ length (line change) + (n - length (line change)) = omega arith in
-        let cut : take n (line change ++ flat_map line changes) ≡ line change ++ take (n - length (line change)) (flat_map line changes) =
-        cc (take-append-add _ _ _) in
-        record {
-          prefix = change ∷ r.prefix;
-          later = r.later;
-          begun = r.begun;
-          whole = ap (λ cs. change ∷ cs) r.whole;
-          holds = record {
-            each = (a.0, r.holds.each);
-            whole = cut ∙ ap (λ b. line change ++ b) r.holds.whole ∙ sym (append_assoc _ _ r.begun);
-            no_more = r.holds.no_more;
-          };
-        }
+lines_prefix n (change ∷ changes) a =
+    ⊎_elim
+    (λ h.
+    let z : length (line change) ≡ length (text_of change) + 1 = length-append _ _ in
+    let low : n ≤ length (line change) = omega arith in
+    let short : n ≤ length (text_of change) = omega arith in
+    let cut : take n (line change ++ flat_map line changes) ≡ take n (text_of change) =
+    take-append-le n _ _ low ∙ take-append-le n _ _ short in
+    record {
+      prefix = [];
+      later = change ∷ changes;
+      begun = take n _;
+      whole = refl;
+      holds = record { each = tt; whole = cut; no_more = free_take n _ (line_free change a.0) };
+    })
+    (λ h.
+    let r = lines_prefix (n - length (line change)) changes a.1 in
+    let sum : n ≡ length (line change) + (n - length (line change)) = omega arith in
+    let cut : take n (line change ++ flat_map line changes) ≡ line change ++ take (n - length (line change)) (flat_map line changes) =
+    cc (take-append-add _ _ _) in
+    record {
+      prefix = change ∷ r.prefix;
+      later = r.later;
+      begun = r.begun;
+      whole = ap (λ cs. change ∷ cs) r.whole;
+      holds = record {
+        each = (a.0, r.holds.each);
+        whole = cut ∙ ap (λ b. line change ++ b) r.holds.whole ∙ sym (append_assoc _ _ r.begun);
+        no_more = r.holds.no_more;
+      };
+    })
+    (cases_lt n (length (line change)))
 
 -- what is taken of two lists beyond the first
 drop_taken : (n : ℕ) (xs ys : List ℕ) → drop (length xs) (take n (xs ++ ys)) ≡ take (n - length xs) ys

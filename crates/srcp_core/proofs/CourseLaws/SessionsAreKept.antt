@@ -13,7 +13,7 @@ use Rattle.srcp_core.proofs.CourseLaws.ShownRegistry.{shown_after, history_push,
 use Rattle.srcp_core.proofs.CourseLaws.RoomGivesWhatIsOwed.{Stands, fitting_prefix, exhausted, also_done, took_within, fitting_none}
 use Rattle.srcp_core.proofs.CourseLaws.EventsKeep.{IsKept, kept_all, kept_answered}
 use Rattle.srcp_core.proofs.CourseLaws.ClientHoldsPassedRows.{Fits, Law, gives, owed_by, fits_push}
-use Rattle.srcp_core.proofs.Names.{all_append}
+use Rattle.srcp_core.proofs.Names.{all_append, cases_Bool, ⊎_elim}
 
 -- ---- one connection among all
 
@@ -135,19 +135,17 @@ module _ (first : List Shown) (ordered : IsRisingBy key_at first) (P : History �
       → owed_by go items done history (rows_after first history) ≡ nexts
       → Both history go (items ++ items_of (length history) (fitting bytes left nexts))
       (if exhausts bytes left nexts then option_or done (Some (length history)) else done)
-  both_took history go items done bytes left nexts order f e = by _ refl
-    where
-      by : (t : Bool) → exhausts bytes left nexts ≡ t
-          → Both history go (items ++ items_of (length history) (fitting bytes left nexts))
-          (if t then option_or done (Some (length history)) else done)
-      by true t =
-          let all : fitting bytes left nexts ≡ nexts = exhausted bytes left nexts t in
-          let g = gives first P law history go items done nexts [] order f.0 f.1 (e ∙ sym (append-nil nexts)) in
-          rw all (also_done first P law history go _ done order g)
-      by false t =
-          let prefix = fitting_prefix bytes left nexts in
-          let g = gives first P law history go items done _ _ order f.0 f.1 (e ∙ prefix.whole) in
-          (g.fits, g.also)
+  both_took history go items done bytes left nexts order f e =
+      ⊎_elim
+      (λ t.
+      let all : fitting bytes left nexts ≡ nexts = exhausted bytes left nexts t in
+      let g = gives first P law history go items done nexts [] order f.0 f.1 (e ∙ sym (append-nil nexts)) in
+      rw (t, all) (also_done first P law history go _ done order g))
+      (λ t.
+      let prefix = fitting_prefix bytes left nexts in
+      let g = gives first P law history go items done _ _ order f.0 f.1 (e ∙ prefix.whole) in
+      rw t (g.fits, g.also))
+      (cases_Bool (exhausts bytes left nexts))
 
   stands_took_by : (history : History) (bytes taken : ℕ) (left : List ℕ) (conn : Connection) (info : Bool) (nexts : List Next)
       → IsRisingBy key_at (rows_after first history) → conn.shut ≡ None → Stands first P history conn

@@ -5,7 +5,7 @@ use Rattle.srcp_core.proofs.Names.{IsWellFormed, Change, Put, Row, Device, Key, 
 use Rattle.srcp_core.proofs.Names.{session_device, State, Update, IsWhole, row_at, has_row, is_there, shown_rows, updated_all, opening}
 use Rattle.srcp_core.proofs.Names.{began_kept, due_kept, freed_kept, effect_kept, same_key, same_key-true, row_at-put_other, due_told}
 use Rattle.srcp_core.proofs.Names.{freed_told, opening_whole, Step, Obeyed, Began, Moment, Ended, updates_of, state_after, history_from}
-use Rattle.srcp_core.proofs.Names.{has_key, CanBeTold}
+use Rattle.srcp_core.proofs.Names.{has_key, CanBeTold, cases_Bool, ⊎_elim}
 use Rattle.srcp_info.specs.Key.{device_of}
 use Rattle.srcp_info.specs.declared.change.Change.TheVariants.{Gone}
 use Rattle.srcp_grammar.specs.Devices.{key_at}
@@ -115,14 +115,13 @@ pub record HasSome (device : Device) (state : State) : Type 0 where
 module _ (state : State) (device : Device) (some : HasSome device state) (key : Key) (own : owns device key ≡ true) where
   one_adds : (now : State) → (has_row key now ≡ true → has_row key state ≡ true) → (change : Change) (due : Option ℕ)
       → AddsNoRow state change → has_row key (updated_by change due now) ≡ true → has_row key state ≡ true
-  one_adds now f (Put shown) due adds h = by _ refl
-    where
-      by : (t : Bool) → same_key shown.key key ≡ t → has_row key state ≡ true
-      by true e =
-          let same : shown.key ≡ key = same_key-true _ key e in
-          let mine : device ≡ device_of shown.key = cc (device_from_owns device key own) in
-          ap (λ k. has_row k state) (sym same) ∙ adds _ (subst (λ d. has_row (key_at d some.port) state ≡ true) mine some.here)
-      by false e = f (cc (row_at-put_other key (record { shown = shown; due = due }) now e))
+  one_adds now f (Put shown) due adds h =
+      ⊎_elim
+      (λ e.
+      let same : shown.key ≡ key = same_key-true _ key e in
+      let mine : device ≡ device_of shown.key = cc (device_from_owns device key own) in
+      ap (λ k. has_row k state) (sym same) ∙ adds _ (subst (λ d. has_row (key_at d some.port) state ≡ true) mine some.here))
+      (λ e. f (cc (row_at-put_other key (record { shown = shown; due = due }) now e))) (cases_Bool (same_key shown.key key))
   one_adds now f (Gone stamp other) due adds h =
       f (was _ _ (ap is_some (sym (row_at-without key other now)) ∙ h))
     where
@@ -148,7 +147,21 @@ has_key_row key (row ∷ state) = by _ (has_key_row key state)
 
 pub has_some : (device : Device) (state : State) → has_device device (shown_rows state) ≡ true → HasSome device state
 has_some device [] h = let bad : false ≡ true = h in cc
-has_some device (row ∷ state) h = by _ refl (λ k. has_some device state k)
+has_some device (row ∷ state) h =
+    ⊎_elim
+    (λ e.
+    let mine : device_of row.shown.key ≡ device = device_from_owns device row.shown.key e in
+    let itself : row.shown.key ≡ key_at device row.shown.key.port = cc in
+    record {
+      port = row.shown.key.port;
+      here =
+          subst (λ k. has_row k (row ∷ state) ≡ true) itself
+          (first (same_key row.shown.key row.shown.key) _ (same_key-itself row.shown.key));
+    })
+    (λ e.
+    let rest = has_some device state (rw e at h) in
+    record { port = rest.port; here = later (same_key row.shown.key (key_at device rest.port)) _ rest.here })
+    (cases_Bool (owns device row.shown.key))
   where
     first : (t : Bool) (o : Option Row) → t ≡ true → is_some (cond t (Some row) o) ≡ true
     first true o e = refl
@@ -157,24 +170,6 @@ has_some device (row ∷ state) h = by _ refl (λ k. has_some device state k)
     later : (t : Bool) (o : Option Row) → is_some o ≡ true → is_some (cond t (Some row) o) ≡ true
     later true o e = refl
     later false o e = e
-
-    by : (t : Bool) → owns device row.shown.key ≡ t → (has_device device (shown_rows state) ≡ true → HasSome device state)
-        → HasSome device (row ∷ state)
-    by true e ih =
-        let mine : device_of row.shown.key ≡ device = device_from_owns device row.shown.key e in
-        let itself : row.shown.key ≡ key_at device row.shown.key.port = cc in
-        record {
-          port = row.shown.key.port;
-          here =
-              subst (λ k. has_row k (row ∷ state) ≡ true) itself
-              (first (same_key row.shown.key row.shown.key) _ (same_key-itself row.shown.key));
-        }
-    by false e ih =
-        let rest = ih (rw e at h) in
-        record {
-          port = rest.port;
-          here = later (same_key row.shown.key (key_at device rest.port)) _ rest.here;
-        }
 
 module _ (buses : List Bus) where
   pub step_keys : (state : State) (step : Step) → IsWhole buses state → IsStepOf buses state step → (device : Device) (key : Key)

@@ -20,17 +20,8 @@ filter_few : (p : Change → Bool) (changes : List Change) → length (filter p 
 filter_few p [] = omega arith
 filter_few p (change ∷ changes) =
     let ih = filter_few p changes in
-    elim (p change) as (λ t. length (if t then change ∷ filter p changes else filter p changes) ≤ length (change ∷ changes)) [
-      | true ↦ omega arith
-      | false ↦ omega arith
-    ]
-
-drop_push : (n : ℕ) (xs ys : List Change) → length (drop n (xs ++ ys)) ≤ length (drop n xs) + length ys
-drop_push n xs ys =
-    let a = length-drop n (xs ++ ys) in
-    let b = length-drop n xs in
-    let c = length-append xs ys in
-    omega arith
+    cond_both (p change) (change ∷ filter p changes) (filter p changes) (λ cs. length cs ≤ length (change ∷ changes)) (λ _. omega arith)
+    (λ _. omega arith)
 
 -- ---- one session
 
@@ -47,9 +38,12 @@ within_push most more history changes conn h w =
     let con = concerning_push conn.go_step (cursor_by conn.done conn.items) history changes w.began in
     let extra = filter (concerns (cursor_by conn.done conn.items (length history))) changes in
     let few = filter_few (concerns (cursor_by conn.done conn.items (length history))) changes in
-    let step = drop_push (length (tolds conn.items)) (concerning_by conn.go_step (cursor_by conn.done conn.items) history) extra in
+    let before = concerning_by conn.go_step (cursor_by conn.done conn.items) history in
+    let a = length-drop (length (tolds conn.items)) (before ++ extra) in
+    let b = length-drop (length (tolds conn.items)) before in
+    let c = length-append before extra in
     let same : length (untold_by conn.go_step conn.items conn.done (history ++ changes ∷ []))
-    ≡ length (drop (length (tolds conn.items)) (concerning_by conn.go_step (cursor_by conn.done conn.items) history ++ extra)) =
+    ≡ length (drop (length (tolds conn.items)) (before ++ extra)) =
     cc in
     record { began = omega arith; few = λ info shut. let before = w.few info shut in omega arith }
 

@@ -13,8 +13,8 @@ use Rattle.srcp_rules.proofs.ToldLaws.{reply_told}
 use Rattle.srcp_core.specs.Machine.{replied, goes, greeted, finished, obeyed, answered, is_obeyed}
 use Rattle.srcp_core.proofs.Invariants.EveryPlaceIsTold.{told_all_at}
 use Rattle.srcp_core.proofs.Invariants.ChangesOneByOne.{change_in}
-use Rattle.srcp_core.proofs.Invariants.PlacesCover.{place_set_here}
-use Rattle.srcp_core.proofs.Invariants.RepliesStayUnsent.{told_shorter, longest_most, told_keeps}
+use Rattle.srcp_core.proofs.Invariants.PlacesCover.{place_set_here, told_so}
+use Rattle.srcp_core.proofs.Invariants.RepliesStayUnsent.{longest_most}
 use Rattle.srcp_core.proofs.Invariants.LinesAsk.{asked_by}
 
 -- what is known of the line that has begun
@@ -37,7 +37,9 @@ most m n a b le g = record { few = omega (arith, le, g.few); begun = g.begun }
 
 told_slot : (change : Change) (o : Option Place) → Gains 0 o (option_map (told_place change) o)
 told_slot change None = record { few = omega arith; begun = refl }
-told_slot change (Some p) = record { few = let t = told_shorter change p in omega (arith, t); begun = ap (λ (q : Place). q.reader.begun) (told_keeps change p) }
+told_slot change (Some p) =
+    let t = told_so change p in
+    record { few = omega (arith, t.fewer); begun = ap (λ (q : Place). q.reader.begun) t.is }
 
 told_gains : (key : ℕ) (changes : List Change) (places : List (Option Place))
     → Gains 0 (place_at places key) (place_at (told_each changes places) key)

@@ -5,7 +5,7 @@ use Rattle.srcp_core.proofs.Names.{first_key, IsMoment, Change, Bus, IsLayout, s
 use Rattle.srcp_core.proofs.Names.{is_there, Place, Held, place_at, at, open_count, IsLive, AreSessions, IsSound, IsSessionAt, Mode}
 use Rattle.srcp_core.proofs.Names.{Command, IsCommandOf, due, freed, began, effect, IsKeyOf, is_within, updated, began_kept, due_kept}
 use Rattle.srcp_core.proofs.Names.{freed_kept, effect_kept, session_row-updated_all, effect_elsewhere, due_elsewhere, freed_others}
-use Rattle.srcp_core.proofs.Names.{row_at-put_same, row_at-put_other, same_key, same_key-true, le-leb, eqb-false, pos_of_ne-zero, Panel}
+use Rattle.srcp_core.proofs.Names.{row_at-put_same, row_at-put_other, same_key-true, le-leb, eqb-false, pos_of_ne-zero, Panel}
 use Rattle.srcp_core.proofs.Names.{Absent, Listening, Overran, changed_at, changed_in, changed_places, carried, told_all, told_each}
 use Rattle.srcp_core.proofs.Names.{freed_of, freed_place, entered_place, session_begun, filled, feed_in, panel_for, Shown, opening_whole}
 use Rattle.srcp_info.specs.declared.value.Value.TheVariants as value
@@ -15,6 +15,7 @@ use Rattle.srcp_core.proofs.Invariants.PlacesCover.{IsMild, mild_itself, mild_li
 use Rattle.srcp_core.proofs.Invariants.PlacesCover.{covers_told_each, told_each_count, set_count, free_other, sessions_covered, place_set}
 use Rattle.srcp_core.proofs.Invariants.PlacesCover.{place_set_here, where_is, Where, Here, Away, no_place}
 use Rattle.srcp_core.proofs.Invariants.SessionRows.{no_session-opening}
+use Rattle.std.proofs.lemmas.Bool.{false_from_ne_true}
 
 -- what an equation begins with
 abbrev pub left_of : {X : Type 0} {a b : X} → a ≡ b → X
@@ -152,11 +153,8 @@ other_row : (id other moment : ℕ) (mode : Mode) (rows : State) → other ≢ i
 other_row id other moment mode rows apart =
     cc (row_at-put_other (first_key (session_device other))
     (record { shown = record { key = first_key (session_device id); stamp = moment; value = value.Session mode }; due = None }) rows
-    (by (same_key (first_key (session_device id)) (first_key (session_device other))) refl))
-  where
-    by : (t : Bool) → same_key (first_key (session_device id)) (first_key (session_device other)) ≡ t → t ≡ false
-    by true e = absurd (apart (cc (same_key-true (first_key (session_device id)) (first_key (session_device other)) e)))
-    by false e = refl
+    (false_from_ne_true _ (λ e.
+    apart (cc (same_key-true (first_key (session_device id)) (first_key (session_device other)) e)))))
 
 -- a place is the one whose session begins, or it was there
 abbrev IsOneOf : List (Option Place) → ℕ → ℕ → ℕ → Place → Type 0

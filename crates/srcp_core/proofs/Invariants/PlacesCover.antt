@@ -1,8 +1,8 @@
 -- Places whose connections come from those of other places, with the sessions that these have.
-use Rattle.srcp_core.proofs.Names.{◌≡◌, ◌≢◌, ℕ, zero, suc, true, false, cond, List, [], ◌∷◌, refl, sym, ◌∙◌, subst, arith, option_map, ◌&&◌}
+use Rattle.srcp_core.proofs.Names.{◌≡◌, ◌≢◌, ℕ, zero, suc, false, List, [], ◌∷◌, refl, sym, ◌∙◌, subst, arith, option_map, ◌&&◌}
 use Rattle.srcp_core.proofs.Names.{Option, Some, None, is_some, slice_set, count_by, Change, State, concerns, is_full, told, Place}
 use Rattle.srcp_core.proofs.Names.{place_at, IsLive, AreSessions, is_panel, told_feed, told_place, told_all, told_each, feed_in}
-use Rattle.srcp_core.proofs.Names.{changed_places, Panel, Absent, Listening, Overran}
+use Rattle.srcp_core.proofs.Names.{changed_places, Panel, Absent, Listening, Overran, cond_both, length, ap, ◌≤◌}
 use Rattle.srcp_core.proofs.Invariants.EveryPlaceIsTold.{count_by_cons, told_all_count, told_all_at}
 use Rattle.std.proofs.lemmas.List.{get_or-set_other}
 
@@ -95,17 +95,27 @@ covers_free places key p at m r e =
 
 -- ---- a change is told
 
-pub told_mild : (change : Change) (p : Place) → IsMild p (told_place change p)
-told_mild change p = by p.panel refl
+-- no more than what is unsent and the panel of a place changes, and no byte comes to it
+pub record IsTold (p q : Place) : Type 0 where
+  pub is : q ≡ record p { unsent = q.unsent; panel = q.panel }
+  pub fewer : length q.unsent ≤ length p.unsent
+  pub panel : is_panel q.panel ≡ is_panel p.panel
+
+pub told_so : (change : Change) (p : Place) → IsTold p (told_place change p)
+told_so change p = by p.panel refl
   where
-    by : (panel : Panel) → p.panel ≡ panel → IsMild p (told_feed change p (feed_in panel))
-    by Absent e = mild_itself p
-    by Overran e = mild_itself p
-    by (Listening feed) e = elim (concerns _ change && is_full feed)
-        as (λ t. IsMild p (cond t (record p { unsent = []; panel = Overran }) (record p { panel = Listening (told change feed) }))) [
-          | true ↦ record { session = refl; ended = λ h. h; panel = cc }
-          | false ↦ record { session = refl; ended = λ h. h; panel = cc }
-        ]
+    by : (panel : Panel) → p.panel ≡ panel → IsTold p (told_feed change p (feed_in panel))
+    by Absent e = record { is = refl; fewer = omega arith; panel = refl }
+    by Overran e = record { is = refl; fewer = omega arith; panel = refl }
+    by (Listening feed) e =
+        cond_both (concerns feed.cursor change && is_full feed) (record p { unsent = []; panel = Overran })
+        (record p { panel = Listening (told change feed) }) (IsTold p)
+        (λ _. record { is = refl; fewer = omega arith; panel = cc }) (λ _. record { is = refl; fewer = omega arith; panel = cc })
+
+pub told_mild : (change : Change) (p : Place) → IsMild p (told_place change p)
+told_mild change p =
+    let t = told_so change p in
+    record { session = ap (λ q. q.session) t.is; ended = λ h. sym (ap (λ q. q.ended) t.is) ∙ h; panel = t.panel }
 
 pub covers_told : (change : Change) (places : List (Option Place)) → Covers places (told_all change places)
 covers_told change places key q e = by _ refl (sym (told_all_at change places key) ∙ e)

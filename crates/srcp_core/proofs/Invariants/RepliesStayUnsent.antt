@@ -1,33 +1,19 @@
 -- What is unsent, and whose session goes on, while lines are answered.
-use Rattle.srcp_core.proofs.Names.{◌≡◌, ℕ, ◌+◌, ◌<◌, ◌≤◌, true, false, cond, List, [], ◌∷◌, map, length, refl, ap, sym, ◌∙◌, subst, arith}
-use Rattle.srcp_core.proofs.Names.{option_map, ◌&&◌, if◌then◌else◌, Option, Some, None, lt-ltb, C500, Change, Reply, Accepted, Protocol, Go}
-use Rattle.srcp_core.proofs.Names.{Refused, Shows, Mode, session_device, Update, is_there, concerns, Feed, is_full, told, Place, Held}
-use Rattle.srcp_core.proofs.Names.{place_at, IsLive, IsSound, IsSessionAt, told_feed, told_place, told_all, told_each, carried, unsent_of}
-use Rattle.srcp_core.proofs.Names.{changed_in, with_unsent, longest, session_begun, feed_in, Listening, Overran, cond_both}
+use Rattle.srcp_core.proofs.Names.{◌≡◌, ℕ, ◌+◌, ◌<◌, ◌≤◌, true, List, [], ◌∷◌, map, length, ap, sym, ◌∙◌, subst, arith, option_map}
+use Rattle.srcp_core.proofs.Names.{if◌then◌else◌, Option, Some, None, lt-ltb, C500, Change, Reply, Accepted, Protocol, Go, Refused, Shows}
+use Rattle.srcp_core.proofs.Names.{Mode, session_device, Update, is_there, Place, Held, place_at, IsLive, IsSound, IsSessionAt, told_place}
+use Rattle.srcp_core.proofs.Names.{told_all, told_each, carried, unsent_of, changed_in, with_unsent, longest, session_begun}
 use Rattle.srcp_info.specs.declared.change.Reply.TheVariants.{Mode as ModeReply}
 use Rattle.srcp_core.specs.Machine.{replied, goes}
 use Rattle.srcp_core.proofs.Invariants.EveryPlaceIsTold.{told_all_at}
 use Rattle.srcp_core.proofs.Invariants.ChangesOneByOne.{change_in}
-use Rattle.srcp_core.proofs.Invariants.PlacesCover.{place_set_here}
+use Rattle.srcp_core.proofs.Invariants.PlacesCover.{place_set_here, told_so}
 
 -- ---- what is unsent
 
-pub told_shorter : (change : Change) (p : Place) → length (told_place change p).unsent ≤ length p.unsent
-told_shorter change p = by (feed_in p.panel)
-  where
-    by : (feed : Option Feed) → length (told_feed change p feed).unsent ≤ length p.unsent
-    by None = omega arith
-    by (Some feed) =
-        elim (concerns _ change && is_full feed)
-        as (λ t. length (cond t (record p { unsent = []; panel = Overran }) (record p { panel = Listening (told change feed) })).unsent
-        ≤ length p.unsent) [
-          | true ↦ omega arith
-          | false ↦ omega arith
-        ]
-
 slot_shorter : (change : Change) (o : Option Place) → length (unsent_of (option_map (told_place change) o)) ≤ length (unsent_of o)
 slot_shorter change None = omega arith
-slot_shorter change (Some p) = told_shorter change p
+slot_shorter change (Some p) = (told_so change p).fewer
 
 pub told_each_shorter : (changes : List Change) (places : List (Option Place)) (key : ℕ)
     → length (unsent_of (place_at (told_each changes places) key)) ≤ length (unsent_of (place_at places key))
@@ -48,19 +34,6 @@ longest_most (Refused code) = omega arith
 
 -- ---- the session that goes on
 
--- a change that is told changes what is unsent and the panel alone
-pub told_keeps : (change : Change) (p : Place)
-    → told_place change p ≡ record p { unsent = (told_place change p).unsent; panel = (told_place change p).panel }
-told_keeps change p = by (feed_in p.panel)
-  where
-    by : (feed : Option Feed)
-        → told_feed change p feed ≡ record p { unsent = (told_feed change p feed).unsent; panel = (told_feed change p feed).panel }
-    by None = refl
-    by (Some feed) =
-        cond_both (concerns feed.cursor change && is_full feed) (record p { unsent = []; panel = Overran })
-        (record p { panel = Listening (told change feed) }) (λ (it : Place). it ≡ record p { unsent = it.unsent; panel = it.panel })
-        (λ _. refl) (λ _. refl)
-
 -- the connection at the place of these, with its session
 pub record IsSessionIn (session key : ℕ) (places : List (Option Place)) : Type 0 where
   pub place : Place
@@ -72,7 +45,7 @@ told_session : (session key : ℕ) (changes : List Change) (places : List (Optio
     → IsSessionIn session key (told_each changes places)
 told_session session key [] places s = s
 told_session session key (change ∷ changes) places s =
-    let l = told_keeps change s.place in
+    let l = (told_so change s.place).is in
     told_session session key changes (told_all change places) (record {
       place = told_place change s.place;
       here = told_all_at change places key ∙ ap (option_map (told_place change)) s.here;
