@@ -5,14 +5,14 @@ use Rattle.srcp_core.proofs.Names.{take-append-le, and-false, le_refl, flat_map,
 use Rattle.srcp_core.proofs.Names.{if◌then◌else◌, Change, Cursor, Done, Shown, Mode, Reading, beyond, moved, Feed, next_of, Next, Told}
 use Rattle.srcp_core.proofs.Names.{Listed, Settled, key_at, IsRisingBy, Connection, History, cursor_at, untold, unsent, sent, given}
 use Rattle.srcp_core.proofs.Names.{line_of, is_nil, owed, prefix, fitting, exhausts, items_of, took, given_room, overran, Place}
-use Rattle.srcp_core.proofs.Names.{filled, item_from, feed_in, Listening, Overran, record_of, place_of, ConnRecord}
+use Rattle.srcp_core.proofs.Names.{filled, item_from, feed_in, Listening, record_of, place_of, ConnRecord}
 use Rattle.srcp_feed.specs.Feed.{first_of}
 use Rattle.srcp_core.specs.Recording.{with_item}
 use Rattle.srcp_core.proofs.CourseLaws.RoomInTwoParts.{parts_same}
 use Rattle.srcp_core.proofs.CourseLaws.RoomAfterRoom.{none_taken}
 use Rattle.srcp_core.proofs.CourseLaws.RoomsAddUp.{owed_plain}
 use Rattle.srcp_core.proofs.CourseLaws.Histories.{rows_after, cursor_by}
-use Rattle.srcp_core.proofs.Agreement.PlacesChange.{placed, plain_place, plain_is, is_over_place, untold_shut}
+use Rattle.srcp_core.proofs.Agreement.PlacesChange.{plain_place, plain_is, is_over_place, untold_shut}
 use Rattle.srcp_core.proofs.CourseLaws.RoomGivesWhatIsOwed.{text_items, done_owes, nothing_owed, fitting_none}
 use Rattle.srcp_core.proofs.CourseLaws.ClientHoldsPassedRows.{Fits, untold_by, owed_by, cursor_told, cursor_item, fits_told, fits_listed}
 use Rattle.srcp_core.proofs.CourseLaws.ClientHoldsPassedRows.{not_done}
@@ -33,8 +33,7 @@ info_is : (reader : Reading) (history : History) (conn : Connection) → conn.in
     → place_of reader history conn
     ≡ info_place reader conn.mode conn.session conn.ended (unsent conn) (cursor_at conn (length history)) (untold conn history)
 info_is reader history conn info still =
-    ap (λ i. placed reader conn.mode conn.session i conn.ended (unsent conn) (cursor_at conn (length history)) (untold conn history)) info
-    ∙ rw still refl
+    rw (info, still) refl
 
 -- ---- the first of a room
 
@@ -224,26 +223,7 @@ module _ (first : List Shown) (history : History) (conn : Connection) (shut : co
       nothing (byte ∷ bytes) = refl
 
   fills_over : (reader : Reading) → conn.info ≡ true → nat_lt 256 (length (untold conn history)) ≡ true → IsFilled reader conn
-  fills_over reader info over =
-      let is = over_is reader info over in
-      record {
-        place = cc;
-        told = cc;
-      }
-    where
-      over_is : (reader : Reading) → conn.info ≡ true → nat_lt 256 (length (untold conn history)) ≡ true
-          → place_of reader history conn ≡ record {
-            reader = reader;
-            mode = conn.mode;
-            session = conn.session;
-            ended = conn.ended;
-            unsent = [];
-            panel = Overran;
-          }
-      over_is reader info over =
-          ap (λ i. placed reader conn.mode conn.session i conn.ended (unsent conn) (cursor_at conn (length history)) (untold conn history))
-          info
-          ∙ rw over refl
+  fills_over reader info over = record { place = rw (info, over) refl; told = rw (info, over) refl }
 
   pub fills : (reader : Reading) → overran conn history ≡ is_over_place history conn → IsFilled reader (given_room 0 history rows_now conn)
   fills reader over_is = by _ _ refl refl

@@ -1,12 +1,12 @@
 -- Room for bytes, as many takings of what is unsent, each after the next line is put in.
-use Rattle.srcp_core.proofs.Names.{cond_both, ◌≡◌, ℕ, zero, suc, min, ◌+◌, ◌-◌, ◌<◌, ◌≤◌, Bool, true, false, List, [], ◌∷◌, ◌++◌, take}
+use Rattle.srcp_core.proofs.Names.{cond_both, ◌≡◌, ℕ, zero, suc, min, ◌+◌, ◌-◌, ◌<◌, ◌≤◌, false, List, [], ◌∷◌, ◌++◌, take}
 use Rattle.srcp_core.proofs.Names.{drop, length, length-append, refl, ap, sym, ◌∙◌, subst, arith, append-nil, le-ltb, drop-drop, length-map}
 use Rattle.srcp_core.proofs.Names.{flat_map, option_map, option_or, Option, Some, None, ◌&&◌, ◌||◌, ◌==◌, nat_lt, if◌then◌else◌, Shown}
 use Rattle.srcp_core.proofs.Names.{Reading, Bus, IsLayout, opening, shown_rows, Next, Told, Listed, Settled, key_at, IsRisingBy, Connection}
 use Rattle.srcp_core.proofs.Names.{History, unsent, sent, given, line_of, is_nil, is_open, owed, prefix, available, items_of, given_room}
 use Rattle.srcp_core.proofs.Names.{overran, World, numbered, at_connection, history, rows, Place, Held, AddsUp, item_from, item_of, item_at}
 use Rattle.srcp_core.proofs.Names.{let_out, without_sent, changed_at, changed_in, unsent_at, feed_in, Recording, key_of, record_of, gave}
-use Rattle.srcp_core.proofs.Names.{StandsFor, place_of, and-false}
+use Rattle.srcp_core.proofs.Names.{StandsFor, place_of, and-false, cases_Bool, ⊎_elim, nil_from_length}
 use Rattle.srcp_core.specs.Connection.{took as took_room}
 use Rattle.srcp_core.specs.Recording.{took}
 use Rattle.srcp_core.proofs.CourseLaws.RoomInTwoParts.{parts_same}
@@ -17,7 +17,7 @@ use Rattle.srcp_core.proofs.Agreement.OutgoingLinesAgree.{IsFilled, fills, with_
 use Rattle.srcp_core.proofs.CourseLaws.Histories.{rows_after}
 use Rattle.srcp_core.proofs.Agreement.LinesAreNoted.{Tells, tells_same, tells_changed}
 use Rattle.srcp_core.proofs.Agreement.PiecesAgree.{set_same}
-use Rattle.srcp_core.proofs.Agreement.PlacesChange.{is_over_place, place_unsent}
+use Rattle.srcp_core.proofs.Agreement.PlacesChange.{is_over_place, place_unsent, place_given_up}
 use Rattle.srcp_core.proofs.CourseLaws.ShownRegistry.{shown_after, length_history}
 use Rattle.srcp_core.proofs.CourseLaws.SessionsOfACourse.{at_number, fits_open}
 use Rattle.srcp_core.proofs.Agreement.NumbersAndKeys.{numbered_with, with_itself, with_twice}
@@ -25,6 +25,7 @@ use Rattle.srcp_core.proofs.Agreement.StandsAfterAChange.{Anything, Fine, found_
 use Rattle.srcp_core.proofs.CourseLaws.SessionsAreKept.{sound_at, stands_room, in_order_after}
 use Rattle.srcp_core.proofs.CourseLaws.RoomGivesWhatIsOwed.{pos-eqb}
 use Rattle.std.proofs.Math.Seq.{take-nil}
+use Rattle.std.proofs.lemmas.Bool.{false_from_ne_true}
 
 -- ---- one connection
 
@@ -176,7 +177,8 @@ module _ (buses : List Bus) (layout : IsLayout buses) (order : IsRisingBy key_at
       let over = over_is buses (history buses w) h.conn h.shut f in
       let here : unsent_at key held ≡ p.unsent = cc h.place in
       let still : is_over_place (history buses w) h.conn ≡ false =
-      not_over h.reader h.conn (is_over_place (history buses w) h.conn) refl (subst (λ bytes. count ≤ length bytes) here few) in
+      false_from_ne_true _ (λ e.
+      let none = ap length (here ∙ place_given_up h.reader (history buses w) h.conn e) in omega (arith, some, few, none)) in
       let bytes_are : unsent_at key held ≡ unsent h.conn = here ∙ place_unsent h.reader (history buses w) h.conn still in
       let within : count ≤ length (unsent h.conn) = subst (λ bytes. count ≤ length bytes) bytes_are few in
       let room = room_unsent count (history buses w) (rows buses w) h.conn (over ∙ still) some within in
@@ -192,14 +194,6 @@ module _ (buses : List Bus) (layout : IsLayout buses) (order : IsRisingBy key_at
             (cc (taken_told h.conn count))
             k.tells;
       }
-    where
-      not_over : (reader : Reading) (conn : Connection) (t : Bool) → is_over_place (history buses w) conn ≡ t
-          → count ≤ length (place_of reader (history buses w) conn).unsent → is_over_place (history buses w) conn ≡ false
-      not_over reader conn false e few = e
-      not_over reader conn true e few =
-          let gone : (place_of reader (history buses w) conn).unsent ≡ [] = rw e refl in
-          let none : count ≤ 0 = subst (λ (bytes : List ℕ). count ≤ length bytes) gone few in
-          absurd (omega (arith, some, none))
 
   -- no byte is taken
   pub none_kept : (r : Recording) (held : Held) (w : World) → Kept r held w → Kept (took n [] r) (changed_at key (without_sent 0) held) w
@@ -263,21 +257,15 @@ module _ (buses : List Bus) (layout : IsLayout buses) (order : IsRisingBy key_at
       let over = over_is buses (history buses w) g.conn g.shut f in
       let bytes : (place_of g.reader (history buses w) g.conn).unsent ≡ [] = cc g.place in
       roomed_same 0 left w h.conn h.there
-      (by h.conn (overran h.conn (history buses w)) refl
+      (⊎_elim (λ o. cc)
       (λ o.
       sym (up.none
       (ap unsent its
       ∙ sym (place_unsent g.reader (history buses w) g.conn
       (sym over ∙ ap (λ c. overran c (history buses w)) (sym its) ∙ up.overruns 0 ∙ o))
       ∙ bytes)
-      left some)))
-    where
-      by : (conn : Connection) (t : Bool) → overran conn (history buses w) ≡ t
-          → (overran conn (history buses w) ≡ false
-          → given_room 0 (history buses w) (rows buses w) conn ≡ given_room left (history buses w) (rows buses w) conn)
-          → given_room 0 (history buses w) (rows buses w) conn ≡ given_room left (history buses w) (rows buses w) conn
-      by conn true o h = cc
-      by conn false o h = h o
+      left some))
+      (cases_Bool (overran h.conn (history buses w))))
 
   -- after some of a room was taken, what is left to take leads to the same
   pub record IsRooming (w : World) (bytes left : ℕ) (r : Recording) (held : Held) : Type 0 where
@@ -345,8 +333,4 @@ module _ (buses : List Bus) (layout : IsLayout buses) (order : IsRisingBy key_at
       end zero e = cc
       end (suc m) e =
           let some : 0 < left = omega (arith, e) in
-          nothing_left r held k.now left k.kept (empty (unsent_at key (let_out key held)) (omega (arith, none, some))) some
-        where
-          empty : (xs : List ℕ) → length xs ≡ 0 → xs ≡ []
-          empty [] h = refl
-          empty (x ∷ xs) h = absurd (omega (arith, h))
+          nothing_left r held k.now left k.kept (nil_from_length (unsent_at key (let_out key held)) (omega (arith, none, some))) some

@@ -1,13 +1,13 @@
 -- A run over one more event.
 use Rattle.srcp_core.proofs.Names.{cond_both, ◌≡◌, ◌≢◌, ℕ, zero, suc, max, ◌-◌, ◌<◌, ◌≤◌, Bool, true, false, List, [], ◌∷◌, ◌++◌, take}
-use Rattle.srcp_core.proofs.Names.{length, refl, ap, sym, ◌∙◌, subst, arith, append-nil, ◌⊎◌, inl, inr, Option, Some, None, ◌||◌, ◌==◌}
+use Rattle.srcp_core.proofs.Names.{length, refl, ap, sym, ◌∙◌, subst, arith, append-nil, ◌⊎◌, Option, Some, None, ◌||◌, ◌==◌}
 use Rattle.srcp_core.proofs.Names.{slice_get, if◌then◌else◌, map-append, none-some, pos_of_ne-zero, Bus, IsLayout, opening}
 use Rattle.srcp_core.proofs.Names.{shown_rows, Next, Told, Listed, Settled, Event, Open, Room, Shut, Ended, under, Connection, World}
 use Rattle.srcp_core.proofs.Names.{numbered, at_connection, open_connection, did, history, counted, fault, accepted, shut_as, course, Place}
 use Rattle.srcp_core.proofs.Names.{Held, at, open_count, IsAdmitted, IsNotAdmitted, one_denied, hung_up, hung_up_from, advanced}
 use Rattle.srcp_core.proofs.Names.{live_session, let_out, without_sent, changed_at, unsent_at, item_of, item_at, Recording, key_of, shut}
 use Rattle.srcp_core.proofs.Names.{stepped, gave, without_key, changed_record, Tells, Runs, Happened, count_at, denied_by, denied_in}
-use Rattle.srcp_core.proofs.Names.{taken_at, taking, StandsFor, place_of, ConnRecord, CoreFault, Full, NoSuch, if_two}
+use Rattle.srcp_core.proofs.Names.{taken_at, taking, StandsFor, place_of, ConnRecord, CoreFault, Full, NoSuch, if_two, cases_lt, ⊎_elim}
 use Rattle.std.proofs.Math.Nat.{zero-min}
 use Rattle.srcp_core.specs.declared.event.Event.{Event as PlainEvent}
 use Rattle.srcp_core.specs.declared.event.Event.TheVariants as plain
@@ -345,29 +345,19 @@ room_happens n key bytes first_r first left r held ends same gives =
     let order = opening_in_order buses layout in
     let k : Kept buses layout order first_r.keys n key i.named (taking n key left held r) (taken_at key left held)
     (accepted buses (Room n bytes) w) =
-    by buses events layout i (count_at key left held) refl ends in (
+    ⊎_elim
+    (λ none. ⊎_elim
+    (λ some. room_taken buses layout order first_r.keys n key i.named w bytes left r held i.rooming some
+    (let most : count_at key left held ≤ left = omega arith in omega (arith, none, most)))
+    (λ low. room_empty buses layout order first_r.keys n key i.named w bytes left r held i.rooming (omega (arith, low)))
+    (cases_lt 0 (count_at key left held)))
+    (λ none. room_empty buses layout order first_r.keys n key i.named w bytes left r held i.rooming none) ends in (
       i.free,
       record {
         stands = rw (taking_keys n key left held r ∙ i.keys) k.stands;
         tells = k.tells;
       },
     ))
-  where
-    by : (buses : List Bus) (events : List Event) (layout : IsLayout buses)
-        (i : IsGiving n key bytes first_r left r held buses layout (counted (course buses events))) (count : ℕ)
-        → count_at key left held ≡ count → (left - count_at key left held ≡ 0) ⊎ (count_at key left held ≡ 0)
-        → Kept buses layout (opening_in_order buses layout) first_r.keys n key i.named (taking n key left held r) (taken_at key left held)
-        (accepted buses (Room n bytes) (counted (course buses events)))
-    by buses events layout i zero e ends =
-        room_empty buses layout (opening_in_order buses layout) first_r.keys n key i.named
-        (counted (course buses events)) bytes left r held i.rooming e
-    by buses events layout i (suc count) e (inr none) = let bad : suc count ≡ 0 = cc in absurd (omega (arith, bad))
-    by buses events layout i (suc count) e (inl none) =
-        let some : 0 < count_at key left held = omega (arith, e) in
-        let most : count_at key left held ≤ left = omega arith in
-        let all : left ≡ count_at key left held = omega (arith, none, most) in
-        room_taken buses layout (opening_in_order buses layout) first_r.keys n key i.named
-        (counted (course buses events)) bytes left r held i.rooming some all
 
 -- ---- where there is no such connection
 

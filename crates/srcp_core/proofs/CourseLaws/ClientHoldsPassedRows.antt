@@ -59,13 +59,15 @@ fits_push start history changes go items done f =
       began = omega arith;
       enough = omega arith;
       kept =
-          ap (λ u. changed_all (tells items ++ u) []) more
-          ∙ ap (λ u. changed_all u []) (sym (append_assoc (tells items) (untold_by go items done history) extra))
-          ∙ fold-append (λ rows change. changed change rows) [] (tells items ++ untold_by go items done history) extra
-          ∙ ap (changed_all extra) f.kept
-          ∙ sym (passed_changed _ changes _)
-          ∙ ap (passed (cursor_by done items (length history))) (sym (rows_push start history changes))
-          ∙ ap (λ c. passed c (rows_after start (history ++ changes ∷ []))) (sym cur);
+          cc (
+            more,
+            append_assoc (tells items) (untold_by go items done history) extra,
+            fold-append (λ rows change. changed change rows) [] (tells items ++ untold_by go items done history) extra,
+            f.kept,
+            passed_changed (cursor_by done items (length history)) changes (rows_after start history),
+            rows_push start history changes,
+            cur,
+          );
     }
 
 -- ---- one line more

@@ -7,7 +7,7 @@ use Rattle.srcp_core.proofs.Names.{IsRisingBy, key_cmp, is_after, line, Change, 
 use Rattle.srcp_core.proofs.Names.{all_weaker, key_at, Bus, IsLayout, State, opening, shown_rows, concerns, passed, beyond, said}
 use Rattle.srcp_core.proofs.Names.{changed_all, Next, Told, Listed, Settled, key_cmp_total, lists_one, passed_all, passed_done}
 use Rattle.srcp_core.proofs.Names.{passed_start, Step, Connection, History, heard, tells, sent, unsent, text, World, course, rows, history}
-use Rattle.srcp_core.proofs.Names.{history_from, listed_row, listed, rows_at, Item, cond_both, cases_lt, ⊎_elim, le_refl, cases_Bool}
+use Rattle.srcp_core.proofs.Names.{history_from, listed_row, listed, rows_at, Item, cond_both, cases_lt, ⊎_elim, le_refl, cases_Bool, given}
 use Rattle.std.proofs.Common.{not, get_or, length-take}
 use Rattle.std.proofs.lemmas.Cmp.{tied_itself}
 use Rattle.std.proofs.lemmas.List.{take-take, get_or_past, get_or_append_left, get_or_push, get_or-take, get_or-drop}
@@ -278,19 +278,19 @@ still_facts buses layout w conn s still =
 
 still_prefix : (conn : Connection) (heard_now : History) (held : List Shown) → StillFacts conn heard_now held
     → IsPrefixOf (sent conn) (conn.out ++ listing held)
-still_prefix conn heard_now held facts = (
-  unsent conn ++ listing (beyond (cursor_by conn.done conn.items (length heard_now)) held),
-  sym (append_assoc (sent conn) (unsent conn) (listing (beyond (cursor_by conn.done conn.items (length heard_now)) held)))
-      ∙ ap (λ bytes. bytes ++ listing (beyond (cursor_by conn.done conn.items (length heard_now)) held))
-      (take-append-drop conn.taken _)
-      ∙ append_assoc conn.out _ _
-      ∙ ap (λ bytes. conn.out ++ (bytes ++ listing (beyond (cursor_by conn.done conn.items (length heard_now)) held))) facts.text_is
-      ∙ ap (λ bytes. conn.out ++ bytes)
-      (sym
-      (flat_map-append (λ row. line (Put row)) (passed (cursor_by conn.done conn.items (length heard_now)) held)
-      (beyond (cursor_by conn.done conn.items (length heard_now)) held)))
-      ∙ ap (λ rs. conn.out ++ listing rs) facts.whole_is,
-)
+still_prefix conn heard_now held facts =
+    let before = passed (cursor_by conn.done conn.items (length heard_now)) held in
+    let after = beyond (cursor_by conn.done conn.items (length heard_now)) held in (
+      unsent conn ++ listing after,
+      cc (
+        append_assoc (sent conn) (unsent conn) (listing after),
+        take-append-drop conn.taken (given conn),
+        append_assoc conn.out (text conn.items) (listing after),
+        facts.text_is,
+        flat_map-append (λ row. line (Put row)) before after,
+        facts.whole_is,
+      ),
+    )
 
 pub lists_still : (buses : List Bus) → OfSessions buses (λ w conn. IsStill buses w conn → IsSentListing buses w conn)
 lists_still buses layout events number conn s still =

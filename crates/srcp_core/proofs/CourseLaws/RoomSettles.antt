@@ -16,6 +16,7 @@ use Rattle.srcp_core.proofs.CourseLaws.SessionsOfACourse.{stands, at_number, any
 use Rattle.srcp_core.proofs.CourseLaws.ClientHoldsPassedRows.{Fits, gives, owed_by}
 use Rattle.srcp_core.proofs.Agreement.NumbersAndKeys.{numbered_with}
 use Rattle.srcp_core.proofs.CourseLaws.SessionsAreKept.{sound, owed_open, in_order_after}
+use Rattle.srcp_core.proofs.CourseLaws.SessionsOfACourse.{owed_is}
 
 pub sends_replies : (buses : List Bus) → IsLayout buses → (events : List Event) (number : ℕ) (conn : Connection)
     → numbered number (course buses events).connections ≡ Some conn
@@ -114,54 +115,23 @@ pub record OwesAfter (buses : List Bus) (w : World) (bytes : ℕ) (conn : Connec
       ≡ rest
   pub fully : exhausts bytes (unsent conn) (owed conn (history buses w) (rows buses w)) ≡ true → rest ≡ []
 
-owed_is : (buses : List Bus) (layout : IsLayout buses) (w : World) (conn : Connection) → conn.shut ≡ None → conn.info ≡ true
-    → owed_by conn.go_step conn.items conn.done (history buses w) (rows_after (shown_rows (opening buses 0)) (history buses w))
-    ≡ owed conn (history buses w) (rows buses w)
-owed_is buses layout w conn shut info =
-    subst (λ t.
-    (if t
-    then owed_by conn.go_step conn.items conn.done (history buses w)
-    (rows_after (shown_rows (opening buses 0)) (history buses w))
-    else [])
-    ≡ owed conn (history buses w) (rows buses w))
-    info
-    (sym (owed_open _ (opening_in_order buses layout) _ (anything (shown_rows (opening buses 0)))
-    _ _ conn shut (shown_after (opening buses 0) w.steps)))
-
 pub owes_after : (buses : List Bus) (layout : IsLayout buses) (w : World) (bytes : ℕ) (conn : Connection) → conn.shut ≡ None
     → conn.info ≡ true → Fits (shown_rows (opening buses 0)) (history buses w) conn.go_step conn.items conn.done
     → OwesAfter buses w bytes conn
 owes_after buses layout w bytes conn shut info fits =
-    finished (owes_rest (shown_rows (opening buses 0)) (history buses w) conn.go_step conn.items conn.done bytes (unsent conn)
-    (owed conn (history buses w) (rows buses w))
-    (in_order_after (shown_rows (opening buses 0)) (history buses w) (opening_in_order buses layout)) fits
-    (owed_is buses layout w conn shut info))
-  where
-    finished : OwesRest (history buses w) conn.go_step conn.items conn.done bytes (unsent conn) (owed conn (history buses w) (rows buses w))
-        (rows_after (shown_rows (opening buses 0)) (history buses w))
-        → OwesAfter buses w bytes conn
-    finished r = record {
+    let h = history buses w in
+    let first = shown_rows (opening buses 0) in
+    let nexts = owed conn h (rows buses w) in
+    let r = owes_rest first h conn.go_step conn.items conn.done bytes (unsent conn) nexts
+    (in_order_after first h (opening_in_order buses layout)) fits (owed_is buses w conn shut info) in
+    record {
       rest = r.rest;
       whole = r.whole;
       owes =
-          owed_open _ (opening_in_order buses layout) _ (anything (shown_rows (opening buses 0)))
-          _ _ (took bytes (length (history buses w)) (owed conn (history buses w) (rows buses w)) conn) shut
-          (shown_after (opening buses 0) w.steps)
-          ∙ ap (λ t. if t
-          then owed_by conn.go_step
-          (conn.items
-          ++ items_of (length (history buses w)) (fitting bytes (unsent conn) (owed conn (history buses w) (rows buses w))))
-          (if conn.info && exhausts bytes (unsent conn) (owed conn (history buses w) (rows buses w))
-          then option_or conn.done (Some (length (history buses w))) else conn.done)
-          (history buses w) (rows_after (shown_rows (opening buses 0)) (history buses w))
+          owed_open first h (rows buses w) (took bytes (length h) nexts conn) shut (shown_after (opening buses 0) w.steps)
+          ∙ ap (λ t. if t then owed_by conn.go_step (conn.items ++ items_of (length h) (fitting bytes (unsent conn) nexts))
+          (if t && exhausts bytes (unsent conn) nexts then option_or conn.done (Some (length h)) else conn.done) h (rows_after first h)
           else [])
-          info
-          ∙ ap (λ t.
-          owed_by conn.go_step (conn.items
-          ++ items_of (length (history buses w)) (fitting bytes (unsent conn) (owed conn (history buses w) (rows buses w))))
-          (if t && exhausts bytes (unsent conn) (owed conn (history buses w) (rows buses w))
-          then option_or conn.done (Some (length (history buses w))) else conn.done)
-          (history buses w) (rows_after (shown_rows (opening buses 0)) (history buses w)))
           info
           ∙ r.owes;
       fully = r.fully;
@@ -172,43 +142,28 @@ gives_owed : (buses : List Bus) (layout : IsLayout buses) (w : World) (bytes : �
     → Fits (shown_rows (opening buses 0)) (history buses w) conn.go_step conn.items conn.done
     → GivesOwed buses w bytes conn (took bytes (length (history buses w)) (owed conn (history buses w) (rows buses w)) conn)
 gives_owed buses layout w bytes conn shut info fits =
-    finished (owes_after buses layout w bytes conn shut info fits) (owed_is buses layout w conn shut info)
-    (length_history (opening buses 0) w.steps)
-  where
-    finished : OwesAfter buses w bytes conn
-        → owed_by conn.go_step conn.items conn.done (history buses w) (rows_after (shown_rows (opening buses 0)) (history buses w))
-        ≡ owed conn (history buses w) (rows buses w)
-        → length (history buses w) ≡ length w.steps
-        → GivesOwed buses w bytes conn (took bytes (length (history buses w)) (owed conn (history buses w) (rows buses w)) conn)
-    finished r is size =
-        record {
-          lines = fitting bytes _ _;
-          items = ap (λ n. conn.items ++ items_of n (fitting bytes (unsent conn) (owed conn (history buses w) (rows buses w)))) size;
-          owes = cc (r.whole, r.owes);
-          count =
-              cc (
-                counted_owed _
-                    _,
-                untold_open _ conn shut,
-                shown_after _ w.steps,
-              );
-          settles = λ h.
-              let all : fitting bytes (unsent conn) (owed conn (history buses w) (rows buses w))
-              ≡ owed conn (history buses w) (rows buses w) = fitting_full bytes _ _
-              (owed_full conn (history buses w) (rows buses w)) h in
-              let o : owed (took bytes (length (history buses w)) (owed conn (history buses w) (rows buses w)) conn) (history buses w)
-              (rows buses w)
-              ≡ [] = r.owes
-              ∙ none_after _ _ r.rest r.whole all in
-              let u : unsent (took bytes (length (history buses w)) (owed conn (history buses w) (rows buses w)) conn) ≡ [] =
-              ap (λ ns.
-              drop (conn.taken + min bytes (length (available (unsent conn) (owed conn (history buses w) (rows buses w)))))
-              (conn.out ++ text (conn.items ++ items_of (length (history buses w)) ns)))
-              all
-              ∙ none_left bytes _ _ conn.out conn.items
-              (owed conn (history buses w) (rows buses w)) h in
-              four _ _ _ _ (cc) info (ap is_nil u) (cc);
-        }
+    let h = history buses w in
+    let nexts = owed conn h (rows buses w) in
+    let later = took bytes (length h) nexts conn in
+    let r = owes_after buses layout w bytes conn shut info fits in
+    let is = owed_is buses w conn shut info in
+    let size = length_history (opening buses 0) w.steps in
+    record {
+      lines = fitting bytes (unsent conn) nexts;
+      items = ap (λ n. conn.items ++ items_of n (fitting bytes (unsent conn) nexts)) size;
+      owes = cc (r.whole, r.owes);
+      count = cc (counted_owed _ _, untold_open h conn shut, shown_after (opening buses 0) w.steps);
+      settles = λ few.
+          let all : fitting bytes (unsent conn) nexts ≡ nexts =
+          fitting_full bytes (unsent conn) nexts (owed_full conn h (rows buses w)) few in
+          let o : owed later h (rows buses w) ≡ [] = r.owes ∙ none_after _ _ r.rest r.whole all in
+          let u : unsent later ≡ [] =
+          ap (λ ns. drop (conn.taken + min bytes (length (available (unsent conn) nexts)))
+          (conn.out ++ text (conn.items ++ items_of (length h) ns)))
+          all
+          ∙ none_left bytes (length h) conn.taken conn.out conn.items nexts few in
+          four _ _ _ _ (cc) info (ap is_nil u) (cc);
+    }
 
 pub settles_after_owed : (buses : List Bus) → IsLayout buses → (events : List Event) (number bytes : ℕ) (conn later : Connection)
     → IsSession buses events number conn → is_open conn ≡ true → overran conn (history buses (course buses events)) ≡ false

@@ -48,6 +48,11 @@ pub in_order_after : (first : List Shown) (history : History) → IsRisingBy key
 in_order_after first [] r = r
 in_order_after first (changes ∷ history) r = in_order_after (changed_all changes first) history (rising_fold changes first r)
 
+pub owed_open : (first : List Shown) (history : History) (rows : List Shown) (conn : Connection) → conn.shut ≡ None
+    → rows ≡ rows_after first history
+    → owed conn history rows ≡ (if conn.info then owed_by conn.go_step conn.items conn.done history (rows_after first history) else [])
+owed_open first history rows conn shut same = rw shut (cc)
+
 module _ (first : List Shown) (ordered : IsRisingBy key_at first) (P : History → ℕ → List Item → Option ℕ → Type 0)
     (law : Law first P) where
   abbrev Both : History → ℕ → List Item → Option ℕ → Type 0
@@ -176,10 +181,6 @@ module _ (first : List Shown) (ordered : IsRisingBy key_at first) (P : History �
         within = within;
       }
 
-  pub owed_open : (history : History) (rows : List Shown) (conn : Connection) → conn.shut ≡ None → rows ≡ rows_after first history
-      → owed conn history rows ≡ (if conn.info then owed_by conn.go_step conn.items conn.done history (rows_after first history) else [])
-  owed_open history rows conn shut same = rw shut (cc)
-
   pub stands_room : (history : History) (rows : List Shown) (bytes : ℕ) (conn : Connection) → IsRisingBy key_at (rows_after first history)
       → rows ≡ rows_after first history → conn.shut ≡ None → Stands first P history conn
       → Stands first P history (given_room bytes history rows conn)
@@ -187,7 +188,7 @@ module _ (first : List Shown) (ordered : IsRisingBy key_at first) (P : History �
       cond_both _ _ _ (Stands first P history) (λ _. s)
       (λ _. stands_took_by history bytes (conn.taken + min bytes (length (available (unsent conn) (owed conn history rows))))
       (unsent conn) conn conn.info (owed conn history rows) order shut s
-      (took_within bytes (length history) (owed conn history rows) conn s.within) refl (owed_open history rows conn shut same))
+      (took_within bytes (length history) (owed conn history rows) conn s.within) refl (owed_open first history rows conn shut same))
 
 module _ (buses : List Bus) (order : IsRisingBy key_at (shown_rows (opening buses 0))) (P : History → ℕ → List Item → Option ℕ → Type 0)
     (law : Law (shown_rows (opening buses 0)) P) where

@@ -1,7 +1,7 @@
 -- What a session's law says of a connection of a course.
 use Rattle.srcp_core.proofs.Names.{◌≡◌, ℕ, zero, suc, true, List, [], ◌∷◌, ◌++◌, length, refl, ap, sym, ◌∙◌, subst, append-nil}
 use Rattle.srcp_core.proofs.Names.{take-append-drop, flat_map-append, and_parts, flat_map, AllByRecursion, Option, Some, None}
-use Rattle.srcp_core.proofs.Names.{if◌then◌else◌, is_none, client, IsRisingBy, line, Shown, Bus, IsLayout, State, opening, shown_rows}
+use Rattle.srcp_core.proofs.Names.{is_none, client, IsRisingBy, line, Shown, Bus, IsLayout, State, opening, shown_rows}
 use Rattle.srcp_core.proofs.Names.{IsRising, passed, beyond, said, Next, Told, Listed, Settled, key_at, passed_all, Event, Connection}
 use Rattle.srcp_core.proofs.Names.{History, heard, is_nil, line_of, text, tells, sent, unsent, waiting, owed, is_settled, World, numbered}
 use Rattle.srcp_core.proofs.Names.{course, rows, history, IsSession, Item, cursor_at, is_open, overran, nat_lt}
@@ -119,6 +119,13 @@ sent_whole conn e =
     sym (append-nil _) ∙ ap (λ u. sent conn ++ u) (sym e) ∙ take-append-drop _ _
     ∙ ap (λ t. conn.out ++ t) (text_tells conn.items)
 
+-- what is owed to an open information session
+pub owed_is : (buses : List Bus) (w : World) (conn : Connection) → conn.shut ≡ None → conn.info ≡ true
+    → owed_by conn.go_step conn.items conn.done (history buses w) (rows_after (shown_rows (opening buses 0)) (history buses w))
+    ≡ owed conn (history buses w) (rows buses w)
+owed_is buses w conn shut info =
+    cc (owed_open (shown_rows (opening buses 0)) (history buses w) (rows buses w) conn shut (shown_after (opening buses 0) w.steps))
+
 -- of a settled session nothing waits and no row is left
 pub settled_both : (buses : List Bus) (layout : IsLayout buses) (w : World) (conn : Connection) → conn.info ≡ true
     → is_settled conn (history buses w) (rows buses w) ≡ true
@@ -127,17 +134,8 @@ pub settled_both : (buses : List Bus) (layout : IsLayout buses) (w : World) (con
     ≡ [])
 settled_both buses layout w conn info settled =
     let facts = settled_facts conn _ _ settled in
-    let same = shown_after _ w.steps in
     nothing_owed conn.go_step conn.items conn.done (history buses w) (rows_after (shown_rows (opening buses 0)) (history buses w))
-    (subst (λ t.
-    (if t
-    then owed_by conn.go_step conn.items conn.done (history buses w)
-    (rows_after (shown_rows (opening buses 0)) (history buses w))
-    else [])
-    ≡ [])
-    info
-    (sym (owed_open _ (opening_in_order buses layout) _ (anything (shown_rows (opening buses 0))) _ _ conn facts.open_now same)
-    ∙ facts.none_owed))
+    (owed_is buses w conn facts.open_now info ∙ facts.none_owed)
 
 -- a client that was told all that a settled session was given holds the registry
 pub client_settled : (buses : List Bus) (layout : IsLayout buses) (events : List Event) (number : ℕ) (conn : Connection)
