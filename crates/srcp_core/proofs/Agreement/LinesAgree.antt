@@ -17,7 +17,6 @@ use Rattle.srcp_core.specs.Machine.{replied, goes, greeted, obeyed, commanded, a
 use Rattle.srcp_core.proofs.Agreement.PlacesChange.{replied_still, chosen_place, ended_place, entered_place_of, is_over_place, untold_shut}
 use Rattle.srcp_core.proofs.Agreement.PlacesChange.{place_info}
 use Rattle.srcp_core.proofs.CourseLaws.SessionsOfACourse.{anything, at_number}
-use Rattle.srcp_core.proofs.CourseLaws.ClientHoldsPassedRows.{untold_by}
 use Rattle.srcp_core.proofs.Agreement.NumbersAndKeys.{numbered_with}
 use Rattle.srcp_core.proofs.Agreement.StandsAfterAChange.{stands_as, Anything, AllFine, found_at, stands_at, stands_did}
 use Rattle.srcp_core.proofs.CourseLaws.SessionsAreKept.{IsSound, sound_did, sound_at, sound_replied, concerning_start}
@@ -132,9 +131,7 @@ module _ (buses : List Bus) (order : IsRisingBy key_at (shown_rows (opening buse
       (λ reader up. entered_place_of reader (history buses w2) conn id (length w2.steps) shut plain p.0 p.1) in
       let begins : Connection = record conn { session = id; info = is_info conn.mode; go_step = length w2.steps } in
       let nothing : untold begins (history buses w2) ≡ [] =
-      untold_shut begins (history buses w2) shut ∙ ap (λ d. untold_by (length w2.steps) conn.items d (history buses w2)) p.1
-      ∙ ap (λ is. untold_by (length w2.steps) is None (history buses w2)) p.0
-      ∙ concerning_start (length w2.steps) 0 (history buses w2) in
+      cc (untold_shut begins (history buses w2) shut, p.0, p.1, concerning_start (length w2.steps) 0 (history buses w2)) in
       stands_replied (session_begun key id conn.mode held) (entered buses n id w2) begins (Go id) e
       (numbered_at w2 conn (λ conn. record conn { session = id; info = is_info conn.mode; go_step = length w2.steps }) there) p.0
       (ap (λ cs. is_info conn.mode && nat_lt 256 (length cs)) nothing ∙ and-false (is_info conn.mode)) f.within

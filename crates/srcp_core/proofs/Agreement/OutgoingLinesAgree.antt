@@ -32,8 +32,7 @@ info_place reader mode session ended bytes cursor queue = record {
 info_is : (reader : Reading) (history : History) (conn : Connection) → conn.info ≡ true → nat_lt 256 (length (untold conn history)) ≡ false
     → place_of reader history conn
     ≡ info_place reader conn.mode conn.session conn.ended (unsent conn) (cursor_at conn (length history)) (untold conn history)
-info_is reader history conn info still =
-    rw (info, still) refl
+info_is reader history conn info still = rw (info, still) refl
 
 -- ---- the first of a room
 

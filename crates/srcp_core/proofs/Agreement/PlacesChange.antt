@@ -1,12 +1,12 @@
 -- What a call makes of the place of one connection.
-use Rattle.srcp_core.proofs.Names.{◌≡◌, ℕ, ◌+◌, ◌≤◌, Bool, true, false, List, [], ◌∷◌, ◌++◌, length, length-append, drop, refl, ap, sym}
+use Rattle.srcp_core.proofs.Names.{◌≡◌, ℕ, ◌+◌, ◌≤◌, Bool, true, false, List, [], ◌∷◌, ◌++◌, length, length-append, refl, ap, sym}
 use Rattle.srcp_core.proofs.Names.{◌∙◌, arith, append-nil, append_assoc, nat_tests, length_push, drop-append-le, filter, fold, option_map}
 use Rattle.srcp_core.proofs.Names.{◌&&◌, nat_lt, Option, Some, None, Change, Cursor, Start, Shown, Mode, Info, Reading, concerns}
 use Rattle.srcp_core.proofs.Names.{Connection, History, cursor_at, untold, unsent, text, given, is_info, Place, place_at, told_place}
 use Rattle.srcp_core.proofs.Names.{told_all, told_each, with_unsent, entered_place, panel_for, has_overrun, is_panel, Absent, if◌then◌else◌}
 use Rattle.srcp_core.proofs.Names.{place_of, panel_at, cond_both, Overran, Listening}
 use Rattle.srcp_info.specs.declared.value.Mode.TheVariants.{Command as CommandMode}
-use Rattle.srcp_core.proofs.CourseLaws.Histories.{concerning_by, concerning_push, cursor_by, cursor_later}
+use Rattle.srcp_core.proofs.CourseLaws.Histories.{concerning_push, cursor_by, cursor_later}
 use Rattle.srcp_core.proofs.CourseLaws.ClientHoldsPassedRows.{Fits, tolds, untold_by}
 use Rattle.srcp_core.proofs.Invariants.EveryPlaceIsTold.{told_all_at}
 use Rattle.srcp_core.proofs.CourseLaws.SessionsAreKept.{concerning_start}
@@ -101,11 +101,14 @@ untold_push : (first : List Shown) (conn : Connection) (history : History) (chan
     → Fits first history conn.go_step conn.items conn.done
     → untold conn (history ++ changes ∷ []) ≡ untold conn history ++ filter (concerns (cursor_at conn (length history))) changes
 untold_push first conn history changes shut f =
-    untold_shut conn (history ++ changes ∷ []) shut
-    ∙ ap (drop (length (tolds conn.items))) (concerning_push conn.go_step (cursor_by conn.done conn.items) history changes f.began)
-    ∙ drop-append-le (length (tolds conn.items)) (concerning_by conn.go_step (cursor_by conn.done conn.items) history)
-    (filter (concerns (cursor_by conn.done conn.items (length history))) changes) f.enough
-    ∙ ap (λ cs. cs ++ filter (concerns (cursor_by conn.done conn.items (length history))) changes) (sym (untold_shut conn history shut))
+    let more = concerning_push conn.go_step (cursor_by conn.done conn.items) history changes f.began in
+    cc (
+      untold_shut conn (history ++ changes ∷ []) shut,
+      more,
+      drop-append-le (length (tolds conn.items)) _
+          (filter (concerns (cursor_by conn.done conn.items (length history))) changes) f.enough,
+      untold_shut conn history shut,
+    )
 
 -- a step
 pub told_place_of : (first : List Shown) (reader : Reading) (conn : Connection) (history : History) (changes : List Change)
@@ -116,11 +119,12 @@ told_place_of first reader conn history changes shut f =
     let up : length history ≤ length (history ++ changes ∷ []) = omega arith in
     let cur : cursor_at conn (length (history ++ changes ∷ [])) ≡ cursor_at conn (length history) =
     cursor_later _ _ _ _ up f.finished f.numbers in
-    told_places_placed changes reader conn.mode conn.session conn.info conn.ended (unsent conn) (cursor_at conn (length history))
-    (untold conn history)
-    ∙ ap (λ q. placed reader conn.mode conn.session conn.info conn.ended (unsent conn) (cursor_at conn (length history)) q)
-    (sym (untold_push first conn history changes shut f))
-    ∙ ap (λ c. placed reader conn.mode conn.session conn.info conn.ended (unsent conn) c (untold conn (history ++ changes ∷ []))) (sym cur)
+    cc (
+      told_places_placed changes reader conn.mode conn.session conn.info conn.ended (unsent conn) (cursor_at conn (length history))
+          (untold conn history),
+      untold_push first conn history changes shut f,
+      cur,
+    )
 
 -- ---- a connection that is no information session
 
@@ -182,10 +186,7 @@ entered_place_of reader history conn id go shut plain none undone =
   where
     nothing : untold (record conn { session = id; info = is_info conn.mode; go_step = go }) history ≡ []
     nothing =
-        untold_shut (record conn { session = id; info = is_info conn.mode; go_step = go }) history shut
-        ∙ ap (λ d. untold_by go conn.items d history) undone
-        ∙ ap (λ is. untold_by go is None history) none
-        ∙ concerning_start go 0 history
+        cc (untold_shut (record conn { session = id; info = is_info conn.mode; go_step = go }) history shut, concerning_start go 0 history)
 
 -- ---- the parts of a place
 

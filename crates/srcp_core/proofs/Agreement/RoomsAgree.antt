@@ -121,7 +121,8 @@ module _ (buses : List Bus) (layout : IsLayout buses) (order : IsRisingBy key_at
       let fill : (reader : Reading)
       → IsFilled (shown_rows (opening buses 0)) (history buses w) h.conn h.shut
       (in_order_after (shown_rows (opening buses 0)) (history buses w) order) fits f.within reader
-      (given_room 0 (history buses w) (rows_after (shown_rows (opening buses 0)) (history buses w)) h.conn) = λ reader.
+      (given_room 0 (history buses w) (rows_after (shown_rows (opening buses 0)) (history buses w)) h.conn) =
+      λ reader.
       fills _ _ h.conn h.shut _ fits f.within reader
       (over_is buses (history buses w) h.conn h.shut f) in
       let held_rows : shown_rows held.rows ≡ rows buses w = cc s.rows in

@@ -1,13 +1,13 @@
 -- A core that stands for a course, after the place of one connection changed, and after a step.
 use Rattle.srcp_core.proofs.Names.{◌≡◌, ◌≢◌, ℕ, ⊎_elim, true, false, List, [], ◌∷◌, ◌++◌, map, refl, ap, sym, ◌∙◌, arith, fold-append}
-use Rattle.srcp_core.proofs.Names.{option_map, Option, Some, None, slice_set, Change, Reading, StandsAt, Bus, Update, opening, shown_rows}
+use Rattle.srcp_core.proofs.Names.{Option, Some, None, slice_set, Change, Reading, StandsAt, Bus, Update, opening, shown_rows}
 use Rattle.srcp_core.proofs.Names.{Refusal, Step, Connection, History, is_open, World, numbered, at_connection, open_connection, did}
 use Rattle.srcp_core.proofs.Names.{updates_of, state, history, Place, Held, at, place_at, told_each, carried, changed_at, key_of, StandsBy}
 use Rattle.srcp_core.proofs.Names.{IsAt, IsOwned, place_of, Item, cases_Bool}
 use Rattle.srcp_core.specs.Course.{stepped}
 use Rattle.srcp_core.proofs.Invariants.PlacesCover.{Where, Here, Away, where_is, place_set, place_set_here, set_count, told_each_count}
 use Rattle.srcp_core.proofs.Agreement.NumbersAndKeys.{opens_same, length_with, key_within, numbered_none, look_with}
-use Rattle.srcp_core.proofs.Agreement.PlacesChange.{told_places, told_each_at, told_place_of}
+use Rattle.srcp_core.proofs.Agreement.PlacesChange.{told_each_at, told_place_of}
 use Rattle.srcp_core.proofs.CourseLaws.ShownRegistry.{history_push}
 use Rattle.srcp_core.proofs.CourseLaws.RoomGivesWhatIsOwed.{Stands}
 use Rattle.srcp_core.proofs.CourseLaws.SessionsOfACourse.{open_shut, fits_open}
@@ -206,11 +206,7 @@ module _ (buses : List Bus) where
             reader = a.reader;
             named = a.named;
             place =
-                told_each_at changes _ a.key
-                ∙ ap (option_map (told_places changes)) a.place
-                ∙ ap Some
-                (told_place_of _ a.reader conn _ changes shut fits
-                ∙ ap (λ h. place_of a.reader h conn) (sym later));
+                cc (told_each_at changes held.places a.key, a.place, told_place_of _ a.reader conn _ changes shut fits, later);
             reads = a.reads;
           }
 

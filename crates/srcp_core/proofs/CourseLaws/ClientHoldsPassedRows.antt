@@ -110,35 +110,27 @@ pub fits_told : (start : List Shown) (history : History) (go : ℕ) (items : Lis
     → OneMore start history go (items ++ item_of history (Told change) ∷ []) done changes
     (beyond (cursor_by done items (length history)) (rows_after start history))
 fits_told start history go items done change changes f e =
-    let con = concerning_item history go items done _ in
+    let con = concerning_item history go items done (Told change) in
     let cur = cursor_told history items done change f.numbers in
     let tel : tells (items ++ item_of history (Told change) ∷ []) ≡ tells items ++ change ∷ [] =
     flat_map-append (λ (item : Item). said _) items _ in
     let tol : tolds (items ++ item_of history (Told change) ∷ []) ≡ tolds items ++ change ∷ [] =
     filter_map-append (λ (item : Item). told_change _) items _ in
     let len : length (tolds (items ++ item_of history (Told change) ∷ [])) ≡ length (tolds items) + 1 =
-    cc (length_push _ change) in
-    let before : List Change = concerning_by go _ history in
-    let room : length before - length (tolds items) ≡ length (change ∷ changes) = cc (length-drop _ before) in
+    cc (length_push (tolds items) change) in
+    let before : List Change = concerning_by go (cursor_by done items) history in
+    let room : length before - length (tolds items) ≡ length (change ∷ changes) = cc (length-drop (length (tolds items)) before) in
     let lencon : length (concerning_by go (cursor_by done (items ++ item_of history (Told change) ∷ [])) history) ≡ length before =
     cc in
     let waits : untold_by go (items ++ item_of history (Told change) ∷ []) done history ≡ changes =
-    ap (λ n. drop n (concerning_by go (cursor_by done (items ++ item_of history (Told change) ∷ [])) history)) len
-    ∙ ap (drop (length (tolds items) + 1)) con
-    ∙ sym (drop-drop 1 _ before)
-    ∙ ap (drop 1) e in
+    cc (drop-drop 1 (length (tolds items)) before) in
     record {
       fits = record {
         numbers = all_append _ items _ f.numbers (le_refl _, tt);
         finished = f.finished;
         began = f.began;
         enough = omega arith;
-        kept =
-            ap (λ u. changed_all (tells (items ++ item_of history (Told change) ∷ []) ++ u) []) waits
-            ∙ ap (λ t. changed_all (t ++ changes) []) tel
-            ∙ ap (λ u. changed_all u []) (append_assoc _ _ changes ∙ ap (λ u. tells items ++ u) (sym e))
-            ∙ f.kept
-            ∙ ap (λ c. passed c (rows_after start history)) (sym cur);
+        kept = cc (append_assoc (tells items) (change ∷ []) changes, f.kept);
       };
       waiting = waits;
       listing = cc;

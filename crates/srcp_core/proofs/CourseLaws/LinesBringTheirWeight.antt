@@ -298,10 +298,12 @@ module _ (buses : List Bus) where
         rest = ap (due_and_freed (state buses w)) (ap (drop (length w.steps)) longer ∙ drop-append_seam w.steps c.steps)
 
         told : drop (length w.steps) (history buses later) ≡ history_from (state buses w) c.steps
-        told = ap (λ xs. drop (length w.steps) (history_from (opening buses 0) xs)) longer
-            ∙ ap (drop (length w.steps)) (history-append (opening buses 0) w.steps c.steps)
-            ∙ ap (λ n. drop n (history buses w ++ history_from (state buses w) c.steps)) (sym (length_history (opening buses 0) w.steps))
-            ∙ drop-append_seam (history buses w) (history_from (state buses w) c.steps)
+        told = cc (
+          longer,
+          history-append (opening buses 0) w.steps c.steps,
+          length_history (opening buses 0) w.steps,
+          drop-append_seam (history buses w) (history_from (state buses w) c.steps),
+        )
 
         is : brought buses events more ≡ changes (state buses w) c.steps
         is = ap (λ h. length (flat_map (λ (changes : List Change). changes) h)) told ∙ in_history _ c.steps

@@ -208,17 +208,11 @@ still_law start = record {
       cc;
   list = λ history go items row left order f p e b q.
       let one = lists_one _ row left _ order b in
+      let held = passed (cursor_by None items (length history)) (rows_after start history) in
       flat_map-append (λ (item : Item). said _) items _
-      ∙ ap (λ cs. cs ++ Put row ∷ []) (p q)
-      ∙ sym (map-append (λ row. Put row) _ _)
-      ∙ ap (map (λ row. Put row))
-      (sym one.appended ∙ ap (λ c. passed c (rows_after start history)) (sym (cursor_item history items _ f.numbers)));
+      ∙ cc (p q, map-append (λ row. Put row) held (row ∷ []), one.appended, cursor_item history items (Listed row) f.numbers);
   finish = λ history go items order f p e b q.
-      p q
-      ∙ ap (map (λ row. Put row))
-      (passed_all _ _ b
-      ∙ sym (passed_done _)
-      ∙ ap (λ c. passed c (rows_after start history)) (sym (cursor_done _ items)));
+      cc (p q, passed_all _ (rows_after start history) b, passed_done (rows_after start history), cursor_done (length history) items);
 }
 
 listing_puts : (rows : List Shown) → flat_map line (map (λ row. Put row) rows) ≡ listing rows

@@ -2,7 +2,7 @@
 use Rattle.srcp_core.proofs.Names.{◌≡◌, ℕ, zero, suc, ◌+◌, ◌-◌, ◌<◌, ◌≤◌, min, true, List, [], ◌∷◌, ◌++◌, length, refl, ap, sym, ◌∙◌, arith}
 use Rattle.srcp_core.proofs.Names.{append-nil, append_assoc, map-append, drop-append-le, flat_map-append, false≢true, le-ltb, lt-ltb}
 use Rattle.srcp_core.proofs.Names.{flat_map, nat_lt, ◌||◌, ◌&&◌, Next, Connection, line_of, prefix, fitting, is_nil, items_of}
-use Rattle.srcp_core.proofs.Names.{available, exhausts, given, unsent, took}
+use Rattle.srcp_core.proofs.Names.{available, exhausts, given, unsent, took, Item}
 use Rattle.srcp_core.proofs.CourseLaws.RoomInTwoParts.{parts_same, took_adds, done_rule, no_bytes, fitting_some}
 use Rattle.srcp_core.proofs.CourseLaws.RoomGivesWhatIsOwed.{text_items}
 
@@ -13,12 +13,7 @@ fitting_first a [] [] rest h e = cc
 fitting_first a [] (what ∷ nexts) rest h e =
     let tail : nexts ≡ rest = cc in
     let nothing : a - 0 ≡ a = omega arith in
-    fitting_some a [] (what ∷ nexts) h
-    ∙ ap (λ k. prefix k (what ∷ nexts)) nothing
-    ∙ first a h
-    ∙ ap (λ ns. what ∷ prefix (a - length (line_of what)) ns) tail
-    ∙ ap (λ l. what ∷ prefix (a - length l) rest) (sym (append-nil (line_of what)))
-    ∙ ap (λ ns. what ∷ ns) (sym (fitting_some a (line_of what ++ []) rest h))
+    cc (fitting_some a [] (what ∷ nexts) h, first a h, append-nil (line_of what), fitting_some a (line_of what ++ []) rest h)
   where
     first : (k : ℕ) → 0 < k → prefix k (what ∷ nexts) ≡ what ∷ prefix (k - length (line_of what)) nexts
     first zero h = absurd (omega arith)
@@ -46,21 +41,23 @@ took_first a n nexts rest conn pa within e =
   where
     available_same : available (unsent (took 0 n nexts conn)) rest ≡ available (unsent conn) nexts
     available_same =
-        ap (λ u. u ++ flat_map line_of rest) (left_after n nexts conn within)
-        ∙ append_assoc (unsent conn) _ _
-        ∙ ap (λ l. unsent conn ++ l) (sym (flat_map-append line_of (fitting 0 (unsent conn) nexts) rest))
-        ∙ ap (λ ns. unsent conn ++ flat_map line_of ns) (sym e)
+        cc (
+          left_after n nexts conn within,
+          append_assoc (unsent conn) (flat_map line_of (fitting 0 (unsent conn) nexts)) (flat_map line_of rest),
+          flat_map-append line_of (fitting 0 (unsent conn) nexts) rest,
+        )
 
     items_same : (conn.items ++ items_of n (fitting 0 (unsent conn) nexts)) ++ items_of n (fitting a (unsent (took 0 n nexts conn)) rest)
         ≡ conn.items ++ items_of n (fitting a (unsent conn) nexts)
     items_same =
-        ap (λ u. (conn.items ++ items_of n (fitting 0 (unsent conn) nexts)) ++ items_of n (fitting a u rest))
-        (left_after n nexts conn within)
-        ∙ append_assoc conn.items _ _
-        ∙ ap (λ is. conn.items ++ is)
-        (sym
-        (map-append (λ what. record { steps = n; what = what }) _ _))
-        ∙ ap (λ ns. conn.items ++ items_of n ns) (sym (fitting_first a _ nexts rest pa e))
+        let first = fitting 0 (unsent conn) nexts in
+        let more = fitting a (unsent conn ++ flat_map line_of first) rest in
+        cc (
+          left_after n nexts conn within,
+          append_assoc conn.items (items_of n first) (items_of n more),
+          map-append {B = Item} (λ what. record { steps = n; what = what }) first more,
+          fitting_first a _ nexts rest pa e,
+        )
 
     taken_same : conn.taken + min 0 (length (available (unsent conn) nexts))
         + min a (length (available (unsent (took 0 n nexts conn)) rest))

@@ -1,10 +1,10 @@
 -- Room for bytes: a prefix of what is owed is given, and the listing is done where there was no more.
 use Rattle.srcp_core.proofs.Names.{cond_both, ◌≡◌, ℕ, zero, suc, inl, inr, ◌⊎◌, ⊎_elim, min, append_assoc, length-drop, ◌+◌, ◌-◌, ◌<◌, ◌≤◌}
-use Rattle.srcp_core.proofs.Names.{Bool, true, false, List, [], ◌∷◌, ◌++◌, map, take, length, refl, ap, sym, ◌∙◌, arith, length-append}
+use Rattle.srcp_core.proofs.Names.{Bool, true, false, List, [], ◌∷◌, ◌++◌, map, take, length, refl, ap, ◌∙◌, arith, length-append}
 use Rattle.srcp_core.proofs.Names.{flat_map-append, lt-leb, ltb-true, ne_eqb, and_parts, flat_map, option_or, nat_lt, ◌==◌, ◌&&◌, Option}
-use Rattle.srcp_core.proofs.Names.{Some, None, IfSome, Shown, passed, beyond, changed_all, Next, Told, Listed, key_at, IsRisingBy}
+use Rattle.srcp_core.proofs.Names.{Some, None, IfSome, Shown, beyond, Next, Told, Listed, key_at, IsRisingBy}
 use Rattle.srcp_core.proofs.Names.{passed_all, passed_done, beyond_done, Connection, History, heard, is_nil, line_of, prefix, fitting}
-use Rattle.srcp_core.proofs.Names.{available, exhausts, tells, text, given, unsent, took, items_of, Item, cases_lt, le_refl}
+use Rattle.srcp_core.proofs.Names.{available, exhausts, text, given, unsent, took, items_of, Item, cases_lt, le_refl}
 use Rattle.std.proofs.Math.Nat.{ne_of_gt}
 use Rattle.srcp_core.proofs.CourseLaws.Histories.{rows_after, concerning_by, concerning_same, cursor_by, cursor_done}
 use Rattle.srcp_core.proofs.CourseLaws.ClientHoldsPassedRows.{Fits, Law, Gives, owed_by, untold_by}
@@ -82,7 +82,7 @@ fits_done start history go items f owes =
     let both = nothing_owed go items None history _ owes in
     let con = before_done go items history in
     let waits : untold_by go items (Some (length history)) history ≡ untold_by go items None history = cc in
-    let cur = cursor_done _ items in
+    let cur = cursor_done (length history) items in
     let lencon : length (concerning_by go (cursor_by (Some (length history)) items) history)
     ≡ length (concerning_by go (cursor_by None items) history) = cc in
     let enough = f.enough in
@@ -91,12 +91,7 @@ fits_done start history go items f owes =
       finished = le_refl _;
       began = f.began;
       enough = omega arith;
-      kept =
-          ap (λ u. changed_all (tells items ++ u) []) waits
-          ∙ f.kept
-          ∙ passed_all _ _ both.1
-          ∙ sym (passed_done _)
-          ∙ ap (λ c. passed c (rows_after start history)) (sym cur);
+      kept = cc (f.kept, passed_all _ (rows_after start history) both.1, passed_done (rows_after start history));
     }
 
 pub done_owes : (start : List Shown) (history : History) (go : ℕ) (items : List Item) (done : Option ℕ)

@@ -164,12 +164,14 @@ took_adds a b n nexts rest conn pa pb within e =
     items_same : (conn.items ++ items_of n (fitting a (unsent conn) nexts)) ++ items_of n (fitting b (unsent (took a n nexts conn)) rest)
         ≡ conn.items ++ items_of n (fitting (a + b) (unsent conn) nexts)
     items_same =
-        ap (λ u. (conn.items ++ items_of n (fitting a (unsent conn) nexts)) ++ items_of n (fitting b u rest)) left_is
-        ∙ append_assoc conn.items _ _
-        ∙ ap (λ is. conn.items ++ is)
-        (sym
-        (map-append (λ what. record { steps = n; what = what }) _ _))
-        ∙ ap (λ ns. conn.items ++ items_of n ns) (sym (fitting_adds a b _ nexts rest pa pb e))
+        let first = fitting a (unsent conn) nexts in
+        let more = fitting b (drop a (unsent conn ++ flat_map line_of first)) rest in
+        cc (
+          left_is,
+          append_assoc conn.items (items_of n first) (items_of n more),
+          map-append {B = Item} (λ what. record { steps = n; what = what }) first more,
+          fitting_adds a b _ nexts rest pa pb e,
+        )
 
     taken_same : conn.taken + min a (length (available (unsent conn) nexts))
         + min b (length (available (unsent (took a n nexts conn)) rest))

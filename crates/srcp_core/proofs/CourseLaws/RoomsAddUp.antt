@@ -138,12 +138,14 @@ module _ (buses : List Bus) (layout : IsLayout buses) (w : World) (conn : Connec
   adds a b pb true o = cc (itself o a, itself o b, itself o (a + b))
   adds a b pb false o =
       let r = rests buses layout w a conn shut fits in
-      ap (room b) (some_room o a)
-      ∙ ap (λ t. if t then takes a else took b (length (history buses w)) (owed (takes a) (history buses w) (rows buses w)) (takes a))
-      (took_overran _ a _ conn shut o)
-      ∙ ap (λ ns. took b (length (history buses w)) ns (takes a)) r.owes
-      ∙ took_both a b _ _ r.rest conn pb within r.whole
-      ∙ sym (some_room o (a + b))
+      let h = history buses w in
+      cc (
+        some_room o a,
+        took_overran h a (owed conn h (rows buses w)) conn shut o,
+        r.owes,
+        took_both a b (length h) (owed conn h (rows buses w)) r.rest conn pb within r.whole,
+        some_room o (a + b),
+      )
 
   overruns : (a : ℕ) (t : Bool) → overran conn (history buses w) ≡ t
       → overran (room a conn) (history buses w) ≡ overran conn (history buses w)

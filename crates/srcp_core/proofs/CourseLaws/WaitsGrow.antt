@@ -43,8 +43,7 @@ within_push most more history changes conn h w =
     let b = length-drop (length (tolds conn.items)) before in
     let c = length-append before extra in
     let same : length (untold_by conn.go_step conn.items conn.done (history ++ changes ∷ []))
-    ≡ length (drop (length (tolds conn.items)) (before ++ extra)) =
-    cc in
+    ≡ length (drop (length (tolds conn.items)) (before ++ extra)) = cc in
     record { began = omega arith; few = λ info shut. let before = w.few info shut in omega arith }
 
 -- a session that begins now has nothing to wait for
