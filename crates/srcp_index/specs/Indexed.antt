@@ -1,6 +1,6 @@
 -- How indexes keep a pair of each row that has a rank: its due moment, or the session that holds it.
 use Rattle.std.specs.Prelude.{◌≡◌, ℕ, ◌<◌, ◌≤◌, Bool, true, false, IsTrue, IsSome, List, [], ◌∷◌, fold, flat_map}
-use Rattle.std.specs.Prelude.{length, Option, if◌then◌else◌}
+use Rattle.std.specs.Prelude.{length, Option}
 use Rattle.std.specs.List.{AllByRecursion, count_by}
 use Rattle.std.specs.Option.{option_map_or}
 use Rattle.srcp_info.specs.declared.key.Group.{Group}
