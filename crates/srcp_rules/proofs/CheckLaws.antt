@@ -1,11 +1,11 @@
 -- What a refusal does, and what a CHECK answers.
 use Rattle.srcp_rules.proofs.Names
-use Names.{◌≡◌, ℕ, false, List, [], ◌∷◌, Option, Some, None, option_map_or, refl, ap, Code, Command, CheckGl, CheckGa, CheckLock}
-use Names.{Bool, State, Update, Effect, effect, accepted, refused, refusals, unless_refused, put_of}
+use Names.{arith, ◌≡◌, ℕ, false, List, [], refl, ap, Code, Command, CheckGl, CheckGa, CheckLock, Bool, State, Update, Effect, effect}
+use Names.{refused, refusals, unless_refused}
 use Names.devices
 use Rattle.srcp_info.specs.declared.change.Reply.TheVariants.{Refused}
 use Rattle.srcp_grammar.specs.declared.command.Command.TheVariants.{CheckPower, CheckFb}
-use Rattle.srcp_rules.specs.Effect.{first_refusal, gl_put, gl_refusals, row_of_lock, row_of_port}
+use Rattle.srcp_rules.specs.Effect.{gl_refusals}
 use Rattle.srcp_rules.specs.Laws.{ChecksAnswerAsSets}
 use Rattle.srcp_rules.proofs.CommandLaws.{of_effect}
 
@@ -27,20 +27,13 @@ refusal_keeps state session moment command code e =
 -- what is checked is answered as what is done
 checked_as_done : (refusals : List (Bool × Code)) (updates : List Update)
     → unless_refused refusals [] ≡ record (unless_refused refusals updates) { updates = []; ends = false }
-checked_as_done refusals updates = by (first_refusal refusals)
-  where
-    by : (o : Option Code)
-        → option_map_or refused o (accepted []) ≡ record (option_map_or refused o (accepted updates)) { updates = []; ends = false }
-    by (Some code) = refl
-    by None = refl
+checked_as_done refusals updates = grind arith
 
 pub check_as_set : ChecksAnswerAsSets
 check_as_set state session moment (CheckPower power) = refl
-check_as_set state session moment (CheckGl drive) = checked_as_done (gl_refusals state session drive) (gl_put state moment drive ∷ [])
-check_as_set state session moment (CheckGa switch) =
-    checked_as_done (refusals state session devices.Ga switch.bus switch.address) (put_of (row_of_port moment switch) ∷ [])
+check_as_set state session moment (CheckGl drive) = checked_as_done (gl_refusals state session drive) _
+check_as_set state session moment (CheckGa switch) = checked_as_done (refusals state session devices.Ga switch.bus switch.address) _
 check_as_set state session moment (CheckFb sensor) = refl
 check_as_set state session moment (CheckLock lock) =
-    checked_as_done (refusals state session lock.target.group lock.target.bus lock.target.address)
-    (put_of (row_of_lock moment session lock) ∷ [])
+    checked_as_done (refusals state session lock.target.group lock.target.bus lock.target.address) _
 check_as_set state session moment other = tt

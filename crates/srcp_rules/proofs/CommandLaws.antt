@@ -1,11 +1,10 @@
 -- What holds of whatever a command does, if it holds of its refusals, of what GET shows and of the changes that are accepted.
 use Rattle.srcp_rules.proofs.Names
-use Names.{◌≡◌, ℕ, zero, suc, ◌+◌, ◌<◌, ◌≤◌, Bool, true, false, cond, ◌==◌, List, [], ◌∷◌, ◌++◌, map, Option, Some, None}
-use Names.{refl, arith, AllByRecursion, range_with_len, Key, Device, Row, Code, C414, C416, Accepted, first_key, all_append, DeviceGroup}
-use Names.{Command, SetPower, SetGl, CheckGl, InitGl, TermGl, SetGa, CheckGa, InitGa, TermGa, SetFb, SetLock, CheckLock, TermLock, key_at}
-use Names.{session_device, power_device, fb_device, device_in, lock_at, lock_on, State, Update, row_at, is_there, Effect, effect, accepted}
-use Names.{refused, unless_refused, put_of, option_map_or, not, refusals, put_at, gone_at, removal, removals, is_locked, gl_init, fresh_gl}
-use Names.{fresh_ga}
+use Names.{cases_Bool, inl, inr, ◌≡◌, ℕ, ◌+◌, Bool, true, false, cond, ◌==◌, List, [], ◌∷◌, ◌++◌, Option, Some, None, refl, arith}
+use Names.{AllByRecursion, Key, Device, Row, Code, C414, C416, Accepted, first_key, all_append, DeviceGroup, Command, SetPower, SetGl}
+use Names.{CheckGl, InitGl, TermGl, SetGa, CheckGa, InitGa, TermGa, SetFb, SetLock, CheckLock, TermLock, key_at, session_device}
+use Names.{power_device, fb_device, device_in, lock_at, lock_on, State, Update, row_at, is_there, Effect, effect, accepted, refused}
+use Names.{unless_refused, put_of, option_map_or, not, refusals, put_at, gone_at, removal, removals, is_locked, gl_init, fresh_gl, fresh_ga}
 use Names.value
 use Names.devices
 use Rattle.srcp_info.specs.declared.change.Code.TheVariants.{C415}
@@ -21,11 +20,10 @@ NoneApplies refusals = AllByRecursion (λ refusal. refusal.0 ≡ false) refusals
 pub unless_made : (P : Effect → Type 0) → ((code : Code) → P (refused code)) → (refusals : List (Bool × Code)) (updates : List Update)
     → (NoneApplies refusals → P (accepted updates)) → P (unless_refused refusals updates)
 unless_made P refuses [] updates h = h tt
-unless_made P refuses (refusal ∷ others) updates h = by refusal.0 (λ e. unless_made P refuses others updates (λ more. h (e, more)))
-  where
-    by : (b : Bool) → (b ≡ false → P (unless_refused others updates)) → P (unless_refused ((b, refusal.1) ∷ others) updates)
-    by true later = refuses refusal.1
-    by false later = later refl
+unless_made P refuses (refusal ∷ others) updates h = elim (cases_Bool refusal.0) [
+  | inl e ↦ rw e (refuses refusal.1)
+  | inr e ↦ rw e (unless_made P refuses others updates (λ more. h (e, more)))
+]
 
 module _ (state : State) (session moment : ℕ) where
   -- what may refuse a command that changes something
@@ -65,8 +63,7 @@ module _ (state : State) (session moment : ℕ) where
       shown key (Some row) e = shows key row e
 
       ended : (own : Bool) → P (cond own (record { reply = Accepted; updates = []; ends = true }) (refused C415))
-      ended true = ends
-      ended false = refuses C415
+      ended own = grind (arith, ends, refuses C415)
 
       made : (command : Command) (updates : List Update) → (NoneApplies (refusals_of command) → P (accepted updates))
           → P (unless_refused (refusals_of command) updates)
@@ -77,8 +74,7 @@ module _ (state : State) (session moment : ℕ) where
 
       -- an INIT that is not refused
       new : (same : Bool) (updates : List Update) → P (accepted updates) → P (accepted (cond same [] updates))
-      new true updates h = nothing
-      new false updates h = h
+      new same updates h = grind (arith, nothing)
 
       pub of_effect : (command : Command) → (NoneApplies (refusals_of command) → P (accepted (changes_of command)))
           → P (effect state session moment command)
@@ -90,8 +86,7 @@ module _ (state : State) (session moment : ℕ) where
       of_effect (GetGl bus address) h = shown (key_at (device_in devices.Gl bus address) 1) _ refl
       of_effect (SetGl drive) h = made (SetGl drive) _ h
       of_effect (CheckGl drive) h = tried (refusals_of (SetGl drive))
-      of_effect (InitGl gl) h =
-          made (InitGl gl) _ (λ none. new (has_init state devices.Gl gl.bus gl.address (gl_init gl)) _ (h none))
+      of_effect (InitGl gl) h = made (InitGl gl) _ (λ none. new (has_init state devices.Gl gl.bus gl.address (gl_init gl)) _ (h none))
       of_effect (TermGl bus address) h = made (TermGl bus address) _ h
       of_effect (GetGa bus address port) h = shown (key_at (device_in devices.Ga bus address) (1 + port)) _ refl
       of_effect (SetGa switch) h = made (SetGa switch) _ h
@@ -117,11 +112,7 @@ module _ (state : State) (session moment : ℕ) where
 module _ (P : Update → Type 0) (moment : ℕ) where
   pub each-removal : (state : State) (device : Device) → (is_there device state ≡ true → P (gone_at moment device))
       → AllByRecursion P (removal state moment device)
-  each-removal state device = by (is_there device state)
-    where
-      by : (there : Bool) → (there ≡ true → P (gone_at moment device)) → AllByRecursion P (cond there (gone_at moment device ∷ []) [])
-      by true h = (h refl, tt)
-      by false h = tt
+  each-removal state device h = grind arith
 
   pub each-removals : (state : State) (g : DeviceGroup) (bus address : ℕ)
       → (is_there (lock_on g bus address) state ≡ true → P (gone_at moment (lock_on g bus address)))
@@ -130,11 +121,3 @@ module _ (P : Update → Type 0) (moment : ℕ) where
   each-removals state g bus address lock device =
       all_append P (removal state moment (lock_on g bus address)) (removal state moment (device_in g bus address))
       (each-removal state (lock_on g bus address) lock) (each-removal state (device_in g bus address) device)
-
-  -- of an accessory's ports, as they are made
-  pub each-ports : (device : Device) (first n last : ℕ) → first + n ≤ last
-      → ((port : ℕ) → first ≤ port → port < last → P (put_at moment (key_at device port) (value.GaPort false) None))
-      → AllByRecursion P (map (λ port. put_at moment (key_at device port) (value.GaPort false) None) (range_with_len first n))
-  each-ports device first zero last high h = tt
-  each-ports device first (suc n) last high h =
-      (h first (omega arith) (omega arith), each-ports device (first + 1) n last (omega arith) (λ port low. h port (omega (arith, low))))

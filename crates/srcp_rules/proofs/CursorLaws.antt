@@ -1,8 +1,8 @@
 -- Rows that are sought beyond a cursor.
 use Rattle.srcp_rules.proofs.Names
-use Names.{◌≡◌, ◌<◌, Bool, true, false, not, ◌&&◌, cond, List, [], ◌∷◌, length, filter, find, Option, Some, None, refl, sym, ap, subst, ◌∙◌}
-use Names.{true≢false, arith, Less, Key, Row, Cursor, key_cmp, has_reached, filter_every, reached_below, after_from_less, State, IsRising}
-use Names.{first_beyond, row_after, found_holds, false_from_ne_true, weaken}
+use Names.{cases_Bool, inl, inr, same_Some, ◌≡◌, ◌<◌, Bool, true, false, not, ◌&&◌, cond, List, [], ◌∷◌, length, filter, find, Some, None}
+use Names.{refl, sym, ap, subst, ◌∙◌, arith, Less, Key, Row, Cursor, key_cmp, has_reached, filter_every, reached_below, after_from_less}
+use Names.{State, IsRising, first_beyond, row_after, found_holds, weaken}
 use Names.cursor
 use Rattle.srcp_info.proofs.ClientLaws.{after_not_itself}
 use Rattle.srcp_rules.specs.declared.filter.RowFilter.{RowFilter}
@@ -14,26 +14,15 @@ abbrev pub beyond : Cursor → State → State
 beyond at state = filter (λ row. not (has_reached at row.shown.key)) state
 
 module _ {X : Type 0} (p q : X → Bool) where
-  both_step : (a b : Bool) (x : X) (o o' : Option X) → o ≡ o' → cond (a && b) (Some x) o ≡ cond a (cond b (Some x) o') o'
-  both_step true true x o o' e = refl
-  both_step true false x o o' e = e
-  both_step false b x o o' e = e
-
   -- what passes both tests is found among what passes the first
   pub find-both : (xs : List X) → find (λ x. p x && q x) xs ≡ find q (filter p xs)
   find-both [] = refl
-  find-both (x ∷ xs) = both_step (p x) (q x) x (find (λ y. p y && q y) xs) (find q (filter p xs)) (find-both xs) ∙ found (p x)
-    where
-      found : (a : Bool)
-          → cond a (cond (q x) (Some x) (find q (filter p xs))) (find q (filter p xs)) ≡ find q (cond a (x ∷ filter p xs) (filter p xs))
-      found true = refl
-      found false = refl
+  find-both (x ∷ xs) = grind (arith, find-both xs)
 
 -- ---- the next row
 
 still_beyond : (at : Cursor) (low high : Key) → key_cmp low high ≡ Less → has_reached at low ≡ false → has_reached at high ≡ false
-still_beyond at low high less e =
-    false_from_ne_true (has_reached at high) (λ f. true≢false (sym (reached_below at low high (not_after low high less) f) ∙ e))
+still_beyond at low high less e = grind (arith, reached_below at low high (not_after low high less))
 
 abbrev Next : Cursor → Row → State → Type 0
 Next at row state = beyond at state ≡ row ∷ beyond (cursor.After row.shown.key) state
@@ -55,28 +44,19 @@ next_later at row first state less e next = rw (e, not_after first.shown.key row
 -- the next row beyond a cursor is the first that is beyond, and the others are beyond that row
 pub beyond-next : (at : Cursor) (row : Row) (state : State) → IsRising state → row_after at state ≡ Some row → Next at row state
 beyond-next at row [] rising e = let bad : None ≡ Some row = e in cc
-beyond-next at row (first ∷ state) rising e = by (beyond-next at row state rising.1) (has_reached at first.shown.key) refl e
-  where
-    by : (row_after at state ≡ Some row → Next at row state) → (b : Bool) → has_reached at first.shown.key ≡ b
-        → cond (not b) (Some first) (row_after at state) ≡ Some row → Next at row (first ∷ state)
-    by rest true r e =
-        next_later at row first state
-        (found_holds (λ later. key_cmp first.shown.key later.shown.key ≡ Less)
-        (λ other. not (has_reached at other.shown.key)) state rising.0 row e) r
-        (rest e)
-    by rest false r e =
-        let same : first ≡ row = cc in
-        subst (λ other. Next at other (first ∷ state)) same (next_here at first state rising r)
+beyond-next at row (first ∷ state) rising e = elim (cases_Bool (has_reached at first.shown.key)) [
+  | inl r ↦ (
+      let found : row_after at state ≡ Some row = rw r at e in
+      next_later at row first state
+      (found_holds (λ later. key_cmp first.shown.key later.shown.key ≡ Less) (λ other. not (has_reached at other.shown.key)) state
+      rising.0 row found) r (beyond-next at row state rising.1 found))
+  | inr r ↦ subst (λ other. Next at other (first ∷ state)) (same_Some first row (rw r at e)) (next_here at first state rising r)
+]
 
 -- if there is none, none is beyond
 pub beyond-none : (at : Cursor) (state : State) → row_after at state ≡ None → beyond at state ≡ []
 beyond-none at [] e = refl
-beyond-none at (first ∷ state) e = by (beyond-none at state) (has_reached at first.shown.key) refl e
-  where
-    by : (row_after at state ≡ None → beyond at state ≡ []) → (b : Bool) → has_reached at first.shown.key ≡ b
-        → cond (not b) (Some first) (row_after at state) ≡ None → beyond at (first ∷ state) ≡ []
-    by rest true r e = rw r (rest e)
-    by rest false r e = cc
+beyond-none at (first ∷ state) e = grind (arith, beyond-none at state)
 
 -- past the next row fewer are beyond
 pub fewer_beyond : (at : Cursor) (state : State) → IsRising state → (row : Row) → row_after at state ≡ Some row

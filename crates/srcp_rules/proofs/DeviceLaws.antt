@@ -1,36 +1,31 @@
 -- The rows of devices of one group of one bus, by address: look-ups and changes.
 use Rattle.srcp_rules.proofs.Names
-use Names.{◌≡◌, ℕ, zero, suc, ◌+◌, ◌<◌, ◌==◌, Bool, true, false, is_some, not, List, [], ◌∷◌, ◌++◌, drop, length, filter, find, Option}
-use Names.{Some, None, nat_lt, slice_get, slice_index_or, refl, sym, ap, subst, ◌∙◌, arith, true≢false, find-append, none-some, same_Some}
-use Names.{AllByRecursion, set_value, remove_entry, option_map, option_map_or, option_or, is_eq, is_gt, nat_cmp, is_at, insert_entry, Less}
-use Names.{Group, Key, Device, Row, Cursor, is_after, key_cmp, device_of, has_reached, owns, after_from_less, all_append, all_put}
-use Names.{rising_put, key_at, State, IsRising, has_row, put_row, row_at, row_after, without, put_rows, numbered, AreOfDevice, IsIn}
-use Names.{device_rows, entry_at, weaken}
+use Names.{◌≡◌, ℕ, zero, suc, ◌+◌, ◌<◌, ◌==◌, Bool, true, false, is_some, not, List, [], ◌∷◌, ◌++◌, drop, length, find, Option, Some, None}
+use Names.{nat_lt, slice_get, slice_index_or, refl, sym, ap, subst, ◌∙◌, arith, true≢false, find-append, none-some, same_Some}
+use Names.{AllByRecursion, option_map, option_map_or, option_or, is_eq, is_gt, Less, Group, Key, Device, Row, Cursor, key_cmp, device_of}
+use Names.{has_reached, after_from_less, all_append, all_put, rising_put, key_at, State, has_row, put_row, row_at, row_after, without}
+use Names.{put_rows, numbered, AreOfDevice, IsIn, device_rows, entry_at, weaken, IfSome, slice_set, device_from_owns}
+use Rattle.std.proofs.Common.{length-append}
 use Rattle.std.proofs.lemmas.Bool.Decides.{nat_tests}
 use Rattle.std.specs.List.Sorted.{IsStrictlySortedBy}
 use Rattle.srcp_info.specs.declared.change.Cursor.TheVariants as at
-use Rattle.srcp_rules.specs.Nested.{AreDevices}
+use Rattle.srcp_rules.specs.Nested.{AreDevices, AreOfGroup}
 use Rattle.srcp_grammar.proofs.FindLaws.{find_same}
 use Rattle.srcp_rules.proofs.StateLaws.{row_key, row_at-first}
-use Rattle.srcp_rules.proofs.OrderLaws.{address_order, device_in_group, device_order, group_alike, owns-other, owns-own}
+use Rattle.srcp_rules.proofs.OrderLaws.{address_order, device_in_group, device_order, group_alike, owns-own}
 use Rattle.srcp_rules.proofs.PutLaws.{find_none, find_past, put_rows-new, without-all}
-use Rattle.srcp_rules.proofs.ListedLaws.{IsTagged, each-listed, entry_holds, row_at-listed}
-use Rattle.srcp_rules.proofs.NumberedLaws.{entry_at-numbered}
-use Rattle.srcp_rules.proofs.TaggedLaws.{listed-put_row, listed-put_rows_new, listed-rising, listed-without_all}
+use Rattle.srcp_rules.proofs.ListedLaws.{each-changed, entry_holds, row_at-listed, rows_at}
+use Rattle.srcp_rules.proofs.NumberedLaws.{entry_at-numbered, numbered-sorted, other_slot, own_slot}
+use Rattle.srcp_rules.proofs.TaggedLaws.{AreEntries, IsChangeAt, drops, listed-absent, listed-changed, listed-each, listed-rising, tagged}
 
 abbrev pub whole : State → State
 whole rows = rows
 
-abbrev address_of : Key → ℕ
+abbrev pub address_of : Key → ℕ
 address_of key = key.address
 
 some-put_row : (row : Row) (rows : State) → 0 < length (put_row row rows)
-some-put_row row rows =
-    some (filter (λ other. is_after row.shown.key other.shown.key) rows) (filter (λ other. is_after other.shown.key row.shown.key) rows)
-  where
-    some : (xs ys : State) → 0 < length (xs ++ row ∷ ys)
-    some [] ys = omega arith
-    some (x ∷ xs) ys = omega arith
+some-put_row row rows = grind (arith, length-append)
 
 -- of rows beyond the cursor the first is the next
 first_beyond : (cursor : Cursor) (rows : State) → AllByRecursion (λ row. has_reached cursor row.shown.key ≡ false) rows
@@ -42,27 +37,18 @@ first_of_both : (rows rest : State) → 0 < length rows → slice_get (rows ++ r
 first_of_both [] rest h = absurd (omega (arith, h))
 first_of_both (row ∷ rows) rest h = refl
 
--- a number is above another
-above : (m n : ℕ) → not (not (is_gt (nat_cmp m n))) ≡ nat_lt n m
-above m n = grind (arith, nat_tests)
-
--- the tests of ports
-same_port : (m n : ℕ) → is_eq (nat_cmp m n) ≡ (m == n)
-same_port m n = grind (arith, nat_tests)
-
 module _ (key : Key) (rows : State) (device : AreOfDevice key.bus key.group key.address rows) where
   -- in the key's own device the row at a key is the one of its port
   pub row_at-own_device : row_at key rows ≡ find (λ row. row.shown.key.port == key.port) rows
   row_at-own_device =
       find_same (λ row. is_eq (key_cmp row.shown.key key)) (λ row. row.shown.key.port == key.port) rows
-      (weaken rows device.each (λ row t. ap is_eq (device_order row.shown.key key t.0.0 t.0.1 t.1) ∙ same_port row.shown.key.port key.port))
+      (weaken rows device.each (λ row t. rw (device_order row.shown.key key t.0.0 t.0.1 t.1) (grind (arith, nat_tests))))
 
   -- and the next one is the first of a greater port
   pub row_after-own_device : row_after (at.After key) rows ≡ find (λ row. nat_lt key.port row.shown.key.port) rows
   row_after-own_device =
       find_same (λ row. not (has_reached (at.After key) row.shown.key)) (λ row. nat_lt key.port row.shown.key.port) rows
-      (weaken rows device.each (λ row t. ap (λ o. not (not (is_gt o))) (device_order row.shown.key key t.0.0 t.0.1 t.1)
-      ∙ above row.shown.key.port key.port))
+      (weaken rows device.each (λ row t. rw (device_order row.shown.key key t.0.0 t.0.1 t.1) (grind (arith, nat_tests))))
 
 -- without a first device there is no row
 pub no_first_device : (es : List (ℕ × State)) → None ≡ option_map (λ (e : ℕ × State). e.1) (slice_get es 0)
@@ -86,10 +72,6 @@ module _ (bus : ℕ) (g : Group) where
   in_order : (a b : Key) → Here a → Here b → a.address < b.address → key_cmp a b ≡ Less
   in_order a b x y h = address_order a b (x.0 ∙ sym y.0) (x.1 ∙ sym y.1) h
 
-  -- a device does not own keys of another address
-  apart : (device : Device) (key : Key) → Here key → (key.address ≡ device.address → ⊥) → owns device key ≡ false
-  apart device key x h = owns-other device key (λ e. h (ap (λ (d : Device). d.address) e))
-
   abbrev least : Key
   least = record { bus = bus; group = g; address = 0; port = 0 }
 
@@ -108,40 +90,34 @@ module _ (bus : ℕ) (g : Group) where
       ap (λ (xs : State). slice_get xs 0) (same_Some rows f.1 is) ∙ sym (first_of_both f.1 (device_rows fs) each.0.some)
 
   module _ (es : List (ℕ × State)) (devices : AreDevices bus g es) where
-    tagged : AllByRecursion (IsTagged whole address_of Here) es
-    tagged = weaken es devices.each (λ e h. h.each)
+    entries : AreEntries whole address_of Here in_order es
+    entries = weaken es devices.each (λ e h. (h.each, h.rising))
 
     -- the rows of the device that is found
     pub found_device : (address : ℕ) (rows : State) → entry_at address es ≡ Some rows → AreOfDevice bus g address rows
     found_device address rows e = entry_holds (AreOfDevice bus g) address es devices.each rows e
 
-    -- each row is of the group of the bus
-    pub devices_in_group : AllByRecursion (λ row. Here row.shown.key) (device_rows es)
-    devices_in_group =
-        each-listed whole (λ row. Here row.shown.key) es
-        (weaken es tagged (λ e h. weaken e.1 h (λ row t. t.0)))
-
-    -- their keys rise
-    pub devices_rising : IsRising (device_rows es)
-    devices_rising =
-        listed-rising whole address_of Here in_order es tagged devices.sorted
-        (weaken es devices.each (λ e h. h.rising))
+    -- each row is of the group of the bus, and their keys rise
+    pub devices_of_group : AreOfGroup bus g (device_rows es)
+    devices_of_group = record {
+      rising = listed-rising whole address_of Here in_order es entries devices.sorted;
+      each = listed-each whole address_of Here in_order es entries;
+    }
 
     -- ---- looking up
 
-    row_at-devices : (key : Key) → row_at key (device_rows es) ≡ option_map_or (λ rows. row_at key rows) (entry_at key.address es) None
-    row_at-devices key = row_at-listed whole address_of Here key es tagged devices.sorted
+    row_at-devices : (key : Key) → row_at key (device_rows es) ≡ row_at key (rows_at whole key.address es)
+    row_at-devices key = row_at-listed whole address_of Here key es (tagged whole address_of Here in_order es entries) devices.sorted
 
     pub row_at-device : (key : Key) (rows : State) → Some rows ≡ entry_at key.address es → row_at key rows ≡ row_at key (device_rows es)
-    row_at-device key rows e = ap (λ o. option_map_or (λ rows. row_at key rows) o None) e ∙ sym (row_at-devices key)
+    row_at-device key rows e = ap (λ o. row_at key (option_map_or whole o [])) e ∙ sym (row_at-devices key)
 
     pub row_at-no_device : (key : Key) → None ≡ entry_at key.address es → None ≡ row_at key (device_rows es)
-    row_at-no_device key e = ap (λ o. option_map_or (λ rows. row_at key rows) o None) e ∙ sym (row_at-devices key)
+    row_at-no_device key e = ap (λ o. row_at key (option_map_or whole o [])) e ∙ sym (row_at-devices key)
 
     module _ (cursor : Cursor) (outside : (last : Key) → cursor ≡ at.After last → Here last → ⊥) where
       reached : (b : Bool) → has_reached cursor least ≡ b → AllByRecursion (λ row. has_reached cursor row.shown.key ≡ b) (device_rows es)
-      reached b e =
-          weaken (device_rows es) devices_in_group (λ row h. all_or_none cursor outside row.shown.key h ∙ e)
+      reached b e = weaken (device_rows es) devices_of_group.each (λ row h. all_or_none cursor outside row.shown.key h ∙ e)
 
       -- a cursor that has reached all keys of the group has none of its rows beyond it
       pub none_after : has_reached cursor least ≡ true → row_after cursor (device_rows es) ≡ None
@@ -155,25 +131,43 @@ module _ (bus : ℕ) (g : Group) where
 
     -- ---- changes
 
-    pub devices-set_row : (row : Row) → Here row.shown.key → (rows after : State) → Some rows ≡ entry_at row.shown.key.address es
-        → after ≡ put_row row rows
-        → device_rows (set_value (is_at (nat_cmp row.shown.key.address)) es after) ≡ put_row row (device_rows es)
-    devices-set_row row here rows after e is =
-        listed-put_row whole address_of Here in_order row here es tagged devices.sorted rows after (sym e) is
+    module _ {B : Type 0} (value : B → State) (slots : List (Option B)) (view : numbered value 0 slots ≡ es) (k : ℕ) (slot : Option B)
+        (within : k < length slots) where
+      abbrev after : List (ℕ × State)
+      after = numbered value 0 (slice_set slots k slot)
 
-    gone : (device : Device) → (bus ≡ device.bus) × (g ≡ device.group) → (address : ℕ) (rows : State) → AreOfDevice bus g address rows
-        → device.address ≡ address → without device rows ≡ []
-    gone device here address rows h e =
-        without-all device rows
-        (weaken rows h.each (λ row t.
+      -- a slot is set to one of the device at its address, or to none
+      pub slot-devices : IfSome (option_map value slot) (AreOfDevice bus g k) → AreDevices bus g after
+      slot-devices h = record {
+        each = each-changed (AreOfDevice bus g) es after devices.each (numbered-sorted value 0 (slice_set slots k slot))
+            (other_slot value slots view k slot)
+            (subst (λ o. IfSome o (AreOfDevice bus g k)) (sym (own_slot value slots view k slot within)) h);
+        sorted = numbered-sorted value 0 (slice_set slots k slot);
+      }
+
+      pub slot-rows : {op : State → State} → IsChangeAt address_of Here k op
+          → option_map_or whole (option_map value slot) [] ≡ op (rows_at whole k es) → device_rows after ≡ op (device_rows es)
+      slot-rows change here =
+          listed-changed whole address_of Here in_order change es after entries devices.sorted
+          (numbered-sorted value 0 (slice_set slots k slot)) (other_slot value slots view k slot)
+          (ap (λ o. option_map_or whole o []) (own_slot value slots view k slot within) ∙ here)
+
+    -- a device that goes
+    pub drops_here : (device : Device) → IsChangeAt address_of Here device.address (without device)
+    drops_here device = drops address_of Here device.address device (λ key e. ap (λ d. d.address) (device_from_owns device key e))
+
+    pub gone : (device : Device) → (bus ≡ device.bus) × (g ≡ device.group) → (o : Option State) → entry_at device.address es ≡ o
+        → [] ≡ without device (option_map_or whole o [])
+    gone device here None e = refl
+    gone device here (Some rows) e =
+        sym (without-all device rows
+        (weaken rows (found_device device.address rows e).each (λ row t.
         owns-own device row.shown.key
-        (device_in_group device.bus device.group device.address row.shown.key (t.0.0 ∙ here.0, t.0.1 ∙ here.1) (t.1 ∙ sym e))))
+        (device_in_group device.bus device.group device.address row.shown.key (t.0.0 ∙ here.0, t.0.1 ∙ here.1) t.1))))
 
-    pub devices-remove : (device : Device) → (bus ≡ device.bus) × (g ≡ device.group)
-        → device_rows (remove_entry (is_at (nat_cmp device.address)) es) ≡ without device (device_rows es)
-    devices-remove device here =
-        listed-without_all whole address_of Here in_order device device.address (apart device) es tagged devices.sorted
-        (weaken es devices.each (λ e h. gone device here e.0 e.1 h))
+    -- and one that is not there
+    pub devices-absent : (device : Device) → None ≡ entry_at device.address es → device_rows es ≡ without device (device_rows es)
+    devices-absent device e = listed-absent whole address_of Here in_order (drops_here device) refl es entries devices.sorted e
 
     -- ---- adding a device
 
@@ -194,19 +188,18 @@ module _ (bus : ℕ) (g : Group) where
     absent_by key here free None e = sym e
     absent_by key here free (Some rows) e = absurd (there key rows (found_device key.address rows (sym e)) here e free)
 
-    pub devices-insert : (key : Key) → Here key → (added : State) → AreOfDevice bus g key.address added
-        → ((port : ℕ) → has_row (key_at (device_of key) port) (device_rows es) ≡ false)
-        → device_rows (insert_entry nat_cmp es key.address added) ≡ put_rows added (device_rows es)
-    devices-insert key here added new free =
-        listed-put_rows_new whole address_of Here in_order key.address added new.each es tagged devices.sorted added
-        (absent_by key here free (entry_at key.address es) refl) (put_rows-new added new.rising)
+    -- so its rows are those that are put
+    pub new_rows : (key : Key) → Here key → ((port : ℕ) → has_row (key_at (device_of key) port) (device_rows es) ≡ false)
+        → (added : State) → AreOfDevice bus g key.address added → added ≡ put_rows added (rows_at whole key.address es)
+    new_rows key here free added new =
+        sym (put_rows-new added new.rising)
+        ∙ ap (λ o. put_rows added (option_map_or whole o [])) (sym (absent_by key here free (entry_at key.address es) refl))
 
 -- ---- the row after a key of the group
 
 module _ {B : Type 0} (value : B → State) (last : Key) where
   abbrev AreDevicesAt : ℕ → List (Option B) → Type 0
-  AreDevicesAt first slots =
-      AllByRecursion (λ e. AreOfDevice last.bus last.group e.0 e.1) (numbered value first slots)
+  AreDevicesAt first slots = AllByRecursion (λ e. AreOfDevice last.bus last.group e.0 e.1) (numbered value first slots)
 
   -- a device before the key's has no row beyond the key
   earlier : (address : ℕ) (rows : State) → address < last.address → AreOfDevice last.bus last.group address rows
@@ -246,8 +239,7 @@ module _ {B : Type 0} (value : B → State) (last : Key) where
       (first_beyond (at.After last) (device_rows (numbered value (first + 1) slots))
       (later (first + 1) (omega (arith, e)) slots each.1)
       ∙ ap (λ n. slice_get (device_rows (numbered value n slots)) 0) (omega (arith, e, f)))
-  row_after-numbered from first (suc k) e f (None ∷ slots) each =
-      row_after-numbered from (first + 1) k (omega (arith, e)) f slots each
+  row_after-numbered from first (suc k) e f (None ∷ slots) each = row_after-numbered from (first + 1) k (omega (arith, e)) f slots each
   row_after-numbered from first (suc k) e f (Some x ∷ slots) each =
       find_past (λ row. not (has_reached (at.After last) row.shown.key)) (value x)
       (device_rows (numbered value (first + 1) slots)) (earlier first (value x) (omega (arith, e)) each.0)

@@ -1,9 +1,8 @@
 -- What a row that is due brings, and the beginning of a session, leaves a whole registry whole.
 use Rattle.srcp_rules.proofs.Names
-use Names.{◌≡◌, ℕ, true, false, List, Option, Some, None, IfSome, ◌==◌, nat_le, refl, sym, ap, true≢false, option_map_or, Group, Key, Mode}
-use Names.{Value, Row, device_of, first_key, IsMoment, IsValueAt, is_lock, can_go, Bus, IsKeyOf, State, IsWhole, MayFall, has_row, updated}
-use Names.{holder_in, session_device, device_in, due_change, began}
-use Names.group
+use Names.{arith, ◌≡◌, ℕ, true, false, List, Option, None, IfSome, ◌==◌, nat_le, refl, ap, option_map_or, Group, Key, Mode, Value, Row}
+use Names.{device_of, first_key, IsMoment, IsValueAt, is_lock, can_go, Bus, IsKeyOf, State, IsWhole, MayFall, has_row, updated, holder_in}
+use Names.{session_device, device_in, due_change, began}
 use Names.value
 use Names.devices
 use Rattle.srcp_rules.proofs.WholeLaws.{look_in}
@@ -13,21 +12,17 @@ use Rattle.srcp_rules.proofs.AddsNoRowLaws.{one_session}
 
 -- a lock's group is no session's and can go
 pub lock_goes : (g : Group) → is_lock g ≡ true → (can_go g ≡ true) × (is_session g ≡ false)
-lock_goes group.LockGl e = (refl, refl)
-lock_goes group.LockGa e = (refl, refl)
-lock_goes other e = absurd (true≢false (sym e))
+lock_goes g e = grind arith
 
 -- a row that is due may be
 pub due_may : (moment : ℕ) (row : Row) (o : Option ℕ) → row.due ≡ o → IfSome o (λ m. IsMoment m × MayFall row.shown.value)
     → option_map_or (λ m. nat_le m moment) o false ≡ true → MayFall row.shown.value
-due_may moment row None e h t = absurd (true≢false (sym t))
-due_may moment row (Some m) e h t = h.1
+due_may moment row o e h t = grind arith
 
 -- a lock alone is held
 pub held_value : (session : ℕ) (shows : Value) (g : Group) (port : ℕ) → IsValueAt g port shows
     → option_map_or (λ holder. holder == session) (holder_in shows) false ≡ true → is_lock g ≡ true
-held_value session (value.Lock seconds id) g port fits e = fits.0
-held_value session other g port fits e = absurd (true≢false (sym e))
+held_value session shows g port fits e = grind arith
 
 module _ (buses : List Bus) (moment : ℕ) (now : IsMoment moment) where
   -- ---- a session begins
@@ -46,8 +41,8 @@ module _ (buses : List Bus) (moment : ℕ) (now : IsMoment moment) where
       → IsWhole buses state
       → IsWhole buses (updated (due_change moment key (value.GaPort false)) state)
   port_back key state place fits there whole =
-      other_put buses (device_of key) key.port moment (value.GaPort false) None state whole there (ap is_lock fits.0) refl
-      (IsRowOf-put buses whole.laid_out key moment (value.GaPort false) None place now fits tt)
+      other_put buses (device_of key) key.port _ _ _ state whole there (ap is_lock fits.0) refl
+      (IsRowOf-put buses whole.laid_out _ _ _ _ place now fits tt)
       (λ b a e. absurd (apart_owner is_gl (device_of key) (first_key (device_in devices.Gl b a)) (ap is_gl fits.0) refl e))
 
   -- one row that is due

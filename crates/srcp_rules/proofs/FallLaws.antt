@@ -1,10 +1,10 @@
 -- What a moment makes of each row, and what a timed SET leaves behind.
 use Rattle.srcp_rules.proofs.Names
-use Names.{◌≡◌, ℕ, ◌+◌, ◌<◌, min, Bool, true, false, cond, map, filter, List, [], ◌∷◌, Option, Some, None, refl, sym, ap, subst, ◌∙◌, arith}
-use Names.{false_from_ne_true, option_map_or, AllByRecursion, Key, Value, Row, Code, Accepted, device_of, first_key, owns, IsMoment}
-use Names.{IsValueAt, is_lock, Bus, SetLock, lock_at, State, Update, IsWhole, MayFall, row_at, updated, updated_all}
+use Names.{cases_Bool, inl, inr, ◌≡◌, ℕ, ◌+◌, ◌<◌, min, Bool, true, false, cond, map, filter, List, [], ◌∷◌, Option, Some, None, refl, sym}
+use Names.{ap, subst, ◌∙◌, arith, false_from_ne_true, option_map_or, AllByRecursion, Key, Value, Row, Code, Accepted, device_of, first_key}
+use Names.{owns, IsMoment, IsValueAt, is_lock, Bus, SetLock, lock_at, State, Update, IsWhole, MayFall, row_at, updated, updated_all}
 use Names.{row_put, put_of, nat_le, SetGa, unless_refused, refusals, port_end, lock_end, due, due_change, is_due, device_from_owns}
-use Names.{each_filtered, found_holds}
+use Names.{found_holds}
 use Names.value
 use Names.devices
 use Rattle.std.specs.Prelude.{◌*◌}
@@ -14,9 +14,9 @@ use Rattle.srcp_rules.specs.Effect.{moment_after, port_key, row_of_lock, row_of_
 use Rattle.srcp_rules.specs.Laws.{LocksAreSet, LocksRunOut, MomentsEnd, PortsAreSet, PortsFallBack, comes_to, fallen}
 use Rattle.srcp_rules.proofs.KeyLaws.{same_key, same_key-true}
 use Rattle.srcp_grammar.proofs.FindLaws.{each_unfiltered}
-use Rattle.srcp_rules.proofs.StateLaws.{row_at-put_row, row_at-put_same, row_at-without, row_at_key, IsKnown, each_known}
+use Rattle.srcp_rules.proofs.StateLaws.{row_at-put_row, row_at-put_same, row_at-without, row_at_key, IsKnown, front_row}
 use Rattle.srcp_rules.proofs.DueRowLaws.{due_may}
-use Rattle.srcp_rules.proofs.DueStepLaws.{due_later, lock_port}
+use Rattle.srcp_rules.proofs.DueStepLaws.{due_later, lock_keys}
 use Rattle.srcp_rules.proofs.EffectLaws.{effect_kept}
 use Rattle.srcp_rules.proofs.CommandLaws.{unless_made}
 
@@ -32,39 +32,18 @@ module _ (buses : List Bus) (moment : ℕ) (now : IsMoment moment) where
       → comes_to moment row ≡ fallen moment row.shown.key shows
   due_fate row shows now_due same = rw (now_due, same)
 
-  -- and any other stays
-  other_fate : (row : Row) → is_due moment row ≡ false → comes_to moment row ≡ Some row
-  other_fate row other = rw other
-
   module _ (state : State) (whole : IsWhole buses state) where
     abbrev Known : Row → Type 0
     Known row = IsKnown buses state row
 
-    -- ---- a port that is due
-
-    port_fate : (row : Row) (on : Bool) → Known row → is_due moment row ≡ true → row.shown.value ≡ value.GaPort on → (key : Key) (b : Bool)
-        → same_key row.shown.key key ≡ b
-        → fate (cond b (Some (row_put moment row.shown.key (value.GaPort false) None)) (row_at key state)) ≡ fate (row_at key state)
-    port_fate row on k now_due same key true e =
-        sym (ap fate (ap (λ q. row_at q state) (sym (same_key-true row.shown.key key e)) ∙ k.1)
-        ∙ due_fate row (value.GaPort on) now_due same)
-    port_fate row on k now_due same key false e = refl
-
-    -- ---- a lock that is due
-
-    -- a row of its device is its own
+    -- a lock's device has one row
     same_lock : (row other : Row) (key : Key) → Known row → is_lock row.shown.key.group ≡ true → owns (device_of row.shown.key) key ≡ true
         → row_at key state ≡ Some other → other ≡ row
     same_lock row other key k lock e h =
-        let device : device_of key ≡ device_of row.shown.key = device_from_owns (device_of row.shown.key) key e in
         let at_key : other.shown.key ≡ key = row_at_key key state other h in
-        let its : is_lock other.shown.key.group ≡ true = ap (λ q. is_lock q.group) at_key ∙ ap (λ d. is_lock d.group) device ∙ lock in
-        let port : key.port ≡ row.shown.key.port =
-        ap (λ q. q.port) (sym at_key) ∙ lock_port other.shown.value other.shown.key (whole.rows key other h).shown.value its
-        ∙ sym (lock_port row.shown.value row.shown.key k.0.shown.value lock) in
-        let keys : key ≡ row.shown.key =
-        λ i. record { bus = (device i).bus; group = (device i).group; address = (device i).address; port = port i } in
-        let found : Some other ≡ Some row = sym h ∙ ap (λ q. row_at q state) keys ∙ k.1 in
+        let device = ap device_of at_key ∙ device_from_owns (device_of row.shown.key) key e in
+        let keys = lock_keys row.shown.key other.shown.key _ _ k.0.shown.value (whole.rows key other h).shown.value lock device in
+        let found : Some other ≡ Some row = sym h ∙ ap (λ q. row_at q state) (sym at_key ∙ keys) ∙ k.1 in
         cc
 
     lock_by : (row : Row) (seconds session : ℕ) → Known row → is_lock row.shown.key.group ≡ true → is_due moment row ≡ true
@@ -74,43 +53,36 @@ module _ (buses : List Bus) (moment : ℕ) (now : IsMoment moment) where
     lock_by row seconds session k lock now_due same key e (Some other) h =
         sym (ap (comes_to moment) (same_lock row other key k lock e h) ∙ due_fate row (value.Lock seconds session) now_due same)
 
-    lock_fate : (row : Row) (seconds session : ℕ) → Known row → is_lock row.shown.key.group ≡ true → is_due moment row ≡ true
-        → row.shown.value ≡ value.Lock seconds session → (key : Key) (b : Bool)
-        → owns (device_of row.shown.key) key ≡ b → fate (cond b None (row_at key state)) ≡ fate (row_at key state)
-    lock_fate row seconds session k lock now_due same key true e =
-        lock_by row seconds session k lock now_due same key e (row_at key state) refl
-    lock_fate row seconds session k lock now_due same key false e = refl
-
     -- ---- any row that is due
 
     -- to carry it out leaves what the moment makes of each row
     step_by : (row : Row) → Known row → is_due moment row ≡ true → (shows : Value) → row.shown.value ≡ shows → MayFall shows → (key : Key)
         → fate (row_at key (updated (due_change moment row.shown.key shows) state)) ≡ fate (row_at key state)
     step_by row k now_due (value.GaPort on) same may key =
-        ap fate (row_at-put_row key (row_put moment row.shown.key (value.GaPort false) None) state)
-        ∙ port_fate row on k now_due same key (same_key row.shown.key key) refl
+        rw (row_at-put_row key (row_put moment row.shown.key (value.GaPort false) None) state)
+        (elim (cases_Bool (same_key row.shown.key key)) [
+          | inl e ↦ rw e (sym (ap fate (ap (λ q. row_at q state) (sym (same_key-true row.shown.key key e)) ∙ k.1)
+              ∙ due_fate row (value.GaPort on) now_due same))
+          | inr e ↦ rw e
+        ])
     step_by row k now_due (value.Lock seconds session) same may key =
         let fits = subst (IsValueAt row.shown.key.group row.shown.key.port) same k.0.shown.value in
-        ap fate (row_at-without key (device_of row.shown.key) state)
-        ∙ lock_fate row seconds session k fits.0 now_due same key (owns (device_of row.shown.key) key) refl
+        rw (row_at-without key (device_of row.shown.key) state)
+        (elim (cases_Bool (owns (device_of row.shown.key) key)) [
+          | inl e ↦ rw e (lock_by row seconds session k fits.0 now_due same key e (row_at key state) refl)
+          | inr e ↦ rw e
+        ])
     step_by row k now_due other same may key = absurd may
 
-    first_step : (rows : List Row) (update : Update) (updates : List Update)
-        → AllByRecursion (λ row. Known row × (is_due moment row ≡ true)) rows
+    step : (rows : List Row) → filter (is_due moment) state ≡ rows → (update : Update) (updates : List Update)
         → map (λ row. due_change moment row.shown.key row.shown.value) rows ≡ update ∷ updates → (key : Key)
         → fate (row_at key (updated update state)) ≡ fate (row_at key state)
-    first_step [] update updates k e key = let bad : [] ≡ update ∷ updates = e in cc
-    first_step (row ∷ rows) update updates k e key =
+    step [] held update updates e key = let bad : [] ≡ update ∷ updates = e in cc
+    step (row ∷ rows) held update updates e key =
         let first : due_change moment row.shown.key row.shown.value ≡ update = cc in
-        let of = k.0.0.0 in
+        let k = front_row buses state whole (is_due moment) row rows held in
         ap (λ u. fate (row_at key (updated u state))) (sym first)
-        ∙ step_by row k.0.0 k.0.1 row.shown.value refl (due_may moment row row.due refl of.due k.0.1) key
-
-    step : (update : Update) (updates : List Update) → due state moment ≡ update ∷ updates → (key : Key)
-        → fate (row_at key (updated update state)) ≡ fate (row_at key state)
-    step update updates e key =
-        first_step (filter (is_due moment) state) update updates
-        (each_filtered Known (is_due moment) state (each_known buses state whole)) e key
+        ∙ step_by row k.0 k.1 row.shown.value refl (due_may moment row row.due refl k.0.0.due k.1) key
 
     -- ---- if nothing is due
 
@@ -124,16 +96,17 @@ module _ (buses : List Bus) (moment : ℕ) (now : IsMoment moment) where
     still_by : due state moment ≡ [] → (key : Key) (o : Option Row) → row_at key state ≡ o → o ≡ fate o
     still_by e key None h = refl
     still_by e key (Some row) h =
-        sym (other_fate row (false_from_ne_true (is_due moment row)
+        rw (false_from_ne_true (is_due moment row)
         (found_holds (λ r. is_due moment r ≡ true → ⊥) (λ r. same_key r.shown.key key) state
-        (each_unfiltered (λ r. ⊥) (is_due moment) state (nothing_due (filter (is_due moment) state) e)) row h)))
+        (each_unfiltered (λ r. ⊥) (is_due moment) state (nothing_due (filter (is_due moment) state) e)) row h))
 
   all_fates : (updates : List Update) (state : State) → IsWhole buses state → due state moment ≡ updates → (key : Key)
       → row_at key (updated_all updates state) ≡ fate (row_at key state)
   all_fates [] state whole e key = still_by state whole e key (row_at key state) refl
   all_fates (update ∷ updates) state whole e key =
       let later = due_later buses state whole moment now update updates e in
-      all_fates updates (updated update state) later.0 later.1 key ∙ step state whole update updates e key
+      all_fates updates (updated update state) later.0 later.1 key
+      ∙ step state whole (filter (is_due moment) state) refl update updates e key
 
   -- a moment makes of each row what it comes to
   pub due_rows : (state : State) → IsWhole buses state → (key : Key)
@@ -177,8 +150,7 @@ falls later row ends due =
     ap (λ o. cond (option_map_or (λ m. nat_le m later) o false) (fallen later row.shown.key row.shown.value) (Some row)) due
 
 either : (b : Bool) (x y : Row) → cond b (Some x) (Some y) ≡ Some (cond b x y)
-either true x y = refl
-either false x y = refl
+either b x y = grind arith
 
 pub port_falls : PortsFallBack
 port_falls buses state session moment later milliseconds switch may begins now on time some e =

@@ -1,20 +1,21 @@
 -- No command of a session touches a device that another session has locked.
+use Rattle.srcp_rules.specs.Laws.{LocksHold}
 use Rattle.srcp_rules.proofs.Names
-use Names.{◌≡◌, ℕ, ◌+◌, true, false, List, [], ◌∷◌, Option, refl, sym, ap, ◌∙◌, true≢false, arith, AllByRecursion, Key, Device, Change, Put}
-use Names.{Gone, first_key, key_of, owns, owns-device_of, all_append, DeviceGroup, Command, SetPower, SetGl, InitGl, TermGl, SetGa, InitGa}
-use Names.{TermGa, SetFb, SetLock, TermLock, key_at, power_device, fb_device, device_in, lock_on, lock_group, State, Update, row_at}
-use Names.{updated, updated_by, updated_all, effect, is_locked, removals, fresh_gl, fresh_ga, false_from_ne_true, can_go, is_lock, weaken}
+use Names.{arith, each-range, ◌≡◌, ℕ, ◌+◌, true, false, List, [], ◌∷◌, Option, refl, sym, ap, ◌∙◌, true≢false, AllByRecursion, Key, Device}
+use Names.{Change, Put, Gone, first_key, key_of, owns, owns-device_of, all_append, DeviceGroup, Command, SetPower, SetGl, InitGl, TermGl}
+use Names.{SetGa, InitGa, TermGa, SetFb, SetLock, TermLock, key_at, power_device, fb_device, device_in, lock_on, lock_group, State, Update}
+use Names.{row_at, updated, updated_by, updated_all, effect, is_locked, removals, false_from_ne_true, can_go, is_lock, weaken}
 use Names.devices
 use Rattle.srcp_rules.proofs.KeyLaws.{same_key-true, no_owner}
 use Rattle.srcp_rules.proofs.OrderLaws.{owns-other}
 use Rattle.srcp_rules.proofs.DueRowLaws.{lock_goes}
 use Rattle.srcp_rules.proofs.StepLaws.{device_goes, device_group-is_lock, lock_group-is_lock, device_group-injective}
-use Rattle.srcp_rules.proofs.CommandLaws.{NoneApplies, changes_of, refusals_of, of_changes, each-ports, each-removals}
+use Rattle.srcp_rules.proofs.CommandLaws.{NoneApplies, changes_of, refusals_of, of_changes, each-removals}
 use Rattle.srcp_rules.proofs.StateLaws.{row_at-put_other, row_at-kept}
 
 -- ---- changes that a device is apart from
 
-abbrev AreApart : Device → List Update → Type 0
+abbrev pub AreApart : Device → List Update → Type 0
 AreApart device updates = AllByRecursion (λ update. owns device (key_of update.change) ≡ false) updates
 
 apart_by : (device : Device) (port : ℕ) (change : Change) (due : Option ℕ) (state : State) → owns device (key_of change) ≡ false
@@ -33,21 +34,12 @@ pub apart_row : (device : Device) (port : ℕ) (updates : List Update) (state : 
 apart_row device port [] state h = refl
 apart_row device port (u ∷ us) state h = apart_row device port us (updated u state) h.1 ∙ apart_by device port u.change u.due state h.0
 
--- the rows of the device, and of its lock, are as before
-pub record AreKept (group : DeviceGroup) (bus address : ℕ) (before after : State) : Type 0 where
-  pub device : (port : ℕ)
-      → row_at (key_at (device_in group bus address) port) after ≡ row_at (key_at (device_in group bus address) port) before
-  pub lock : (port : ℕ) → row_at (key_at (lock_on group bus address) port) after ≡ row_at (key_at (lock_on group bus address) port) before
-
 -- ---- groups
 
 -- a lock is another's as its device is
 lock_as_device : (g h : DeviceGroup) (bus address b a : ℕ)
     → owns (lock_on g bus address) (first_key (lock_on h b a)) ≡ owns (device_in g bus address) (first_key (device_in h b a))
-lock_as_device devices.Gl devices.Gl bus address b a = refl
-lock_as_device devices.Gl devices.Ga bus address b a = refl
-lock_as_device devices.Ga devices.Gl bus address b a = refl
-lock_as_device devices.Ga devices.Ga bus address b a = refl
+lock_as_device g h bus address b a = grind arith
 
 -- ---- a device that another session has locked
 
@@ -102,33 +94,27 @@ module _ (state : State) (session moment : ℕ) (g : DeviceGroup) (bus address :
   changes_apart (SetPower power) none = (never (first_key (power_device power.bus)) refl, tt)
   changes_apart (SetGl drive) none = (row_apart devices.Gl drive.bus drive.address 1 none.1.1.0, tt)
   changes_apart (InitGl gl) none =
-      all_append IsApart (removals state moment devices.Gl gl.bus gl.address) (fresh_gl moment gl)
-      (removals_apart devices.Gl gl.bus gl.address none.0)
+      all_append IsApart _ _ (removals_apart devices.Gl gl.bus gl.address none.0)
       (row_apart devices.Gl gl.bus gl.address 0 none.0, (row_apart devices.Gl gl.bus gl.address 1 none.0, tt))
   changes_apart (TermGl b a) none = removals_apart devices.Gl b a none.1.0
   changes_apart (SetGa switch) none = (row_apart devices.Ga switch.bus switch.address (1 + switch.port) none.1.0, tt)
   changes_apart (InitGa ga) none =
-      all_append IsApart (removals state moment devices.Ga ga.bus ga.address) (fresh_ga moment ga)
-      (removals_apart devices.Ga ga.bus ga.address none.0) (
-        row_apart devices.Ga ga.bus ga.address 0 none.0,
-        each-ports IsApart moment (device_in devices.Ga ga.bus ga.address) 1 ga.ports (1 + ga.ports) (omega arith)
-            (λ port low high. row_apart devices.Ga ga.bus ga.address port none.0),
-      )
+      let row = λ (port : ℕ). row_apart devices.Ga ga.bus ga.address port none.0 in
+      all_append IsApart _ _ (removals_apart devices.Ga ga.bus ga.address none.0)
+      (row 0, each-range IsApart _ 1 ga.ports (λ port low high. row port))
   changes_apart (TermGa b a) none = removals_apart devices.Ga b a none.1.0
   changes_apart (SetFb sensor) none = (never (first_key (fb_device sensor.bus sensor.port)) refl, tt)
   changes_apart (SetLock lock) none = (lock_apart lock.target.group lock.target.bus lock.target.address none.1.0, tt)
   changes_apart (TermLock target) none = (lock_apart target.group target.bus target.address none.1.0, tt)
   changes_apart other none = tt
 
-  -- no command of the session touches it
-  effect_apart : (command : Command) → AllApart (effect state session moment command).updates
-  effect_apart command = of_changes state session moment AllApart tt command (changes_apart command)
-
-  -- so its rows and its lock stay
-  pub locked_kept : (command : Command) → AreKept g bus address state (updated_all (effect state session moment command).updates state)
-  locked_kept command =
-      let updates = (effect state session moment command).updates in
-      record {
-        device = λ port. apart_row (device_in g bus address) port updates state (weaken updates (effect_apart command) (λ u t. t.0));
-        lock = λ port. apart_row (lock_on g bus address) port updates state (weaken updates (effect_apart command) (λ u t. t.1));
-      }
+-- no command of the session touches it: its rows and its lock stay
+pub locks_hold : LocksHold
+locks_hold state session moment command g bus address locked port =
+    let updates = (effect state session moment command).updates in
+    let apart =
+    of_changes state session moment (AllApart state session moment g bus address locked) tt command
+    (changes_apart state session moment g bus address locked command) in (
+      apart_row (device_in g bus address) port updates state (weaken updates apart (λ u t. t.0)),
+      apart_row (lock_on g bus address) port updates state (weaken updates apart (λ u t. t.1)),
+    )

@@ -12,7 +12,7 @@ pub use Rattle.std.specs.BTreeMap.Range.{entries_between}
 pub use Rattle.std.specs.Box.{box_value}
 pub use Rattle.std.specs.Cmp.{IsStrictWeakOrder, second_so}
 pub use Rattle.std.specs.List.{AllByRecursion, flat_map, range_with_len, sum_by}
-pub use Rattle.std.specs.Map.{keys_of, remove_entry, set_value}
+pub use Rattle.std.specs.Map.{keys_of, set_value}
 pub use Rattle.std.specs.Option.{option_map, option_map_or, option_or}
 pub use Rattle.std.specs.Ordering.{is_eq, is_gt, match_ordering, nat_cmp, ordering_reverse, ordering_then}
 pub use Rattle.std.specs.Prelude.{Bool, Err, IfSome, IsSome, IsTrue, List, None, Ok, OnErr, OnOk, Option, Result, Some, [], cond, drop}
@@ -69,4 +69,4 @@ pub use Rattle.srcp_rules.specs.State.{AddsNoRow, IsRising, IsRowOf, IsWhole, Ma
 pub use Rattle.srcp_rules.specs.State.{functions_of, has_row, holder_in, holder_of, is_there, opening, opening_on, put_of, put_row}
 pub use Rattle.srcp_rules.specs.State.{row_after, row_at, row_put}
 pub use Rattle.srcp_rules.specs.State.{updated, updated_all, updated_by, without}
-pub use Rattle.srcp_rules.proofs.EachLaws.{weaken, each_and, each-mapped}
+pub use Rattle.srcp_rules.proofs.EachLaws.{weaken, each_and, each-mapped, each-range, find-range, find-map, each-map}

@@ -1,6 +1,6 @@
 -- The rows of a fresh device.
 use Rattle.srcp_rules.proofs.Names
-use Names.{◌≡◌, ℕ, zero, suc, ◌+◌, ◌<◌, ◌≤◌, false, List, [], ◌∷◌, map, replicate, take, None, refl, sym, ap, ◌∙◌, arith, AllByRecursion}
+use Names.{each-range, ◌≡◌, ℕ, suc, ◌+◌, ◌<◌, ◌≤◌, false, List, [], ◌∷◌, map, replicate, take, None, refl, sym, ap, ◌∙◌, arith}
 use Names.{range_with_len, Device, Row, IsMoment, Bus, InitGl, InitGa, row_count, device_in, key_at, State, IsRowOf, put_of, row_put}
 use Names.{put_at, fresh_ga, gl_init, MayObey, AreRowsOf}
 use Names.value
@@ -58,25 +58,12 @@ module _ (buses : List Bus) (state : State) (session moment : ℕ) (now : IsMome
         each = (
           IsRowOf-put buses may.whole.laid_out (key_at device 0) moment (gl_init gl) None some now fits tt,
           (
-            IsRowOf-put buses may.whole.laid_out (key_at device 1) moment (value.GlState 1 0 0 (replicate functions false)) None
-                (omega (arith, count)) now
+            IsRowOf-put buses may.whole.laid_out _ _ _ _ (omega (arith, count)) now
                 (refl, refl, (omega arith, omega arith, omega arith, refl, λ e. absurd (omega (arith, e))), omega (arith, most, long)) tt,
             tt,
           ),
         );
       }
-
-  each_port : (ga : NewGa) → MayObey buses state session (InitGa ga) → (first n : ℕ) → 1 ≤ first → first + n ≤ 1 + ga.ports
-      → AllByRecursion (IsRowOf buses) (map (port_row moment (device_in devices.Ga ga.bus ga.address)) (range_with_len first n))
-  each_port ga may first zero low high = tt
-  each_port ga may first (suc n) low high =
-      let device = device_in devices.Ga ga.bus ga.address in
-      let count : row_count buses device ≡ 1 + ga.ports = may.of.0 in
-      let few : ga.ports ≤ 8 = may.of.1 in (
-        IsRowOf-put buses may.whole.laid_out (key_at device first) moment (value.GaPort false) None (omega (arith, count)) now
-            (refl, (low, omega arith)) tt,
-        each_port ga may (first + 1) n (omega arith) (omega arith),
-      )
 
   pub ga_rows : (ga : NewGa) → MayObey buses state session (InitGa ga)
       → AreRowsOf buses (device_in devices.Ga ga.bus ga.address)
@@ -94,8 +81,8 @@ module _ (buses : List Bus) (state : State) (session moment : ℕ) (now : IsMome
             ∙ ap (λ n. map (key_at device) (range_with_len 0 n)) (sym more);
         few = omega (arith, few, long);
         each = (
-          IsRowOf-put buses may.whole.laid_out (key_at device 0) moment (value.GaInit ga.letter) None (omega (arith, count)) now
-              (refl, refl) tt,
-          each_port ga may 1 ports (omega arith) (omega arith),
+          IsRowOf-put buses may.whole.laid_out _ _ _ _ (omega (arith, count)) now (refl, refl) tt,
+          each-range (IsRowOf buses) (port_row moment device) 1 ports (λ port low high.
+              IsRowOf-put buses may.whole.laid_out _ _ _ _ (omega (arith, count, high)) now (refl, (low, omega (arith, few, high))) tt),
         );
       }

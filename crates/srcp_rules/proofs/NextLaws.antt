@@ -1,9 +1,9 @@
 -- The first change of a moment beyond a cursor, and the first of a session's end.
 use Rattle.srcp_rules.proofs.Names
-use Names.{◌≡◌, ℕ, Bool, true, false, not, ◌&&◌, cond, is_some, List, [], ◌∷◌, ◌++◌, map, filter, find, option_map, Some, None, refl, sym}
-use Names.{ap, subst, ◌∙◌, second_so, Key, Value, Row, Cursor, device_of, first_key, key_of, has_reached, IsMoment, IsValueAt, IsWellFormed}
-use Names.{Bus, session_device, State, Update, AddsNoRow, IsWhole, MayFall, row_at, is_there, updated, gone_at, due_change, first_beyond}
-use Names.{is_due, is_held_by, freed, found_holds, find_passes, weaken, slice_get}
+use Names.{find-map, cases_Bool, inl, inr, same_Some, arith, ◌≡◌, ℕ, Bool, true, not, ◌&&◌, cond, is_some, List, [], ◌∷◌, ◌++◌, map, filter}
+use Names.{find, option_map, Some, None, refl, sym, ap, subst, ◌∙◌, second_so, Key, Value, Row, Cursor, device_of, first_key, key_of}
+use Names.{has_reached, IsMoment, IsValueAt, IsWellFormed, Bus, session_device, State, Update, AddsNoRow, IsWhole, MayFall, row_at}
+use Names.{is_there, updated, gone_at, due_change, first_beyond, is_due, is_held_by, freed, found_holds, find_passes, weaken, slice_get}
 use Names.value
 use Rattle.srcp_rules.specs.Due.{due_after}
 use Rattle.srcp_grammar.proofs.FindLaws.{find_same}
@@ -15,16 +15,6 @@ use Rattle.srcp_rules.proofs.FreedStepLaws.{freed_later}
 use Rattle.srcp_rules.proofs.AddsNoRowLaws.{AddsNoRow-from_put, due_put}
 use Rattle.srcp_rules.specs.Laws.{CanBeTold}
 
-module _ {X Y : Type 0} (f : X → Y) where
-  find-map : (t : Y → Bool) (xs : List X) → find t (map f xs) ≡ option_map f (find (λ x. t (f x)) xs)
-  find-map t [] = refl
-  find-map t (x ∷ xs) = ap (λ o. cond (t (f x)) (Some (f x)) o) (find-map t xs) ∙ taken (t (f x))
-    where
-      taken : (b : Bool)
-          → cond b (Some (f x)) (option_map f (find (λ y. t (f y)) xs)) ≡ option_map f (cond b (Some x) (find (λ y. t (f y)) xs))
-      taken true = refl
-      taken false = refl
-
 -- a lock has one row
 lock_key : (key : Key) → key.port ≡ 0 → first_key (device_of key) ≡ key
 lock_key key h = λ i. record { bus = key.bus; group = key.group; address = key.address; port = sym h i }
@@ -32,40 +22,16 @@ lock_key key h = λ i. record { bus = key.bus; group = key.group; address = key.
 -- the change that a row brings stands at the row
 pub change_key : (moment : ℕ) (key : Key) (shows : Value) → MayFall shows → IsValueAt key.group key.port shows
     → key_of (due_change moment key shows).change ≡ key
-change_key moment key (value.GaPort on) may fits = refl
-change_key moment key (value.Lock seconds session) may fits = lock_key key fits.1
-change_key moment key other may fits = absurd may
+change_key moment key shows may fits = grind (arith, lock_key)
 
 module _ (buses : List Bus) (state : State) (whole : IsWhole buses state) (moment : ℕ) (now : IsMoment moment) where
-  -- what is known of each row
-  abbrev Known : Row → Type 0
-  Known row = IsKnown buses state row
-
   abbrev brings : Row → Update
   brings row = due_change moment row.shown.key row.shown.value
 
-  due_key : (row : Row) → Known row → is_due moment row ≡ true → key_of (brings row).change ≡ row.shown.key
+  due_key : (row : Row) → IsKnown buses state row → is_due moment row ≡ true → key_of (brings row).change ≡ row.shown.key
   due_key row k e = change_key moment row.shown.key row.shown.value (due_may moment row row.due refl k.0.due e) k.0.shown.value
 
   module _ (cursor : Cursor) where
-    test_same : (row : Row) → Known row
-        → (is_due moment row && not (has_reached cursor (key_of (brings row).change)))
-        ≡ (not (has_reached cursor row.shown.key) && is_due moment row)
-    test_same row k = by (is_due moment row) refl
-      where
-        no_more : (b : Bool) → false ≡ (b && false)
-        no_more true = refl
-        no_more false = refl
-
-        with_true : (b : Bool) → b ≡ (b && true)
-        with_true true = refl
-        with_true false = refl
-
-        by : (b : Bool) → is_due moment row ≡ b
-            → (b && not (has_reached cursor (key_of (brings row).change))) ≡ (not (has_reached cursor row.shown.key) && b)
-        by true e = ap (λ key. not (has_reached cursor key)) (due_key row k e) ∙ with_true (not (has_reached cursor row.shown.key))
-        by false e = no_more (not (has_reached cursor row.shown.key))
-
     -- the first change beyond the cursor is that of the first row beyond it that is due
     due_after-first : due_after state moment cursor ≡ option_map brings (first_beyond cursor (is_due moment) state)
     due_after-first =
@@ -74,7 +40,7 @@ module _ (buses : List Bus) (state : State) (whole : IsWhole buses state) (momen
         (sym (find-both (is_due moment) (λ row. not (has_reached cursor (key_of (brings row).change))) state)
         ∙ find_same (λ row. is_due moment row && not (has_reached cursor (key_of (brings row).change)))
         (λ row. not (has_reached cursor row.shown.key) && is_due moment row) state
-        (weaken state (each_known buses state whole) test_same))
+        (weaken state (each_known buses state whole) (λ row k. grind (arith, due_key row k))))
 
 -- the row whose change is the first of a moment beyond a cursor
 pub record IsNextDue (buses : List Bus) (state : State) (moment : ℕ) (cursor : Cursor) (row : Row) : Type 0 where
@@ -112,21 +78,14 @@ module _ {buses : List Bus} {state : State} (whole : IsWhole buses state) (momen
 
 found_first : {X : Type 0} (p : X → Bool) (xs : List X) (x : X) → find p xs ≡ Some x → (rest : List X) × (filter p xs ≡ x ∷ rest)
 found_first p [] x e = let bad : None ≡ Some x = e in absurd (let f : ⊥ = cc in f)
-found_first p (y ∷ xs) x e = by (found_first p xs x) (p y) refl e
-  where
-    by : (find p xs ≡ Some x → (rest : List _) × (filter p xs ≡ x ∷ rest)) → (b : Bool) → p y ≡ b → cond b (Some y) (find p xs) ≡ Some x
-        → (rest : List _) × (filter p (y ∷ xs) ≡ x ∷ rest)
-    by later true t e =
-        let same : y ≡ x = cc in (filter p xs, rw (t, same))
-    by later false t e = let rest = later e in (rest.0, rw t rest.1)
+found_first p (y ∷ xs) x e = elim (cases_Bool (p y)) [
+  | inl t ↦ (filter p xs, rw (t, same_Some y x (rw t at e)))
+  | inr t ↦ (let rest = found_first p xs x (rw t at e) in (rest.0, rw t rest.1))
+]
 
 found_none : {X : Type 0} (p : X → Bool) (xs : List X) → find p xs ≡ None → filter p xs ≡ []
 found_none p [] e = refl
-found_none p (y ∷ xs) e = by (found_none p xs) (p y) refl e
-  where
-    by : (find p xs ≡ None → filter p xs ≡ []) → (b : Bool) → p y ≡ b → cond b (Some y) (find p xs) ≡ None → filter p (y ∷ xs) ≡ []
-    by later true t e = cc
-    by later false t e = rw t (later e)
+found_none p (y ∷ xs) e = grind (arith, found_none p xs)
 
 module _ (state : State) (session moment : ℕ) where
   abbrev gone_rows : List Row → List Update
@@ -173,12 +132,9 @@ module _ {buses : List Bus} {state : State} (whole : IsWhole buses state) (sessi
 
   pub next_own : None ≡ find (is_held_by session) state → is_there (session_device session) state ≡ true
       → IsNextFreed buses state session moment (gone_at moment (session_device session))
-  next_own none there =
-      next_freed (gone_at moment (session_device session)) [] (freed_own state session moment true none there)
+  next_own none there = next_freed (gone_at moment (session_device session)) [] (freed_own state session moment true none there)
 
 -- a value that may be due and is no lock is a port
 pub port_value : (shows : Value) → MayFall shows → ((seconds session : ℕ) → shows ≡ value.Lock seconds session → ⊥)
     → (on : Bool) × (shows ≡ value.GaPort on)
-port_value (value.GaPort on) may other = (on, refl)
-port_value (value.Lock seconds session) may other = absurd (other seconds session refl)
-port_value shows may other = absurd may
+port_value shows may other = grind arith

@@ -1,10 +1,10 @@
 -- What is refused and what is accepted of a command, and the rows that it sets.
 use Rattle.srcp_rules.proofs.Names
-use Names.{◌≡◌, ℕ, ◌+◌, ◌≤◌, ◌<◌, min, Bool, true, false, not, cond, nat_lt, List, [], length, Option, Some, None, IfSome}
-use Names.{refl, sym, ap, arith, option_map_or, Group, Key, Row, Code, Accepted, Value, first_key, IsMoment, IsValueAt, Bus, row_count}
-use Names.{SetPower, SetGl, SetGa, SetFb, SetLock, key_at, power_device, fb_device, device_in, lock_at, session_device, key_address, State}
-use Names.{Update, IsRowOf, IsWhole, MayFall, has_row, row_at, is_there, functions_of, row_put, Effect, refused, accepted}
-use Names.{unless_refused, lock_end, port_end, MayObey}
+use Names.{◌≡◌, ℕ, ◌+◌, ◌≤◌, ◌<◌, min, Bool, true, false, not, cond, nat_lt, List, [], length, Option, Some, None, IfSome, refl, sym, ap}
+use Names.{arith, option_map_or, Group, Key, Row, Code, Accepted, Value, first_key, IsMoment, IsValueAt, Bus, row_count, SetPower, SetGl}
+use Names.{SetGa, SetFb, SetLock, key_at, power_device, fb_device, device_in, lock_at, session_device, key_address, State, Update, IsRowOf}
+use Names.{IsWhole, MayFall, has_row, row_at, is_there, functions_of, row_put, Effect, refused, accepted, unless_refused, lock_end}
+use Names.{port_end, MayObey}
 use Names.value
 use Names.devices
 use Rattle.std.specs.Prelude.{◌*◌}
@@ -43,9 +43,7 @@ none_applies refusals e =
 
 -- each of two tests passes if the other does
 alike : (a b : Bool) → (a ≡ true → b ≡ true) → (b ≡ true → a ≡ true) → a ≡ b
-alike true b down up = let t : b ≡ true = down refl in cc
-alike false true down up = up refl
-alike false false down up = refl
+alike a b down up = grind arith
 
 -- it has both its rows or none
 pub gl_there : (buses : List Bus) (state : State) → IsWhole buses state → (bus address : ℕ)
@@ -63,26 +61,20 @@ gl_there buses state whole bus address =
 -- ---- rows that are set
 
 pub is_not : (b : Bool) → not b ≡ false → b ≡ true
-is_not true e = refl
-is_not false e = cc
+is_not b e = grind arith
 
 greatest : (n : ℕ) → IsMoment (min n 18446744073709551615)
 greatest n = let h = min-le_right n 18446744073709551615 in omega (arith, h)
 
 timed : (P : Type 0) (n : ℕ) (b : Bool) → P → IfSome (cond b (Some (min n 18446744073709551615)) None) (λ m. IsMoment m × P)
-timed P n true p = (greatest n, p)
-timed P n false p = tt
+timed P n b p = grind (arith, greatest)
 
-port_end_fits : (moment : ℕ) (on : Bool) (time : Option ℕ)
-    → IfSome (port_end moment on time) (λ m. IsMoment m × MayFall (value.GaPort on))
-port_end_fits moment false time = tt
-port_end_fits moment true None = tt
-port_end_fits moment true (Some n) = timed _ (moment + n) (nat_lt 0 n) tt
+port_end_fits : (moment : ℕ) (on : Bool) (time : Option ℕ) → IfSome (port_end moment on time) (λ m. IsMoment m × MayFall (value.GaPort on))
+port_end_fits moment on time = grind (arith, timed)
 
 -- the functions of a locomotive's state are few
 functions_few : (g : Group) (port : ℕ) (shows : Value) → IsValueAt g port shows → length (functions_in shows) ≤ 29
-functions_few g port (value.GlState mode v vmax functions) h = h.3
-functions_few g port other h = omega arith
+functions_few g port shows h = grind arith
 
 -- as many functions as before
 pub as_many : (given before : List Bool) → length given ≤ length before → length (functions_after given before) ≡ length before
@@ -100,9 +92,7 @@ module _ (buses : List Bus) (state : State) (session moment : ℕ) (now : IsMome
   lock_row lock may =
       let key = first_key (session_device session) in
       let range = (key_address buses may.whole.laid_out key (placed buses state may.whole key may.begun)).1 in
-      IsRowOf-put buses may.whole.laid_out (first_key (lock_at lock.target)) moment
-      (value.Lock lock.seconds session) (lock_end moment lock.seconds) may.of.0 now
-      (lock_group-is_lock lock.target.group, refl, may.of.1, range)
+      IsRowOf-put buses may.whole.laid_out _ _ _ _ may.of.0 now (lock_group-is_lock lock.target.group, refl, may.of.1, range)
       (timed _ (moment + 1000 * lock.seconds) (nat_lt 0 lock.seconds) tt)
 
   -- the row of an accessory's port
@@ -110,10 +100,7 @@ module _ (buses : List Bus) (state : State) (session moment : ℕ) (now : IsMome
       → IsRowOf buses
       (row_put moment (key_at (device_in devices.Ga switch.bus switch.address) (1 + switch.port)) (value.GaPort switch.on)
       (port_end moment switch.on switch.time))
-  ga_row switch may =
-      IsRowOf-put buses may.whole.laid_out (key_at (device_in devices.Ga switch.bus switch.address) (1 + switch.port)) moment
-      (value.GaPort switch.on) (port_end moment switch.on switch.time) may.of.0.0 now may.of.0.1
-      (port_end_fits moment switch.on switch.time)
+  ga_row switch may = IsRowOf-put buses may.whole.laid_out _ _ _ _ may.of.0.0 now may.of.0.1 (port_end_fits moment switch.on switch.time)
 
   -- the row of a locomotive's state, which has as many functions as before
   pub gl_row : (drive : Drive) → MayObey buses state session (SetGl drive)
@@ -130,18 +117,12 @@ module _ (buses : List Bus) (state : State) (session moment : ℕ) (now : IsMome
       let most : length before ≤ 29 = found_few may.whole key (row_at key state) refl in
       let few : length after ≤ 29 = omega (arith, most, same) in
       let fits = may.of.1 in
-      IsRowOf-put buses may.whole.laid_out key moment
-      (value.GlState drive.mode (kept_speed drive.mode drive.v) drive.vmax after) None may.of.0 now
-      (fits.0, fits.1, fits.2, few) tt
+      IsRowOf-put buses may.whole.laid_out _ _ _ _ may.of.0 now (fits.0, fits.1, fits.2, few) tt
 
   pub power_row : (power : PowerSwitch) → MayObey buses state session (SetPower power)
       → IsRowOf buses (row_put moment (first_key (power_device power.bus)) (value.Power power.on power.text) None)
-  power_row power may =
-      IsRowOf-put buses may.whole.laid_out (first_key (power_device power.bus)) moment (value.Power power.on power.text) None
-      may.of.0 now may.of.1 tt
+  power_row power may = IsRowOf-put buses may.whole.laid_out _ _ _ _ may.of.0 now may.of.1 tt
 
   pub fb_row : (sensor : Sensor) → MayObey buses state session (SetFb sensor)
       → IsRowOf buses (row_put moment (first_key (fb_device sensor.bus sensor.port)) (value.Fb sensor.on) None)
-  fb_row sensor may =
-      IsRowOf-put buses may.whole.laid_out (first_key (fb_device sensor.bus sensor.port)) moment (value.Fb sensor.on) None
-      may.of now (refl, refl) tt
+  fb_row sensor may = IsRowOf-put buses may.whole.laid_out _ _ _ _ may.of now (refl, refl) tt

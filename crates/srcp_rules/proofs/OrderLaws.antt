@@ -1,6 +1,6 @@
 -- Keys by bus, by group on one bus, by address in one group, and by port of one device.
 use Rattle.srcp_rules.proofs.Names
-use Names.{◌≡◌, ℕ, ◌<◌, true, false, refl, sym, ap, ◌∙◌, nat_cmp, ordering_then, Ordering, Less, Equal, Greater, Group, Key, Device}
+use Names.{arith, ◌≡◌, ℕ, ◌<◌, true, false, refl, sym, ap, ◌∙◌, nat_cmp, ordering_then, Ordering, Less, Equal, Greater, Group, Key, Device}
 use Names.{key_cmp, device_of, owns, nat_tie, owns-device_of, device_from_owns, key_at, IsIn, false_from_ne_true}
 use Rattle.srcp_info.specs.Key.{group_place, group_cmp}
 use Rattle.srcp_info.proofs.KeyLaws.{same_group}
@@ -41,11 +41,7 @@ pub port_order : (device : Device) (p q : ℕ) → p < q → key_cmp (key_at dev
 port_order device p q h = device_order (key_at device p) (key_at device q) refl refl refl ∙ less p q h
 
 leads : (o p r s : Ordering) → (o ≡ Equal → p ≡ Equal → ⊥) → ordering_then o (ordering_then p r) ≡ ordering_then o (ordering_then p s)
-leads Less p r s h = refl
-leads Equal Less r s h = refl
-leads Equal Equal r s h = absurd (h refl refl)
-leads Equal Greater r s h = refl
-leads Greater p r s h = refl
+leads o p r s h = grind arith
 
 in_group : (bus : ℕ) (g : Group) (a b : Key) → IsIn bus g a
     → key_cmp a b ≡ ordering_then (nat_cmp bus b.bus) (ordering_then (group_cmp g b.group) (inner a b))

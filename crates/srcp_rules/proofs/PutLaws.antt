@@ -1,6 +1,6 @@
 -- Looking through two lists of rows, one after the other, and changing one of them.
 use Rattle.srcp_rules.proofs.Names
-use Names.{◌≡◌, Bool, true, false, not, List, [], ◌∷◌, ◌++◌, filter, find, None, refl, sym, ap, ◌∙◌, append_assoc, append-nil, find-append}
+use Names.{◌≡◌, Bool, true, false, not, List, [], ◌∷◌, ◌++◌, filter, find, None, refl, sym, ap, ◌∙◌, append_assoc, find-append}
 use Names.{AllByRecursion, option_or, is_gt, Less, Device, Row, key_cmp, is_after, owns, after_from_less, filter_every, State, IsRising}
 use Names.{put_row, without, put_rows, weaken}
 use Rattle.std.proofs.lemmas.List.Elements.{filter-append}
@@ -38,40 +38,18 @@ module _ (row : Row) where
   pub put_row-past : (xs ys : State) → AllByRecursion (λ x. key_cmp x.shown.key row.shown.key ≡ Less) xs
       → put_row row (xs ++ ys) ≡ xs ++ put_row row ys
   put_row-past xs ys h =
-      (λ i. filter-append lower xs ys i ++ row ∷ filter-append higher xs ys i)
-      ∙ (λ i.
-      (filter_every lower xs
-      (weaken xs h (λ x e. after_from_less row.shown.key x.shown.key e)) i
-      ++ filter lower ys)
-      ++ row
-      ∷ (filter_no_one higher xs (weaken xs h (λ x e. ap is_gt e)) i
-      ++ filter higher ys))
-      ∙ append_assoc xs (filter lower ys) (row ∷ filter higher ys)
-
-  -- before rows that are above it
-  pub put_row-before : (xs ys : State) → AllByRecursion (λ y. key_cmp row.shown.key y.shown.key ≡ Less) ys
-      → put_row row (xs ++ ys) ≡ put_row row xs ++ ys
-  put_row-before xs ys h =
-      (λ i. filter-append lower xs ys i ++ row ∷ filter-append higher xs ys i)
-      ∙ (λ i.
-      (filter lower xs
-      ++ filter_no_one lower ys (weaken ys h (λ y e. ap is_gt e)) i)
-      ++ row
-      ∷ (filter higher xs
-      ++ filter_every higher ys
-      (weaken ys h (λ y e. after_from_less y.shown.key row.shown.key e)) i))
-      ∙ ap (λ zs. zs ++ row ∷ (filter higher xs ++ ys)) (append-nil (filter lower xs))
-      ∙ sym (append_assoc (filter lower xs) (row ∷ filter higher xs) ys)
+      rw (
+        filter-append lower xs ys,
+        filter-append higher xs ys,
+        filter_every lower xs (weaken xs h (λ x e. after_from_less row.shown.key x.shown.key e)),
+        filter_no_one higher xs (weaken xs h (λ x e. ap is_gt e)),
+      )
+      (append_assoc xs (filter lower ys) (row ∷ filter higher ys))
 
 pub put_rows-past : (rows xs ys : State) → AllByRecursion (λ row. AllByRecursion (λ x. key_cmp x.shown.key row.shown.key ≡ Less) xs) rows
     → put_rows rows (xs ++ ys) ≡ xs ++ put_rows rows ys
 put_rows-past [] xs ys h = refl
 put_rows-past (row ∷ rows) xs ys h = ap (put_rows rows) (put_row-past row xs ys h.0) ∙ put_rows-past rows xs (put_row row ys) h.1
-
-pub put_rows-before : (rows xs ys : State) → AllByRecursion (λ row. AllByRecursion (λ y. key_cmp row.shown.key y.shown.key ≡ Less) ys) rows
-    → put_rows rows (xs ++ ys) ≡ put_rows rows xs ++ ys
-put_rows-before [] xs ys h = refl
-put_rows-before (row ∷ rows) xs ys h = ap (put_rows rows) (put_row-before row xs ys h.0) ∙ put_rows-before rows (put_row row xs) ys h.1
 
 -- rows by rising key, if there are none
 pub put_rows-new : (rows : State) → IsRising rows → put_rows rows [] ≡ rows
@@ -82,24 +60,6 @@ put_rows-new (row ∷ rows) h =
 
 -- ---- taking out the rows of a device
 
-module _ (device : Device) where
-  abbrev stays : Row → Bool
-  stays row = not (owns device row.shown.key)
-
-  pub without-past : (xs ys : State) → AllByRecursion (λ x. owns device x.shown.key ≡ false) xs
-      → without device (xs ++ ys) ≡ xs ++ without device ys
-  without-past xs ys h =
-      filter-append stays xs ys
-      ∙ ap (λ zs. zs ++ filter stays ys)
-      (filter_every stays xs (weaken xs h (λ x e. ap not e)))
-
-  pub without-before : (xs ys : State) → AllByRecursion (λ y. owns device y.shown.key ≡ false) ys
-      → without device (xs ++ ys) ≡ without device xs ++ ys
-  without-before xs ys h =
-      filter-append stays xs ys
-      ∙ ap (λ zs. filter stays xs ++ zs)
-      (filter_every stays ys (weaken ys h (λ y e. ap not e)))
-
-  -- if all are the device's, none is left
-  pub without-all : (xs : State) → AllByRecursion (λ x. owns device x.shown.key ≡ true) xs → without device xs ≡ []
-  without-all xs h = filter_no_one stays xs (weaken xs h (λ x e. ap not e))
+-- if all are the device's, none is left
+pub without-all : (device : Device) (xs : State) → AllByRecursion (λ x. owns device x.shown.key ≡ true) xs → without device xs ≡ []
+without-all device xs h = filter_no_one (λ row. not (owns device row.shown.key)) xs (weaken xs h (λ x e. ap not e))

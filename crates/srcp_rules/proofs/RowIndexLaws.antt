@@ -1,9 +1,9 @@
 -- Where a key is among rows by rising key, and what a write or an insert there gives.
 use Rattle.srcp_rules.proofs.Names
 use Names.{◌≡◌, ℕ, zero, suc, ◌<◌, ◌≤◌, Bool, [], ◌∷◌, ◌++◌, length, take, drop, insert, slice_set, slice_index_or, Some, None, Result, Ok}
-use Names.{Err, refl, sym, ap, subst, ◌∙◌, arith, take-append-drop, find-append, option_or, AllByRecursion, is_eq, ordering_reverse}
-use Names.{Ordering, Less, Equal, Greater, Key, Row, Cursor, key_cmp, has_reached, key_tie, key_cmp_total, reached_below, State, IsRising}
-use Names.{row_at, put_row, HasKeyAt, each_at, weaken}
+use Names.{Err, refl, sym, ap, subst, ◌∙◌, arith, take-append-drop, AllByRecursion, is_eq, ordering_reverse, Ordering, Less, Equal, Greater}
+use Names.{Key, Row, Cursor, key_cmp, has_reached, key_tie, key_cmp_total, reached_below, State, IsRising, row_at, put_row, HasKeyAt}
+use Names.{each_at, weaken}
 use Rattle.std.specs.Prelude.{IfOk, IfErr}
 use Rattle.std.proofs.lemmas.List.{set_split}
 use Rattle.std.specs.List.Sorted.{IsSearchInRange, IsBinarySearchResult, IsNonDecreasingBy, IsPartitionedBy}
@@ -13,7 +13,7 @@ use Rattle.srcp_rules.specs.KeyIndex.{IsGapAt}
 use Rattle.srcp_rules.proofs.KeyLaws.{same_key, not_after}
 use Rattle.srcp_rules.proofs.StateLaws.{row_key, row_at-first, row_at-later}
 use Rattle.srcp_grammar.proofs.PlaceLaws.{front_each, back_each, Follows, partitioned, non_decreasing}
-use Rattle.srcp_rules.proofs.PutLaws.{find_none}
+use Rattle.srcp_rules.proofs.PutLaws.{find_none, find_past}
 
 abbrev Below : Row → Row → Type 0
 Below a b = key_cmp a.shown.key b.shown.key ≡ Less
@@ -21,19 +21,12 @@ Below a b = key_cmp a.shown.key b.shown.key ≡ Less
 -- ---- searching
 
 greatest : (r : Ordering) → ordering_index r ≤ 2
-greatest Less = omega arith
-greatest Equal = omega arith
-greatest Greater = omega arith
+greatest r = grind arith
 
 index_step : (key a b : Key) → key_cmp a b ≡ Less → (q : Ordering) → key_cmp b key ≡ q → ordering_index (key_cmp a key) ≤ ordering_index q
-index_step key a b less Less e =
-    subst (λ r. ordering_index r ≤ ordering_index Less) (sym (key_cmp_total.trans a b key less e)) (omega arith)
-index_step key a b less Equal e =
-    subst (λ r. ordering_index r ≤ ordering_index Equal) (sym (ap (key_cmp a) (sym (key_tie b key e)) ∙ less)) (omega arith)
+index_step key a b less Less e = rw (key_cmp_total.trans a b key less e) (omega arith)
+index_step key a b less Equal e = rw (ap (key_cmp a) (sym (key_tie b key e)) ∙ less) (omega arith)
 index_step key a b less Greater e = greatest (key_cmp a key)
-
-turned : (a b : Key) → key_cmp a b ≡ Greater → key_cmp b a ≡ Less
-turned a b e = key_cmp_total.antisymm b a ∙ ap ordering_reverse e
 
 module _ (state : State) (rising : IsRising state) (key : Key) where
   compared : IsNonDecreasingBy (λ row. ordering_index (key_cmp row.shown.key key)) state
@@ -53,7 +46,7 @@ module _ (state : State) (rising : IsRising state) (key : Key) where
       below = front_each (λ row. key_cmp row.shown.key key ≡ Less) state index within (parted compared).0;
       above =
           back_each (λ row. key_cmp key row.shown.key ≡ Less) state index
-          (λ k d low high. turned (slice_index_or state k d).shown.key key ((parted compared).1 k d low high));
+          (λ k d low high. key_cmp_total.antisymm key _ ∙ ap ordering_reverse ((parted compared).1 k d low high));
     },
   )
 
@@ -73,13 +66,10 @@ row_at-here (row ∷ state) rising key (suc index) at d =
 pub row_at-gap : (state : State) (key : Key) (index : ℕ) → IsGapAt state key index → row_at key state ≡ None
 row_at-gap state key index gap =
     ap (row_at key) (sym (take-append-drop index state))
-    ∙ find-append (λ row. same_key row.shown.key key) (take index state) (drop index state)
-    ∙ (λ i.
-    option_or (find_none (λ row. same_key row.shown.key key) (take index state)
-    (weaken (take index state) gap.below (λ row h. ap is_eq h)) i)
-    (find_none (λ row. same_key row.shown.key key) (drop index state)
+    ∙ find_past (λ row. same_key row.shown.key key) (take index state) (drop index state)
+    (weaken (take index state) gap.below (λ row h. ap is_eq h))
+    ∙ find_none (λ row. same_key row.shown.key key) (drop index state)
     (weaken (drop index state) gap.above (λ row h. ap is_eq (key_cmp_total.antisymm row.shown.key key ∙ ap ordering_reverse h)))
-    i))
 
 -- ---- writing
 

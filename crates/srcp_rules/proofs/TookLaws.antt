@@ -1,6 +1,6 @@
 -- What holds of whatever a command of the layout does.
 use Rattle.srcp_rules.proofs.Names
-use Names.{ℕ, ◌≤◌, List, [], ◌∷◌, length, map, sym, ap, subst, inl, inr, arith, AllByRecursion, IsMoment, IsWellFormed, Bus, Command, State}
+use Names.{each-map, ℕ, ◌≤◌, List, length, sym, ap, subst, inl, inr, arith, AllByRecursion, IsMoment, IsWellFormed, Bus, Command, State}
 use Names.{Update, IsWhole, effect, MayObey}
 use Rattle.std.proofs.lemmas.List.{length-map}
 use Rattle.srcp_info.specs.WellFormed.{IsWellFormedReply}
@@ -9,11 +9,6 @@ use Rattle.srcp_rules.specs.Obeyed.{IsObeyed}
 use Rattle.srcp_rules.proofs.CountLaws.{effect_few}
 use Rattle.srcp_rules.proofs.EffectLaws.{effect_kept}
 use Rattle.srcp_rules.proofs.ToldLaws.{effect_told, reply_told}
-
-each_change : (updates : List Update) → AllByRecursion (λ update. IsWellFormed update.change) updates
-    → AllByRecursion IsWellFormed (map (λ update. update.change) updates)
-each_change [] h = tt
-each_change (update ∷ updates) h = (h.0, each_change updates h.1)
 
 pub obeyed_all : (buses : List Bus) (state after : State) (session moment : ℕ) → IsMoment moment → (command : Command)
     → MayObey buses state session command → (obeyed : Obeyed) → IsObeyed state after session moment command obeyed
@@ -27,7 +22,8 @@ obeyed_all buses state after session moment now command may obeyed (inl took) =
       subst (IsWhole buses) (sym took.rows) (effect_kept buses state may.whole session moment may.begun now command may.of),
       subst IsWellFormedReply (sym took.told.reply) (reply_told buses state may.whole session moment may.begun now command),
       subst (AllByRecursion IsWellFormed) (sym took.told.changes)
-          (each_change updates (effect_told buses state may.whole session moment may.begun now command may.of)),
+          (each-map IsWellFormed (λ update. update.change) updates
+          (effect_told buses state may.whole session moment may.begun now command may.of)),
       omega (arith, few, same, long),
     )
 obeyed_all buses state after session moment now command may obeyed (inr wants) =

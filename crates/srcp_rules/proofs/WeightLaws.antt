@@ -1,8 +1,9 @@
 -- A line brings at most its weight.
 use Rattle.srcp_rules.proofs.Names
-use Names.{◌≡◌, ℕ, ◌≤◌, Bool, true, false, cond, ◌&&◌, length, find, List, [], ◌∷◌, Option, Some, None, Result, Ok, Err, refl, sym, ap}
-use Names.{subst, ◌∙◌, arith, false_from_ne_true, second_so, option_map, Code, Bus, Command, SetPower, SetGl, CheckGl, SetGa, CheckGa}
-use Names.{SetFb, SetLock, CheckLock, bus_at, State, Update, IsCommandOf, effect}
+use Names.{true≢false, ◌==◌, ◌≡◌, ℕ, ◌≤◌, Bool, true, false, cond, ◌&&◌, length, find, List, [], ◌∷◌, Option, Some, None, Result, Ok, Err}
+use Names.{refl, sym, ap, subst, ◌∙◌, arith, false_from_ne_true, second_so, option_map, Code, Bus, Command, SetPower, SetGl, CheckGl, SetGa}
+use Names.{CheckGa, SetFb, SetLock, CheckLock, bus_at, State, Update, IsCommandOf, effect}
+use Rattle.std.proofs.Common.{eq-eqb}
 use Rattle.std.specs.Prelude.{codes, IfOk}
 use Rattle.std.proofs.lemmas.List.{length-map}
 use Rattle.std.proofs.lemmas.Slice.Eq.{bytes_eq-Decides}
@@ -18,8 +19,8 @@ use Rattle.srcp_grammar.specs.declared.command.CommandGroup.TheVariants.{Session
 use Rattle.srcp_grammar.specs.declared.command.Command.TheVariants.{GetSession, TermSession, GetPower, CheckPower, GetGl, GetGa, GetFb}
 use Rattle.srcp_grammar.specs.declared.command.Command.TheVariants.{CheckFb, GetLock}
 use Rattle.srcp_grammar.specs.Layout.{has_group}
-use Rattle.srcp_grammar.specs.Grammar.{◌>>=◌, number_in, groups, named_in, alone, one_number, term_session, powered, driven}
-use Rattle.srcp_grammar.specs.Grammar.{ga_port, get_ga, switched, sensed, named_lock, timed_lock, asked, directed, parsed}
+use Rattle.srcp_grammar.specs.Grammar.{◌>>=◌, number_in, groups, named_in, alone, one_number, term_session, powered, driven, ga_port}
+use Rattle.srcp_grammar.specs.Grammar.{get_ga, switched, sensed, named_lock, timed_lock, asked, directed, parsed}
 use Rattle.srcp_rules.specs.Weight.{names_session, weight_of, weight, LinesWeighEnough, WeightsAreSmall, GoesWeighOne}
 use Rattle.srcp_grammar.proofs.GrammarLaws.{read_any, then_ok, reads_fits}
 use Rattle.srcp_rules.proofs.CountLaws.{effect_few}
@@ -38,8 +39,7 @@ module _ (P : Command → Type 0) where
   All r = IfOk r P
 
   alone_all : (command : Command) (words : List (List ℕ)) → P command → All (alone command words)
-  alone_all command [] h = h
-  alone_all command (w ∷ ws) h = tt
+  alone_all command words h = grind arith
 
   one_number_all : (least most : ℕ) (make : ℕ → Command) (words : List (List ℕ)) → ((n : ℕ) → P (make n))
       → All (one_number least most make words)
@@ -78,47 +78,35 @@ module _ (state : State) (session moment : ℕ) where
   AtMost n updates = length updates ≤ n
 
   abbrev Brings : ℕ → Command → Type 0
-  Brings n command = AtMost n (effect state session moment command).updates
-
-  brings : (n : ℕ) (command : Command) → AtMost n (changes_of state session moment command) → Brings n command
-  brings n command h = of_changes state session moment (AtMost n) (omega arith) command (λ none. h)
+  Brings n command = AtMost n (changes_of state session moment command)
 
   gets_none : (g : CommandGroup) (bus : Bus) (words : List (List ℕ)) → IfOk (asked bus Get g words) (Brings 0)
-  gets_none Session bus words = one_number_all (Brings 0) 0 4294967295 GetSession words (λ n. brings 0 (GetSession n) (omega arith))
-  gets_none Power bus words = alone_all (Brings 0) (GetPower bus.number) words (brings 0 (GetPower bus.number) (omega arith))
-  gets_none Gl bus words =
-      one_number_all (Brings 0) 1 bus.gl_max (GetGl bus.number) words (λ a. brings 0 (GetGl bus.number a) (omega arith))
-  gets_none Ga bus words = get_ga_all (Brings 0) bus words (λ a p. brings 0 (GetGa bus.number a p) (omega arith))
-  gets_none Fb bus words =
-      one_number_all (Brings 0) 1 bus.fb_ports (GetFb bus.number) words (λ p. brings 0 (GetFb bus.number p) (omega arith))
-  gets_none Lock bus words =
-      read_any (Brings 0) (named_lock bus words) (λ place. Ok (GetLock place)) (λ place. brings 0 (GetLock place) (omega arith))
+  gets_none Session bus words = one_number_all (Brings 0) 0 4294967295 GetSession words (λ n. omega arith)
+  gets_none Power bus words = alone_all (Brings 0) (GetPower bus.number) words (omega arith)
+  gets_none Gl bus words = one_number_all (Brings 0) 1 bus.gl_max (GetGl bus.number) words (λ a. omega arith)
+  gets_none Ga bus words = get_ga_all (Brings 0) bus words (λ a p. omega arith)
+  gets_none Fb bus words = one_number_all (Brings 0) 1 bus.fb_ports (GetFb bus.number) words (λ p. omega arith)
+  gets_none Lock bus words = read_any (Brings 0) (named_lock bus words) (λ place. Ok (GetLock place)) (λ place. omega arith)
 
   checks_none : (g : CommandGroup) (bus : Bus) (words : List (List ℕ)) → IfOk (asked bus Check g words) (Brings 0)
   checks_none Session bus words = tt
   checks_none Power bus words = read_any (Brings 0) (powered bus words) (λ power. Ok (CheckPower power)) (λ power. omega arith)
-  checks_none Gl bus words =
-      read_any (Brings 0) (driven bus words) (λ drive. Ok (CheckGl drive)) (λ drive. brings 0 (CheckGl drive) (omega arith))
-  checks_none Ga bus words =
-      read_any (Brings 0) (switched bus words) (λ switch. Ok (CheckGa switch)) (λ switch. brings 0 (CheckGa switch) (omega arith))
+  checks_none Gl bus words = read_any (Brings 0) (driven bus words) (λ drive. Ok (CheckGl drive)) (λ drive. omega arith)
+  checks_none Ga bus words = read_any (Brings 0) (switched bus words) (λ switch. Ok (CheckGa switch)) (λ switch. omega arith)
   checks_none Fb bus words = read_any (Brings 0) (sensed bus words) (λ sensor. Ok (CheckFb sensor)) (λ sensor. omega arith)
-  checks_none Lock bus words =
-      read_any (Brings 0) (timed_lock bus words) (λ lock. Ok (CheckLock lock)) (λ lock. brings 0 (CheckLock lock) (omega arith))
+  checks_none Lock bus words = read_any (Brings 0) (timed_lock bus words) (λ lock. Ok (CheckLock lock)) (λ lock. omega arith)
 
   sets_one : (g : CommandGroup) (bus : Bus) (words : List (List ℕ)) → IfOk (asked bus Set g words) (Brings 1)
   sets_one Session bus words = tt
   sets_one Power bus words = read_any (Brings 1) (powered bus words) (λ power. Ok (SetPower power)) (λ power. omega arith)
-  sets_one Gl bus words =
-      read_any (Brings 1) (driven bus words) (λ drive. Ok (SetGl drive)) (λ drive. brings 1 (SetGl drive) (omega arith))
-  sets_one Ga bus words =
-      read_any (Brings 1) (switched bus words) (λ switch. Ok (SetGa switch)) (λ switch. brings 1 (SetGa switch) (omega arith))
+  sets_one Gl bus words = read_any (Brings 1) (driven bus words) (λ drive. Ok (SetGl drive)) (λ drive. omega arith)
+  sets_one Ga bus words = read_any (Brings 1) (switched bus words) (λ switch. Ok (SetGa switch)) (λ switch. omega arith)
   sets_one Fb bus words = read_any (Brings 1) (sensed bus words) (λ sensor. Ok (SetFb sensor)) (λ sensor. omega arith)
-  sets_one Lock bus words =
-      read_any (Brings 1) (timed_lock bus words) (λ lock. Ok (SetLock lock)) (λ lock. brings 1 (SetLock lock) (omega arith))
+  sets_one Lock bus words = read_any (Brings 1) (timed_lock bus words) (λ lock. Ok (SetLock lock)) (λ lock. omega arith)
 
   of_session : (operation : Operation) (bus : Bus) (words : List (List ℕ)) → IfOk (asked bus operation Session words) (Brings 0)
   of_session Get bus words = gets_none Session bus words
-  of_session Term bus words = term_session_all (Brings 0) words (λ id. brings 0 (TermSession id) (omega arith))
+  of_session Term bus words = term_session_all (Brings 0) words (λ id. omega arith)
   of_session operation bus words = tt
 
   module _ (buses : List Bus) where
@@ -129,17 +117,8 @@ module _ (state : State) (session moment : ℕ) where
     session_named operation (n ∷ []) h = tt
     session_named operation (n ∷ w ∷ ws) h =
         read_any (Brings 0) (bus_named buses n) (λ bus. ok_or (named_in groups w) C421 >>= on_group operation ws bus) (λ bus.
-        subst (λ b. IfOk (ok_or (group_by b) C421 >>= on_group operation ws bus) (Brings 0))
-        (sym (second_so (bytes_eq n (codes "0")) (is_keyword (codes "SESSION") w) h))
+        rw (second_so (bytes_eq n (codes "0")) (is_keyword (codes "SESSION") w) h)
         (then_ok (Brings 0) (has_group bus Session) C422 (asked bus operation Session ws) (λ on. of_session operation bus ws)))
-      where
-        others : List (List ℕ × CommandGroup)
-        others = (codes "POWER", Power) ∷ (codes "GL", Gl) ∷ (codes "GA", Ga) ∷ (codes "FB", Fb) ∷ (codes "LOCK", Lock) ∷ []
-
-        group_by : Bool → Option CommandGroup
-        group_by b =
-            option_map {T = List ℕ × CommandGroup} (λ e. e.1)
-            (cond b (Some (codes "SESSION", Session)) (find (λ e. is_keyword e.0 w) others))
 
 -- ---- keywords
 
@@ -149,11 +128,11 @@ keyword_length keyword word e =
     let same = (bytes_eq-Decides (str_to_ascii_lowercase keyword) (str_to_ascii_lowercase word)).0 e in
     sym (length-map keyword to_ascii_lowercase) ∙ ap length same ∙ length-map word to_ascii_lowercase
 
--- no word is two keywords of different lengths
-other_length : (keyword other word : List ℕ) → is_keyword keyword word ≡ true
-    → (length other ≡ length keyword → ⊥) → is_keyword other word ≡ false
-other_length keyword other word e apart =
-    false_from_ne_true (is_keyword other word) (λ f. apart (keyword_length other word f ∙ sym (keyword_length keyword word e)))
+-- a word that is GO is no keyword of another length
+not_go : (other word : List ℕ) → is_keyword (codes "GO") word ≡ true → (length other == 2) ≡ false → is_keyword other word ≡ false
+not_go other word e apart =
+    false_from_ne_true (is_keyword other word) (λ f.
+    true≢false (sym (eq-eqb _ _ (keyword_length other word f ∙ sym (keyword_length (codes "GO") word e))) ∙ apart))
 
 -- the operations after GET, SET and CHECK
 abbrev rarer : List (List ℕ × Operation)
@@ -162,12 +141,13 @@ rarer = (codes "INIT", Init) ∷ (codes "TERM", Term) ∷ (codes "WAIT", Wait) �
 -- GO is none of them
 go_is_none : (word : List ℕ) → is_keyword (codes "GO") word ≡ true → find (λ e. is_keyword e.0 word) rarer ≡ None
 go_is_none word h =
-    let i = other_length (codes "GO") (codes "INIT") word h (λ e. omega (arith, e)) in
-    let t = other_length (codes "GO") (codes "TERM") word h (λ e. omega (arith, e)) in
-    let w = other_length (codes "GO") (codes "WAIT") word h (λ e. omega (arith, e)) in
-    let v = other_length (codes "GO") (codes "VERIFY") word h (λ e. omega (arith, e)) in
-    let r = other_length (codes "GO") (codes "RESET") word h (λ e. omega (arith, e)) in
-    rw (i, t, w, v, r) refl
+    rw (
+      not_go (codes "INIT") word h refl,
+      not_go (codes "TERM") word h refl,
+      not_go (codes "WAIT") word h refl,
+      not_go (codes "VERIFY") word h refl,
+      not_go (codes "RESET") word h refl,
+    )
 
 -- ---- the whole line
 
@@ -181,15 +161,16 @@ weight_by ends get put check go =
 module _ (state : State) (session moment : ℕ) (buses : List Bus) where
   -- a command of the layout brings at most n changes
   abbrev Weighs : ℕ → Command → Type 0
-  Weighs n command = IsCommandOf buses command → Brings state session moment n command
+  Weighs n command = IsCommandOf buses command → AtMost state session moment n (effect state session moment command).updates
+
+  weighs : (n : ℕ) (c : Command) → Brings state session moment n c → Weighs n c
+  weighs n c h fits = of_changes state session moment (AtMost state session moment n) (omega arith) c (λ none. h)
 
   in_layout : (n : ℕ) (r : Result Command Code) → IfOk r (Brings state session moment n) → IfOk r (Weighs n)
-  in_layout n (Ok c) h = λ fits. h
-  in_layout n (Err code) h = tt
+  in_layout n r h = grind (arith, weighs n)
 
   any_ok : (r : Result Command Code) → ((c : Command) → Weighs 11 c) → IfOk r (Weighs 11)
-  any_ok (Ok c) h = h c
-  any_ok (Err code) h = tt
+  any_ok r h = grind arith
 
   -- the operation by the first word, and the weight of the line
   abbrev operation_by : (get put check : Bool) → Option (List ℕ × Operation) → Result Operation Code
@@ -211,8 +192,7 @@ module _ (state : State) (session moment : ℕ) (buses : List Bus) where
       in_layout 0 (directed buses Check words)
       (directed_all (Brings state session moment 0) buses Check words (checks_none state session moment))
   word_weighs words false false false false true found h absent =
-      subst (λ f. IfOk (operation_by false false false f >>= (λ operation. directed buses operation words)) (Weighs 1))
-      (sym (absent refl)) tt
+      rw (absent refl) tt
   word_weighs words false false false false false found h absent =
       any_ok (operation_by false false false found >>= (λ operation. directed buses operation words))
       (λ c fits. effect_few buses state session moment c fits)
@@ -233,12 +213,7 @@ line_weighs buses state session moment line command layout e =
 -- ---- the weights themselves
 
 small_by : (ends get put check go : Bool) → weight_by ends get put check go ≤ 11
-small_by true get put check go = omega arith
-small_by false true put check go = omega arith
-small_by false false true check go = omega arith
-small_by false false false true go = omega arith
-small_by false false false false true = omega arith
-small_by false false false false false = omega arith
+small_by ends get put check go = grind arith
 
 small_words : (words : List (List ℕ)) → weight_of words ≤ 11
 small_words [] = omega arith
@@ -251,11 +226,13 @@ weights_small line = small_words (words_of line)
 
 go_words : (word : List ℕ) (words : List (List ℕ)) → is_keyword (codes "GO") word ≡ true → weight_of (word ∷ words) ≡ 1
 go_words word words h =
-    let t = other_length (codes "GO") (codes "TERM") word h (λ e. omega (arith, e)) in
-    let g = other_length (codes "GO") (codes "GET") word h (λ e. omega (arith, e)) in
-    let s = other_length (codes "GO") (codes "SET") word h (λ e. omega (arith, e)) in
-    let c = other_length (codes "GO") (codes "CHECK") word h (λ e. omega (arith, e)) in
-    rw (t, g, s, c, h) refl
+    rw (
+      not_go (codes "TERM") word h refl,
+      not_go (codes "GET") word h refl,
+      not_go (codes "SET") word h refl,
+      not_go (codes "CHECK") word h refl,
+      h,
+    )
 
 pub go_weighs_one : GoesWeighOne
 go_weighs_one line word words e h = ap weight_of e ∙ go_words word words h

@@ -1,5 +1,5 @@
 use Rattle.srcp_rules.proofs.Names
-use Names.{first_key, length, refl, [], ◌∷◌, subst, ltb-false, Effect, Took, device_in, functions_of, is_there}
+use Names.{first_key, length, refl, [], ◌∷◌, ltb-false, device_in, functions_of, is_there}
 use Names.devices
 use Rattle.srcp_rules.specs.Effect.{gl_put, gl_refusals}
 use Rattle.srcp_rules.proofs.ObeyLaws.{gl_row, is_not, none_applies, refused_done}
@@ -10,28 +10,31 @@ returns-in-Err-clause-took g c =
     let state = g.R.Rows.state c.args.rows.now in
     let updates = gl_put state c.args.sender.moment c.args.drive.now ∷ [] in
     let refusals = gl_refusals state c.args.sender.session c.args.drive.now in
-    subst (λ (did : Effect). Took did state state c.refuse.new.self) (refused_done refusals updates c.in-Err.code c.in-Err.ensures.refusal)
-    (record { told = c.refuse.ensures; rows = refl })
+    rw (← refused_done refusals updates c.in-Err.code c.in-Err.ensures.refusal) (record { told = c.refuse.ensures; rows = refl })
 
--- the locomotive is there
-pub set_one-requires-clause-there : goal.set_one-requires-clause-there
-set_one-requires-clause-there g c =
+-- the locomotive is there, and no more functions are given than it has
+pub set_one-requires : goal.set_one-requires
+set_one-requires g c =
+    let buses = g.R.Rows.buses c.args.rows.now in
     let state = g.R.Rows.state c.args.rows.now in
     let drive = c.args.drive.now in
     let device = device_in devices.Gl drive.bus drive.address in
-    let none = none_applies (gl_refusals state c.args.sender.session drive) c.in-Ok.ensures.refusal in
-    rw (c.key_at-key.ensures, c.device_at.ensures, c.gl.ensures)
-    (c.requires.may.whole.complete (first_key device) (is_not (is_there device state) none.0) 1 c.requires.may.of.0)
-
--- and no more functions are given than it has
-pub set_one-requires-clause-fits : goal.set_one-requires-clause-fits
-set_one-requires-clause-fits g c =
-    let buses = g.R.Rows.buses c.args.rows.now in
-    let state = g.R.Rows.state c.args.rows.now in
-    let session = c.args.sender.session in
-    let drive = c.args.drive.now in
     let before = functions_of drive.bus drive.address state in
-    let enough = (none_applies (gl_refusals state session drive) c.in-Ok.ensures.refusal).1.0 in
-    rw (c.key_at-key.ensures, c.device_at.ensures, c.gl.ensures, c.kept_speed.ensures, c.functions_after.ensures, c.in-Ok.ensures.before)
-    (gl_row buses state session c.args.sender.moment c.args.sender.fits drive c.requires.may
-    (ltb-false (length before) (length drive.functions) enough))
+    let none = none_applies (gl_refusals state c.args.sender.session drive) c.in-Ok.ensures.refusal in
+    record {
+      blank = c.requires.blank;
+      there =
+          rw (c.key_at-key.ensures, c.device_at.ensures, c.gl.ensures)
+          (c.requires.may.whole.complete (first_key device) (is_not (is_there device state) none.0) 1 c.requires.may.of.0);
+      fits =
+          rw (
+            c.key_at-key.ensures,
+            c.device_at.ensures,
+            c.gl.ensures,
+            c.kept_speed.ensures,
+            c.functions_after.ensures,
+            c.in-Ok.ensures.before,
+          )
+          (gl_row buses state c.args.sender.session c.args.sender.moment c.args.sender.fits drive c.requires.may
+          (ltb-false (length before) (length drive.functions) none.1.0));
+    }

@@ -1,6 +1,5 @@
 use Rattle.srcp_rules.proofs.Names
-use Names.{◌≡◌, List, Result, Ok, Err, OnOk, not, true, false, inl, map, ◌++◌, true≢false, sym, ap, subst, ◌∙◌, rules, Device, Row, Change}
-use Names.{Effect, Took, device_at, is_there, put_of}
+use Names.{◌≡◌, List, Result, Ok, Err, OnOk, not, true, inl, map, ◌++◌, true≢false, sym, ap, ◌∙◌, rules, Row, Change, device_at, put_of}
 use Rattle.std.proofs.Common.{is_ok}
 use Rattle.srcp_rules.specs.declared.obeyed.Memory.{Memory}
 use Rattle.srcp_rules.proofs.InitLaws.{added, changes_made, rows_made, init_accepted}
@@ -16,8 +15,7 @@ add-requires g c =
     let state = g.R.Rows.state c.args.rows.now in
     let target = c.args.target in
     let device = device_at target in
-    let absent : is_there device state ≡ false =
-    ap (λ (d : Device). is_there d state) (sym c.device_at.ensures) ∙ sym c.is_there.ensures ∙ c.if-is_there.false in (
+    let absent = rw (c.is_there.ensures, c.device_at.ensures) at c.if-is_there.false in (
       device,
       added buses state c.requires.whole c.args.sender.moment target.group target.bus target.address c.args.fresh.now
           c.requires.fresh c.requires.some absent,
@@ -29,8 +27,7 @@ returns-clause-took g c =
     let state = g.R.Rows.state c.args.rows.now in
     let target = c.args.target in
     let device = device_at target in
-    let absent : is_there device state ≡ false =
-    ap (λ (d : Device). is_there d state) (sym c.device_at.ensures) ∙ sym c.is_there.ensures ∙ c.if-is_there.false in
+    let absent = rw (c.is_there.ensures, c.device_at.ensures) at c.if-is_there.false in
     let fresh = c.args.fresh.now in
     let free = sym c.is_locked.ensures ∙ c.if-is_locked.false in
     let other = sym c.has_init.ensures ∙ c.if-has_init.false in
@@ -42,9 +39,7 @@ returns-clause-took g c =
     on_ok c.add.result _ succeeded c.add.ensures.ok
     ∙ rows_made buses state c.requires.whole c.args.sender.moment target.group target.bus target.address fresh absent in
     inl
-    (subst (λ (did : Effect).
-    Took did state (g.R.Rows.state c.add.new.self) (record c.args.obeyed.now { changes = c.push_puts.new.changes }))
-    (init_accepted state c.args.sender.session c.args.sender.moment target.group target.bus target.address c.args.init.now
+    (rw (← init_accepted state c.args.sender.session c.args.sender.moment target.group target.bus target.address c.args.init.now
     (map put_of fresh) free other)
     (record { told = record { reply = c.requires.blank.reply; changes = changes; ends = c.requires.blank.ends }; rows = rows }))
 

@@ -1,4 +1,4 @@
-use Rattle.srcp_rules.proofs.Names.{device_at}
+use Rattle.srcp_rules.proofs.Names.{device_at, ◌∙◌}
 use Rattle.srcp_rules.proofs.PutRowsLaws.{each_there}
 use Rattle.srcp_rules.proofs.InitLaws.{unlocked, unlocked_whole, unlocked_there, changes_remade, rows_remade}
 use Rattle.srcp_rules.proofs.init.remake.Goals as goal
@@ -14,16 +14,18 @@ set_all-requires g c =
     (unlocked buses state c.requires.whole c.args.moment target.group target.bus target.address)
     (unlocked_whole buses state c.requires.whole c.args.moment target.group target.bus target.address) there)
 
-pub returns-clause-changes : goal.returns-clause-changes
-returns-clause-changes g c =
-    let target = c.args.target in
-    rw (c.push_puts.ensures, c.push.ensures.items, c.remove_if_there.ensures.changes, c.lock_at.ensures, c.device_at.ensures)
-    (changes_remade (g.R.Rows.buses c.args.rows.now) (g.R.Rows.state c.args.rows.now) c.requires.whole c.args.moment
-    target.group target.bus target.address c.args.fresh.now c.requires.there)
-
-pub returns-clause-rows : goal.returns-clause-rows
-returns-clause-rows g c =
-    let target = c.args.target in
-    rw (c.set_all.ensures.rows, c.remove_if_there.ensures.rows, c.lock_at.ensures)
-    (rows_remade (g.R.Rows.buses c.args.rows.now) (g.R.Rows.state c.args.rows.now) c.requires.whole c.args.moment
-    target.group target.bus target.address c.args.fresh.now c.requires.there c.requires.fresh)
+pub returns : goal.returns
+returns g c =
+    let buses = g.R.Rows.buses c.args.rows.now in
+    let state = g.R.Rows.state c.args.rows.now in
+    let t = c.args.target in
+    record {
+      changes =
+          rw (c.push_puts.ensures, c.push.ensures.items, c.remove_if_there.ensures.changes, c.lock_at.ensures, c.device_at.ensures)
+          (changes_remade buses state c.requires.whole c.args.moment t.group t.bus t.address c.args.fresh.now c.requires.there);
+      rows =
+          rw (c.set_all.ensures.rows, c.remove_if_there.ensures.rows, c.lock_at.ensures)
+          (rows_remade buses state c.requires.whole c.args.moment t.group t.bus t.address c.args.fresh.now c.requires.there
+          c.requires.fresh);
+      layout = c.set_all.ensures.layout ∙ c.remove_if_there.ensures.layout;
+    }

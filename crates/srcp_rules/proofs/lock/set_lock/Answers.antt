@@ -1,5 +1,5 @@
 use Rattle.srcp_rules.proofs.Names
-use Names.{◌≡◌, false, [], ◌∷◌, refl, sym, ap, subst, inl, ◌∙◌, Device, Effect, lock_end, refusals, Took, lock_at, is_there, put_of}
+use Names.{[], ◌∷◌, refl, inl, lock_end, refusals, lock_at, put_of}
 use Names.value
 use Rattle.srcp_rules.specs.Effect.{row_of_lock}
 use Rattle.srcp_rules.proofs.AddingLaws.{single_added}
@@ -18,8 +18,7 @@ add-requires g c =
     let buses = g.R.Rows.buses c.args.rows.now in
     let state = g.R.Rows.state c.args.rows.now in
     let device = lock_at c.args.lock.target in
-    let absent : is_there device state ≡ false =
-    ap (λ (d : Device). is_there d state) (sym c.lock_at-device.ensures) ∙ sym c.is_there.ensures ∙ c.if-is_there.false in
+    let absent = rw (c.is_there.ensures, c.lock_at-device.ensures) at c.if-is_there.false in
     let fits = lock_row buses state c.args.sender.session c.args.sender.moment c.args.sender.fits c.args.lock c.requires.may in (
       device,
       rw (c.row_put-row.ensures, c.first_key-2.ensures, c.lock_at-device.ensures, c.lock_end-due.ensures)
@@ -34,5 +33,4 @@ returns-in-Some-clause-obeyed g c =
     let lock = c.args.lock in
     let refused = refusals state c.args.sender.session lock.target.group lock.target.bus lock.target.address in
     let put = put_of (row_of_lock c.args.sender.moment c.args.sender.session lock) in
-    inl (subst (λ (did : Effect). Took did state state c.refuse.new.self)
-    (refused_done refused (put ∷ []) c.in-Some.code c.in-Some.ensures) (record { told = c.refuse.ensures; rows = refl }))
+    inl (rw (← refused_done refused (put ∷ []) c.in-Some.code c.in-Some.ensures) (record { told = c.refuse.ensures; rows = refl }))

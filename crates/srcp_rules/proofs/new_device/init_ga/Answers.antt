@@ -1,11 +1,7 @@
 use Rattle.srcp_rules.proofs.Names
-use Names.{◌≡◌, ℕ, ◌+◌, ◌≤◌, List, map, not, take, sym, ap, subst, ◌∙◌, Device, Row, device_in, device_at, Update, is_there, put_of}
-use Names.{AreRowsOf}
-use Names.value
+use Names.{◌≡◌, ℕ, ◌+◌, ◌≤◌, List, map, take, ap, ◌∙◌, Device, Row, device_in, device_at, put_of}
 use Names.devices
 use Rattle.srcp_info.specs.declared.value.Letter.{Letter}
-use Rattle.srcp_rules.specs.Effect.{init_device}
-use Rattle.srcp_rules.specs.Obeyed.{TookUnless}
 use Rattle.srcp_rules.proofs.NewRowLaws.{ga_fresh, ga_taken, ga_rows, ga_puts}
 use Rattle.srcp_rules.proofs.new_device.init_ga.Goals as goal
 
@@ -28,9 +24,8 @@ init_device-requires-clause-fresh g c =
     let rows =
     handed c.args.sender.moment c.ga_rows-most.result c.device_at.result device
     ga.letter ga.ports c.from.result c.requires.may.of.1 c.ga_rows-most.ensures made c.from.ensures in
-    rw (c.ga-target.ensures)
-    (subst (λ (rows : List Row). AreRowsOf buses device rows) (sym rows)
-    (ga_rows buses state c.args.sender.session c.args.sender.moment c.args.sender.fits ga c.requires.may))
+    rw (c.ga-target.ensures, rows)
+    ((ga_rows buses state c.args.sender.session c.args.sender.moment c.args.sender.fits ga c.requires.may))
 
 pub returns-clause-obeyed : goal.returns-clause-obeyed
 returns-clause-obeyed g c =
@@ -42,12 +37,5 @@ returns-clause-obeyed g c =
     let rows =
     handed c.args.sender.moment c.ga_rows-most.result c.device_at.result device
     ga.letter ga.ports c.from.result c.requires.may.of.1 c.ga_rows-most.ensures made c.from.ensures in
-    let took = c.init_device.ensures.took in
-    subst
-    (λ (updates : List Update).
-    TookUnless
-    (init_device state c.args.sender.session c.args.sender.moment devices.Ga ga.bus ga.address
-    (value.GaInit ga.letter) updates) state
-    (g.R.Rows.state c.init_device.new.rows) c.init_device.new.obeyed (not (is_there device state)))
-    (ap (map put_of) rows ∙ ga_puts c.args.sender.moment ga)
-    (rw (c.ga-target.ensures) at took)
+    let took = rw (c.ga-target.ensures) at c.init_device.ensures.took in
+    rw (ap (map put_of) rows ∙ ga_puts c.args.sender.moment ga) at took

@@ -12,37 +12,28 @@ carry_out-requires g c =
 
 -- ---- no row is due
 
-pub returns-in_err-row-clause-change : goal.returns-in_err-row-clause-change
-returns-in_err-row-clause-change g c =
-    rw (c.from_residual.ensures, none_due c.requires.whole c.args.moment c.ranges.moment.fits c.args.cursor c.in_err-row.ensures.row)
-
-pub returns-in_err-row-clause-rows : goal.returns-in_err-row-clause-rows
-returns-in_err-row-clause-rows g c =
-    rw (c.next_due.ensures.rows, none_due c.requires.whole c.args.moment c.ranges.moment.fits c.args.cursor c.in_err-row.ensures.row)
+pub returns-in_err-row : goal.returns-in_err-row
+returns-in_err-row g c =
+    let none = none_due c.requires.whole c.args.moment c.ranges.moment.fits c.args.cursor c.in_err-row.ensures.row in
+    record {
+      change = rw (c.from_residual.ensures, none);
+      rows = rw (c.next_due.ensures.rows, none);
+      layout = c.next_due.ensures.layout;
+      whole = rw (c.next_due.ensures.layout, c.next_due.ensures.rows) c.requires.whole;
+      well_formed = rw c.from_residual.ensures tt;
+      adds_no_row = rw c.from_residual.ensures tt;
+    }
 
 -- ---- the first that is
 
-pub returns-clause-change : goal.returns-clause-change
-returns-clause-change g c =
+pub returns : goal.returns
+returns g c =
     let due = next_due c.requires.whole c.args.moment c.ranges.moment.fits c.args.cursor c.in_ok-row.row c.in_ok-row.ensures.row in
-    rw (c.carry_out.ensures.change, due.first)
-
-pub returns-clause-rows : goal.returns-clause-rows
-returns-clause-rows g c =
-    let due = next_due c.requires.whole c.args.moment c.ranges.moment.fits c.args.cursor c.in_ok-row.row c.in_ok-row.ensures.row in
-    rw (c.carry_out.ensures.rows, c.next_due.ensures.rows, due.first)
-
-pub returns-clause-whole : goal.returns-clause-whole
-returns-clause-whole g c =
-    let due = next_due c.requires.whole c.args.moment c.ranges.moment.fits c.args.cursor c.in_ok-row.row c.in_ok-row.ensures.row in
-    rw (c.carry_out.ensures.layout, c.carry_out.ensures.rows, c.next_due.ensures.layout, c.next_due.ensures.rows) due.whole
-
-pub returns-clause-well_formed : goal.returns-clause-well_formed
-returns-clause-well_formed g c =
-    let due = next_due c.requires.whole c.args.moment c.ranges.moment.fits c.args.cursor c.in_ok-row.row c.in_ok-row.ensures.row in
-    rw c.carry_out.ensures.change due.told
-
-pub returns-clause-adds_no_row : goal.returns-clause-adds_no_row
-returns-clause-adds_no_row g c =
-    let due = next_due c.requires.whole c.args.moment c.ranges.moment.fits c.args.cursor c.in_ok-row.row c.in_ok-row.ensures.row in
-    rw c.carry_out.ensures.change due.adds
+    record {
+      change = rw (c.carry_out.ensures.change, due.first);
+      rows = rw (c.carry_out.ensures.rows, c.next_due.ensures.rows, due.first);
+      layout = rw (c.carry_out.ensures.layout, c.next_due.ensures.layout);
+      whole = rw (c.carry_out.ensures.layout, c.carry_out.ensures.rows, c.next_due.ensures.layout, c.next_due.ensures.rows) due.whole;
+      well_formed = rw c.carry_out.ensures.change due.told;
+      adds_no_row = rw c.carry_out.ensures.change due.adds;
+    }

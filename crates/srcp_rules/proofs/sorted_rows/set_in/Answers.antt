@@ -1,12 +1,10 @@
-use Rattle.srcp_rules.proofs.Names.{is_some, sym, ap, subst, ◌∙◌, true≢false, row_at, HasKeyAt}
+use Rattle.srcp_rules.proofs.Names.{is_some, sym, ap, ◌∙◌, true≢false, row_at}
 use Rattle.srcp_rules.proofs.RowIndexLaws.{set-put_row, row_at-gap}
 use Rattle.srcp_rules.proofs.sorted_rows.set_in.Goals as goal
 
 pub returns-in-Ok : goal.returns-in-Ok
 returns-in-Ok c =
-    let items = c.args.rows.now.items in
-    set-put_row items c.requires.rising c.args.row c.in-Ok.index
-    (subst (λ state. HasKeyAt state c.args.row.shown.key c.in-Ok.index) c.deref.ensures.value c.in-Ok.ensures.at)
+    set-put_row c.args.rows.now.items c.requires.rising c.args.row c.in-Ok.index (rw c.deref.ensures.value at c.in-Ok.ensures.at)
 
 -- the key is there, so it has a index
 pub returns-in_default : goal.returns-in_default

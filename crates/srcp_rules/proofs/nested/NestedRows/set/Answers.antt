@@ -1,5 +1,5 @@
-use Rattle.srcp_rules.proofs.Names.{is_some, sym, ap, ◌∙◌, true≢false, has_row, put_row, Kept, bus_rows, listed}
-use Rattle.srcp_rules.proofs.NestedLaws.{found_bus, layout-set, put_row-bus, row_at-bus, row_at-no_bus, stays-put_row}
+use Rattle.srcp_rules.proofs.Names.{[], ◌∷◌, is_some, refl, sym, ap, subst, ◌∙◌, true≢false, has_row, put_row, Kept}
+use Rattle.srcp_rules.proofs.NestedLaws.{Stays, changed-bus, found_bus, layout-set, puts_bus, row_at-bus, row_at-no_bus, stays-put_rows}
 use Rattle.srcp_rules.proofs.nested.NestedRows.set.Goals as goal
 
 pub set-requires-clause-bus : goal.set-requires-clause-bus
@@ -15,19 +15,19 @@ set-requires-clause-there c =
 pub invariant_of-self-2 : goal.invariant_of-self-2
 invariant_of-self-2 c =
     let row = c.args.row in
-    let after = c.set.new.self in
-    let held = c.get_mut.follows.holds after in
-    let new = (c.get_mut.follows.lender after).entries in
-    layout-set c.self.invariant row.shown.key.bus after new c.set.ensures.bus held.0 held.4
-    (stays-put_row c.self.invariant row (listed bus_rows new)
-    (ap (listed bus_rows) held.0 ∙ put_row-bus c.self.invariant row after c.in-Some.ensures.value c.set.ensures.rows))
+    let held = c.get_mut.follows.holds c.set.new.self in
+    layout-set c.self.invariant _ c.set.new.self c.in-Some.ensures.value held.0 held.4 c.set.ensures.bus
+    (subst (Stays c.self.invariant)
+    (sym (changed-bus c.self.invariant _ c.set.new.self c.in-Some.ensures.value held.0 held.4
+    (puts_bus row.shown.key.bus (row ∷ []) (refl, tt)) c.set.ensures.rows))
+    (stays-put_rows c.self.invariant (row ∷ [])))
 
 pub returns-clause-rows : goal.returns-clause-rows
 returns-clause-rows c =
     let row = c.args.row in
-    let after = c.set.new.self in
-    ap (listed bus_rows) (c.get_mut.follows.holds after).0
-    ∙ put_row-bus c.self.invariant row after c.in-Some.ensures.value c.set.ensures.rows
+    let held = c.get_mut.follows.holds c.set.new.self in
+    changed-bus c.self.invariant _ c.set.new.self c.in-Some.ensures.value held.0 held.4
+    (puts_bus row.shown.key.bus (row ∷ []) (refl, tt)) c.set.ensures.rows
     ∙ ap (λ (kept : Kept). put_row row kept.state) c.self.view_is
 
 -- the row is there, and so is its bus

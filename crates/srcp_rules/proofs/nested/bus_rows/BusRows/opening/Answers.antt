@@ -15,7 +15,7 @@ returns-clause-bus c =
       power = subst (λ row. AreOfGroup n group.Power (option_to_list row)) (sym c.power_row.ensures) (power_of_group n bus.power);
       locomotives = no_devices n group.Gl c.new-2.result c.new-2.ensures;
       accessories = no_devices n group.Ga c.new-3.result c.new-3.ensures;
-      feedback = subst (AreOfGroup n group.Fb) (sym c.in_ok-feedback.ensures) (fb_of_group n 1 bus.fb_ports);
+      feedback = subst (AreOfGroup n group.Fb) (sym c.in_ok-feedback.ensures) (fb_of_group n bus.fb_ports);
       locomotive_locks = no_devices n group.LockGl c.new-4.result c.new-4.ensures;
       accessory_locks = no_devices n group.LockGa c.new-5.result c.new-5.ensures;
     }

@@ -1,4 +1,4 @@
-use Rattle.std.specs.Prelude.{◌≡◌, ℕ, true, List}
+use Rattle.std.specs.Prelude.{◌≡◌, ℕ, true, List, [], ◌∷◌}
 use Rattle.std.proofs.Common.{refl, Some, sym, subst, ◌∙◌, arith}
 use Rattle.srcp_info.specs.declared.key.Group.{Group}
 use Rattle.srcp_info.specs.declared.key.Group.TheVariants as group
@@ -6,7 +6,7 @@ use Rattle.srcp_info.specs.declared.key.Key.{Key}
 use Rattle.srcp_rules.specs.declared.nested.bus_rows.BusRows.{BusRows}
 use Rattle.srcp_rules.specs.State.{State, has_row}
 use Rattle.srcp_rules.specs.Nested.{AreDevices, AreOfGroup, AreRowsOfBus, bus_rows, group_rows}
-use Rattle.srcp_rules.proofs.BusRowsLaws.{has_row-group, of_group-put_row, put_row-group, put_row-option_to_list}
+use Rattle.srcp_rules.proofs.BusRowsLaws.{has_row-group, of_group-put_rows, put_row-option_to_list, put_rows-group, with_sessions}
 use Rattle.srcp_rules.proofs.nested.bus_rows.BusRows.set.Goals as goal
 
 -- what the devices of the group ask for
@@ -36,67 +36,57 @@ set-requires-in-LockGa c =
     (omega arith, (a.0, (a.1, omega arith)))
 
 pub set_in-requires-clause-there : goal.set_in-requires-clause-there
-set_in-requires-clause-there c =
-    sym (has_row-group c.requires.bus c.args.row.now.shown.key c.in-Session.is) ∙ c.requires.there
+set_in-requires-clause-there c = sym (has_row-group c.requires.bus c.args.row.now.shown.key c.in-Session.is) ∙ c.requires.there
 
 pub set_in-requires-in-Fb-clause-there : goal.set_in-requires-in-Fb-clause-there
-set_in-requires-in-Fb-clause-there c =
-    sym (has_row-group c.requires.bus c.args.row.now.shown.key c.in-Fb.is) ∙ c.requires.there
+set_in-requires-in-Fb-clause-there c = sym (has_row-group c.requires.bus c.args.row.now.shown.key c.in-Fb.is) ∙ c.requires.there
 
 pub returns-in-Power-clause-rows : goal.returns-in-Power-clause-rows
 returns-in-Power-clause-rows c =
     let row = c.args.row.now in
     let rows = c.args.self.now in
-    let after : BusRows = record rows { power = Some row } in
     let there = sym (has_row-group c.requires.bus row.shown.key c.in-Power.is) ∙ c.requires.there in
-    put_row-group c.requires.bus row after (refl, c.in-Power.is) (refl, refl) (put_row-option_to_list rows.power row there)
+    put_rows-group c.requires.bus group.Power (row ∷ []) (record rows { power = Some row }) ((refl, c.in-Power.is), tt) refl
+    (put_row-option_to_list rows.power row there)
 
-pub returns-in-Session-clause-rows : goal.returns-in-Session-clause-rows
-returns-in-Session-clause-rows c =
-    let after : BusRows = record c.args.self.now { sessions = c.set_in.new.rows } in
-    put_row-group c.requires.bus c.args.row.now after (refl, c.in-Session.is) (refl, refl) c.set_in.ensures
-
-pub returns-in-Session-clause-bus : goal.returns-in-Session-clause-bus
-returns-in-Session-clause-bus c =
+pub returns-in-Session : goal.returns-in-Session
+returns-in-Session c =
     let row = c.args.row.now in
     let bus = row.shown.key.bus in
-    let are = c.requires.bus in
+    let after : BusRows = record c.args.self.now { sessions = c.set_in.new.rows } in
     record {
-      sessions =
-          subst (AreOfGroup bus group.Session) (sym c.set_in.ensures)
-          (of_group-put_row bus group.Session row c.args.self.now.sessions.items (refl, c.in-Session.is) are.sessions);
-      power = are.power;
-      locomotives = are.locomotives;
-      accessories = are.accessories;
-      feedback = are.feedback;
-      locomotive_locks = are.locomotive_locks;
-      accessory_locks = are.accessory_locks;
+      rows = put_rows-group c.requires.bus group.Session (row ∷ []) after ((refl, c.in-Session.is), tt) refl c.set_in.ensures;
+      bus =
+          with_sessions c.requires.bus c.set_in.new.rows
+          (subst (AreOfGroup bus group.Session) (sym c.set_in.ensures)
+          (of_group-put_rows bus group.Session (row ∷ []) c.args.self.now.sessions.items ((refl, c.in-Session.is), tt)
+          c.requires.bus.sessions));
     }
 
 pub returns-in-Gl-clause-rows : goal.returns-in-Gl-clause-rows
 returns-in-Gl-clause-rows c =
     let after : BusRows = record c.args.self.now { locomotives = c.set.new.self } in
-    put_row-group c.requires.bus c.args.row.now after (refl, c.in-Gl.is) (refl, refl) c.set.ensures.rows
+    put_rows-group c.requires.bus group.Gl (c.args.row.now ∷ []) after ((refl, c.in-Gl.is), tt) refl c.set.ensures.rows
 
 pub returns-in-Ga-clause-rows : goal.returns-in-Ga-clause-rows
 returns-in-Ga-clause-rows c =
     let after : BusRows = record c.args.self.now { accessories = c.set-in-Ga.new.self } in
-    put_row-group c.requires.bus c.args.row.now after (refl, c.in-Ga.is) (refl, refl) c.set-in-Ga.ensures.rows
+    put_rows-group c.requires.bus group.Ga (c.args.row.now ∷ []) after ((refl, c.in-Ga.is), tt) refl c.set-in-Ga.ensures.rows
 
 pub returns-in-LockGl-clause-rows : goal.returns-in-LockGl-clause-rows
 returns-in-LockGl-clause-rows c =
     let after : BusRows = record c.args.self.now { locomotive_locks = c.set-in-LockGl.new.self } in
-    put_row-group c.requires.bus c.args.row.now after (refl, c.in-LockGl.is) (refl, refl) c.set-in-LockGl.ensures.rows
+    put_rows-group c.requires.bus group.LockGl (c.args.row.now ∷ []) after ((refl, c.in-LockGl.is), tt) refl c.set-in-LockGl.ensures.rows
 
 pub returns-in-LockGa-clause-rows : goal.returns-in-LockGa-clause-rows
 returns-in-LockGa-clause-rows c =
     let after : BusRows = record c.args.self.now { accessory_locks = c.set-in-LockGa.new.self } in
-    put_row-group c.requires.bus c.args.row.now after (refl, c.in-LockGa.is) (refl, refl) c.set-in-LockGa.ensures.rows
+    put_rows-group c.requires.bus group.LockGa (c.args.row.now ∷ []) after ((refl, c.in-LockGa.is), tt) refl c.set-in-LockGa.ensures.rows
 
 pub returns-in-Fb-clause-rows : goal.returns-in-Fb-clause-rows
 returns-in-Fb-clause-rows c =
     let after : BusRows = record c.args.self.now { feedback = c.set_in-in-Fb.new.rows } in
-    put_row-group c.requires.bus c.args.row.now after (refl, c.in-Fb.is) (refl, refl) c.set_in-in-Fb.ensures
+    put_rows-group c.requires.bus group.Fb (c.args.row.now ∷ []) after ((refl, c.in-Fb.is), tt) refl c.set_in-in-Fb.ensures
 
 pub returns-in-Fb-clause-bus : goal.returns-in-Fb-clause-bus
 returns-in-Fb-clause-bus c =
@@ -110,7 +100,7 @@ returns-in-Fb-clause-bus c =
       accessories = are.accessories;
       feedback =
           subst (AreOfGroup bus group.Fb) (sym c.set_in-in-Fb.ensures)
-          (of_group-put_row bus group.Fb row c.args.self.now.feedback.items (refl, c.in-Fb.is) are.feedback);
+          (of_group-put_rows bus group.Fb (row ∷ []) c.args.self.now.feedback.items ((refl, c.in-Fb.is), tt) are.feedback);
       locomotive_locks = are.locomotive_locks;
       accessory_locks = are.accessory_locks;
     }

@@ -1,4 +1,4 @@
-use Rattle.srcp_rules.proofs.Names.{arith, ◌<◌, length, take, slice_set, is_some, sym, ap, subst, ◌∙◌, true≢false, State, row_at, HasKeyAt}
+use Rattle.srcp_rules.proofs.Names.{arith, ◌<◌, length, take, slice_set, is_some, sym, ap, subst, ◌∙◌, true≢false, State, row_at}
 use Rattle.srcp_rules.proofs.RowIndexLaws.{set-put_row, row_at-gap}
 use Rattle.std.proofs.Math.Seq.{take-set-lt}
 use Rattle.std.proofs.lemmas.List.{length-take}
@@ -10,8 +10,7 @@ returns-in-Ok g c =
     let row = c.args.row.now in
     let inside = c.self.inside in
     let kept = c.args.self.now in
-    let at : HasKeyAt kept row.shown.key index =
-    subst (λ state. HasKeyAt state row.shown.key index) c.as_slice.ensures c.in-Ok.ensures.at in
+    let at = rw c.as_slice.ensures at c.in-Ok.ensures.at in
     let within : index < length (take inside.count inside.rows) =
     subst (λ (state : State). index < length state) (sym c.self.view_is) at.within in
     let count = length-take inside.count inside.rows in

@@ -14,8 +14,7 @@ own last es = option_map_or (λ rows. row_after (After last) rows) (entry_at las
 
 -- the first row behind that device
 abbrev behind : Key → List (Option (Box State Global)) → Option Row
-behind last slots =
-    slice_get (device_rows (numbered box_value (last.address + 1) (drop (last.address + 1) slots))) 0
+behind last slots = slice_get (device_rows (numbered box_value (last.address + 1) (drop (last.address + 1) slots))) 0
 
 module _ (last : Key) {es : List (ℕ × State)} (slots : List (Option (Box State Global)))
     (are : AreDevices last.bus last.group es) (view : numbered box_value 0 slots ≡ es) where
@@ -35,8 +34,7 @@ module _ (last : Key) {es : List (ℕ × State)} (slots : List (Option (Box Stat
       (omega arith) slots devices.each
 
 pub returns-in-Some : goal.returns-in-Some
-returns-in-Some g c =
-    both c.args.last.now c.self.inside.slots.items c.requires.devices c.self.view_is c.in-Some.ensures
+returns-in-Some g c = both c.args.last.now c.self.inside.slots.items c.requires.devices c.self.view_is c.in-Some.ensures
 
 pub returns : goal.returns
 returns g c =
