@@ -3,7 +3,7 @@ use Rattle.srcp_rules.proofs.Names
 use Names.{arith, each-range, first_key, ◌≡◌, ℕ, ◌<◌, Bool, true, false, cond, is_some, not, List, [], ◌∷◌, map, Option, Some, None, refl}
 use Names.{sym, ap, ◌∙◌, true≢false, AllByRecursion, range_with_len, set_value, option_map_or, nat_cmp, is_gt, is_at, Less, Group, Key}
 use Names.{Device, Row, key_cmp, owns, device_from_owns, all_filter, rising_filter, fb_device, power_device, State, IsRising, first_row}
-use Names.{has_row, put_row, row_after, row_at, without, put_rows, AreRowsOfBus, AreSorted, IsIn, bus_rows, entry_at, weaken}
+use Names.{has_row, put_row, row_after, row_at, without, put_rows, AreRowsOfBus, AreSorted, IsIn, bus_rows, entry_at, weaken, same_key-true}
 use Names.group
 use Names.value
 use Names.cursor
@@ -16,7 +16,6 @@ use Rattle.srcp_info.proofs.ClientLaws.{put_over}
 use Rattle.srcp_rules.specs.declared.nested.bus_rows.BusRows.{BusRows}
 use Rattle.srcp_rules.specs.Nested.{AreOfGroup, group_rows}
 use Rattle.srcp_rules.proofs.ListedLaws.{IsTagged, row_at-listed, row_after-own, rows_at}
-use Rattle.srcp_rules.proofs.KeyLaws.{same_key-true}
 use Rattle.srcp_rules.proofs.StateLaws.{rising-range, row_key}
 use Rattle.srcp_rules.proofs.OrderLaws.{address_order, group_order}
 use Rattle.srcp_rules.proofs.PutRowsLaws.{all-put_rows, rising-put_rows}

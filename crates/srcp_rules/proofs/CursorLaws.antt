@@ -2,12 +2,11 @@
 use Rattle.srcp_rules.proofs.Names
 use Names.{cases_Bool, inl, inr, same_Some, ◌≡◌, ◌<◌, Bool, true, false, not, ◌&&◌, cond, List, [], ◌∷◌, length, filter, find, Some, None}
 use Names.{refl, sym, ap, subst, ◌∙◌, arith, Less, Key, Row, Cursor, key_cmp, has_reached, filter_every, reached_below, after_from_less}
-use Names.{State, IsRising, first_beyond, row_after, found_holds, weaken}
+use Names.{State, IsRising, first_beyond, row_after, found_holds, weaken, not_after}
 use Names.cursor
 use Rattle.srcp_info.proofs.ClientLaws.{after_not_itself}
 use Rattle.srcp_rules.specs.declared.filter.RowFilter.{RowFilter}
 use Rattle.srcp_rules.specs.Filter.{passes}
-use Rattle.srcp_rules.proofs.KeyLaws.{not_after}
 
 -- the rows beyond the cursor
 abbrev pub beyond : Cursor → State → State

@@ -5,7 +5,7 @@ use Names.{nat_lt, slice_get, slice_index_or, refl, sym, ap, subst, ◌∙◌, a
 use Names.{AllByRecursion, option_map, option_map_or, option_or, is_eq, is_gt, Less, Group, Key, Device, Row, Cursor, key_cmp, device_of}
 use Names.{has_reached, after_from_less, all_append, all_put, rising_put, key_at, State, has_row, put_row, row_at, row_after, without}
 use Names.{put_rows, numbered, AreOfDevice, IsIn, device_rows, entry_at, weaken, IfSome, slice_set, device_from_owns}
-use Rattle.std.proofs.Common.{length-append}
+use Rattle.std.proofs.Common.{add-one, length-append}
 use Rattle.std.proofs.lemmas.Bool.Decides.{nat_tests}
 use Rattle.std.specs.List.Sorted.{IsStrictlySortedBy}
 use Rattle.srcp_info.specs.declared.change.Cursor.TheVariants as at
@@ -245,19 +245,19 @@ module _ {B : Type 0} (value : B → State) (last : Key) where
       (device_rows (numbered value (first + 1) slots)) (earlier first (value x) (omega (arith, e)) each.0)
       ∙ row_after-numbered from (first + 1) k (omega (arith, e)) f slots each.1
 
-  pub row_after-slots : (slots : List (Option B)) → AreDevices last.bus last.group (numbered value 0 slots)
-      → row_after (at.After last) (device_rows (numbered value 0 slots))
-      ≡ option_or
-      (option_map_or (λ rows. row_after (at.After last) rows) (entry_at last.address (numbered value 0 slots)) None)
-      (slice_get (device_rows (numbered value (last.address + 1) (drop (last.address + 1) slots))) 0)
-  row_after-slots slots devices =
-      let own = λ (o : Option State). option_map_or (λ rows. row_after (at.After last) rows) o None in
-      let rest = λ (n : ℕ). slice_get (device_rows (numbered value (last.address + 1) (drop n slots))) 0 in
-      row_after-numbered (last.address + 1) 0 last.address (omega arith) refl slots devices.each
-      ∙ ap (λ n. option_or (own (option_map value (slice_index_or slots last.address None))) (rest n))
-      {x = suc last.address} {y = last.address + 1} (omega arith)
-      ∙ ap (λ o. option_or (own o) (rest (last.address + 1)))
-      (sym (entry_at-numbered value last.address 0 last.address (omega arith) slots))
+  -- so the two look-ups of them answer together
+  pub row_after-slots : (slots : List (Option B)) {es : List (ℕ × State)} → numbered value 0 slots ≡ es
+      → AreDevices last.bus last.group es → {o : Option Row}
+      → o ≡ option_map_or (λ rows. row_after (at.After last) rows) (entry_at last.address es) None
+      → option_or o (slice_get (device_rows (numbered value (last.address + 1) (drop (last.address + 1) slots))) 0)
+      ≡ row_after (at.After last) (device_rows es)
+  row_after-slots slots view devices e =
+      let rest = slice_get (device_rows (numbered value (suc last.address) (drop (suc last.address) slots))) 0 in
+      let slot = ap (entry_at last.address) (sym view) ∙ entry_at-numbered value last.address 0 last.address (omega arith) slots in
+      rw add-one (ap (λ o. option_or o rest) (e ∙ ap (λ o. option_map_or (λ rows. row_after (at.After last) rows) o None) slot)
+      ∙ sym (row_after-numbered (suc last.address) 0 last.address (omega arith) (omega arith) slots
+      (subst (AreDevices last.bus last.group) (sym view) devices).each)
+      ∙ ap (λ es. row_after (at.After last) (device_rows es)) view)
 
 -- no devices are devices of any group
 pub no_devices : (bus : ℕ) (g : Group) (es : List (ℕ × State)) → es ≡ [] → AreDevices bus g es

@@ -1,10 +1,10 @@
 -- What a moment makes of each row, and what a timed SET leaves behind.
 use Rattle.srcp_rules.proofs.Names
-use Names.{cases_Bool, inl, inr, ◌≡◌, ℕ, ◌+◌, ◌<◌, min, Bool, true, false, cond, map, filter, List, [], ◌∷◌, Option, Some, None, refl, sym}
+use Names.{cases_Bool, inl, inr, ◌≡◌, ℕ, ◌+◌, min, Bool, true, false, cond, map, filter, List, [], ◌∷◌, Option, Some, None, refl, sym}
 use Names.{ap, subst, ◌∙◌, arith, false_from_ne_true, option_map_or, AllByRecursion, Key, Value, Row, Code, Accepted, device_of, first_key}
 use Names.{owns, IsMoment, IsValueAt, is_lock, Bus, SetLock, lock_at, State, Update, IsWhole, MayFall, row_at, updated, updated_all}
 use Names.{row_put, put_of, nat_le, SetGa, unless_refused, refusals, port_end, lock_end, due, due_change, is_due, device_from_owns}
-use Names.{found_holds}
+use Names.{found_holds, same_key, same_key-true}
 use Names.value
 use Names.devices
 use Rattle.std.specs.Prelude.{◌*◌}
@@ -12,7 +12,6 @@ use Rattle.std.proofs.lemmas.Bool.{lt-ltb}
 use Rattle.std.proofs.Math.Nat.{min-eq_left, min-eq_right}
 use Rattle.srcp_rules.specs.Effect.{moment_after, port_key, row_of_lock, row_of_port}
 use Rattle.srcp_rules.specs.Laws.{LocksAreSet, LocksRunOut, MomentsEnd, PortsAreSet, PortsFallBack, comes_to, fallen}
-use Rattle.srcp_rules.proofs.KeyLaws.{same_key, same_key-true}
 use Rattle.srcp_grammar.proofs.FindLaws.{each_unfiltered}
 use Rattle.srcp_rules.proofs.StateLaws.{row_at-put_row, row_at-put_same, row_at-without, row_at_key, IsKnown, front_row}
 use Rattle.srcp_rules.proofs.DueRowLaws.{due_may}
@@ -137,12 +136,6 @@ lock_set state session moment lock e =
 
 -- ---- and what becomes of it
 
-some_time : (moment n : ℕ) → 0 < n → port_end moment true (Some n) ≡ Some (moment_after moment n)
-some_time moment n some = rw (lt-ltb 0 n some)
-
-some_seconds : (moment n : ℕ) → 0 < n → lock_end moment n ≡ Some (moment_after moment (1000 * n))
-some_seconds moment n some = rw (lt-ltb 0 n some)
-
 -- what a later moment makes of a row that has a due moment
 falls : (later : ℕ) (row : Row) (ends : ℕ) → row.due ≡ Some ends
     → comes_to later row ≡ cond (nat_le ends later) (fallen later row.shown.key row.shown.value) (Some row)
@@ -156,8 +149,7 @@ pub port_falls : PortsFallBack
 port_falls buses state session moment later milliseconds switch may begins now on time some e =
     let whole = effect_kept buses state may.whole session moment may.begun begins (SetGa switch) may.of in
     let ends = moment_after moment milliseconds in
-    let due : port_end moment switch.on switch.time ≡ Some ends =
-    (λ i. port_end moment (on i) (time i)) ∙ some_time moment milliseconds some in
+    let due : port_end moment switch.on switch.time ≡ Some ends = rw (on, time, lt-ltb 0 milliseconds some) in
     due_rows buses later now _ whole (port_key switch)
     ∙ ap (λ o. option_map_or (comes_to later) o None) (port_set state session moment switch e)
     ∙ falls later (row_of_port moment switch) ends due
@@ -166,9 +158,10 @@ port_falls buses state session moment later milliseconds switch may begins now o
 pub lock_runs_out : LocksRunOut
 lock_runs_out buses state session moment later lock may begins now some e =
     let whole = effect_kept buses state may.whole session moment may.begun begins (SetLock lock) may.of in
+    let due : lock_end moment lock.seconds ≡ Some (moment_after moment (1000 * lock.seconds)) = rw (lt-ltb 0 lock.seconds some) in
     due_rows buses later now _ whole (first_key (lock_at lock.target))
     ∙ ap (λ o. option_map_or (comes_to later) o None) (lock_set state session moment lock e)
-    ∙ falls later (row_of_lock moment session lock) (moment_after moment (1000 * lock.seconds)) (some_seconds moment lock.seconds some)
+    ∙ falls later (row_of_lock moment session lock) (moment_after moment (1000 * lock.seconds)) due
 
 -- ---- the greatest moment
 

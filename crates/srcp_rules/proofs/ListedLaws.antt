@@ -4,7 +4,7 @@ use Names.{cases_Bool, ◌≡◌, ℕ, ◌<◌, Bool, true, false, not, ◌&&◌
 use Names.{◌∙◌, arith, true≢false, nat_cmp_total, ranked, tied_itself, none-some, same_Some, AllByRecursion, keys_of, set_value}
 use Names.{option_map_or, option_or, find-append, nat_cmp, is_eq, is_at, entries_between, Included, Unbounded, Ordering, Less, Equal}
 use Names.{Greater, Key, Row, Cursor, has_reached, all_append, all_filter, nat_tie, State, row_at, row_after, listed, AreSorted, entry_at}
-use Names.{false_from_ne_true, weaken, IfSome, IsSome, inl, inr}
+use Names.{false_from_ne_true, weaken, IfSome, IsSome, inl, inr, same_key, same_key-true}
 use Rattle.std.proofs.lemmas.Bool.{cases_eq}
 use Rattle.std.proofs.lemmas.Cmp.{eq_by_cmp_equiv}
 use Rattle.std.proofs.lemmas.Map.{lookup-set_value}
@@ -12,7 +12,6 @@ use Rattle.std.specs.List.Sorted.{IsStrictlySortedBy}
 use Rattle.std.specs.Ordering.{eq_by_cmp, is_le}
 use Rattle.std.specs.Prelude.{◌⊎◌}
 use Rattle.std.specs.BTreeMap.Range.{range_contains}
-use Rattle.srcp_rules.proofs.KeyLaws.{same_key, same_key-true}
 use Rattle.srcp_rules.proofs.PutLaws.{find_past, find_before, find_behind}
 
 -- ---- numbers

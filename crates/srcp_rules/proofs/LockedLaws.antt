@@ -1,12 +1,12 @@
 -- No command of a session touches a device that another session has locked.
 use Rattle.srcp_rules.specs.Laws.{LocksHold}
 use Rattle.srcp_rules.proofs.Names
-use Names.{arith, each-range, ◌≡◌, ℕ, ◌+◌, true, false, List, [], ◌∷◌, Option, refl, sym, ap, ◌∙◌, true≢false, AllByRecursion, Key, Device}
-use Names.{Change, Put, Gone, first_key, key_of, owns, owns-device_of, all_append, DeviceGroup, Command, SetPower, SetGl, InitGl, TermGl}
-use Names.{SetGa, InitGa, TermGa, SetFb, SetLock, TermLock, key_at, power_device, fb_device, device_in, lock_on, lock_group, State, Update}
+use Names.{arith, each-range, ◌≡◌, ℕ, true, false, List, [], ◌∷◌, Option, refl, sym, ap, ◌∙◌, true≢false, AllByRecursion, Key, Device}
+use Names.{Change, Put, Gone, first_key, key_of, owns, owns-device_of, all_append, DeviceGroup, Command}
+use Names.{InitGa, key_at, device_in, lock_on, lock_group, State, Update}
 use Names.{row_at, updated, updated_by, updated_all, effect, is_locked, removals, false_from_ne_true, can_go, is_lock, weaken}
+use Names.{same_key-true, no_owner}
 use Names.devices
-use Rattle.srcp_rules.proofs.KeyLaws.{same_key-true, no_owner}
 use Rattle.srcp_rules.proofs.OrderLaws.{owns-other}
 use Rattle.srcp_rules.proofs.DueRowLaws.{lock_goes}
 use Rattle.srcp_rules.proofs.StepLaws.{device_goes, device_group-is_lock, lock_group-is_lock, device_group-injective}
@@ -45,16 +45,15 @@ lock_as_device g h bus address b a = grind arith
 
 module _ (state : State) (session moment : ℕ) (g : DeviceGroup) (bus address : ℕ)
     (locked : is_locked state session g bus address ≡ true) where
-  -- the change is about another device
+  -- the key is of another device
+  abbrev AreTwo : Key → Type 0
+  AreTwo key = (owns (device_in g bus address) key ≡ false) × (owns (lock_on g bus address) key ≡ false)
+
   abbrev IsApart : Update → Type 0
-  IsApart update =
-      (owns (device_in g bus address) (key_of update.change) ≡ false) × (owns (lock_on g bus address) (key_of update.change) ≡ false)
+  IsApart update = AreTwo (key_of update.change)
 
   abbrev AllApart : List Update → Type 0
   AllApart updates = AllByRecursion IsApart updates
-
-  abbrev AreTwo : Key → Type 0
-  AreTwo key = (owns (device_in g bus address) key ≡ false) × (owns (lock_on g bus address) key ≡ false)
 
   -- a device that the session finds unlocked is another
   other_device : (h : DeviceGroup) (b a : ℕ) → is_locked state session h b a ≡ false
@@ -91,22 +90,11 @@ module _ (state : State) (session moment : ℕ) (g : DeviceGroup) (bus address :
 
   changes_apart : (command : Command) → NoneApplies (refusals_of state session moment command)
       → AllApart (changes_of state session moment command)
-  changes_apart (SetPower power) none = (never (first_key (power_device power.bus)) refl, tt)
-  changes_apart (SetGl drive) none = (row_apart devices.Gl drive.bus drive.address 1 none.1.1.0, tt)
-  changes_apart (InitGl gl) none =
-      all_append IsApart _ _ (removals_apart devices.Gl gl.bus gl.address none.0)
-      (row_apart devices.Gl gl.bus gl.address 0 none.0, (row_apart devices.Gl gl.bus gl.address 1 none.0, tt))
-  changes_apart (TermGl b a) none = removals_apart devices.Gl b a none.1.0
-  changes_apart (SetGa switch) none = (row_apart devices.Ga switch.bus switch.address (1 + switch.port) none.1.0, tt)
   changes_apart (InitGa ga) none =
       let row = λ (port : ℕ). row_apart devices.Ga ga.bus ga.address port none.0 in
       all_append IsApart _ _ (removals_apart devices.Ga ga.bus ga.address none.0)
       (row 0, each-range IsApart _ 1 ga.ports (λ port low high. row port))
-  changes_apart (TermGa b a) none = removals_apart devices.Ga b a none.1.0
-  changes_apart (SetFb sensor) none = (never (first_key (fb_device sensor.bus sensor.port)) refl, tt)
-  changes_apart (SetLock lock) none = (lock_apart lock.target.group lock.target.bus lock.target.address none.1.0, tt)
-  changes_apart (TermLock target) none = (lock_apart target.group target.bus target.address none.1.0, tt)
-  changes_apart other none = tt
+  changes_apart other none = grind (arith, row_apart, lock_apart, never, removals_apart, all_append)
 
 -- no command of the session touches it: its rows and its lock stay
 pub locks_hold : LocksHold

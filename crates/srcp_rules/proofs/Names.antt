@@ -70,3 +70,4 @@ pub use Rattle.srcp_rules.specs.State.{functions_of, has_row, holder_in, holder_
 pub use Rattle.srcp_rules.specs.State.{row_after, row_at, row_put}
 pub use Rattle.srcp_rules.specs.State.{updated, updated_all, updated_by, without}
 pub use Rattle.srcp_rules.proofs.EachLaws.{weaken, each_and, each-mapped, each-range, find-range, find-map, each-map}
+pub use Rattle.srcp_rules.proofs.KeyLaws.{same_key, same_key-true, same_key-itself, not_after, no_key, no_owner}

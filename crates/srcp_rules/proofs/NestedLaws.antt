@@ -6,14 +6,13 @@ use Names.{tied_itself, append-nil, AllByRecursion, keys_of, set_value, option_m
 use Names.{entries_between, Included, Unbounded, Less, Group, Key, Device, Row, Cursor, key_cmp, first_key, has_reached, can_go, Bus}
 use Names.{IsLayout, bus_at, row_count, rows_on, server, fb_device, key_at, power_device, State, IsRising, has_row, is_there, opening}
 use Names.{row_at, row_after, without, put_rows, AreRowsOfBus, AreSorted, bus_rows, entry_at, listed, Rising, each_at, weaken, IfSome}
-use Names.{device_from_owns}
+use Names.{device_from_owns, no_owner}
 use Names.group
 use Names.cursor
 use Rattle.srcp_rules.specs.declared.nested.bus_rows.BusRows.{BusRows}
 use Rattle.srcp_rules.specs.Nested.{AreRowsOfLayout, group_rows}
 use Rattle.srcp_rules.proofs.OpeningLaws.{opening_whole}
 use Rattle.srcp_rules.proofs.StateLaws.{row_at-kept}
-use Rattle.srcp_rules.proofs.KeyLaws.{no_owner}
 use Rattle.srcp_rules.proofs.PutRowsLaws.{has_row-put_rows}
 use Rattle.srcp_rules.proofs.OrderLaws.{bus_order, greater}
 use Rattle.srcp_rules.proofs.ListedLaws.{IsTagged, each-changed, entry_holds, row_at-listed, row_after-listed, row_after-own, rows_at}

@@ -5,9 +5,9 @@ use Names.{cases_Bool, inl, inr, each-range, find-range, find-map, option_map, f
 use Names.{◌∷◌, map, Option, Some, None, Result, OnOk, OnErr, refl, sym, ap, subst, ◌∙◌, true≢false, arith, AllByRecursion}
 use Names.{ordering_reverse, Less, Greater, Key, Device, Row, key_cmp, device_of, first_key, owns, key_cmp_total, device_from_owns}
 use Names.{rising_put, rising_filter, Bus, row_count, key_at, State, IsRising, IsWhole, IsRowOf, row_at, has_row, is_there, put_row, put_of}
-use Names.{without, updated_all, AreRowsOf, put_rows, found_holds, each_and, none-some, is_eq, weaken, all_put}
+use Names.{without, updated_all, AreRowsOf, put_rows, found_holds, each_and, none-some, is_eq, weaken, all_put, same_key, same_key-itself}
+use Names.{same_key-true}
 use Rattle.srcp_info.specs.Client.{IsRisingBy}
-use Rattle.srcp_rules.proofs.KeyLaws.{same_key, same_key-itself, same_key-true}
 use Rattle.srcp_rules.proofs.StateLaws.{row_key, row_at_key, row_at-first, row_at-put_row, row_at-put_other, row_at-without}
 use Rattle.srcp_rules.proofs.StateLaws.{has_row-put_row}
 use Rattle.srcp_grammar.proofs.BusLaws.{each_unmapped}
@@ -108,11 +108,7 @@ put_alike key (row ∷ rows) a b e = elim (cases_Bool (same_key row.shown.key ke
 
 -- which is there afterwards
 pub put_there : (key : Key) (rows : List Row) (state : State) → has_row key rows ≡ true → has_row key (put_rows rows state) ≡ true
-put_there key [] state e = absurd (true≢false (sym e))
-put_there key (row ∷ rows) state e = elim (cases_Bool (same_key row.shown.key key)) [
-  | inl s ↦ has_row-put_rows key rows (put_row row state) (rw (row_at-put_row key row state, s))
-  | inr s ↦ put_there key rows (put_row row state) (rw s at e)
-]
+put_there key rows state e = ap is_some (put_alike key rows state rows e) ∙ has_row-put_rows key rows rows e
 
 -- ---- all the rows of a device
 

@@ -3,14 +3,13 @@ use Rattle.srcp_rules.proofs.Names
 use Names.{◌≡◌, ℕ, zero, suc, ◌<◌, ◌≤◌, Bool, [], ◌∷◌, ◌++◌, length, take, drop, insert, slice_set, slice_index_or, Some, None, Result, Ok}
 use Names.{Err, refl, sym, ap, subst, ◌∙◌, arith, take-append-drop, AllByRecursion, is_eq, ordering_reverse, Ordering, Less, Equal, Greater}
 use Names.{Key, Row, Cursor, key_cmp, has_reached, key_tie, key_cmp_total, reached_below, State, IsRising, row_at, put_row, HasKeyAt}
-use Names.{each_at, weaken}
+use Names.{each_at, weaken, same_key, not_after}
 use Rattle.std.specs.Prelude.{IfOk, IfErr}
 use Rattle.std.proofs.lemmas.List.{set_split}
 use Rattle.std.specs.List.Sorted.{IsSearchInRange, IsBinarySearchResult, IsNonDecreasingBy, IsPartitionedBy}
 use Rattle.std.specs.Ordering.{ordering_index}
 use Rattle.srcp_info.proofs.ClientLaws.{put_between, put_over}
 use Rattle.srcp_rules.specs.KeyIndex.{IsGapAt}
-use Rattle.srcp_rules.proofs.KeyLaws.{same_key, not_after}
 use Rattle.srcp_rules.proofs.StateLaws.{row_key, row_at-first, row_at-later}
 use Rattle.srcp_grammar.proofs.PlaceLaws.{front_each, back_each, Follows, partitioned, non_decreasing}
 use Rattle.srcp_rules.proofs.PutLaws.{find_none, find_past}

@@ -1,8 +1,8 @@
 -- A line brings at most its weight.
 use Rattle.srcp_rules.proofs.Names
-use Names.{true≢false, ◌==◌, ◌≡◌, ℕ, ◌≤◌, Bool, true, false, cond, ◌&&◌, length, find, List, [], ◌∷◌, Option, Some, None, Result, Ok, Err}
-use Names.{refl, sym, ap, subst, ◌∙◌, arith, false_from_ne_true, second_so, option_map, Code, Bus, Command, SetPower, SetGl, CheckGl, SetGa}
-use Names.{CheckGa, SetFb, SetLock, CheckLock, bus_at, State, Update, IsCommandOf, effect}
+use Names.{true≢false, ◌==◌, ◌≡◌, ℕ, ◌≤◌, Bool, true, false, cond, ◌&&◌, length, find, List, [], ◌∷◌, Option, Some, None, Result, Err}
+use Names.{refl, sym, ap, subst, ◌∙◌, arith, false_from_ne_true, second_so, option_map, Code, Bus, Command}
+use Names.{bus_at, State, Update, IsCommandOf, effect}
 use Rattle.std.proofs.Common.{eq-eqb}
 use Rattle.std.specs.Prelude.{codes, IfOk}
 use Rattle.std.proofs.lemmas.List.{length-map}
@@ -15,12 +15,10 @@ use Rattle.srcp_text.specs.Words.{number_of, is_keyword, words_of}
 use Rattle.srcp_grammar.specs.declared.command.Operation.{Operation}
 use Rattle.srcp_grammar.specs.declared.command.Operation.TheVariants.{Get, Set, Check, Init, Term, Wait, Verify, Reset}
 use Rattle.srcp_grammar.specs.declared.command.CommandGroup.{CommandGroup}
-use Rattle.srcp_grammar.specs.declared.command.CommandGroup.TheVariants.{Session, Power, Gl, Ga, Fb, Lock}
-use Rattle.srcp_grammar.specs.declared.command.Command.TheVariants.{GetSession, TermSession, GetPower, CheckPower, GetGl, GetGa, GetFb}
-use Rattle.srcp_grammar.specs.declared.command.Command.TheVariants.{CheckFb, GetLock}
+use Rattle.srcp_grammar.specs.declared.command.CommandGroup.TheVariants.{Session}
 use Rattle.srcp_grammar.specs.Layout.{has_group}
-use Rattle.srcp_grammar.specs.Grammar.{◌>>=◌, number_in, groups, named_in, alone, one_number, term_session, powered, driven, ga_port}
-use Rattle.srcp_grammar.specs.Grammar.{get_ga, switched, sensed, named_lock, timed_lock, asked, directed, parsed}
+use Rattle.srcp_grammar.specs.Grammar.{◌>>=◌, groups, named_in}
+use Rattle.srcp_grammar.specs.Grammar.{asked, directed, parsed}
 use Rattle.srcp_rules.specs.Weight.{names_session, weight_of, weight, LinesWeighEnough, WeightsAreSmall, GoesWeighOne}
 use Rattle.srcp_grammar.proofs.GrammarLaws.{read_any, then_ok, reads_fits}
 use Rattle.srcp_rules.proofs.CountLaws.{effect_few}
@@ -38,37 +36,14 @@ module _ (P : Command → Type 0) where
   abbrev All : Result Command Code → Type 0
   All r = IfOk r P
 
-  alone_all : (command : Command) (words : List (List ℕ)) → P command → All (alone command words)
-  alone_all command words h = grind arith
-
-  one_number_all : (least most : ℕ) (make : ℕ → Command) (words : List (List ℕ)) → ((n : ℕ) → P (make n))
-      → All (one_number least most make words)
-  one_number_all least most make [] h = tt
-  one_number_all least most make (n ∷ []) h = read_any P (number_in least most n) (λ n. Ok (make n)) h
-  one_number_all least most make (n ∷ m ∷ ws) h = tt
-
-  term_session_all : (words : List (List ℕ)) → ((id : Option ℕ) → P (TermSession id)) → All (term_session words)
-  term_session_all [] h = h None
-  term_session_all (s ∷ []) h = read_any P (number_in 0 4294967295 s) (λ n. Ok (TermSession (Some n))) (λ n. h (Some n))
-  term_session_all (s ∷ t ∷ ws) h = tt
-
-  get_ga_all : (bus : Bus) (words : List (List ℕ)) → ((a p : ℕ) → P (GetGa bus.number a p)) → All (get_ga bus words)
-  get_ga_all bus [] h = tt
-  get_ga_all bus (a ∷ []) h = tt
-  get_ga_all bus (a ∷ p ∷ []) h =
-      read_any P (number_in 1 bus.ga_max a) (λ address. ga_port bus p >>= (λ port. Ok (GetGa bus.number address port)))
-      (λ address. read_any P (ga_port bus p) (λ port. Ok (GetGa bus.number address port)) (h address))
-  get_ga_all bus (a ∷ p ∷ w ∷ ws) h = tt
-
   -- the words after the operation
   directed_all : (buses : List Bus) (operation : Operation) (words : List (List ℕ))
       → ((g : CommandGroup) (bus : Bus) (ws : List (List ℕ)) → All (asked bus operation g ws)) → All (directed buses operation words)
-  directed_all buses operation [] h = tt
-  directed_all buses operation (n ∷ []) h = tt
   directed_all buses operation (n ∷ w ∷ ws) h =
       read_any P (bus_named buses n) (λ bus. ok_or (named_in groups w) C421 >>= on_group operation ws bus) (λ bus.
       read_any P (ok_or (named_in groups w) C421) (on_group operation ws bus) (λ g.
       then_ok P (has_group bus g) C422 (asked bus operation g ws) (λ on. h g bus ws)))
+  directed_all buses operation other h = tt
 
 -- ---- how many changes the commands of an operation make
 
@@ -81,33 +56,16 @@ module _ (state : State) (session moment : ℕ) where
   Brings n command = AtMost n (changes_of state session moment command)
 
   gets_none : (g : CommandGroup) (bus : Bus) (words : List (List ℕ)) → IfOk (asked bus Get g words) (Brings 0)
-  gets_none Session bus words = one_number_all (Brings 0) 0 4294967295 GetSession words (λ n. omega arith)
-  gets_none Power bus words = alone_all (Brings 0) (GetPower bus.number) words (omega arith)
-  gets_none Gl bus words = one_number_all (Brings 0) 1 bus.gl_max (GetGl bus.number) words (λ a. omega arith)
-  gets_none Ga bus words = get_ga_all (Brings 0) bus words (λ a p. omega arith)
-  gets_none Fb bus words = one_number_all (Brings 0) 1 bus.fb_ports (GetFb bus.number) words (λ p. omega arith)
-  gets_none Lock bus words = read_any (Brings 0) (named_lock bus words) (λ place. Ok (GetLock place)) (λ place. omega arith)
+  gets_none g bus words = grind (arith, read_any)
 
   checks_none : (g : CommandGroup) (bus : Bus) (words : List (List ℕ)) → IfOk (asked bus Check g words) (Brings 0)
-  checks_none Session bus words = tt
-  checks_none Power bus words = read_any (Brings 0) (powered bus words) (λ power. Ok (CheckPower power)) (λ power. omega arith)
-  checks_none Gl bus words = read_any (Brings 0) (driven bus words) (λ drive. Ok (CheckGl drive)) (λ drive. omega arith)
-  checks_none Ga bus words = read_any (Brings 0) (switched bus words) (λ switch. Ok (CheckGa switch)) (λ switch. omega arith)
-  checks_none Fb bus words = read_any (Brings 0) (sensed bus words) (λ sensor. Ok (CheckFb sensor)) (λ sensor. omega arith)
-  checks_none Lock bus words = read_any (Brings 0) (timed_lock bus words) (λ lock. Ok (CheckLock lock)) (λ lock. omega arith)
+  checks_none g bus words = grind (arith, read_any)
 
   sets_one : (g : CommandGroup) (bus : Bus) (words : List (List ℕ)) → IfOk (asked bus Set g words) (Brings 1)
-  sets_one Session bus words = tt
-  sets_one Power bus words = read_any (Brings 1) (powered bus words) (λ power. Ok (SetPower power)) (λ power. omega arith)
-  sets_one Gl bus words = read_any (Brings 1) (driven bus words) (λ drive. Ok (SetGl drive)) (λ drive. omega arith)
-  sets_one Ga bus words = read_any (Brings 1) (switched bus words) (λ switch. Ok (SetGa switch)) (λ switch. omega arith)
-  sets_one Fb bus words = read_any (Brings 1) (sensed bus words) (λ sensor. Ok (SetFb sensor)) (λ sensor. omega arith)
-  sets_one Lock bus words = read_any (Brings 1) (timed_lock bus words) (λ lock. Ok (SetLock lock)) (λ lock. omega arith)
+  sets_one g bus words = grind (arith, read_any)
 
   of_session : (operation : Operation) (bus : Bus) (words : List (List ℕ)) → IfOk (asked bus operation Session words) (Brings 0)
-  of_session Get bus words = gets_none Session bus words
-  of_session Term bus words = term_session_all (Brings 0) words (λ id. omega arith)
-  of_session operation bus words = tt
+  of_session operation bus words = grind (arith, read_any)
 
   module _ (buses : List Bus) where
     -- the third word is SESSION
@@ -140,14 +98,7 @@ rarer = (codes "INIT", Init) ∷ (codes "TERM", Term) ∷ (codes "WAIT", Wait) �
 
 -- GO is none of them
 go_is_none : (word : List ℕ) → is_keyword (codes "GO") word ≡ true → find (λ e. is_keyword e.0 word) rarer ≡ None
-go_is_none word h =
-    rw (
-      not_go (codes "INIT") word h refl,
-      not_go (codes "TERM") word h refl,
-      not_go (codes "WAIT") word h refl,
-      not_go (codes "VERIFY") word h refl,
-      not_go (codes "RESET") word h refl,
-    )
+go_is_none word h = grind (arith, not_go)
 
 -- ---- the whole line
 
@@ -225,14 +176,7 @@ pub weights_small : WeightsAreSmall
 weights_small line = small_words (words_of line)
 
 go_words : (word : List ℕ) (words : List (List ℕ)) → is_keyword (codes "GO") word ≡ true → weight_of (word ∷ words) ≡ 1
-go_words word words h =
-    rw (
-      not_go (codes "TERM") word h refl,
-      not_go (codes "GET") word h refl,
-      not_go (codes "SET") word h refl,
-      not_go (codes "CHECK") word h refl,
-      h,
-    )
+go_words word words h = grind (arith, not_go)
 
 pub go_weighs_one : GoesWeighOne
 go_weighs_one line word words e h = ap weight_of e ∙ go_words word words h

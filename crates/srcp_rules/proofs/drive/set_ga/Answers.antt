@@ -11,9 +11,9 @@ set_one-requires g c =
     let state = g.R.Rows.state c.args.rows.now in
     let switch = c.args.switch.now in
     let device = device_in devices.Ga switch.bus switch.address in
-    let free = c.in_default.ensures in
     let none =
-    none_applies (refusals state c.args.sender.session devices.Ga switch.bus switch.address) (rw (c.ga-target.ensures) at free) in
+    none_applies (refusals state c.args.sender.session devices.Ga switch.bus switch.address)
+    (rw (c.ga-target.ensures) at c.in_default.ensures) in
     record {
       blank = c.requires.blank;
       there =
@@ -28,7 +28,6 @@ set_one-requires g c =
 pub returns-in-Some-clause-took : goal.returns-in-Some-clause-took
 returns-in-Some-clause-took g c =
     let state = g.R.Rows.state c.args.rows.now in
-    let first = c.in-Some.ensures in
     let refused = refusals state c.args.sender.session devices.Ga c.args.switch.now.bus c.args.switch.now.address in
     rw (← refused_done refused (put_of (row_of_port c.args.sender.moment c.args.switch.now) ∷ []) c.in-Some.code
-    (rw (c.ga-target.ensures) at first)) (record { told = c.refuse.ensures; rows = refl })
+    (rw (c.ga-target.ensures) at c.in-Some.ensures)) (record { told = c.refuse.ensures; rows = refl })

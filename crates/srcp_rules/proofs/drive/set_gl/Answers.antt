@@ -8,9 +8,8 @@ use Rattle.srcp_rules.proofs.drive.set_gl.Goals as goal
 pub returns-in-Err-clause-took : goal.returns-in-Err-clause-took
 returns-in-Err-clause-took g c =
     let state = g.R.Rows.state c.args.rows.now in
-    let updates = gl_put state c.args.sender.moment c.args.drive.now ∷ [] in
-    let refusals = gl_refusals state c.args.sender.session c.args.drive.now in
-    rw (← refused_done refusals updates c.in-Err.code c.in-Err.ensures.refusal) (record { told = c.refuse.ensures; rows = refl })
+    rw (← refused_done (gl_refusals state c.args.sender.session c.args.drive.now) (gl_put state c.args.sender.moment c.args.drive.now ∷ [])
+    c.in-Err.code c.in-Err.ensures.refusal) (record { told = c.refuse.ensures; rows = refl })
 
 -- the locomotive is there, and no more functions are given than it has
 pub set_one-requires : goal.set_one-requires

@@ -53,9 +53,8 @@ add-requires-in-LockGa c =
 
 pub returns-in-Session-clause-ok : goal.returns-in-Session-clause-ok
 returns-in-Session-clause-ok c =
-    let after : BusRows = record c.args.self.now { sessions = c.add_all.new.rows } in
-    has c.args.first.now.shown.key c.args.added.now c.requires.bus c.in-Session.is after c.requires.device refl
-    c.add_all.result c.add_all.ensures.ok
+    has c.args.first.now.shown.key c.args.added.now c.requires.bus c.in-Session.is
+    (record c.args.self.now { sessions = c.add_all.new.rows }) c.requires.device refl _ c.add_all.ensures.ok
 
 pub returns-in-Session-clause-bus : goal.returns-in-Session-clause-bus
 returns-in-Session-clause-bus c =
@@ -69,24 +68,20 @@ returns-in-Session-clause-bus c =
 
 pub returns-in-Gl-clause-ok : goal.returns-in-Gl-clause-ok
 returns-in-Gl-clause-ok c =
-    let after : BusRows = record c.args.self.now { locomotives = c.add.new.self } in
-    has c.args.first.now.shown.key c.args.added.now c.requires.bus c.in-Gl.is after c.requires.device refl
-    c.add.result c.add.ensures.ok
+    has c.args.first.now.shown.key c.args.added.now c.requires.bus c.in-Gl.is
+    (record c.args.self.now { locomotives = c.add.new.self }) c.requires.device refl _ c.add.ensures.ok
 
 pub returns-in-Ga-clause-ok : goal.returns-in-Ga-clause-ok
 returns-in-Ga-clause-ok c =
-    let after : BusRows = record c.args.self.now { accessories = c.add-in-Ga.new.self } in
-    has c.args.first.now.shown.key c.args.added.now c.requires.bus c.in-Ga.is after c.requires.device refl
-    c.add-in-Ga.result c.add-in-Ga.ensures.ok
+    has c.args.first.now.shown.key c.args.added.now c.requires.bus c.in-Ga.is
+    (record c.args.self.now { accessories = c.add-in-Ga.new.self }) c.requires.device refl _ c.add-in-Ga.ensures.ok
 
 pub returns-in-LockGl-clause-ok : goal.returns-in-LockGl-clause-ok
 returns-in-LockGl-clause-ok c =
-    let after : BusRows = record c.args.self.now { locomotive_locks = c.add-in-LockGl.new.self } in
-    has c.args.first.now.shown.key c.args.added.now c.requires.bus c.in-LockGl.is after c.requires.device refl
-    c.add-in-LockGl.result c.add-in-LockGl.ensures.ok
+    has c.args.first.now.shown.key c.args.added.now c.requires.bus c.in-LockGl.is
+    (record c.args.self.now { locomotive_locks = c.add-in-LockGl.new.self }) c.requires.device refl _ c.add-in-LockGl.ensures.ok
 
 pub returns-in-LockGa-clause-ok : goal.returns-in-LockGa-clause-ok
 returns-in-LockGa-clause-ok c =
-    let after : BusRows = record c.args.self.now { accessory_locks = c.add-in-LockGa.new.self } in
-    has c.args.first.now.shown.key c.args.added.now c.requires.bus c.in-LockGa.is after c.requires.device refl
-    c.add-in-LockGa.result c.add-in-LockGa.ensures.ok
+    has c.args.first.now.shown.key c.args.added.now c.requires.bus c.in-LockGa.is
+    (record c.args.self.now { accessory_locks = c.add-in-LockGa.new.self }) c.requires.device refl _ c.add-in-LockGa.ensures.ok

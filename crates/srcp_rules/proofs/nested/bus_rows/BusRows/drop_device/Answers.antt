@@ -20,23 +20,23 @@ returns-in-Session c =
 
 pub returns-in-Gl-clause-rows : goal.returns-in-Gl-clause-rows
 returns-in-Gl-clause-rows c =
-    let after : BusRows = record c.args.self.now { locomotives = c.drop_device.new.self } in
-    without-group c.requires.bus c.args.device after c.in-Gl.is refl c.drop_device.ensures.rows
+    without-group c.requires.bus c.args.device (record c.args.self.now { locomotives = c.drop_device.new.self })
+    c.in-Gl.is refl c.drop_device.ensures.rows
 
 pub returns-in-Ga-clause-rows : goal.returns-in-Ga-clause-rows
 returns-in-Ga-clause-rows c =
-    let after : BusRows = record c.args.self.now { accessories = c.drop_device-in-Ga.new.self } in
-    without-group c.requires.bus c.args.device after c.in-Ga.is refl c.drop_device-in-Ga.ensures.rows
+    without-group c.requires.bus c.args.device (record c.args.self.now { accessories = c.drop_device-in-Ga.new.self })
+    c.in-Ga.is refl c.drop_device-in-Ga.ensures.rows
 
 pub returns-in-LockGl-clause-rows : goal.returns-in-LockGl-clause-rows
 returns-in-LockGl-clause-rows c =
-    let after : BusRows = record c.args.self.now { locomotive_locks = c.drop_device-in-LockGl.new.self } in
-    without-group c.requires.bus c.args.device after c.in-LockGl.is refl c.drop_device-in-LockGl.ensures.rows
+    without-group c.requires.bus c.args.device (record c.args.self.now { locomotive_locks = c.drop_device-in-LockGl.new.self })
+    c.in-LockGl.is refl c.drop_device-in-LockGl.ensures.rows
 
 pub returns-in-LockGa-clause-rows : goal.returns-in-LockGa-clause-rows
 returns-in-LockGa-clause-rows c =
-    let after : BusRows = record c.args.self.now { accessory_locks = c.drop_device-in-LockGa.new.self } in
-    without-group c.requires.bus c.args.device after c.in-LockGa.is refl c.drop_device-in-LockGa.ensures.rows
+    without-group c.requires.bus c.args.device (record c.args.self.now { accessory_locks = c.drop_device-in-LockGa.new.self })
+    c.in-LockGa.is refl c.drop_device-in-LockGa.ensures.rows
 
 -- the power and the feedback ports never go
 pub returns-in-Power-clause-rows : goal.returns-in-Power-clause-rows

@@ -65,28 +65,28 @@ returns-in-Session c =
 
 pub returns-in-Gl-clause-rows : goal.returns-in-Gl-clause-rows
 returns-in-Gl-clause-rows c =
-    let after : BusRows = record c.args.self.now { locomotives = c.set.new.self } in
-    put_rows-group c.requires.bus group.Gl (c.args.row.now ∷ []) after ((refl, c.in-Gl.is), tt) refl c.set.ensures.rows
+    put_rows-group c.requires.bus group.Gl (c.args.row.now ∷ [])
+    (record c.args.self.now { locomotives = c.set.new.self }) ((refl, c.in-Gl.is), tt) refl c.set.ensures.rows
 
 pub returns-in-Ga-clause-rows : goal.returns-in-Ga-clause-rows
 returns-in-Ga-clause-rows c =
-    let after : BusRows = record c.args.self.now { accessories = c.set-in-Ga.new.self } in
-    put_rows-group c.requires.bus group.Ga (c.args.row.now ∷ []) after ((refl, c.in-Ga.is), tt) refl c.set-in-Ga.ensures.rows
+    put_rows-group c.requires.bus group.Ga (c.args.row.now ∷ [])
+    (record c.args.self.now { accessories = c.set-in-Ga.new.self }) ((refl, c.in-Ga.is), tt) refl c.set-in-Ga.ensures.rows
 
 pub returns-in-LockGl-clause-rows : goal.returns-in-LockGl-clause-rows
 returns-in-LockGl-clause-rows c =
-    let after : BusRows = record c.args.self.now { locomotive_locks = c.set-in-LockGl.new.self } in
-    put_rows-group c.requires.bus group.LockGl (c.args.row.now ∷ []) after ((refl, c.in-LockGl.is), tt) refl c.set-in-LockGl.ensures.rows
+    put_rows-group c.requires.bus group.LockGl (c.args.row.now ∷ [])
+    (record c.args.self.now { locomotive_locks = c.set-in-LockGl.new.self }) ((refl, c.in-LockGl.is), tt) refl c.set-in-LockGl.ensures.rows
 
 pub returns-in-LockGa-clause-rows : goal.returns-in-LockGa-clause-rows
 returns-in-LockGa-clause-rows c =
-    let after : BusRows = record c.args.self.now { accessory_locks = c.set-in-LockGa.new.self } in
-    put_rows-group c.requires.bus group.LockGa (c.args.row.now ∷ []) after ((refl, c.in-LockGa.is), tt) refl c.set-in-LockGa.ensures.rows
+    put_rows-group c.requires.bus group.LockGa (c.args.row.now ∷ [])
+    (record c.args.self.now { accessory_locks = c.set-in-LockGa.new.self }) ((refl, c.in-LockGa.is), tt) refl c.set-in-LockGa.ensures.rows
 
 pub returns-in-Fb-clause-rows : goal.returns-in-Fb-clause-rows
 returns-in-Fb-clause-rows c =
-    let after : BusRows = record c.args.self.now { feedback = c.set_in-in-Fb.new.rows } in
-    put_rows-group c.requires.bus group.Fb (c.args.row.now ∷ []) after ((refl, c.in-Fb.is), tt) refl c.set_in-in-Fb.ensures
+    put_rows-group c.requires.bus group.Fb (c.args.row.now ∷ [])
+    (record c.args.self.now { feedback = c.set_in-in-Fb.new.rows }) ((refl, c.in-Fb.is), tt) refl c.set_in-in-Fb.ensures
 
 pub returns-in-Fb-clause-bus : goal.returns-in-Fb-clause-bus
 returns-in-Fb-clause-bus c =
