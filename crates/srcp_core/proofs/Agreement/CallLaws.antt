@@ -5,23 +5,24 @@ use Rattle.srcp_core.specs.declared.record.CoreFault.TheVariants.{Memory as Memo
 use Rattle.srcp_core.proofs.Agreement.AnswersAgree.{there_agrees, accepts_agrees, refuses_agrees, names_newest, counts_open, bytes_agree}
 use Rattle.srcp_core.proofs.Agreement.AnswersAgree.{takes_agrees, closes_agrees, lends_agrees, shuts_agrees}
 use Rattle.srcp_core.proofs.Agreement.SlackAgrees.{slack_agrees, due_agrees}
-use Rattle.srcp_core.proofs.Agreement.MemoryAnswers.{counts}
-use Rattle.srcp_core.proofs.Agreement.CallsFollowTheCourse.{first_stands, at_leads, open_leads, not_open_leads, out_leads, shut_leads}
+use Rattle.srcp_core.proofs.Agreement.MemoryAnswers.{counts, none_denied}
+use Rattle.srcp_core.proofs.Agreement.CallsFollowTheCourse.{at_leads, open_leads, not_open_leads, shut_leads, out_stands}
 use Rattle.srcp_core.proofs.Agreement.CallsFollowTheCourse.{sent_leads, sent_none, lent_leads}
 use Rattle.srcp_core.proofs.Agreement.NothingIsLent.{none_agrees}
 use Rattle.srcp_core.proofs.Agreement.OneLineIsLent.{line_agrees}
-use Rattle.srcp_core.proofs.Agreement.PiecesFollowTheCourse.{accepted_leads, refused_leads, received_denied}
+use Rattle.srcp_core.proofs.Agreement.PiecesFollowTheCourse.{accepted_leads, refused_leads}
 use Rattle.srcp_core.proofs.Agreement.RunsAnEvent.{shut_count}
+use Rattle.srcp_core.proofs.Agreement.RecordIsOfTheCourse.{runs_start}
 
 pub calls_lead : CallsLead
 calls_lead = record {
-  first = first_stands;
+  first = λ buses held first. (runs_start buses _ held refl first).stands;
   moment = at_leads;
   opened = open_leads;
   not_opened = not_open_leads;
   accepted = accepted_leads;
   refused = refused_leads;
-  lent = out_leads;
+  lent = out_stands;
   sent = sent_leads;
   none_sent = sent_none;
   lent_and_sent = lent_leads;
@@ -60,7 +61,7 @@ calls_count = record {
   moment = λ moment old new is. same_count old new _ is refl;
   opened = λ key old new a. same_count old new _ a.rest refl;
   not_opened = not_opened_counts;
-  bytes = received_denied;
+  bytes = λ key piece old new l d. (none_denied l.grants _ (sym l.counted ∙ d)).0;
   lent = λ key held. refl;
   sent = λ key count old new is. same_count old new _ is refl;
   shut = shut_count;

@@ -1,8 +1,8 @@
 -- Each call of the core leads from the course of any events to that with its event.
 use Rattle.srcp_core.proofs.Names.{◌≡◌, ℕ, ◌+◌, ◌<◌, ◌≤◌, List, [], ◌∷◌, ◌++◌, map, length, min, ◌-◌, refl, ap, sym, subst, arith, inl}
 use Rattle.srcp_core.proofs.Names.{false, Option, Some, None, Bus, IsLayout, Event, Open, Room, At, Shut, recorded_step, World, counted}
-use Rattle.srcp_core.proofs.Names.{fault, accepted, course, Place, Held, at, open_count, IsAdmitted, IsNotAdmitted, opening_held}
-use Rattle.srcp_core.proofs.Names.{one_denied, advanced, hung_up, let_out, unsent_at, changed_at, changed_in, without_sent, live_session}
+use Rattle.srcp_core.proofs.Names.{fault, accepted, course, Place, Held, at, IsAdmitted, IsNotAdmitted}
+use Rattle.srcp_core.proofs.Names.{advanced, hung_up, let_out, unsent_at, changed_at, changed_in, without_sent, live_session}
 use Rattle.srcp_core.proofs.Names.{Recording, key_of, record_of, stepped, shut, Runs, count_at, taken_at, taking, StandsFor, CoreFault}
 use Rattle.srcp_core.proofs.Names.{Full, OfCourse, true, without_key}
 use Rattle.srcp_core.specs.Agrees.{AtKey}
@@ -10,7 +10,7 @@ use Rattle.srcp_core.specs.Run.{LeadsTo, LeadsAt}
 use Rattle.srcp_core.specs.declared.record.CoreFault.TheVariants.{Memory as MemoryFault}
 use Rattle.srcp_core.proofs.Agreement.EventsAgree.{stands_counted, full_fault}
 use Rattle.srcp_core.proofs.Agreement.PiecesAgree.{set_same}
-use Rattle.srcp_core.proofs.Agreement.RecordIsOfTheCourse.{runs_on, runs_start}
+use Rattle.srcp_core.proofs.Agreement.RecordIsOfTheCourse.{runs_on}
 use Rattle.srcp_core.proofs.Agreement.RunsAnEvent.{fine_course, open_with, open_refused, memory_with, at_happens, shut_happens, with_end}
 use Rattle.srcp_core.proofs.Agreement.RunsAnEvent.{shut_keys, gives_first, room_happens, taking_keys}
 use Rattle.srcp_core.proofs.CourseLaws.SessionsOfACourse.{opening_in_order}
@@ -42,28 +42,18 @@ open_leads key old new a buses events keys layout s =
     let h = open_with key (telling keys w) old new a buses events layout (runs_telling buses keys old w s) in
     (runs_on buses events _ None _ _ new refl h).stands
 
--- before all events
-pub first_stands : (buses : List Bus) (held : Held) → held ≡ opening_held buses 0 0 → StandsFor buses [] held (course buses [])
-first_stands buses held first = (runs_start buses _ held refl first).stands
-
-full_leads : (old new : Held) → open_count old ≡ 64 → new ≡ old → LeadsTo (Open false) old new
-full_leads old new full same buses events keys layout s =
-    let w = course buses events in
-    let h = ((open_refused (telling keys w) old new Full (full, same)).each buses events layout (runs_telling buses keys old w s)).1 in
-    (runs_on buses events (Open false) (Some Full) (length events + 1) (telling keys w) new refl
-    (full_fault buses keys old (counted w) (stands_counted buses keys old w s) full false, h.1)).stands
-
-memory_leads : (old new : Held) → open_count old < 64 → new ≡ one_denied old → LeadsTo (Open false) old new
-memory_leads old new room same buses events keys layout s =
-    let w = course buses events in
-    (runs_on buses events _ (Some MemoryFault) _ (telling keys w) new refl
-    (memory_with (telling keys w) old new room same buses events layout (runs_telling buses keys old w s))).stands
-
 -- no connection is opened
 pub not_open_leads : (cause : CoreFault) (old new : Held) → IsNotAdmitted cause old new → LeadsTo (Open false) old new
-not_open_leads Full old new is = full_leads old new is.0 is.1
-not_open_leads MemoryFault old new is = memory_leads old new is.0 is.1
-not_open_leads other old new is = absurd is
+not_open_leads Full old new is buses events keys layout s =
+    let w = course buses events in
+    let h = ((open_refused (telling keys w) old new Full is).each buses events layout (runs_telling buses keys old w s)).1 in
+    (runs_on buses events (Open false) (Some Full) (length events + 1) (telling keys w) new refl
+    (full_fault buses keys old (counted w) (stands_counted buses keys old w s) is.0 false, h.1)).stands
+not_open_leads MemoryFault old new is buses events keys layout s =
+    let w = course buses events in
+    (runs_on buses events _ (Some MemoryFault) _ (telling keys w) new refl
+    (memory_with (telling keys w) old new is.0 is.1 buses events layout (runs_telling buses keys old w s))).stands
+not_open_leads other old new is buses events keys layout s = absurd is
 
 pub shut_leads : (key : ℕ) (old new : Held) → new ≡ hung_up key old
     → AtKey key old (λ buses events keys n. StandsFor buses (without_key n keys) new (course buses (events ++ Shut n ∷ [])))
@@ -113,9 +103,6 @@ out_stands key old buses events keys n layout named s =
     filled_kept buses layout (opening_in_order buses layout) keys n key named (telling keys (course buses events)) old
     (counted (course buses events)) (kept_of buses layout events keys n key named old s) in
     room_leads buses events keys n 0 (let_out key old) (room_free buses events keys n key 0 old named s) k.stands
-
-pub out_leads : (key : ℕ) (old : Held) → LeadsAt key (λ n. Room n 0) old (let_out key old)
-out_leads key old buses events keys n layout named s = out_stands key old buses events keys n layout named s
 
 pub sent_leads : (key count : ℕ) (old new : Held) → count ≤ length (unsent_at key old) → new ≡ changed_at key (without_sent count) old
     → 0 < count → LeadsAt key (λ n. Room n count) old new

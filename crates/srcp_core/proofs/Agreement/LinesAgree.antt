@@ -14,7 +14,7 @@ use Rattle.srcp_core.specs.Course.{replied as course_replied, goes as course_goe
 use Rattle.srcp_core.specs.Course.{obeyed as course_obeyed, commanded as course_commanded, answered as course_answered}
 use Rattle.srcp_core.specs.Handshake.{greets as greets_of}
 use Rattle.srcp_core.specs.Machine.{replied, goes, greeted, obeyed, commanded, answered}
-use Rattle.srcp_core.proofs.Agreement.PlacesChange.{replied_still, chosen_place, ended_place, entered_place_of, is_over_place, untold_shut}
+use Rattle.srcp_core.proofs.Agreement.PlacesChange.{replied_still, entered_place_of, is_over_place, untold_shut}
 use Rattle.srcp_core.proofs.Agreement.PlacesChange.{place_info}
 use Rattle.srcp_core.proofs.CourseLaws.SessionsOfACourse.{anything, at_number}
 use Rattle.srcp_core.proofs.Agreement.NumbersAndKeys.{numbered_with}
@@ -99,10 +99,6 @@ module _ (buses : List Bus) (order : IsRisingBy key_at (shown_rows (opening buse
 
   -- ---- before the session
 
-  stands_last : (held : Held) (w : World) (id : ℕ) → StandsBy buses read keys held w
-      → StandsBy buses read keys (record held { last_id = id }) (record w { last_id = id })
-  stands_last held w id s = stands_as buses read keys held w _ _ _ _ _ _ _ s.moment refl s
-
   -- the world with the moment and the id that the core has
   abbrev timed : Held → World → World
   timed held w = record w { moment = held.moment; last_id = held.last_id }
@@ -122,8 +118,8 @@ module _ (buses : List Bus) (order : IsRisingBy key_at (shown_rows (opening buse
       let p = f.plain plain in
       let w2 = did _ _ in
       let d : StandsBy buses read keys (carried (updates held) (record held { last_id = id })) w2 =
-      stands_did buses read keys (record held { last_id = id }) _
-      _ (fine_of w a) (stands_last held (timed held w) id (stands_timed held w s)) in
+      stands_did buses read keys (record held { last_id = id }) (record (timed held w) { last_id = id })
+      _ (fine_of w a) (stands_as buses read keys held w _ _ _ _ _ _ _ refl refl s) in
       let e : StandsBy buses read keys (session_begun key id conn.mode held) (entered buses n id w2) =
       stands_of (carried (updates held) (record held { last_id = id })) w2 conn
       (λ conn. record conn { session = id; info = is_info conn.mode; go_step = length w2.steps })
@@ -139,31 +135,6 @@ module _ (buses : List Bus) (order : IsRisingBy key_at (shown_rows (opening buse
       updates : Held → List Update
       updates held = began id held.moment conn.mode ∷ []
 
-  stands_goes : (held : Held) (w : World) (conn : Connection) → IsFine buses order w → StandsBy buses read keys held w
-      → numbered n w.connections ≡ Some conn → conn.shut ≡ None → conn.info ≡ false
-      → StandsBy buses read keys (goes true key conn.mode held) (course_goes buses n conn.mode w)
-  stands_goes held w conn a s there shut plain =
-      rw (← (timed_is held w s))
-      (if_two (StandsBy buses read keys) _ _ _ _ _ (stands_begun held w conn (held.last_id + 1) a s there shut plain)
-      (stands_plainly held (timed held w) conn (Refused C500) a (stands_timed held w s) there plain))
-
-  stands_greeted : (held : Held) (w : World) (conn : Connection) (greeting : Greeting) → IsFine buses order w
-      → StandsBy buses read keys held w → numbered n w.connections ≡ Some conn → conn.shut ≡ None → conn.info ≡ false
-      → StandsBy buses read keys (greeted true key conn.mode greeting held) (course_greeted buses n conn.mode greeting w)
-  stands_greeted held w conn Speaks a s there shut plain = stands_plainly held w conn Protocol a s there plain
-  stands_greeted held w conn (Chooses chosen) a s there shut plain =
-      let f = fine_of w a n conn there in
-      stands_replied (changed_at key (λ p. record p { mode = chosen }) held) (at_connection n (λ conn. record conn { mode = chosen }) w)
-      (record conn { mode = chosen }) ModeReply
-      (stands_of held w conn (λ conn. record conn { mode = chosen }) (λ p. record p { mode = chosen }) s there refl refl
-      (λ reader up. chosen_place reader (history buses w) conn chosen plain))
-      (numbered_at w conn (λ conn. record conn { mode = chosen }) there) (f.plain plain).0
-      (ap (λ i. i && nat_lt 256 (length (untold conn (history buses w)))) plain) f.within
-  stands_greeted held w conn Goes a s there shut plain = stands_goes held w conn a s there shut plain
-  stands_greeted held w conn (Refuses code) a s there shut plain = stands_plainly held w conn (Refused code) a s there plain
-
-  -- ---- commands
-
   stands_ended : (held : Held) (w : World) (conn : Connection) (session : ℕ) → IsFine buses order w → StandsBy buses read keys held w
       → numbered n w.connections ≡ Some conn → conn.info ≡ false
       → StandsBy buses read keys (freed_of session (changed_at key (λ p. record p { ended = true }) held)) (course_ended buses n session w)
@@ -171,7 +142,7 @@ module _ (buses : List Bus) (order : IsRisingBy key_at (shown_rows (opening buse
       let ends : World = at_connection n (λ conn. record conn { ended = true }) w in
       let e =
       stands_of held w conn (λ conn. record conn { ended = true }) (λ p. record p { ended = true }) s there refl refl
-      (λ reader up. ended_place reader (history buses w) conn plain) in
+      (λ reader up. rw plain refl) in
       let b =
       sound_at buses order Anything _ n (λ conn. record conn { ended = true }) w
       (λ other k f. record { fits = f.fits; before = f.before; plain = f.plain; within = f.within }) a in
@@ -182,68 +153,90 @@ module _ (buses : List Bus) (order : IsRisingBy key_at (shown_rows (opening buse
       (stands_did buses read keys (changed_at key (λ p. record p { ended = true }) held) ends _
       (fine_of ends b) e)
 
-  stands_obeyed : (held : Held) (w : World) (conn : Connection) (session : ℕ) (command : Order) → IsFine buses order w
-      → StandsBy buses read keys held w → numbered n w.connections ≡ Some conn → conn.info ≡ false
-      → StandsBy buses read keys (obeyed key session (effect held.rows session held.moment command) held)
-      (course_obeyed buses n session command (effect (state buses w) session w.moment command) w)
-  stands_obeyed held w conn session command a s there plain =
-      let now = did (Obeyed session held.moment command) (timed held w) in
-      let result = effect held.rows session held.moment command in
-      let sound_one : IsFine buses order now = sound_did buses order Anything _ _ (timed held w) a in
-      let one : StandsBy buses read keys (carried result.updates held) now =
-      stands_did buses read keys held (timed held w) (Obeyed session held.moment command) (fine_of w a) (stands_timed held w s) in
-      let two = stands_plainly (carried result.updates held) now conn result.reply sound_one one there plain in
-      rw (← (timed_is held w s))
-      (rw (← s.rows)
-      (if_two (StandsBy buses read keys) _ _ _ _ _
-      (stands_ended (replied key result.reply (carried result.updates held)) (course_replied n result.reply now)
-      (record conn { out = conn.out ++ reply_line held.moment result.reply }) session
-      (sound_replied buses order Anything (anything (shown_rows (opening buses 0))) n result.reply now sound_one) two
-      (numbered_at now conn (λ conn. record conn { out = conn.out ++ reply_line held.moment result.reply }) there) plain)
-      two))
-
-  -- ---- what memory answers
-
   -- a growth that was refused is nothing to the course
   stands_denied : (held : Held) (w : World) → StandsBy buses read keys held w → StandsBy buses read keys (one_denied held) w
   stands_denied held w s = stands_as buses read keys held w _ _ _ _ _ _ _ s.moment s.last_id s
 
-  stands_commanded : (granted : Bool) (held : Held) (w : World) (conn : Connection) (session : ℕ) (command : Result Command Code)
-      → IsFine buses order w → StandsBy buses read keys held w → numbered n w.connections ≡ Some conn → conn.info ≡ false
-      → StandsBy buses read keys (commanded granted key session command held)
-      (course_commanded buses n session (ordered buses granted command) w)
-  stands_commanded granted held w conn session (Err code) a s there plain = stands_plainly held w conn (Refused code) a s there plain
-  stands_commanded granted held w conn session (Ok command) a s there plain =
-      by (granted || not (wants_memory held.rows session held.moment command))
-      (stands_obeyed held w conn session (record { command = command; granted = granted }) a s there plain)
-    where
-      by : (t : Bool)
-          → StandsBy buses read keys (obeyed key session (if t then effect_of held.rows session held.moment command else refused C500) held)
-          (course_commanded buses n session (ordered buses granted (Ok command)) w)
-          → StandsBy buses read keys
-          (if t then obeyed key session (effect_of held.rows session held.moment command) held else denied_line key held)
-          (course_commanded buses n session (ordered buses granted (Ok command)) w)
-      by true h = h
-      by false h = stands_denied _ _ h
+  -- ---- an open connection that is no information session
 
-  stands_greeted_under : (granted : Bool) (held : Held) (w : World) (conn : Connection) (greeting : Greeting) → IsFine buses order w
-      → StandsBy buses read keys held w → numbered n w.connections ≡ Some conn → conn.shut ≡ None → conn.info ≡ false
-      → StandsBy buses read keys (greeted granted key conn.mode greeting held)
-      (course_greeted buses n conn.mode (greeting_under granted greeting) w)
-  stands_greeted_under true held w conn greeting a s there shut plain = stands_greeted held w conn greeting a s there shut plain
-  stands_greeted_under false held w conn Speaks a s there shut plain = stands_greeted held w conn Speaks a s there shut plain
-  stands_greeted_under false held w conn (Chooses chosen) a s there shut plain =
-      stands_greeted held w conn (Chooses chosen) a s there shut plain
-  stands_greeted_under false held w conn (Refuses code) a s there shut plain =
-      stands_greeted held w conn (Refuses code) a s there shut plain
-  stands_greeted_under false held w conn Goes a s there shut plain =
-      cond_both _ _ _ (λ it. StandsBy buses read keys it
-      (course_replied n (Refused C500) w))
-      (λ _. stands_denied (replied key (Refused C500) held) _ refuses)
-      (λ _. refuses)
-    where
-      refuses : StandsBy buses read keys (replied key (Refused C500) held) (course_replied n (Refused C500) w)
-      refuses = stands_plainly held w conn (Refused C500) a s there plain
+  module _ (held : Held) (w : World) (conn : Connection) (a : IsFine buses order w) (s : StandsBy buses read keys held w)
+      (there : numbered n w.connections ≡ Some conn) (shut : conn.shut ≡ None) (plain : conn.info ≡ false) where
+    stands_goes : StandsBy buses read keys (goes true key conn.mode held) (course_goes buses n conn.mode w)
+    stands_goes =
+        rw (← (timed_is held w s))
+        (if_two (StandsBy buses read keys) _ _ _ _ _ (stands_begun held w conn (held.last_id + 1) a s there shut plain)
+        (stands_plainly held (timed held w) conn (Refused C500) a (stands_timed held w s) there plain))
+
+    stands_greeted : (greeting : Greeting)
+        → StandsBy buses read keys (greeted true key conn.mode greeting held) (course_greeted buses n conn.mode greeting w)
+    stands_greeted Speaks = stands_plainly held w conn Protocol a s there plain
+    stands_greeted (Chooses chosen) =
+        let f = fine_of w a n conn there in
+        stands_replied (changed_at key (λ p. record p { mode = chosen }) held) (at_connection n (λ conn. record conn { mode = chosen }) w)
+        (record conn { mode = chosen }) ModeReply
+        (stands_of held w conn (λ conn. record conn { mode = chosen }) (λ p. record p { mode = chosen }) s there refl refl
+        (λ reader up. rw plain refl))
+        (numbered_at w conn (λ conn. record conn { mode = chosen }) there) (f.plain plain).0
+        (ap (λ i. i && nat_lt 256 (length (untold conn (history buses w)))) plain) f.within
+    stands_greeted Goes = stands_goes
+    stands_greeted (Refuses code) = stands_plainly held w conn (Refused code) a s there plain
+
+    -- ---- commands
+
+    stands_obeyed : (session : ℕ) (command : Order)
+        → StandsBy buses read keys (obeyed key session (effect held.rows session held.moment command) held)
+        (course_obeyed buses n session command (effect (state buses w) session w.moment command) w)
+    stands_obeyed session command =
+        let now = did (Obeyed session held.moment command) (timed held w) in
+        let result = effect held.rows session held.moment command in
+        let sound_one : IsFine buses order now = sound_did buses order Anything _ _ (timed held w) a in
+        let one : StandsBy buses read keys (carried result.updates held) now =
+        stands_did buses read keys held (timed held w) (Obeyed session held.moment command) (fine_of w a) (stands_timed held w s) in
+        let two = stands_plainly (carried result.updates held) now conn result.reply sound_one one there plain in
+        rw (← (timed_is held w s))
+        (rw (← s.rows)
+        (if_two (StandsBy buses read keys) _ _ _ _ _
+        (stands_ended (replied key result.reply (carried result.updates held)) (course_replied n result.reply now)
+        (record conn { out = conn.out ++ reply_line held.moment result.reply }) session
+        (sound_replied buses order Anything (anything (shown_rows (opening buses 0))) n result.reply now sound_one) two
+        (numbered_at now conn (λ conn. record conn { out = conn.out ++ reply_line held.moment result.reply }) there) plain)
+        two))
+
+    -- ---- what memory answers
+
+    stands_commanded : (granted : Bool) (session : ℕ) (command : Result Command Code)
+        → StandsBy buses read keys (commanded granted key session command held)
+        (course_commanded buses n session (ordered buses granted command) w)
+    stands_commanded granted session (Err code) = stands_plainly held w conn (Refused code) a s there plain
+    stands_commanded granted session (Ok command) =
+        by (granted || not (wants_memory held.rows session held.moment command))
+        (stands_obeyed session (record { command = command; granted = granted }))
+      where
+        by : (t : Bool)
+            → StandsBy buses read keys
+            (obeyed key session (if t then effect_of held.rows session held.moment command else refused C500) held)
+            (course_commanded buses n session (ordered buses granted (Ok command)) w)
+            → StandsBy buses read keys
+            (if t then obeyed key session (effect_of held.rows session held.moment command) held else denied_line key held)
+            (course_commanded buses n session (ordered buses granted (Ok command)) w)
+        by true h = h
+        by false h = stands_denied _ _ h
+
+    stands_greeted_under : (granted : Bool) (greeting : Greeting)
+        → StandsBy buses read keys (greeted granted key conn.mode greeting held)
+        (course_greeted buses n conn.mode (greeting_under granted greeting) w)
+    stands_greeted_under true greeting = stands_greeted greeting
+    stands_greeted_under false Speaks = stands_greeted Speaks
+    stands_greeted_under false (Chooses chosen) = stands_greeted (Chooses chosen)
+    stands_greeted_under false (Refuses code) = stands_greeted (Refuses code)
+    stands_greeted_under false Goes =
+        cond_both _ _ _ (λ it. StandsBy buses read keys it
+        (course_replied n (Refused C500) w))
+        (λ _. stands_denied (replied key (Refused C500) held) _ refuses)
+        (λ _. refuses)
+      where
+        refuses : StandsBy buses read keys (replied key (Refused C500) held) (course_replied n (Refused C500) w)
+        refuses = stands_plainly held w conn (Refused C500) a s there plain
 
   -- ---- any line
 
@@ -260,9 +253,9 @@ module _ (buses : List Bus) (order : IsRisingBy key_at (shown_rows (opening buse
   stands_asked held w conn granted mark true ended first a s there shut i = s
   stands_asked held w conn granted mark false true first a s there shut i = s
   stands_asked held w conn granted mark false false true a s there shut i =
-      stands_greeted_under granted held w conn (greets_of mark) a s there shut i
+      stands_greeted_under held w conn a s there shut i granted (greets_of mark)
   stands_asked held w conn granted mark false false false a s there shut i =
-      stands_commanded granted held w conn conn.session (command_of buses mark) a s there i
+      stands_commanded held w conn a s there shut i granted conn.session (command_of buses mark)
 
   -- what a line asks for is answered as in the course
   pub stands_answered : (held : Held) (w : World) (granted : Bool) (mark : Mark) (p : Place) → IsFine buses order w

@@ -1,16 +1,15 @@
 -- What the recorder notes of the answer to a line is what the course gains.
 use Rattle.srcp_core.proofs.Names.{◌≡◌, ℕ, zero, suc, ◌+◌, ◌≤◌, Bool, true, false, List, [], ◌∷◌, ◌++◌, map, length, refl, ap, sym, ◌∙◌}
-use Rattle.srcp_core.proofs.Names.{take-append-le, map-append, length-map, option_map, Option, Some, None, not, ◌||◌, ◌&&◌, ◌==◌, nat_lt}
-use Rattle.srcp_core.proofs.Names.{Result, Ok, Err, if◌then◌else◌, reply_line, Code, C500, Reply, Protocol, Go, Refused, Bus, Effect, State}
+use Rattle.srcp_core.proofs.Names.{take-append-le, map-append, length-map, option_map, Option, Some, None, ◌||◌, ◌&&◌, ◌==◌, nat_lt}
+use Rattle.srcp_core.proofs.Names.{Result, Ok, Err, if◌then◌else◌, reply_line, Code, C500, Reply, Protocol, Go, Refused, Bus, Effect}
 use Rattle.srcp_core.proofs.Names.{opening, shown_rows, key_at, IsRisingBy, Mark, Command, refused, Step, Obeyed, Began, Ended, Order}
-use Rattle.srcp_core.proofs.Names.{greeting_under, recorded_step, wants_memory, Connection, given, sent, World, numbered, with_numbered}
+use Rattle.srcp_core.proofs.Names.{greeting_under, recorded_step, Connection, given, World, numbered, with_numbered}
 use Rattle.srcp_core.proofs.Names.{at_connection, did, is_info, state, history, command_of, ordered, replied, entered, goes, greeted, ended}
 use Rattle.srcp_core.proofs.Names.{obeyed, commanded, answered, Greeting, Speaks, Chooses, Goes, Refuses, Place, Held, at, asked_of}
 use Rattle.srcp_core.proofs.Names.{steps_answered, Recording, key_of, record_of, changed_record, noted, stepped, StandsBy, Dropped, Greets}
 use Rattle.srcp_core.proofs.Names.{Commands, ConnRecord, option_map_or, slice_set, and-false}
 use Rattle.srcp_info.specs.declared.change.Reply.TheVariants.{Mode as ModeReply}
 use Rattle.srcp_rules.specs.Effect.{effect as effect_of}
-use Rattle.srcp_core.specs.declared.record.Step.{Step as PlainStep}
 use Rattle.srcp_core.specs.Handshake.{greets as greets_of}
 use Rattle.srcp_core.specs.Machine.{steps_gone, steps_greeted, steps_commanded}
 use Rattle.srcp_core.proofs.Agreement.LinesAgree.{IsFine, asks_of}
@@ -50,11 +49,6 @@ told_same zero f (x ∷ xs) h = refl
 told_same (suc zero) f (x ∷ xs) h = cc (h x refl)
 told_same (suc (suc n)) f (x ∷ xs) h = cc (told_same (suc n) f xs h)
 
--- a reply does not change what was sent
-pub sent_reply : (conn : Connection) (line : List ℕ) → conn.items ≡ [] → conn.taken ≤ length (given conn)
-    → sent (record conn { out = conn.out ++ line }) ≡ sent conn
-sent_reply conn line none within = cc (given_reply conn line none, take-append-le _ _ line within)
-
 -- ---- what a run has told of a course
 
 pub tells_same : (r : Recording) (w : World) (n : ℕ) (f : Connection → Connection)
@@ -81,23 +75,17 @@ tells_changed r w n conn f g e h t = record {
 -- ---- the answer to a line
 
 module _ (buses : List Bus) (n : ℕ) (r : Recording) where
-  tells_replied : (r : Recording) (w : World) (reply : Reply)
-      → ((conn : Connection) → numbered n w.connections ≡ Some conn → (conn.items ≡ []) × (conn.taken ≤ length (given conn))) → Tells r w
-      → Tells r (replied n reply w)
-  tells_replied r w reply h t =
-      tells_same r w n (λ conn. record conn { out = conn.out ++ reply_line w.moment reply })
-      (λ conn e. cc (sent_reply conn (reply_line w.moment reply) (h conn e).0 (h conn e).1)) t
-
   -- no line was put into the connection of the number, and no more was taken of it than it was given
   abbrev IsPlain : World → Connection → Type 0
   IsPlain w conn = (numbered n w.connections ≡ Some conn) × ((conn.items ≡ []) × (conn.taken ≤ length (given conn)))
 
-  plain_at : (w : World) (conn : Connection) → IsPlain w conn → (other : Connection) → numbered n w.connections ≡ Some other
-      → (other.items ≡ []) × (other.taken ≤ length (given other))
-  plain_at w conn p other e =
-      let there = p.0 in
-      let same : conn ≡ other = let both : Some conn ≡ Some other = cc in cc in
-      rw (← same) p.1
+  tells_replied : (r : Recording) (w : World) (conn : Connection) (reply : Reply) → IsPlain w conn → Tells r w → Tells r (replied n reply w)
+  tells_replied r w conn reply p t =
+      tells_same r w n (λ conn. record conn { out = conn.out ++ reply_line w.moment reply })
+      (λ other e.
+      let same : conn ≡ other = let there = p.0 in let both : Some conn ≡ Some other = cc in cc in
+      let line = reply_line w.moment reply in
+      rw (← same) (cc (given_reply conn line p.1.0, take-append-le _ (given conn) line p.1.1))) t
 
   tells_begun : (w : World) (conn : Connection) (id moment : ℕ) → IsPlain w conn → Tells r w
       → Tells (noted n (recorded.Began id moment conn.mode ∷ []) r)
@@ -107,98 +95,87 @@ module _ (buses : List Bus) (n : ℕ) (r : Recording) where
       let d = tells_did r w step t in
       let f : Connection → Connection = λ c. record c { session = id; info = is_info c.mode; go_step = length _ } in
       let there_after = numbered_with n f _ ∙ ap (option_map f) p.0 in
-      tells_replied (noted n (recorded_step step ∷ []) r) (entered buses n id (did step w)) (Go id)
-      (plain_at (entered buses n id (did step w)) (f conn) (there_after, p.1))
+      tells_replied (noted n (recorded_step step ∷ []) r) (entered buses n id (did step w)) (f conn) (Go id) (there_after, p.1)
       (tells_changed (stepped (recorded_step step ∷ []) r) (did step w) n conn f
       (λ told. record told { session = id; info = is_info conn.mode; go_step = length (r.steps ++ recorded_step step ∷ []) }) p.0
       (ap (λ k. record (record_of conn) { session = id; info = is_info conn.mode; go_step = k })
       (sym (length-map (w.steps ++ step ∷ []) recorded_step) ∙ sym (ap length d.steps)))
       d)
 
-  tells_goes : (w : World) (conn : Connection) (held : Held) → held.moment ≡ w.moment → held.last_id ≡ w.last_id → IsPlain w conn
-      → Tells r w → Tells (noted n (steps_gone true conn.mode held) r) (goes buses n conn.mode w)
-  tells_goes w conn held m l p t =
-      rw l
-      (rw m
-      (elim (nat_lt _ _)
-      as (λ b. Tells (noted n (if b && true then recorded.Began (w.last_id + 1) w.moment conn.mode ∷ [] else []) r)
-      (if b
-      then replied n (Go (w.last_id + 1))
-      (entered buses n (w.last_id + 1) (did (Began (w.last_id + 1) w.moment conn.mode) (record w { last_id = w.last_id + 1 })))
-      else replied n (Refused C500) w)) [
-        | true ↦
-            tells_begun _ conn _ w.moment p
-            (record { steps = t.steps; refused = t.refused; connections = t.connections })
-        | false ↦ tells_replied r w (Refused C500) (plain_at w conn p) t
-      ]))
+  module _ (w : World) (conn : Connection) (held : Held) (m : held.moment ≡ w.moment) (l : held.last_id ≡ w.last_id)
+      (s : held.rows ≡ state buses w) (p : IsPlain w conn) (t : Tells r w) where
+    tells_goes : Tells (noted n (steps_gone true conn.mode held) r) (goes buses n conn.mode w)
+    tells_goes =
+        rw l
+        (rw m
+        (elim (nat_lt _ _)
+        as (λ b. Tells (noted n (if b && true then recorded.Began (w.last_id + 1) w.moment conn.mode ∷ [] else []) r)
+        (if b
+        then replied n (Go (w.last_id + 1))
+        (entered buses n (w.last_id + 1) (did (Began (w.last_id + 1) w.moment conn.mode) (record w { last_id = w.last_id + 1 })))
+        else replied n (Refused C500) w)) [
+          | true ↦
+              tells_begun _ conn _ w.moment p
+              (record { steps = t.steps; refused = t.refused; connections = t.connections })
+          | false ↦ tells_replied r w conn (Refused C500) p t
+        ]))
 
-  tells_greeted : (w : World) (conn : Connection) (held : Held) (greeting : Greeting) → held.moment ≡ w.moment → held.last_id ≡ w.last_id
-      → IsPlain w conn → Tells r w → Tells (noted n (steps_greeted true conn.mode greeting held) r) (greeted buses n conn.mode greeting w)
-  tells_greeted w conn held Speaks m l p t = tells_replied r w Protocol (plain_at w conn p) t
-  tells_greeted w conn held (Chooses chosen) m l p t =
-      let f : Connection → Connection = λ c. record c { mode = chosen } in
-      tells_replied r (at_connection n f w) ModeReply
-      (plain_at (at_connection n f w) (f conn) (numbered_with n f w.connections ∙ ap (option_map f) p.0, p.1))
-      (tells_same r w n f (λ c e. refl) t)
-  tells_greeted w conn held Goes m l p t = tells_goes w conn held m l p t
-  tells_greeted w conn held (Refuses code) m l p t = tells_replied r w (Refused code) (plain_at w conn p) t
+    tells_greeted : (greeting : Greeting)
+        → Tells (noted n (steps_greeted true conn.mode greeting held) r) (greeted buses n conn.mode greeting w)
+    tells_greeted Speaks = tells_replied r w conn Protocol p t
+    tells_greeted (Chooses chosen) =
+        let f : Connection → Connection = λ c. record c { mode = chosen } in
+        tells_replied r (at_connection n f w) (f conn) ModeReply (numbered_with n f w.connections ∙ ap (option_map f) p.0, p.1)
+        (tells_same r w n f (λ c e. refl) t)
+    tells_greeted Goes = tells_goes
+    tells_greeted (Refuses code) = tells_replied r w conn (Refused code) p t
 
-  tells_greeted_under : (granted : Bool) (w : World) (conn : Connection) (held : Held) (greeting : Greeting) → held.moment ≡ w.moment
-      → held.last_id ≡ w.last_id → IsPlain w conn → Tells r w
-      → Tells (noted n (steps_greeted granted conn.mode greeting held) r) (greeted buses n conn.mode (greeting_under granted greeting) w)
-  tells_greeted_under true w conn held greeting m l p t = tells_greeted w conn held greeting m l p t
-  tells_greeted_under false w conn held Speaks m l p t = tells_greeted w conn held Speaks m l p t
-  tells_greeted_under false w conn held (Chooses chosen) m l p t = tells_greeted w conn held (Chooses chosen) m l p t
-  tells_greeted_under false w conn held (Refuses code) m l p t = tells_greeted w conn held (Refuses code) m l p t
-  tells_greeted_under false w conn held Goes m l p t =
-      rw (and-false (nat_lt held.last_id 4294967295)) (tells_replied r w (Refused C500) (plain_at w conn p) t)
+    tells_greeted_under : (granted : Bool) (greeting : Greeting)
+        → Tells (noted n (steps_greeted granted conn.mode greeting held) r) (greeted buses n conn.mode (greeting_under granted greeting) w)
+    tells_greeted_under true greeting = tells_greeted greeting
+    tells_greeted_under false Speaks = tells_greeted Speaks
+    tells_greeted_under false (Chooses chosen) = tells_greeted (Chooses chosen)
+    tells_greeted_under false (Refuses code) = tells_greeted (Refuses code)
+    tells_greeted_under false Goes =
+        rw (and-false (nat_lt held.last_id 4294967295)) (tells_replied r w conn (Refused C500) p t)
 
-  tells_commanded : (granted : Bool) (w : World) (conn : Connection) (held : Held) (session : ℕ) (command : Result Command Code)
-      → held.moment ≡ w.moment → held.rows ≡ state buses w → IsPlain w conn → Tells r w
-      → Tells (noted n (steps_commanded granted session command held) r) (commanded buses n session (ordered buses granted command) w)
-  tells_commanded granted w conn held session (Err code) m s p t = tells_replied r w (Refused code) (plain_at w conn p) t
-  tells_commanded granted w conn held session (Ok command) m s p t =
-      rw s
-      (rw m
-      (split _))
-    where
-      ordering : Order
-      ordering = record { command = command; granted = granted }
+    tells_commanded : (granted : Bool) (session : ℕ) (command : Result Command Code)
+        → Tells (noted n (steps_commanded granted session command held) r) (commanded buses n session (ordered buses granted command) w)
+    tells_commanded granted session (Err code) = tells_replied r w conn (Refused code) p t
+    tells_commanded granted session (Ok command) =
+        rw s (rw m (split _))
+      where
+        ordering : Order
+        ordering = record { command = command; granted = granted }
 
-      steps_by : State → ℕ → List PlainStep
-      steps_by k moment =
-          recorded.Obeyed session moment command
-          ∷ (if (granted || not (wants_memory k session moment command)) && (effect_of k session moment command).ends
-          then recorded.Ended session moment ∷ [] else [])
+        one : (result : Effect)
+            → Tells (stepped (recorded.Obeyed session w.moment command ∷ []) r)
+            (replied n result.reply (did (Obeyed session w.moment ordering) w))
+        one result =
+            tells_replied (stepped (recorded.Obeyed session w.moment command ∷ []) r) (did (Obeyed session w.moment ordering) w) conn
+            result.reply p (tells_did r w (Obeyed session w.moment ordering) t)
 
-      one : (result : Effect)
-          → Tells (stepped (recorded.Obeyed session w.moment command ∷ []) r)
-          (replied n result.reply (did (Obeyed session w.moment ordering) w))
-      one result =
-          tells_replied (stepped (recorded.Obeyed session w.moment command ∷ []) r) (did (Obeyed session w.moment ordering) w) result.reply
-          (plain_at (did (Obeyed session w.moment ordering) w) conn p) (tells_did r w (Obeyed session w.moment ordering) t)
+        by : (result : Effect) (b : Bool)
+            → Tells (noted n (recorded.Obeyed session w.moment command ∷ (if b then recorded.Ended session w.moment ∷ [] else [])) r)
+            (if b then ended buses n session (replied n result.reply (did (Obeyed session w.moment ordering) w))
+            else replied n result.reply (did (Obeyed session w.moment ordering) w))
+        by result false = one result
+        by result true =
+            tells_did (stepped (recorded.Obeyed session w.moment command ∷ []) r)
+            (at_connection n (λ c. record c { ended = true }) (replied n result.reply (did (Obeyed session w.moment ordering) w)))
+            (Ended session w.moment)
+            (tells_same (stepped (recorded.Obeyed session w.moment command ∷ []) r)
+            (replied n result.reply (did (Obeyed session w.moment ordering) w)) n (λ c. record c { ended = true }) (λ c e. refl)
+            (one result))
 
-      by : (result : Effect) (b : Bool)
-          → Tells (noted n (recorded.Obeyed session w.moment command ∷ (if b then recorded.Ended session w.moment ∷ [] else [])) r)
-          (if b then ended buses n session (replied n result.reply (did (Obeyed session w.moment ordering) w))
-          else replied n result.reply (did (Obeyed session w.moment ordering) w))
-      by result false = one result
-      by result true =
-          tells_did (stepped (recorded.Obeyed session w.moment command ∷ []) r)
-          (at_connection n (λ c. record c { ended = true }) (replied n result.reply (did (Obeyed session w.moment ordering) w)))
-          (Ended session w.moment)
-          (tells_same (stepped (recorded.Obeyed session w.moment command ∷ []) r)
-          (replied n result.reply (did (Obeyed session w.moment ordering) w)) n (λ c. record c { ended = true }) (λ c e. refl)
-          (one result))
-
-      split : (g : Bool)
-          → Tells (noted n
-          (recorded.Obeyed session w.moment command
-          ∷ (if g && (effect_of (state buses w) session w.moment command).ends then recorded.Ended session w.moment ∷ [] else []))
-          r)
-          (obeyed buses n session ordering (if g then effect_of (state buses w) session w.moment command else refused C500) w)
-      split true = by (effect_of (state buses w) session w.moment command) (effect_of (state buses w) session w.moment command).ends
-      split false = by (refused C500) false
+        split : (g : Bool)
+            → Tells (noted n
+            (recorded.Obeyed session w.moment command
+            ∷ (if g && (effect_of (state buses w) session w.moment command).ends then recorded.Ended session w.moment ∷ [] else []))
+            r)
+            (obeyed buses n session ordering (if g then effect_of (state buses w) session w.moment command else refused C500) w)
+        split true = by (effect_of (state buses w) session w.moment command) (effect_of (state buses w) session w.moment command).ends
+        split false = by (refused C500) false
 
   tells_asked : (w : World) (conn : Connection) (held : Held) (granted : Bool) (mark : Mark) (info over first : Bool)
       → held.moment ≡ w.moment → held.last_id ≡ w.last_id → held.rows ≡ state buses w → (info ≡ false → IsPlain w conn) → Tells r w
@@ -214,9 +191,9 @@ module _ (buses : List Bus) (n : ℕ) (r : Recording) where
   tells_asked w conn held granted mark true over first m l s plain t = t
   tells_asked w conn held granted mark false true first m l s plain t = t
   tells_asked w conn held granted mark false false true m l s plain t =
-      tells_greeted_under granted w conn held (greets_of mark) m l (plain refl) t
+      tells_greeted_under w conn held m l s (plain refl) t granted (greets_of mark)
   tells_asked w conn held granted mark false false false m l s plain t =
-      tells_commanded granted w conn held conn.session (command_of buses mark) m s (plain refl) t
+      tells_commanded w conn held m l s (plain refl) t granted conn.session (command_of buses mark)
 
 -- what is noted of the answer to a line
 pub tells_answered : (buses : List Bus) (order : IsRisingBy key_at (shown_rows (opening buses 0))) (read : ℕ → List ℕ → List ℕ)

@@ -38,17 +38,13 @@ last_short (item ∷ next ∷ items) told = last_short (next ∷ items) (rest it
 
 module _ (buses : List Bus) (layout : IsLayout buses) (events : List Event) (moments : AllMoments events) (number : ℕ) (conn : Connection)
     (there : numbered number (course buses events).connections ≡ Some conn) where
-  -- no line that it was given is longer
-  lines_short : length (last_line conn.items) ≤ 126
-  lines_short =
-      ⊎_elim (λ e. last_short conn.items (given_told buses layout events number conn (record { there = there; info = e }) moments))
-      (λ e. rw (sends_replies buses layout events number conn there e).0 (omega arith)) (cases_Bool conn.info)
-
-  -- so what is unsent of it is short
+  -- no line that it was given is longer, so what is unsent of it is short
   unsent_short : IsTaken conn → length (unsent conn) ≤ 126
   unsent_short taken =
       let last = leaves_one_line buses events number conn there taken in
-      let short = lines_short in
+      let short : length (last_line conn.items) ≤ 126 =
+      ⊎_elim (λ e. last_short conn.items (given_told buses layout events number conn (record { there = there; info = e }) moments))
+      (λ e. rw (sends_replies buses layout events number conn there e).0 (omega arith)) (cases_Bool conn.info) in
       let size = ap length last.1 in
       let sum = length-append last.0 (unsent conn) in
       omega arith

@@ -2,7 +2,7 @@
 use Rattle.srcp_core.proofs.Names.{◌≡◌, ℕ, suc, ◌-◌, ◌≤◌, Bool, true, false, List, [], ◌∷◌, ◌++◌, map, take, drop, length, refl}
 use Rattle.srcp_core.proofs.Names.{ap, sym, ◌∙◌, subst, arith, append-nil, append_assoc, le-leb, le-ltb, nat_tests, drop-append-le}
 use Rattle.srcp_core.proofs.Names.{take-append-le, and-false, le_refl, flat_map, option_or, Option, Some, None, ◌&&◌, ◌||◌, nat_lt, IfSome}
-use Rattle.srcp_core.proofs.Names.{if◌then◌else◌, Change, Cursor, Done, Shown, Mode, Reading, beyond, moved, Feed, next_of, Next, Told}
+use Rattle.srcp_core.proofs.Names.{if◌then◌else◌, Change, Cursor, Done, Shown, Mode, Reading, beyond, moved, Next, Told}
 use Rattle.srcp_core.proofs.Names.{Listed, Settled, key_at, IsRisingBy, Connection, History, cursor_at, untold, unsent, sent, given}
 use Rattle.srcp_core.proofs.Names.{line_of, is_nil, owed, prefix, fitting, exhausts, items_of, took, given_room, overran, Place}
 use Rattle.srcp_core.proofs.Names.{filled, item_from, feed_in, Listening, record_of, place_of, ConnRecord}
@@ -99,9 +99,6 @@ module _ (first : List Shown) (history : History) (conn : Connection) (shut : co
   abbrev n : ℕ
   n = length history
 
-  abbrev feed_now : Feed
-  feed_now = record { cursor = cursor_at conn n; queue = untold conn history }
-
   owed_is : conn.info ≡ true
       → owed conn history rows_now ≡ map Told (untold conn history) ++ map Listed (beyond (cursor_at conn n) rows_now)
   owed_is info = cc
@@ -172,7 +169,6 @@ module _ (first : List Shown) (history : History) (conn : Connection) (shut : co
         told = cc (info_is reader history conn info still);
       })
   fills_info reader info still [] e =
-      let what : Next = next_of rows_now feed_now in
       let nexts : List Next = map Told _ ++ map Listed _ in
       let later : Connection = after nexts in
       let is : took 0 n (owed conn history rows_now) conn ≡ later =
@@ -221,15 +217,12 @@ module _ (first : List Shown) (history : History) (conn : Connection) (shut : co
       nothing [] = refl
       nothing (byte ∷ bytes) = refl
 
-  fills_over : (reader : Reading) → conn.info ≡ true → nat_lt 256 (length (untold conn history)) ≡ true → IsFilled reader conn
-  fills_over reader info over = record { place = rw (info, over) refl; told = rw (info, over) refl }
-
   pub fills : (reader : Reading) → overran conn history ≡ is_over_place history conn → IsFilled reader (given_room 0 history rows_now conn)
   fills reader over_is = by _ _ refl refl
     where
       by : (info over : Bool) → conn.info ≡ info → nat_lt 256 (length (untold conn history)) ≡ over
           → IsFilled reader (given_room 0 history rows_now conn)
-      by true true i o = rw o (fills_over reader i o)
+      by true true i o = rw o (record { place = rw (i, o) refl; told = rw (i, o) refl })
       by true false i o = rw o (fills_info reader i o _ refl)
       by false over i o =
           let still : overran conn history ≡ false = cc in

@@ -8,7 +8,7 @@ use Rattle.srcp_core.specs.Run.{LeadsOn}
 use Rattle.srcp_core.proofs.Invariants.LinesAreFound.{line_found, heard_denied}
 use Rattle.srcp_core.proofs.Agreement.CallsFollowTheCourse.{telling, runs_telling}
 use Rattle.srcp_core.proofs.Agreement.RecordIsOfTheCourse.{runs_on}
-use Rattle.srcp_core.proofs.Agreement.MemoryAnswers.{counted_more, none_denied}
+use Rattle.srcp_core.proofs.Agreement.MemoryAnswers.{counted_more}
 use Rattle.srcp_core.proofs.Agreement.RefusalsAreCounted.{denied_in_none}
 use Rattle.srcp_core.proofs.Agreement.RunsBytes.{ReadsWith, reads_with_none, reads_with_more, bytes_asked, bytes_with, bytes_refused}
 use Rattle.srcp_core.proofs.Agreement.RunsBytes.{noted_keys}
@@ -119,7 +119,3 @@ refused_leads key piece old new cause e same = record {
       rw same
       (runs_on buses events (Bytes n (giving piece)) (Some cause) (length events + 1) first_r old refl h).stands;
 }
-
--- memory that was refused before stays refused
-pub received_denied : (key : ℕ) (piece : List ℕ) (old new : Held) → LeadsOn key piece old new → new.denied ≡ 0 → old.denied ≡ 0
-received_denied key piece old new l d = (none_denied l.grants _ (sym l.counted ∙ d)).0

@@ -151,21 +151,6 @@ given_reply conn line none =
     let before : given conn ≡ conn.out = cc (append-nil conn.out) in
     cc (append-nil _)
 
--- and of what is unsent
-pub unsent_reply : (conn : Connection) (line : List ℕ) → conn.items ≡ [] → conn.taken ≤ length (given conn)
-    → unsent (record conn { out = conn.out ++ line }) ≡ unsent conn ++ line
-unsent_reply conn line none within = cc (given_reply conn line none, drop-append-le _ _ line within)
-
-pub chosen_place : (reader : Reading) (history : History) (conn : Connection) (mode : Mode) → conn.info ≡ false
-    → record (place_of reader history conn) { mode = mode } ≡ place_of reader history (record conn { mode = mode })
-chosen_place reader history conn mode plain =
-    cc (plain_is reader history conn plain, plain_is reader history (record conn { mode = mode }) plain)
-
-pub ended_place : (reader : Reading) (history : History) (conn : Connection) → conn.info ≡ false
-    → record (place_of reader history conn) { ended = true } ≡ place_of reader history (record conn { ended = true })
-ended_place reader history conn plain =
-    cc (plain_is reader history conn plain, plain_is reader history (record conn { ended = true }) plain)
-
 -- a session begins
 entered_plain : (reader : Reading) (mode : Mode) (session id : ℕ) (ended : Bool) (bytes : List ℕ)
     → entered_place id (panel_for mode) (plain_place reader mode session ended bytes)
@@ -222,4 +207,4 @@ module _ (reader : Reading) (history : History) (conn : Connection) where
   -- a reply to one that did not overrun
   pub replied_still : (line : List ℕ) → is_over_place history conn ≡ false → conn.items ≡ [] → conn.taken ≤ length (given conn)
       → with_unsent line (place_of reader history conn) ≡ place_of reader history (record conn { out = conn.out ++ line })
-  replied_still line still none within = cc (unsent_reply conn line none within)
+  replied_still line still none within = cc (given_reply conn line none, drop-append-le _ (given conn) line within)

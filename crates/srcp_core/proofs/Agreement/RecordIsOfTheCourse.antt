@@ -1,5 +1,5 @@
 -- The record of a run is that of the course of its events.
-use Rattle.srcp_core.proofs.Names.{◌≡◌, ℕ, zero, suc, ◌+◌, ◌<◌, ◌≤◌, Bool, true, false, List, [], ◌∷◌, ◌++◌, map, take, length, refl, ap}
+use Rattle.srcp_core.proofs.Names.{◌≡◌, ℕ, zero, suc, ◌+◌, ◌≤◌, Bool, true, false, List, [], ◌∷◌, ◌++◌, map, take, length, refl, ap}
 use Rattle.srcp_core.proofs.Names.{sym, ◌∙◌, arith, add-one, length-append, take_all, fold-append, fold, Option, Some, None, ◌&&◌}
 use Rattle.srcp_core.proofs.Names.{slice_get, slice_index_or, if◌then◌else◌, Bus, IsLayout, opening, shown_rows, Event, Open, Bytes, Room}
 use Rattle.srcp_core.proofs.Names.{At, Shut, under, all_under, denied_by, Connection, History, is_open, is_nil, overran, unsent, finish}
@@ -28,7 +28,7 @@ use Rattle.srcp_core.proofs.Agreement.RunPromises.{take_one}
 
 -- ---- how each connection stands in the end
 
-finish_step_none : (held : Held) (i : ℕ) (keys : List (Option ℕ)) (tolds : List ConnRecord) → slice_index_or keys i None ≡ None
+pub finish_step_none : (held : Held) (i : ℕ) (keys : List (Option ℕ)) (tolds : List ConnRecord) → slice_index_or keys i None ≡ None
     → finished held (take (suc i) keys) tolds ≡ finished held (take i keys) tolds
 finish_step_none held zero [] tolds e = refl
 finish_step_none held (suc i) [] tolds e = refl
@@ -57,10 +57,6 @@ finish_step_some held (suc i) key (other ∷ keys) (told ∷ tolds) e = cc (fini
     prefix None = refl
     prefix (Some x) = refl
 
-pub finish_kept : (held : Held) (i : ℕ) (keys : List (Option ℕ)) (tolds now : List ConnRecord) → i < length keys
-    → slice_index_or keys i None ≡ None → now ≡ finished held (take i keys) tolds → now ≡ finished held (take (i + 1) keys) tolds
-finish_kept held i keys tolds now h e is = cc (finish_step_none held i keys tolds e, add-one i)
-
 pub finish_noted : (held : Held) (i key : ℕ) (keys : List (Option ℕ)) (tolds now later : List ConnRecord) (ends : Finish)
     → slice_index_or keys i None ≡ Some key → ends ≡ finish_at key held → now ≡ finished held (take i keys) tolds
     → later ≡ changed_record (i + 1) (λ told. record told { finish = ends }) now → later ≡ finished held (take (i + 1) keys) tolds
@@ -88,7 +84,6 @@ module _ (buses : List Bus) (layout : IsLayout buses) (keys : List (Option ℕ))
   pub finish_is : (n key : ℕ) (reader : Reading) (conn : Connection) → numbered n w.connections ≡ Some conn → is_open conn ≡ true
       → at held key ≡ Some (place_of reader (history buses w) conn) → finish_at key held ≡ finish conn (history buses w)
   finish_is n key reader conn e o here =
-      let p = place_of reader (history buses w) conn in
       let fine = sound buses (opening_in_order buses layout) Anything (anything (shown_rows (opening buses 0))) events in
       let f : Fine buses (history buses w) conn = at_number (Fine buses (history buses w)) n w.connections conn fine e in
       let over = over_is buses (history buses w) conn (open_shut conn.shut o) f in
@@ -108,9 +103,6 @@ module _ (buses : List Bus) (layout : IsLayout buses) (keys : List (Option ℕ))
   one_finished n conn e =
       ⊎_elim (λ o. let a = s.opens n conn e o in cc (a.named, finish_is n a.key a.reader conn e o a.place))
       (λ o. cc (s.closed n conn e o)) (cases_Bool (is_open conn))
-
-  pub all_finished : finished held keys (map record_of w.connections) ≡ map (recorded (history buses w)) w.connections
-  all_finished = finished_is _ held keys _ s.long (λ k conn e. one_finished (suc k) conn e)
 
 -- ---- how many events there were
 
@@ -272,6 +264,10 @@ pub record_is : (buses : List Bus) (events : List Event) (r : Recording) (held :
 record_is buses events r held told layout s steps refused connections rows = record {
   steps = steps ∙ s.tells.steps;
   refused = cc s.tells.refused;
-  connections = cc (s.tells.connections, all_finished buses layout r.keys held events s.stands);
+  connections = cc (
+    s.tells.connections,
+    finished_is _ held r.keys (course buses events).connections s.stands.long
+        (λ k conn e. one_finished buses layout r.keys held events s.stands (suc k) conn e),
+  );
   rows = rows ∙ s.stands.rows;
 }

@@ -1,5 +1,5 @@
 -- What a run tells has the laws of every course.
-use Rattle.srcp_core.proofs.Names.{◌≡◌, ℕ, zero, suc, List, [], ◌∷◌, map, ◌+◌, ◌≤◌, length, take, refl, ap, sym, ◌∙◌, subst, arith}
+use Rattle.srcp_core.proofs.Names.{◌≡◌, ℕ, zero, suc, List, [], ◌∷◌, map, ◌+◌, length, take, refl, ap, sym, ◌∙◌, arith}
 use Rattle.srcp_core.proofs.Names.{take_all, le_refl, AllByRecursion, Some, slice_get, Result, Ok, Err, IfOk, Bus, IsLayout, IsWhole, Event}
 use Rattle.srcp_core.proofs.Names.{all_under, HasPlainMoment, PlainMoments, Connection, World, course, numbered, state, IsPromised}
 use Rattle.srcp_core.proofs.Names.{IsRecordOf, IsSession, AllMoments, ConnRecord, Record, true, all_append, ◌++◌}
@@ -35,7 +35,6 @@ pub told_connections : (buses : List Bus) (events : List Event) (told : Record) 
     → IsRecordOf buses (course buses events) told
     → (number : ℕ) (one : ConnRecord) → numbered number told.connections ≡ Some one → IsRecordedConnection buses events number one
 told_connections buses events told layout moments r number one e =
-    let w = course buses events in
     let t = told_map _ number _ one (ap (numbered number) (sym r.connections) ∙ e) in
     let laws = served_rightly buses in
     let session : t.conn.info ≡ true → IsSession buses events number t.conn = λ info. record { there = t.there; info = info } in
@@ -81,7 +80,3 @@ pub moments_more : (events : List PlainEvent) (index : ℕ) (event : PlainEvent)
     → AllByRecursion HasPlainMoment (take index events) → AllByRecursion HasPlainMoment (take (index + 1) events)
 moments_more events index event e h all =
     rw (take_one events index event e).0 (all_append HasPlainMoment (take index events) (event ∷ []) all (h, tt))
-
-pub moments_all : (events : List PlainEvent) (index : ℕ) → length events ≤ index → AllByRecursion HasPlainMoment (take index events)
-    → PlainMoments events
-moments_all events index h all = subst PlainMoments (take_all index events h) all

@@ -7,7 +7,7 @@ use Rattle.srcp_core.proofs.Names.{numbered, at_connection, open_connection, did
 use Rattle.srcp_core.proofs.Names.{Held, at, open_count, IsAdmitted, IsNotAdmitted, one_denied, hung_up, hung_up_from, advanced}
 use Rattle.srcp_core.proofs.Names.{live_session, let_out, without_sent, changed_at, unsent_at, item_of, item_at, Recording, key_of, shut}
 use Rattle.srcp_core.proofs.Names.{stepped, gave, without_key, changed_record, Tells, Runs, Happened, count_at, denied_by, denied_in}
-use Rattle.srcp_core.proofs.Names.{taken_at, taking, StandsFor, place_of, ConnRecord, CoreFault, Full, NoSuch, if_two, cases_lt, ⊎_elim}
+use Rattle.srcp_core.proofs.Names.{taken_at, taking, StandsFor, ConnRecord, CoreFault, Full, NoSuch, if_two, cases_lt, ⊎_elim}
 use Rattle.std.proofs.Math.Nat.{zero-min}
 use Rattle.srcp_core.specs.declared.event.Event.{Event as PlainEvent}
 use Rattle.srcp_core.specs.declared.event.Event.TheVariants as plain
@@ -112,19 +112,18 @@ refused_happens event cause r held why =
     (λ buses events layout s. let c = runs_counted buses r held _ s in (why buses events layout c.stands, c))
 
 -- memory was refused
-runs_denied : (buses : List Bus) (r : Recording) (held : Held) (w : World) → Runs buses r held w → Runs buses r (one_denied held) w
-runs_denied buses r held w c = let s = c.stands in record {
-  stands = stands_as buses (λ n fed. fed) r.keys held w _ _ _ _ _ _ _ s.moment s.last_id s;
-  tells = c.tells;
-}
-
 pub memory_with : (r : Recording) (old new : Held) → open_count old < 64 → new ≡ one_denied old
     → (buses : List Bus) (events : List Event) → IsLayout buses → Runs buses r old (course buses events)
     → Happened buses (Open false) (Some MemoryFault) r new (counted (course buses events))
 memory_with r old new room same buses events layout s =
     let w = counted _ in
-    let c = runs_counted buses r old _ s in
-    (free_fault buses r.keys old w c.stands room false, rw same (runs_denied buses r old w c))
+    let c = runs_counted buses r old _ s in (
+      free_fault buses r.keys old w c.stands room false,
+      rw same (record {
+        stands = stands_as buses (λ n fed. fed) r.keys old w _ _ _ _ _ _ _ c.stands.moment c.stands.last_id c.stands;
+        tells = c.tells;
+      }),
+    )
 
 pub memory_happens : (r : Recording) (old new : Held) → open_count old < 64 → new ≡ one_denied old
     → HappensAs plain.Open (Some MemoryFault) r old r new
@@ -171,25 +170,11 @@ at_happens moment r old new now is now_is =
 
 -- ---- a number that no open connection has
 
--- there is none of that number
-none_of : (n : ℕ) (r : Recording) (held : Held) → key_of n r.keys ≡ None → (buses : List Bus) (events : List Event)
-    → StandsFor buses r.keys held (counted (course buses events)) → open_connection (counted (course buses events)) n ≡ None
-none_of n r held none buses events s = absent_at buses (λ n fed. fed) r.keys held _ n s none
-
-pub no_bytes_happens : (n : ℕ) (piece : List ℕ) (r : Recording) (held : Held) → key_of n r.keys ≡ None
-    → HappensAs (plain.Bytes n piece) (Some NoSuch) r held r held
-no_bytes_happens n piece r held none = refused_happens _ NoSuch r held
-    (λ buses events layout s. cc (none_of n r held none buses events s))
-
-pub no_room_happens : (n bytes : ℕ) (r : Recording) (held : Held) → key_of n r.keys ≡ None
-    → HappensAs (plain.Room n bytes) (Some NoSuch) r held r held
-no_room_happens n bytes r held none = refused_happens _ NoSuch r held
-    (λ buses events layout s. cc (none_of n r held none buses events s))
-
-pub no_shut_happens : (n : ℕ) (r : Recording) (held : Held) → key_of n r.keys ≡ None
-    → HappensAs (plain.Shut n) (Some NoSuch) r held r held
-no_shut_happens n r held none = refused_happens _ NoSuch r held
-    (λ buses events layout s. cc (none_of n r held none buses events s))
+pub absent_happens : (event : PlainEvent) (n : ℕ) (r : Recording) (held : Held)
+    → ((buses : List Bus) (w : World) → open_connection w n ≡ None → fault buses w (under [] event) ≡ Some NoSuch)
+    → key_of n r.keys ≡ None → HappensAs event (Some NoSuch) r held r held
+absent_happens event n r held refuses none = refused_happens event NoSuch r held
+    (λ buses events layout s. refuses buses (counted (course buses events)) (absent_at buses (λ n fed. fed) r.keys held _ n s none))
 
 -- ---- a connection is shut
 
@@ -231,7 +216,6 @@ shut_happens n key r old new now named is now_is =
     let w = counted (course buses events) in
     let c = runs_counted buses r old (course buses events) s in
     let h = found_at buses (λ n fed. fed) r.keys old w n key c.stands named in
-    let p = place_of h.reader (history buses w) h.conn in
     let order = opening_in_order buses layout in
     let stands =
     subst (λ (x : Held). StandsFor buses (without_key n r.keys) x (accepted buses (Shut n) w)) (sym is)

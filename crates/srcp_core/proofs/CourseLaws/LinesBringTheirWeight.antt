@@ -4,7 +4,7 @@ use Rattle.srcp_core.proofs.Names.{append-nil, append_assoc, length-append, leng
 use Rattle.srcp_core.proofs.Names.{flat_map, nat_lt, codes, ◌==◌, ◌||◌, ◌&&◌, Option, Some, None, if◌then◌else◌, Result, Ok, Err, Change}
 use Rattle.srcp_core.proofs.Names.{Code, C500, Go, Refused, Mode, Info, Command, Bus, Effect, State, Update, opening, Mark, Line, TooLong}
 use Rattle.srcp_core.proofs.Names.{Connection, World, start, at_connection, open_connection, did, replied, counted, state, history}
-use Rattle.srcp_core.proofs.Names.{history_from, state_after, updates_of, entered, goes, greeted, ended, obeyed, commanded, command_of}
+use Rattle.srcp_core.proofs.Names.{history_from, state_after, updates_of, entered, greeted, ended, obeyed, commanded, command_of}
 use Rattle.srcp_core.proofs.Names.{ordered, answered_as, answered, order_of, new_marks, fed_to, shut_as, accepted, or_refused, happens}
 use Rattle.srcp_core.proofs.Names.{course, Greeting, Speaks, Chooses, Goes, Refuses, IsLayout, Event, Open, Bytes, Room, At, Shut, Piece}
 use Rattle.srcp_core.proofs.Names.{Step, Obeyed, Began, Moment, Ended, Heard, Order, greets, greeting_under, lines_under, brought, room}
@@ -118,22 +118,15 @@ module _ (buses : List Bus) where
 
   -- ---- lines
 
-  comes_goes : (n : ℕ) (mode : Mode) (w : World) → ComesOf 1 w (goes buses n mode w)
-  comes_goes n mode w =
-      cond_both (nat_lt w.last_id 4294967295) (replied n (Go id) begun) (replied n (Refused C500) w) (ComesOf 1 w)
-      (λ _. record { steps = Began id w.moment mode ∷ []; longer = refl; few = omega arith })
-      (λ _. record { steps = []; longer = sym (append-nil w.steps); few = omega arith })
-    where
-      id : ℕ
-      id = w.last_id + 1
-
-      begun : World
-      begun = entered buses n id (did (Began id w.moment mode) (record w { last_id = id }))
-
   comes_greeted : (n : ℕ) (mode : Mode) (greeting : Greeting) (w : World) → ComesOf (brings greeting) w (greeted buses n mode greeting w)
   comes_greeted n mode Speaks w = same w _ refl
   comes_greeted n mode (Chooses chosen) w = same w _ refl
-  comes_greeted n mode Goes w = comes_goes n mode w
+  comes_greeted n mode Goes w =
+      let begun : World = did (Began (w.last_id + 1) w.moment mode) (record w { last_id = w.last_id + 1 }) in
+      cond_both (nat_lt w.last_id 4294967295) (replied n (Go (w.last_id + 1)) (entered buses n (w.last_id + 1) begun))
+      (replied n (Refused C500) w) (ComesOf 1 w)
+      (λ _. record { steps = Began (w.last_id + 1) w.moment mode ∷ []; longer = refl; few = omega arith })
+      (λ _. record { steps = []; longer = sym (append-nil w.steps); few = omega arith })
   comes_greeted n mode (Refuses code) w = same w _ refl
 
   comes_obeyed : (n session : ℕ) (order : Order) (result : Effect) (w : World)

@@ -75,11 +75,6 @@ key_beyond : (cursor : Cursor) (key : Key) (rows : List Shown) → has_reached c
     → has_key key (beyond cursor rows) ≡ true
 key_beyond cursor key rows f h = cc (has_beyond cursor key rows)
 
--- a key that was passed is not
-key_not_beyond : (cursor : Cursor) (key : Key) (rows : List Shown) → has_reached cursor key ≡ true
-    → has_key key (beyond cursor rows) ≡ false
-key_not_beyond cursor key rows p = cc (has_beyond cursor key rows)
-
 has_left : (key : Key) (xs ys : List Shown) → has_key key xs ≡ true → has_key key (xs ++ ys) ≡ true
 has_left key xs ys h = cc (list_any-append (λ row. eq_by_cmp key_cmp row.key key) xs ys)
 
@@ -137,7 +132,7 @@ met_law start = record {
         let one = lists_one _ row left _ order b in
         let here : has_key key (row ∷ left) ≡ true = cc (key_beyond _ key _ e (now history go key f.began there)) in
         let away : has_key key left ≡ false =
-        cc (one.left, key_not_beyond (After row.key) key (rows_after start history) p) in
+        cc (one.left, has_beyond (After row.key) key (rows_after start history)) in
         has_last key (listed items) row (first here away (eq_by_cmp key_cmp row.key key) refl)
       where
         first : has_key key (row ∷ left) ≡ true → has_key key left ≡ false → (t : Bool) → eq_by_cmp key_cmp row.key key ≡ t

@@ -56,10 +56,6 @@ over_by_push None conn history changes e =
         let l : 256 < length (drop n (xs ++ ys)) = omega arith in
         lt-ltb 256 (length (drop n (xs ++ ys))) l
 
-pub over_push : (conn : Connection) (history : History) (changes : List Change) → is_over conn history ≡ true
-    → is_over conn (history ++ changes ∷ []) ≡ true
-over_push conn history changes e = over_by_push _ conn history changes e
-
 -- ---- what happens to another connection
 
 module _ (buses : List Bus) (n : ℕ) (y : Connection) where
@@ -68,7 +64,7 @@ module _ (buses : List Bus) (n : ℕ) (y : Connection) where
   Lies v = (numbered n v.connections ≡ Some y) × (is_over y (history buses v) ≡ true)
 
   lies_did : (step : Step) (v : World) → Lies v → Lies (did step v)
-  lies_did step v l = (l.0, ap (is_over y) (history_push _ v.steps step) ∙ over_push y _ _ l.1)
+  lies_did step v l = (l.0, ap (is_over y) (history_push _ v.steps step) ∙ over_by_push _ y _ _ l.1)
 
   module _ (m : ℕ) (apart : m ≡ n → ⊥) where
     lies_at : (f : Connection → Connection) (v : World) → Lies v → Lies (at_connection m f v)
@@ -108,9 +104,6 @@ module _ (buses : List Bus) (n : ℕ) (x : Connection) where
   stopped_refused : (event : Event) (v : World) (o : Option CoreFault) (cause : CoreFault) → o ≡ Some cause → IsStopped v
       → IsStopped (or_refused buses o event v)
   stopped_refused event v o cause e s = rw e (stopped_lies v _ s (lies v s))
-
-  open_is : (v : World) (s : IsStopped v) → s.y.shut ≡ None → open_connection v n ≡ Some s.y
-  open_is v s shut = cc s.there
 
   -- it is open and overran, or it is closed
   stopped_by : (v : World) (s : IsStopped v) (Q : Option Connection → Type 0)
@@ -153,7 +146,7 @@ module _ (buses : List Bus) (n : ℕ) (x : Connection) where
 
   stopped_shut : (v : World) → IsStopped v → IsStopped (or_refused buses (fault buses v (Shut n)) (Shut n) v)
   stopped_shut v s = stopped_by v s (λ o. IsStopped (or_refused buses (absent_fault buses o) (Shut n) v))
-      (λ shut over. rw (open_is v s shut) (stopped_shut_as s.y v s))
+      (λ shut over. let up : open_connection v n ≡ Some s.y = cc s.there in rw up (stopped_shut_as s.y v s))
       (stopped_refused (Shut n) v _ NoSuch refl s)
 
   -- ---- events

@@ -2,12 +2,12 @@
 use Rattle.srcp_core.proofs.Names.{cond_both, ◌≡◌, ℕ, ◌+◌, ◌^◌, ◌<◌, ◌≤◌, max, true, false, List, [], ◌∷◌, ◌++◌, length, refl, ap, sym, ◌∙◌}
 use Rattle.srcp_core.proofs.Names.{subst, arith, add-one, inl, inr, ◌⊎◌, ⊎_elim, ltb-true, eqb-false, fold-append, pos_of_ne-zero, fold}
 use Rattle.srcp_core.proofs.Names.{◌==◌, ◌||◌, Option, Some, None, is_some, IfOk, if◌then◌else◌, Result, Ok, Err, first_key, reply_line}
-use Rattle.srcp_core.proofs.Names.{Code, C500, Reply, Protocol, Go, Refused, Mode, Bus, IsCommandOf, Effect, IsLayout, session_device}
+use Rattle.srcp_core.proofs.Names.{Code, C500, Reply, Protocol, Go, Refused, Mode, Bus, IsCommandOf, Effect, IsLayout, session_device, Row}
 use Rattle.srcp_core.proofs.Names.{IsWhole, opening, reads_fits, session_row-updated_all, effect_elsewhere, due_elsewhere, freed_others}
 use Rattle.srcp_core.proofs.Names.{row_at-put_same, Mark, Line, TooLong, Event, Open, Bytes, Room, At, Shut, Step, Obeyed, Began, Moment}
 use Rattle.srcp_core.proofs.Names.{Ended, Order, greets, Heard, Piece, Connection, overran, owed, took, given_room, World, updates_of}
 use Rattle.srcp_core.proofs.Names.{state_after, fresh, start, numbered, with_numbered, at_connection, open_connection, did, replied}
-use Rattle.srcp_core.proofs.Names.{counted, is_info, state, rows, history, entered, goes, greeted, obeyed, commanded, answered_as, answered}
+use Rattle.srcp_core.proofs.Names.{counted, is_info, state, rows, history, entered, greeted, obeyed, commanded, answered_as, answered}
 use Rattle.srcp_core.proofs.Names.{command_of, order_of, fault, new_lines, fed_to, shut_as, accepted, or_refused, happens, course, Greeting}
 use Rattle.srcp_core.proofs.Names.{Speaks, Chooses, Goes, Refuses, AllMoments, HasMoment, CoreFault, Device, Key, owns}
 use Rattle.std.proofs.lemmas.Bool.{true≢false, or_parts}
@@ -94,10 +94,6 @@ module _ (buses : List Bus) (layout : IsLayout buses) where
     there = λ m c e live. cc (fold-append stepped _ steps _, stays m c e live (k.there m c e live));
   }
 
-  kept_moment : (moment later last : ℕ) (steps : List Step) (conns : List Connection) → later < 2 ^ 64 → Kept moment last steps conns
-      → Kept later last steps conns
-  kept_moment moment later last steps conns h k = assumption h
-
   -- ---- the steps
 
   pub kept_obeyed : (session : ℕ) (command : Order) (w : World) → IsCommandOf buses command.command
@@ -113,7 +109,7 @@ module _ (buses : List Bus) (layout : IsLayout buses) where
 
   pub kept_at : (moment : ℕ) (w : World) → moment < 2 ^ 64 → IsKept w → IsKept (did (Moment moment) (record w { moment = moment }))
   kept_at moment w h k =
-      kept_did moment w.last_id w.steps w.connections (Moment moment) (kept_moment w.moment moment w.last_id w.steps w.connections h k) h
+      kept_did moment w.last_id w.steps w.connections (Moment moment) (assumption h) h
       (λ m c e live there.
       ap is_some
       (session_row-updated_all (updates_of (state buses w) (Moment moment)) (state buses w) c.session
@@ -198,34 +194,20 @@ module _ (buses : List Bus) (layout : IsLayout buses) where
           absurd (omega (arith, i, j, same))
       by_both m o x c y d e f pos same (inr h) (inr g) = h.0 ∙ sym g.0
 
+      row : Row
+      row = record {
+        shown = record { key = first_key (session_device (w.last_id + 1)); stamp = w.moment; value = value.Session mode };
+        due = None;
+      }
+
       row_there : (m : ℕ) (x d : Connection) → numbered m w.connections ≡ Some x → IsLive d
           → ((m ≡ n → ⊥) × (d ≡ x)) ⊎ ((m ≡ n) × (d ≡ begun x))
           → has_device (session_device d.session) (stepped (state buses w) (Began (w.last_id + 1) w.moment mode)) ≡ true
       row_there m x d e live (inl h) =
-          has_row-put_row (first_key (session_device d.session))
-          (record {
-            shown = record { key = first_key (session_device (w.last_id + 1)); stamp = w.moment; value = value.Session mode };
-            due = None;
-          })
-          (state buses w)
-          (cc (h.1, k.there m x e (subst IsLive h.1 live)))
+          has_row-put_row (first_key (session_device d.session)) row (state buses w) (cc (h.1, k.there m x e (subst IsLive h.1 live)))
       row_there m x d e live (inr h) =
           let i : d.session ≡ w.last_id + 1 = cc h.1 in
-          cc (row_at-put_same
-          (record {
-            shown =
-                record { key = first_key (session_device (w.last_id + 1)); stamp = w.moment; value = value.Session mode };
-            due = None;
-          })
-          (state buses w))
-
-  pub kept_goes : (n : ℕ) (mode : Mode) (w : World) → IsKept w → IsKept (goes buses n mode w)
-  kept_goes n mode w k =
-      cond_both _ _ _ IsKept
-      (λ t. kept_replied n (Go (w.last_id + 1))
-      (entered buses n (w.last_id + 1) (did (Began (w.last_id + 1) w.moment mode) (record w { last_id = w.last_id + 1 })))
-      (kept_entered n mode w (ltb-true w.last_id 4294967295 t) k))
-      (λ t. kept_replied n (Refused C500) w k)
+          cc (row_at-put_same row (state buses w))
 
   pub kept_greeted : (n : ℕ) (mode : Mode) (greeting : Greeting) (w : World) → IsKept w → IsKept (greeted buses n mode greeting w)
   kept_greeted n mode Speaks w k = kept_replied n Protocol w k
@@ -233,7 +215,12 @@ module _ (buses : List Bus) (layout : IsLayout buses) where
       kept_replied n ModeReply (at_connection n (λ conn. record conn { mode = chosen }) w)
       (kept_change w.moment w.last_id w.steps w.connections n (λ conn. record conn { mode = chosen })
       (λ c. record { session = refl; ended = λ h. h; shut = λ h. h }) k)
-  kept_greeted n mode Goes w k = kept_goes n mode w k
+  kept_greeted n mode Goes w k =
+      cond_both _ _ _ IsKept
+      (λ t. kept_replied n (Go (w.last_id + 1))
+      (entered buses n (w.last_id + 1) (did (Began (w.last_id + 1) w.moment mode) (record w { last_id = w.last_id + 1 })))
+      (kept_entered n mode w (ltb-true w.last_id 4294967295 t) k))
+      (λ t. kept_replied n (Refused C500) w k)
   kept_greeted n mode (Refuses code) w k = kept_replied n (Refused code) w k
 
   pub kept_obeyed_all : (n : ℕ) (conn : Connection) (command : Order) (result : Effect) (w : World) → numbered n w.connections ≡ Some conn
@@ -262,9 +249,6 @@ module _ (buses : List Bus) (layout : IsLayout buses) where
   command_fits TooLong = tt
   command_fits (Line text) = reads_fits buses layout text
 
-  order_fits : (line : Heard) → IfOk (order_of buses line) (λ order. IsCommandOf buses order.command)
-  order_fits line = ordered_law buses (IsCommandOf buses) line.granted (command_of buses line.mark) (command_fits line.mark)
-
   pub kept_answered_as : (n : ℕ) (o : Option Connection) (mark : Heard) (w : World)
       → ((conn : Connection) → o ≡ Some conn → (numbered n w.connections ≡ Some conn) × (conn.shut ≡ None)) → IsKept w
       → IsKept (answered_as buses n o mark w)
@@ -275,7 +259,8 @@ module _ (buses : List Bus) (layout : IsLayout buses) where
       let obeys = commanded buses n conn.session (order_of buses mark) w in
       cond_both (conn.info || conn.ended) w (if conn.session == 0 then greets_it else obeys) IsKept (λ t. k)
       (λ t. cond_both (conn.session == 0) greets_it obeys IsKept (λ z. kept_greeted n conn.mode (greets mark) w k)
-      (λ z. kept_commanded n conn (order_of buses mark) w at.0 (order_fits mark)
+      (λ z. kept_commanded n conn (order_of buses mark) w at.0
+      (ordered_law buses (IsCommandOf buses) mark.granted (command_of buses mark.mark) (command_fits mark.mark))
       (k.there n conn at.0 (record {
         began = pos_of_ne-zero (eqb-false conn.session 0 z);
         not_ended = (or_parts _ _ t).1;

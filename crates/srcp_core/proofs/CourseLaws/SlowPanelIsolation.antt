@@ -1,12 +1,12 @@
 -- The room of one information session is nothing to the others.
 use Rattle.srcp_core.proofs.Names.{cond_both, ◌≡◌, ℕ, ◌+◌, Bool, true, false, List, [], ◌∷◌, ◌++◌, refl, ap, sym, ◌∙◌, subst, ⊎_elim}
-use Rattle.srcp_core.proofs.Names.{and_parts, eqb-true, fold, Option, Some, None, if◌then◌else◌, is_none, Bus, Event, Open, Bytes}
+use Rattle.srcp_core.proofs.Names.{and_parts, eqb-true, fold, Option, Some, None, if◌then◌else◌, is_none, Bus, Event, Open, Bytes, length}
 use Rattle.srcp_core.proofs.Names.{Room, At, Shut, Piece, Connection, is_open, World, fresh, start, numbered, open_connection, counted}
 use Rattle.srcp_core.proofs.Names.{fault, shut_as, happens, course, NoSuch, Refusal, option_map}
 use Rattle.srcp_core.specs.Laws.{is_room_of, without_room, IsSameForOthers, RoomHarmsNobody, SlowPanelHarmsNobody}
-use Rattle.srcp_core.proofs.Agreement.NumbersAndKeys.{no_connection}
+use Rattle.srcp_core.proofs.Agreement.NumbersAndKeys.{no_connection, length_with}
 use Rattle.srcp_core.proofs.Invariants.PlacesCover.{Where, where_is, Here, Away}
-use Rattle.srcp_core.proofs.CourseLaws.TwinConnections.{Alike, IsSimilar, alike_length, alike_open, alike_other, alike_push, alike_there}
+use Rattle.srcp_core.proofs.CourseLaws.TwinConnections.{Alike, IsSimilar, alike_open, alike_other, alike_push, alike_there}
 use Rattle.srcp_core.proofs.CourseLaws.TwinWorlds.{Linked, Twin, Twins, forget, twin, twin_bytes, twin_or_refused, twin_room, twin_shuts}
 use Rattle.srcp_core.proofs.CourseLaws.EventsOfThePanel.{is_info_session, apart_shut, one_bytes, one_itself, one_room, twin_sides}
 
@@ -134,7 +134,7 @@ module _ (buses : List Bus) (number : ℕ) where
       (record {
         steps = refl;
         registry = refl;
-        count = alike_length number _ t.conns t.alike;
+        count = ap length t.alike.is ∙ length_with number _ _;
         others = λ other d. cc (alike_other number other _ t.conns d t.alike);
       })
 

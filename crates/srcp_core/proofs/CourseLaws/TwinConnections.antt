@@ -2,7 +2,7 @@
 use Rattle.srcp_core.proofs.Names.{◌≡◌, ◌≢◌, ℕ, true, List, [], ◌∷◌, ◌++◌, length, refl, ap, sym, ◌∙◌, inl, inr, ◌⊎◌, ⊎_elim, filter}
 use Rattle.srcp_core.proofs.Names.{Option, Some, None, Connection, is_open, numbered, with_numbered}
 use Rattle.std.specs.Prelude.{option_map}
-use Rattle.srcp_core.proofs.Agreement.NumbersAndKeys.{length_with, look_push, look_with, numbered_other, numbered_push, numbered_with}
+use Rattle.srcp_core.proofs.Agreement.NumbersAndKeys.{look_push, look_with, numbered_other, numbered_push, numbered_with}
 use Rattle.srcp_core.proofs.Agreement.NumbersAndKeys.{opens_same, with_apart, with_push, with_same, with_twice}
 
 -- two parts of one information session, which others can't tell apart
@@ -39,9 +39,6 @@ alike_push n xs ys c a = by (numbered n xs) refl
       is = cc (a.is, with_same n (λ _. a.other) xs (λ x there. cc), with_same n (λ _. c) (xs ++ c ∷ []) (last e));
       twins = λ z there. inl (sym (last e z there));
     }
-
-pub alike_length : (n : ℕ) (xs ys : List Connection) → Alike n xs ys → length ys ≡ length xs
-alike_length n xs ys a = ap length a.is ∙ length_with n _ xs
 
 -- as many are open
 pub alike_open : (n : ℕ) (xs ys : List Connection) → Alike n xs ys → length (filter is_open ys) ≡ length (filter is_open xs)

@@ -226,10 +226,6 @@ sound_begun key id mode held now next high s =
 
 -- ---- the end of a connection
 
-pub sound_free : (key : ℕ) (held : Held) (p : Place) → at held key ≡ Some p → open_count (freed_place key held) ≤ open_count held
-    → IsSound held → IsSound (freed_place key held)
-sound_free key held p e fewer s = sound_places held (slice_set held.places key None) (covers_free held.places key p e) fewer s
-
 -- no other connection has the session of the one that is gone
 pub over_free : (key : ℕ) (held : Held) (p : Place) → at held key ≡ Some p → 0 < p.session → IsSound held
     → IsOver p.session (slice_set held.places key None)
@@ -295,7 +291,7 @@ pub sound_hung_up : (key : ℕ) (held : Held) (p : Place) (session : ℕ) → at
 sound_hung_up key held p session e own began fewer s =
     sound_freed session (freed_place key held) s.moment (subst (λ n. n ≤ held.last_id) (sym own) (s.sessions.ids key p e))
     (subst (λ n. IsOver n (freed_place key held).places) (sym own) (over_free key held p e (subst (λ n. 0 < n) own began) s))
-    (sound_free key held p e fewer s)
+    (sound_places held (slice_set held.places key None) (covers_free held.places key p e) fewer s)
 
 pub filled_mild : (rows : List Shown) (p : Place) → IsMild p (filled rows p)
 filled_mild rows p = by p.unsent p.panel refl

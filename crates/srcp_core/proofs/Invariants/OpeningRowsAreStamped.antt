@@ -1,8 +1,8 @@
 -- The rows of an opening registry are stamped with a moment, one after another.
 use Rattle.srcp_core.proofs.Names.{◌≡◌, ℕ, ◌<◌, Bool, true, false, cond, List, [], ◌∷◌, ◌++◌, map, length, refl, ap, sym, ◌∙◌, subst}
 use Rattle.srcp_core.proofs.Names.{true≢false, arith, map-append, AllByRecursion, filter, Some, None, Less, key_cmp, has_reached, is_after}
-use Rattle.srcp_core.proofs.Names.{IsMoment, Put, Cursor, Start, After, Row, Key, after_from_less, after_not_itself, all_append, all_weaker}
-use Rattle.srcp_core.proofs.Names.{Bus, power_device, State, IsRising, IsRowOf, first_row, has_row, opening, opening_on, row_after, row_at}
+use Rattle.srcp_core.proofs.Names.{IsMoment, Cursor, Start, After, Row, Key, after_from_less, after_not_itself, all_append, all_weaker}
+use Rattle.srcp_core.proofs.Names.{Bus, power_device, State, IsRising, IsRowOf, first_row, opening, opening_on, row_after, row_at}
 use Rattle.srcp_core.proofs.Names.{each_filtered, fewer_beyond, row_key}
 use Rattle.std.proofs.Common.{not}
 use Rattle.std.specs.List.{range_with_len}
@@ -14,7 +14,7 @@ use Rattle.srcp_rules.specs.State.{put_row}
 use Rattle.srcp_grammar.proofs.FindLaws.{found_holds}
 use Rattle.srcp_rules.proofs.PutLaws.{put_row-past}
 use Rattle.srcp_rules.proofs.CursorLaws.{beyond}
-use Rattle.srcp_rules.proofs.StateLaws.{row_at-first, row_at-later, rising-updated}
+use Rattle.srcp_rules.proofs.StateLaws.{row_at-first, row_at-later}
 
 -- the row with that stamp
 abbrev pub stamped : ℕ → Row → Row
@@ -74,11 +74,7 @@ pub row_found : (buses : List Bus) (at : Cursor) (state : State) (row : Row) →
     → row_after at state ≡ Some row → IsRowOf buses row
 row_found buses at state row each next = found_holds _ (λ other. not _) state each row next
 
--- it has a row of its key, and is one of the layout with the other stamp too
-pub stamped_there : (moment : ℕ) (at : Cursor) (state : State) (row : Row) → IsRising state → row_after at state ≡ Some row
-    → has_row row.shown.key state ≡ true
-stamped_there moment at state row rising next = cc (found_there at state row rising next)
-
+-- it is one of the layout with the other stamp too
 pub stamped_fits : (buses : List Bus) (moment : ℕ) (row : Row) → IsMoment moment → IsRowOf buses row → IsRowOf buses (stamped moment row)
 stamped_fits buses moment row now of = record {
   place = of.place;
@@ -145,9 +141,6 @@ module _ (moment : ℕ) (at : Cursor) where
       by ih false r e = cc
 
 -- ---- what stays
-
-pub stamped_rising : (moment : ℕ) (state : State) (row : Row) → IsRising state → IsRising (put_row (stamped moment row) state)
-stamped_rising moment state row rising = rising-updated (record { change = Put (stamped moment row).shown; due = row.due }) state rising
 
 pub stamped_each : (buses : List Bus) (row : Row) (state : State) → IsRowOf buses row → AllByRecursion (IsRowOf buses) state
     → AllByRecursion (IsRowOf buses) (put_row row state)

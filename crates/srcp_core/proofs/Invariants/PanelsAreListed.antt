@@ -13,7 +13,8 @@ shifted first [] = refl
 shifted first (key ∷ keys) =
     let e : first + 1 + key ≡ first + suc key = omega arith in λ i. e i ∷ shifted first keys i
 
-listed_from : (first : ℕ) (places : List (Option Place))
+-- the panels are those among the entries
+pub listed_from : (first : ℕ) (places : List (Option Place))
     → listed (entries_from first places) ≡ map (λ key. first + key) (panel_keys places)
 listed_from first [] = refl
 listed_from first (None ∷ places) = listed_from _ places ∙ shifted first _
@@ -25,10 +26,6 @@ listed_from first (Some place ∷ places) =
     one true keys others rest = let e : first ≡ first + 0 = omega arith in λ i. e i ∷ rest i
     one false keys others rest = rest
 
-from_zero : (keys : List ℕ) → map (λ key. 0 + key) keys ≡ keys
+pub from_zero : (keys : List ℕ) → map (λ key. 0 + key) keys ≡ keys
 from_zero [] = refl
 from_zero (key ∷ keys) = let e : 0 + key ≡ key = omega arith in λ i. e i ∷ from_zero keys i
-
--- the panels are those among the entries
-pub listed_all : (places : List (Option Place)) → listed (entries_from 0 places) ≡ panel_keys places
-listed_all places = listed_from 0 places ∙ from_zero _

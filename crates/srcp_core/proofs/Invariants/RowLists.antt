@@ -1,10 +1,10 @@
 -- The rows of a registry, listed one after another.
 use Rattle.srcp_core.proofs.Names.{◌≡◌, [], ◌∷◌, ◌++◌, refl, sym, subst, Cursor, Start, After, Row, Result, Ok, Err, IfOk, AllByRecursion}
 use Rattle.srcp_core.proofs.Names.{IsWellFormedShown, Bus, State, IsRising, IsWhole, row_after, shown_rows}
-use Rattle.std.proofs.Common.{Some, None}
-use Rattle.std.proofs.lemmas.List.{append_assoc, append-nil}
+use Rattle.std.proofs.Common.{Some}
+use Rattle.std.proofs.lemmas.List.{append_assoc}
 use Rattle.std.specs.Prelude.{List}
-use Rattle.srcp_rules.proofs.CursorLaws.{beyond, beyond-next, beyond-none}
+use Rattle.srcp_rules.proofs.CursorLaws.{beyond, beyond-next}
 use Rattle.srcp_rules.proofs.StateLaws.{each_found}
 use Rattle.srcp_core.proofs.CourseLaws.ShownRegistry.{all_shown}
 
@@ -16,10 +16,6 @@ beyond_start (row ∷ state) = cc (beyond_start state)
 pub one_listed : (told : State) (at : Cursor) (state : State) (row : Row) → IsRising state → row_after at state ≡ Some row
     → told ++ beyond at state ≡ state → (told ++ row ∷ []) ++ beyond (After row.shown.key) state ≡ state
 one_listed told at state row rising next all = cc (append_assoc told _ _, beyond-next at row state rising next)
-
--- and where none is found, all are listed
-pub all_listed : (told : State) (at : Cursor) (state : State) → row_after at state ≡ None → told ++ beyond at state ≡ state → told ≡ state
-all_listed told at state none all = cc (append-nil told, beyond-none at state none)
 
 -- each row of a whole registry can be written
 rows_well_formed : (buses : List Bus) (state : State) → IsWhole buses state → AllByRecursion (λ row. IsWellFormedShown row.shown) state

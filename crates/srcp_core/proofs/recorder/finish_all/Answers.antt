@@ -1,6 +1,7 @@
-use Rattle.srcp_core.proofs.Agreement.RecordIsOfTheCourse.{finish_kept, finish_noted}
+use Rattle.srcp_core.proofs.Agreement.RecordIsOfTheCourse.{finish_step_none, finish_noted}
 use Rattle.srcp_core.proofs.recorder.finish_all.Goals as goal
 use Rattle.srcp_core.proofs.recorder.finish_all.Goals.{in-Some, in_default}
+use Rattle.srcp_core.proofs.Names.{add-one}
 
 pub loop-index-preserved : goal.loop-index-preserved
 loop-index-preserved g c = elim c.match-keys-index.branch [
@@ -12,7 +13,8 @@ loop-index-preserved g c = elim c.match-keys-index.branch [
   )
   | in_default w ↦ cc (
     w.connections-is,
-    finish_kept c.args.core.now c.loop-index.index c.args.keys.now c.args.connections.now.items _
-        c.loop-index-test.true w.in_default.is c.loop-index.invariant,
+    finish_step_none c.args.core.now c.loop-index.index c.args.keys.now c.args.connections.now.items w.in_default.is,
+    add-one c.loop-index.index,
+    c.loop-index.invariant,
   )
 ]

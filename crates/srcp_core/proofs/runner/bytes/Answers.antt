@@ -1,14 +1,15 @@
 use Rattle.srcp_core.proofs.Names.{sym, ◌∙◌, steps_in}
 use Rattle.srcp_core.proofs.Agreement.OutlinesAreKept.{keeps_as, keeps_same, keeps_then}
-use Rattle.srcp_core.proofs.Agreement.RunsAnEvent.{no_bytes_happens}
 use Rattle.srcp_core.proofs.Agreement.RunsBytes.{bytes_refused, bytes_room, reads_first, reads_more, bytes_happens}
 use Rattle.srcp_core.proofs.runner.bytes.Goals as goal
+use Rattle.srcp_core.proofs.Agreement.RunsAnEvent.{absent_happens}
+use Rattle.srcp_core.specs.declared.event.Event.TheVariants.{Bytes}
 
 pub returns-in_default : goal.returns-in_default
 returns-in_default g c =
     keeps_same _
     (λ r e.
-    no_bytes_happens _ _ r _
+    absent_happens (Bytes c.args.conn c.args.piece.now) c.args.conn r _ (λ buses w e. cc)
     (cc (c.key.ensures, c.in_default.is)))
 
 pub returns-in-Some-bytes_fault : goal.returns-in-Some-bytes_fault

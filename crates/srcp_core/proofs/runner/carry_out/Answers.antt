@@ -1,7 +1,7 @@
-use Rattle.srcp_core.proofs.Names.{◌≤◌, length, ◌∙◌, refl, arith, nothing_recorded, all_under}
+use Rattle.srcp_core.proofs.Names.{◌≤◌, length, ◌∙◌, refl, arith, nothing_recorded, all_under, PlainMoments, subst, take_all}
 use Rattle.std.proofs.lemmas.Option.{slice_get_read}
 use Rattle.srcp_core.proofs.Agreement.OutlinesAreKept.{nothing_kept, record_at, record_from, record_kept}
-use Rattle.srcp_core.proofs.Agreement.RunPromises.{moments_all, moments_more}
+use Rattle.srcp_core.proofs.Agreement.RunPromises.{moments_more}
 use Rattle.srcp_core.proofs.Agreement.RecordIsOfTheCourse.{record_is, runs_all, runs_none, follows_more}
 use Rattle.srcp_core.proofs.runner.carry_out.Goals as goal
 
@@ -32,7 +32,7 @@ returns-clause-record g c =
 pub returns-clause-moments : goal.returns-clause-moments
 returns-clause-moments g c =
     let all : length c.args.events.now ≤ c.loop-index.index = omega (arith, c.loop-index-test.false) in
-    moments_all _ _ all c.loop-index.invariant.moments
+    subst PlainMoments (take_all _ c.args.events.now all) c.loop-index.invariant.moments
 
 pub returns-clause-laid_out : goal.returns-clause-laid_out
 returns-clause-laid_out g c = c.buses.ensures.laid_out

@@ -2,7 +2,7 @@ use Rattle.srcp_core.proofs.Names.{◌≡◌, ℕ, ◌-◌, ◌⊎◌, inl, inr,
 use Rattle.std.proofs.Common.{None}
 use Rattle.srcp_core.specs.declared.event.Event.TheVariants.{Room}
 use Rattle.srcp_core.proofs.Agreement.OutlinesAreKept.{keeps_same, keeps_then}
-use Rattle.srcp_core.proofs.Agreement.RunsAnEvent.{told_as, no_room_happens, gives_first, gives_as, room_happens}
+use Rattle.srcp_core.proofs.Agreement.RunsAnEvent.{told_as, gives_first, gives_as, room_happens, absent_happens}
 use Rattle.srcp_core.proofs.runner.room.Goals as goal
 use Rattle.srcp_core.proofs.runner.room.Goals.{then-left-eq0-via-then-left-eq0, then-left-eq0-via-else-left-eq0+then-count-eq0}
 
@@ -10,7 +10,7 @@ pub returns-in_default : goal.returns-in_default
 returns-in_default g c =
     keeps_same _
     (λ r e.
-    no_room_happens _ _ r _
+    absent_happens (Room c.args.conn c.args.bytes) c.args.conn r _ (λ buses w e. cc)
     (cc (c.key.ensures, c.in_default.is)))
 
 pub loop-count-init : goal.loop-count-init

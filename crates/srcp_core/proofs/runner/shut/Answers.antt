@@ -3,13 +3,13 @@ use Rattle.std.proofs.Common.{None, Some}
 use Rattle.srcp_core.specs.declared.event.Event.TheVariants.{Shut}
 use Rattle.srcp_core.specs.declared.record.Step.TheVariants.{Ended}
 use Rattle.srcp_core.proofs.Agreement.OutlinesAreKept.{keeps_changed, keeps_same, keeps_then}
-use Rattle.srcp_core.proofs.Agreement.RunsAnEvent.{told_as, no_shut_happens, gone_happens, shut_happens, shut_count, with_end}
+use Rattle.srcp_core.proofs.Agreement.RunsAnEvent.{told_as, gone_happens, shut_happens, shut_count, with_end, absent_happens}
 use Rattle.srcp_core.proofs.runner.shut.Goals as goal
 
 pub returns-in_default : goal.returns-in_default
 returns-in_default g c =
     keeps_same _
-    (λ r e. no_shut_happens _ r _ (cc (c.key.ensures, c.in_default.is)))
+    (λ r e. absent_happens (Shut c.args.conn) c.args.conn r _ (λ buses w e. cc) (cc (c.key.ensures, c.in_default.is)))
 
 pub returns-in-Err : goal.returns-in-Err
 returns-in-Err g c =

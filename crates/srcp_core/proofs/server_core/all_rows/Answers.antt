@@ -1,7 +1,8 @@
 use Rattle.srcp_core.proofs.Names.{ap, sym, ◌∙◌, ◌++◌, State, fewer_beyond, Start}
-use Rattle.srcp_rules.proofs.CursorLaws.{beyond}
-use Rattle.srcp_core.proofs.Invariants.RowLists.{beyond_start, one_listed, all_listed}
+use Rattle.srcp_rules.proofs.CursorLaws.{beyond, beyond-none}
+use Rattle.srcp_core.proofs.Invariants.RowLists.{beyond_start, one_listed}
 use Rattle.srcp_core.proofs.server_core.all_rows.Goals as goal
+use Rattle.std.proofs.lemmas.List.{append-nil}
 
 pub loop-row-init : goal.loop-row-init
 loop-row-init g c =
@@ -20,4 +21,9 @@ loop-row-preserved g c =
     )
 
 pub returns : goal.returns
-returns g c = all_listed _ _ _ (sym c.in_default.ensures) c.loop-row.invariant
+returns g c =
+    cc (
+      append-nil c.loop-row.list,
+      beyond-none c.loop-row.at (g.R.Rows.state c.args.rows.now) (sym c.in_default.ensures),
+      c.loop-row.invariant,
+    )

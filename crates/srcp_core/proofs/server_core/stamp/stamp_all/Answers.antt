@@ -1,8 +1,9 @@
-use Rattle.srcp_core.proofs.Names.{refl, sym, ◌∙◌, IsWhole, each_of}
-use Rattle.srcp_core.proofs.Invariants.OpeningRowsAreStamped.{fewer_stamped, opening_stamped, row_found, stamped_each}
-use Rattle.srcp_core.proofs.Invariants.OpeningRowsAreStamped.{stamped_fits, stamped_next, stamped_none, stamped_rising, stamped_there}
+use Rattle.srcp_core.proofs.Names.{refl, sym, ◌∙◌, IsWhole, each_of, Put, is_some, ap}
+use Rattle.srcp_core.proofs.Invariants.OpeningRowsAreStamped.{fewer_stamped, opening_stamped, row_found, stamped_each, stamped, found_there}
+use Rattle.srcp_core.proofs.Invariants.OpeningRowsAreStamped.{stamped_fits, stamped_next, stamped_none}
 use Rattle.srcp_core.proofs.CourseLaws.StepsKeepWhole.{whole_opening}
 use Rattle.srcp_core.proofs.server_core.stamp.stamp_all.Goals as goal
+use Rattle.srcp_rules.proofs.StateLaws.{rising-updated}
 
 pub set-requires : goal.set-requires
 set-requires g c =
@@ -12,7 +13,7 @@ set-requires g c =
     let inv = c.loop-row.invariant in
     let next = sym c.in-Some.ensures in
     record {
-      there = stamped_there c.args.moment _ state row inv.rising next;
+      there = ap is_some (found_there _ state row inv.rising next);
       fits = rw inv.layout
           (stamped_fits buses _ row c.ranges.moment.fits (row_found buses c.loop-row.at state row inv.each next));
     }
@@ -45,7 +46,7 @@ loop-row-preserved g c =
     let of = stamped_fits buses _ row c.ranges.moment.fits (row_found buses c.loop-row.at state row inv.each next) in
     record {
       layout = c.set.ensures.layout ∙ inv.layout;
-      rising = rw c.set.ensures.rows (stamped_rising _ state row inv.rising);
+      rising = rw c.set.ensures.rows (rising-updated (record { change = Put (stamped _ row).shown; due = row.due }) state inv.rising);
       each = rw c.set.ensures.rows (stamped_each buses _ state of inv.each);
       stamps = cc (c.set.ensures.rows, stamped_next _ _ state row inv.rising next, inv.stamps);
     }

@@ -6,16 +6,14 @@ use Rattle.srcp_core.proofs.server_core.walk.carry_out_due.Goals as goal
 
 pub tell_all-requires-clause-change : goal.tell_all-requires-clause-change
 tell_all-requires-clause-change g c =
-    (due_goes_on (g.R.Rows.buses c.args.rows.now) c.args.moment c.ranges.moment.fits
-    (g.R.Rows.state c.loop-change.rows) c.loop-change.at c.loop-change.invariant.ahead c.loop-change.invariant.whole
-    _ (g.R.Rows.state c.due_next.new.rows) c.loop-change.connections.slots
+    (due_goes_on _ _ c.ranges.moment.fits (g.R.Rows.state c.loop-change.rows) c.loop-change.at c.loop-change.invariant.ahead
+    c.loop-change.invariant.whole _ _ c.loop-change.connections.slots
     (sym c.in-Some.is ∙ c.due_next.ensures.change) c.due_next.ensures.rows).told
 
 pub loop-change-smaller : goal.loop-change-smaller
 loop-change-smaller g c =
-    (due_goes_on (g.R.Rows.buses c.args.rows.now) c.args.moment c.ranges.moment.fits
-    (g.R.Rows.state c.loop-change.rows) c.loop-change.at c.loop-change.invariant.ahead c.loop-change.invariant.whole
-    _ (g.R.Rows.state c.due_next.new.rows) c.loop-change.connections.slots
+    (due_goes_on _ _ c.ranges.moment.fits (g.R.Rows.state c.loop-change.rows) c.loop-change.at c.loop-change.invariant.ahead
+    c.loop-change.invariant.whole _ _ c.loop-change.connections.slots
     (sym c.in-Some.is ∙ c.due_next.ensures.change) c.due_next.ensures.rows).fewer
 
 pub loop-change-init : goal.loop-change-init
@@ -60,7 +58,7 @@ returns-clause-rows g c =
 pub returns-clause-slots : goal.returns-clause-slots
 returns-clause-slots g c =
     let e =
-    due_stops (g.R.Rows.buses c.args.rows.now) c.args.moment c.ranges.moment.fits
-    (g.R.Rows.state c.loop-change.rows) c.loop-change.at c.loop-change.invariant.ahead
-    (g.R.Rows.state c.due_next.new.rows) (sym c.in_default.is ∙ c.due_next.ensures.change) c.due_next.ensures.rows in
+    due_stops (g.R.Rows.buses c.args.rows.now) _ c.ranges.moment.fits (g.R.Rows.state c.loop-change.rows) c.loop-change.at
+    c.loop-change.invariant.ahead (g.R.Rows.state c.due_next.new.rows)
+    (sym c.in_default.is ∙ c.due_next.ensures.change) c.due_next.ensures.rows in
     ap (λ us. told_each (map change_in us) c.loop-change.connections.slots) (sym e.nothing) ∙ c.loop-change.invariant.slots

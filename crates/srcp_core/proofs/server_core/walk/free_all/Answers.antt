@@ -9,8 +9,7 @@ tell_all-requires-clause-change g c =
     (goes_on (g.R.Rows.buses c.args.rows.now) (λ state. freed state c.args.session c.args.moment)
     (λ state whole. freed_later _ state whole _ _)
     (λ state whole. freed_told _ state whole _ c.ranges.moment.fits _)
-    (g.R.Rows.state c.loop-change.rows) c.loop-change.invariant.whole _
-    (g.R.Rows.state c.free_next.new.rows) c.loop-change.connections.slots
+    (g.R.Rows.state c.loop-change.rows) c.loop-change.invariant.whole _ _ c.loop-change.connections.slots
     (sym c.in-Some.is ∙ c.free_next.ensures.change) (c.free_next.ensures.rows)).told
 
 pub loop-change-smaller : goal.loop-change-smaller
@@ -18,8 +17,7 @@ loop-change-smaller g c =
     (goes_on (g.R.Rows.buses c.args.rows.now) (λ state. freed state c.args.session c.args.moment)
     (λ state whole. freed_later _ state whole _ _)
     (λ state whole. freed_told _ state whole _ c.ranges.moment.fits _)
-    (g.R.Rows.state c.loop-change.rows) c.loop-change.invariant.whole _
-    (g.R.Rows.state c.free_next.new.rows) c.loop-change.connections.slots
+    (g.R.Rows.state c.loop-change.rows) c.loop-change.invariant.whole _ _ c.loop-change.connections.slots
     (sym c.in-Some.is ∙ c.free_next.ensures.change) (c.free_next.ensures.rows)).fewer
 
 pub loop-change-preserved : goal.loop-change-preserved
@@ -54,6 +52,5 @@ returns-clause-slots g c =
     stops (g.R.Rows.buses c.args.rows.now) (λ state. freed state c.args.session c.args.moment)
     (λ state whole. freed_later _ state whole _ _)
     (λ state whole. freed_told _ state whole _ c.ranges.moment.fits _)
-    (g.R.Rows.state c.loop-change.rows) (g.R.Rows.state c.free_next.new.rows) (sym c.in_default.is ∙ c.free_next.ensures.change)
-    (c.free_next.ensures.rows) in
+    (g.R.Rows.state c.loop-change.rows) _ (sym c.in_default.is ∙ c.free_next.ensures.change) (c.free_next.ensures.rows) in
     ap (λ us. told_each (map change_in us) c.loop-change.connections.slots) (sym e.nothing) ∙ c.loop-change.invariant.slots

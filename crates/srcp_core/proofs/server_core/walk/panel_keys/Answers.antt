@@ -1,12 +1,12 @@
 use Rattle.srcp_core.proofs.Names.{◌≡◌, ◌∷◌, refl, ap, sym, ◌∙◌, length, length-append, arith}
-use Rattle.srcp_core.proofs.Invariants.PanelsAreListed.{listed, listed_all}
+use Rattle.srcp_core.proofs.Invariants.PanelsAreListed.{listed, listed_from, from_zero}
 use Rattle.srcp_core.proofs.Invariants.PanelsStay.{panels_few}
 use Rattle.srcp_core.proofs.server_core.walk.panel_keys.Goals as goal
 
 pub loop-key-init : goal.loop-key-init
 loop-key-init c =
     let left = c.into_iter-key-iterator.ensures.into_iter_gives ∙ c.iter-key-items.ensures.rest in
-    (tt, tt, rw (left, c.new-keys.ensures) (listed_all c.args.connections.now.slots))
+    (tt, tt, rw (left, c.new-keys.ensures) (listed_from 0 c.args.connections.now.slots ∙ from_zero _))
 
 pub push-requires : goal.push-requires
 push-requires c =
