@@ -55,11 +55,10 @@ module _ (peer key : ℕ) (old : Held) (trace_old : Trace) (ready : Bool)
 
   pub read_not : ready ≡ false → ReadsIn peer key old trace_old old trace_old true
   read_not e buses events keys n trace s is =
-      let none = sym (course_says buses events keys n s.layout s.named s.stands) ∙ e in
       record {
         calls = [];
         made = makes_none buses events trace_old trace old is;
-        asked = ap (λ t. if t then Reads peer 256 ∷ [] else []) (sym none);
+        asked = ap (λ t. if t then Reads peer 256 ∷ [] else []) (sym e ∙ course_says buses events keys n s.layout s.named s.stands);
         stays_is = refl;
         stands = rw append-nil s.stands;
       }
@@ -133,8 +132,7 @@ some_of (x ∷ xs) e = omega arith
 module _ (key count : ℕ) (old mid new : Held) (out : mid ≡ let_out key old) (sent : new ≡ changed_at key (without_sent count) mid) where
   pub sends : (bytes : List ℕ) → bytes ≡ unsent_at key (let_out key old) → count ≤ length bytes → LeadsAt key (λ n. Room n count) old new
   sends bytes lends few =
-      let few_left = rw (lends ∙ ap (unsent_at key) (sym out)) at few in
-      calls_lead.lent_and_sent key count mid new old few_left sent out
+      calls_lead.lent_and_sent key count mid new old (rw (lends ∙ ap (unsent_at key) (sym out)) at few) sent out
 
 module _ (peer key : ℕ) (old : Held) (trace_old : Trace) where
   -- these bytes are lent

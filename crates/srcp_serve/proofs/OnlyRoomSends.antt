@@ -4,7 +4,7 @@ use Rattle.srcp_serve.proofs.Names.{Some, None, Result, Ok, Err, refl, ap, sym, 
 use Rattle.srcp_serve.proofs.Names.{fold, nat_lt, AllByRecursion, take-append-le, same_Some, Piece, Order, effect, Heard, greets, Open}
 use Rattle.srcp_serve.proofs.Names.{Bytes, At, Shut, Obeyed, Began, Ended, Event, Room, Bus, Connection, given, sent, given_room, World}
 use Rattle.srcp_serve.proofs.Names.{fresh, numbered, with_numbered, open_connection, at_connection, did, replied, counted, is_info, state}
-use Rattle.srcp_serve.proofs.Names.{entered, goes, greeted, ended, obeyed, commanded, answered_as, answered, order_of, fault, new_lines}
+use Rattle.srcp_serve.proofs.Names.{entered, goes, greeted, ended, commanded, answered_as, answered, order_of, fault, new_lines}
 use Rattle.srcp_serve.proofs.Names.{fed_to, shut_as, or_refused, happens, rows, history, line_law, all_numbered, all_push, opened}
 use Rattle.srcp_serve.proofs.Names.{eqb-false, map-append, IsAnswered, kept_fed, kept_shut, numbered_after, cond_both, or_parts}
 use Rattle.srcp_info.specs.Line.{reply_line}
@@ -13,7 +13,6 @@ use Rattle.srcp_info.specs.declared.change.Code.TheVariants.{C500}
 use Rattle.srcp_info.specs.declared.change.Reply.{Reply}
 use Rattle.srcp_info.specs.declared.change.Reply.TheVariants.{Protocol, Mode as ModeReply, Go, Refused}
 use Rattle.srcp_info.specs.declared.value.Mode.{Mode}
-use Rattle.srcp_rules.specs.Effect.{Effect}
 use Rattle.srcp_core.proofs.CourseLaws.NothingAfterTheEnd.{numbered_other, numbered_push}
 use Rattle.srcp_serve.proofs.CallsByTurnAndPeer.{fold_keeps}
 
@@ -128,9 +127,11 @@ module _ (buses : List Bus) (n : ℕ) (texts : List (List ℕ)) where
   abbrev IsPlain : World → Type 0
   IsPlain w = (conn : Connection) → numbered n w.connections ≡ Some conn → conn.info ≡ false
 
-  sending_obeyed : (session : ℕ) (command : Order) (result : Effect) (w : World) → IsPlain w → IsQuietNow w
-      → Sends (obeyed buses n session command result w)
-  sending_obeyed session command result w plain q =
+  sending_commanded : (session : ℕ) (command : Result Order Code) (w : World) → IsPlain w → IsQuietNow w
+      → Sends (commanded buses n session command w)
+  sending_commanded session (Err code) w plain q = (quiet_replied (Refused code) w q).sending
+  sending_commanded session (Ok command) w plain q =
+      let result = effect (state buses w) session w.moment command in
       let once = replied n result.reply (did (Obeyed session w.moment command) w) in
       let still = quiet_replied result.reply (did (Obeyed session w.moment command) w) q in
       let plain_still : IsPlain once =
@@ -140,12 +141,6 @@ module _ (buses : List Bus) (n : ℕ) (texts : List (List ℕ)) where
         record { plain = s.plain; goes_on = λ info. let no = plain_still conn e in cc; within = s.within },
         refl,
       )) still.sending) (λ t. still.sending)
-
-  sending_commanded : (session : ℕ) (command : Result Order Code) (w : World) → IsPlain w → IsQuietNow w
-      → Sends (commanded buses n session command w)
-  sending_commanded session (Err code) w plain q = (quiet_replied (Refused code) w q).sending
-  sending_commanded session (Ok command) w plain q =
-      sending_obeyed session command (effect (state buses w) session w.moment command) w plain q
 
   sending_answered : (o : Option Connection) (line : Heard) (w : World)
       → ((conn : Connection) → o ≡ Some conn → numbered n w.connections ≡ o) → Sends w → Sends (answered_as buses n o line w)

@@ -77,9 +77,7 @@ module _ (buses : List Bus) (connected : List ℕ) (before : ℕ → List ℕ) (
       (turned_round other client.peer e) in
       let now =
       put_peer (so_far before calls (client ∷ all)) (so_far before calls all) more client.conn client.peer connected known.0 others own in
-      let next = events ++ visit_events calls client in
-      let here = rw now at one in
-      rw append_assoc at (sending_visits next all known.1 apart.1 asked.1 here)
+      rw append_assoc at (sending_visits (events ++ visit_events calls client) all known.1 apart.1 asked.1 (rw now at one))
 
 -- ---- slots
 
@@ -194,11 +192,9 @@ module _ (buses : List Bus) (before : ℕ → List ℕ) where
             apart =
                 connected_apart client stand.slots (new_unconnected accept.peer stand.connected (clients stand.slots) new h.known) h.apart;
           })
-      by (Some cause) e = rw e (record {
-        sending = rw (next, e) h.sending;
-        known = h.known;
-        apart = h.apart;
-      })
+      by (Some cause) e =
+          let sending : IsSending (map before stand.connected) (course buses (stand.events ++ Open accept.granted ∷ [])).connections =
+          rw (next, e) h.sending in rw e assumption
 
 -- ---- after the visits of a turn
 
@@ -215,11 +211,10 @@ module _ (buses : List Bus) (before : ℕ → List ℕ) (stand : Stand) (calls :
   -- nothing is taken of a peer that has no slot
   pub nothing_taken : (peer : ℕ) → IsNoneOf peer (clients stand.slots) → taken peer calls ≡ []
   nothing_taken peer none =
-      let theirs = visits_ask buses stand.events calls (clients stand.slots) in
       let are : map question (filter (is_about peer) calls) ≡ filter (asks_of peer) first =
       cc (
         filter-map question (asks_of peer) calls,
-        filter-append (asks_of peer) first theirs,
+        filter-append (asks_of peer) first (visits_ask buses stand.events calls (clients stand.slots)),
         none_asked buses peer stand.events calls (clients stand.slots) none,
         append-nil (filter (asks_of peer) first),
       ) in

@@ -188,42 +188,11 @@ module _ (buses : List Bus) where
       → lent buses n events ≡ lends (history buses (course buses events)) (rows buses (course buses events)) conn
   lent_is events n conn e =
       let w = course buses events in
-      let past = history buses w in
-      let shown = rows buses w in
-      let stays = open_room 0 past shown conn ∙ ap is_none (opened _ conn e).1 in
+      let stays = open_room 0 (history buses w) (rows buses w) conn ∙ ap is_none (opened _ conn e).1 in
       let same = ap (history buses) (after_room events n 0 conn e) in
       cc (there_after events n 0 conn e)
 
-  closed_lends : (events : List Event) (n : ℕ) → open_connection (course buses events) n ≡ None → lent buses n events ≡ []
-  closed_lends events n e =
-      let w = course buses events in
-      let next : course buses (events ++ Room n 0 ∷ []) ≡ or_refused buses (Some NoSuch) (Room n 0) (counted w) = simp (fold-append, e) in
-      cc
-
-  -- a prefix of what is lent is sent, of an open connection
-  room_sends : (events : List Event) (n bytes : ℕ) (texts : List (List ℕ)) (conn : Connection)
-      → open_connection (course buses events) n ≡ Some conn → bytes ≤ length (lent buses n events)
-      → IsSending texts (course buses events).connections
-      → IsSending (put n (take bytes (lent buses n events)) texts) (course buses (events ++ Room n bytes ∷ [])).connections
-  room_sends events n bytes texts conn e h a =
-      let w = course buses events in
-      let past = history buses w in
-      let shown = rows buses w in
-      let is = lent_is events n conn e in
-      let there = (opened _ conn e).0 in
-      let steady = steady_at n _ conn there a.steady in
-      let one : sent (given_room bytes past shown conn) ≡ sent conn ++ take bytes (lent buses n events) =
-      cc (conn_sends past shown conn bytes (overran conn past) (overran (given_room 0 past shown conn) past) refl refl steady.within
-      (rw is at h)) in
-      let same : (c : Connection) → numbered n w.connections ≡ Some c
-      → sent (given_room bytes past shown c) ≡ sent c ++ take bytes (lent buses n events) =
-      λ c t. rw (same_Some conn c (sym there ∙ t)) at one in
-      rw (after_room events n bytes conn e) (record {
-        steady = all_numbered _ n _ _ (λ c t s. steady_room bytes past shown c s) a.steady;
-        sends = cc (put_with n (given_room bytes past shown) (take bytes (lent buses n events)) w.connections same, a.sends);
-      })
-
-  -- so it is of any connection, for nothing is lent of one that is not open
+  -- a prefix of what is lent is sent: of a connection that is not open, nothing is lent
   pub sending_room : (events : List Event) (n bytes : ℕ) (texts : List (List ℕ)) → bytes ≤ length (lent buses n events)
       → IsSending texts (course buses events).connections
       → IsSending (put n (take bytes (lent buses n events)) texts) (course buses (events ++ Room n bytes ∷ [])).connections
@@ -231,10 +200,29 @@ module _ (buses : List Bus) where
     where
       by : (o : Option Connection) → open_connection (course buses events) n ≡ o
           → IsSending (put n (take bytes (lent buses n events)) texts) (course buses (events ++ Room n bytes ∷ [])).connections
-      by (Some conn) e = room_sends events n bytes texts conn e h a
+      by (Some conn) e =
+          let w = course buses events in
+          let past = history buses w in
+          let shown = rows buses w in
+          let is = lent_is events n conn e in
+          let there = (opened _ conn e).0 in
+          let steady = steady_at n _ conn there a.steady in
+          let one : sent (given_room bytes past shown conn) ≡ sent conn ++ take bytes (lent buses n events) =
+          cc (conn_sends past shown conn bytes (overran conn past) (overran (given_room 0 past shown conn) past) refl refl steady.within
+          (rw is at h)) in
+          let same : (c : Connection) → numbered n w.connections ≡ Some c
+          → sent (given_room bytes past shown c) ≡ sent c ++ take bytes (lent buses n events) =
+          λ c t. rw (same_Some conn c (sym there ∙ t)) at one in
+          rw (after_room events n bytes conn e) (record {
+            steady = all_numbered _ n _ _ (λ c t s. steady_room bytes past shown c s) a.steady;
+            sends = cc (put_with n (given_room bytes past shown) (take bytes (lent buses n events)) w.connections same, a.sends);
+          })
       by None e =
           let w = course buses events in
-          let none : take bytes (lent buses n events) ≡ [] = simp (closed_lends, take-nil) in
+          let lends : course buses (events ++ Room n 0 ∷ []) ≡ or_refused buses (Some NoSuch) (Room n 0) (counted w) =
+          simp (fold-append, e) in
+          let empty : lent buses n events ≡ [] = cc in
+          let none : take bytes (lent buses n events) ≡ [] = simp (empty, take-nil) in
           let next : course buses (events ++ Room n bytes ∷ []) ≡ or_refused buses (Some NoSuch) (Room n bytes) (counted w) =
           simp (fold-append, e) in
           rw (next, none, put_none n texts) a

@@ -1,20 +1,20 @@
 -- Turn after turn: each connection was sent what was taken of its peer in all the turns so far.
 use Rattle.srcp_serve.proofs.Names.{◌≡◌, ◌∙◌, ℕ, Bool, true, false, List, [], ◌∷◌, ◌++◌, map, filter, if◌then◌else◌, Option, Some, None}
 use Rattle.srcp_serve.proofs.Names.{◌⊎◌, inl, inr, refl, ap, ◌==◌, ⊎_elim, not, Ok, append-nil, append_assoc, filter_map, fold, flat_map}
-use Rattle.srcp_serve.proofs.Names.{cons_option, AllByRecursion, Event, Open, Bus, Accepted, Call, AcceptCall, door_call, Question, Expects}
-use Rattle.srcp_serve.proofs.Names.{Moments, Accepts, Closes, Client, Stand, question, accept_of, with_moment, connects, refuses, asks_of}
-use Rattle.srcp_serve.proofs.Names.{expects, IsFair, moment_of, clients, taken, timed, turned, visits_ask, with_accept, with_connection}
-use Rattle.srcp_serve.proofs.Names.{turn_asks, is_expect, empty_stand, begun, turns, IsServed, OfEachTurn, SentIsTaken, course, due_next}
-use Rattle.srcp_serve.proofs.Names.{slack, all_append, flat_map-append, filter_map-append, take_while-cons, sent, peer_of, ExpectCall}
+use Rattle.srcp_serve.proofs.Names.{cons_option, AllByRecursion, Event, Open, Bus, Accepted, Call, AcceptCall, door_call, Question}
+use Rattle.srcp_serve.proofs.Names.{Expects, ExpectCall, Moments, Accepts, Closes, Client, Stand, question, accept_of, with_moment}
+use Rattle.srcp_serve.proofs.Names.{connects, refuses, asks_of, expects, IsFair, moment_of, clients, taken, timed, turned, visits_ask}
+use Rattle.srcp_serve.proofs.Names.{with_accept, with_connection, turn_asks, is_expect, empty_stand, begun, turns, IsServed, OfEachTurn}
+use Rattle.srcp_serve.proofs.Names.{SentIsTaken, course, due_next, map-append, slack, all_append, flat_map-append, filter_map-append}
+use Rattle.srcp_serve.proofs.Names.{take_while-cons, sent, peer_of}
 use Rattle.std.specs.List.{IsDistinct}
 use Rattle.srcp_serve.specs.Serving.{PeersDiffer}
 use Rattle.srcp_serve.proofs.CallsByTurnAndPeer.{IsNoneOf, IsOfNone, AreOfPeers, asks_peer, refused_peers, visits_peers, AreAsked}
 use Rattle.srcp_serve.proofs.CallsByTurnAndPeer.{AreTurnsAsked, PeersApart, accept_as, fold_keeps, in_turn, no_calls, refuses_as}
 use Rattle.srcp_serve.proofs.CallsByTurnAndPeer.{turned_round, turns_parted, visits_parted}
 use Rattle.srcp_serve.proofs.PeersAreSentTheirVisits.{IsSentAsTaken, sent_after_moment, IsNew, sent_after_accept, new_unconnected}
-use Rattle.srcp_serve.proofs.PeersAreSentTheirVisits.{sent_after_visits, ArePeersOf, new_push, nothing_taken}
+use Rattle.srcp_serve.proofs.PeersAreSentTheirVisits.{sent_after_visits, ArePeersOf, nothing_taken}
 use Rattle.srcp_serve.proofs.VisitsSendWhatIsTaken.{no_writes, all_parts}
-use Rattle.std.proofs.lemmas.Map.Keys.{IsDistinct-head, IsDistinct-tail}
 
 -- after the moments of a turn
 pub sent_after_moments : (buses : List Bus) (before : ℕ → List ℕ) (stand : Stand) (moments : List ℕ) → IsSentAsTaken buses before stand
@@ -60,6 +60,27 @@ refused_of_none due slack buses events peer (client ∷ all) h =
       refused_of_none due slack buses events peer all h.1,
     )
 
+-- ---- peers that are accepted
+
+-- none of these peers has a connection, and no two of them are one
+abbrev pub AreNew : List ℕ → List ℕ → Type 0
+AreNew connected peers = IsDistinct (λ a b. a == b) (connected ++ peers)
+
+pub differ_last : (xs : List ℕ) (y : ℕ) (ys : List ℕ) → AreNew xs (y ∷ ys) → IsNew y xs
+unfolding IsDistinct
+differ_last [] y ys h = tt
+differ_last (x ∷ xs) y ys h = ((all_parts (λ z. (x == z) ≡ false) xs (y ∷ ys) h.0).1.0, differ_last xs y ys h.1)
+
+differ_without : (xs : List ℕ) (y : ℕ) (ys : List ℕ) → AreNew xs (y ∷ ys) → AreNew xs ys
+unfolding IsDistinct
+differ_without [] y ys h = h.1
+differ_without (x ∷ xs) y ys h =
+    let parts = all_parts (λ z. (x == z) ≡ false) xs (y ∷ ys) h.0 in
+    (all_append (λ z. (x == z) ≡ false) xs ys parts.0 parts.1.1, differ_without xs y ys h.1)
+
+abbrev pub peers_in : List Accepted → List ℕ
+peers_in accepts = map (λ accept. accept.peer) accepts
+
 -- ---- after a turn
 
 module _ (buses : List Bus) (before : ℕ → List ℕ) (stand : Stand) (calls : List Call) (fair : AllByRecursion IsFair calls)
@@ -87,17 +108,25 @@ module _ (buses : List Bus) (before : ℕ → List ℕ) (stand : Stand) (calls :
   none_first [] = tt
   none_first (client ∷ all) = (refl, none_first all)
 
-  begins_one : (peer : Accepted) → Asks (peer ∷ []) → AllByRecursion (λ peer. IsNew peer.peer stand.connected) (peer ∷ [])
-      → Begins (peer ∷ [])
-  begins_one peer asked new =
+  begins : (peers : List Accepted) (more : List ℕ) → (peers ≡ []) ⊎ ((peer : Accepted) × (peers ≡ peer ∷ [])) → Asks peers
+      → AreNew stand.connected (peers_in peers ++ more) → Begins peers
+  begins [] more few asked new = record {
+    first = expects buses stand.events ∷ Moments ∷ Accepts ∷ [];
+    still = refl;
+    asked = asked;
+    none = none_first _;
+    sent_before_visits = (sent_after_moments buses before stand (filter_map moment_of calls) as_taken).0;
+  }
+  begins (peer ∷ []) more few asked new =
       let t = sent_after_moments buses before stand (filter_map moment_of calls) as_taken in
-      let here : IsNew peer.peer timed_now.connected = rw t.1 new.0 in
+      let apart = differ_last _ _ more new in
+      let here : IsNew peer.peer timed_now.connected = rw t.1 apart in
       record {
         first = expects buses stand.events ∷ Moments ∷ Accepts ∷ (refuses buses timed_now.events peer ++ []);
         still = refuses_as buses (λ (qs : List Question). no_writes (qs ++ []) ≡ true) timed_now.events peer refl refl;
         asked = asked;
         none = none here (connects buses timed_now.events peer.granted) refl;
-        sent_before_visits = sent_after_accept buses before timed_now peer here (fresh peer.peer new.0) t.0;
+        sent_before_visits = sent_after_accept buses before timed_now peer here (fresh peer.peer apart) t.0;
       }
     where
       none : IsNew peer.peer timed_now.connected → (b : Bool) → connects buses timed_now.events peer.granted ≡ b
@@ -114,50 +143,18 @@ module _ (buses : List Bus) (before : ℕ → List ℕ) (stand : Stand) (calls :
           let t = sent_after_moments buses before stand (filter_map moment_of calls) as_taken in
           rw same (refused_of_none (due_next buses (course buses stand.events)) (slack buses (course buses stand.events)) buses
           timed_now.events peer (clients timed_now.slots) (new_unconnected peer.peer _ (clients timed_now.slots) here t.0.known))
+  begins _ more few asked new = absurd (⊎_elim (λ e. let no = e in cc) (λ s. let no = s.1 in cc) few)
 
-  begins : (peers : List Accepted) → (peers ≡ []) ⊎ ((peer : Accepted) × (peers ≡ peer ∷ [])) → Asks peers
-      → AllByRecursion (λ peer. IsNew peer.peer stand.connected) peers → Begins peers
-  begins [] few asked new = record {
-    first = expects buses stand.events ∷ Moments ∷ Accepts ∷ [];
-    still = refl;
-    asked = asked;
-    none = none_first _;
-    sent_before_visits = (sent_after_moments buses before stand (filter_map moment_of calls) as_taken).0;
-  }
-  begins (peer ∷ []) few asked new = begins_one peer asked new
-  begins _ few asked new = absurd (⊎_elim (λ e. let no = e in cc) (λ s. let no = s.1 in cc) few)
-
-  pub turn_begins : map question calls ≡ turn_asks buses stand calls
-      → AllByRecursion (λ peer. IsNew peer.peer stand.connected) (filter_map accept_of calls) → Begins (filter_map accept_of calls)
-  turn_begins asked new =
+  pub turn_begins : (more : List ℕ) → map question calls ≡ turn_asks buses stand calls
+      → AreNew stand.connected (peers_in (filter_map accept_of calls) ++ more) → Begins (filter_map accept_of calls)
+  turn_begins more asked new =
       let peers = filter_map accept_of calls in
       let refused = flat_map (refuses buses timed_now.events) peers in
       let visits = visits_ask buses (after peers).events calls (clients (after peers).slots) in
       let of_peers =
       all_append (λ q. asks_peer q ≡ true) refused visits (refused_peers buses timed_now.events peers)
       (visits_peers buses (after peers).events calls (clients (after peers).slots)) in
-      begins peers (one_accept _ _ calls (refused ++ visits) asked of_peers) asked new
-
-  -- the step of an induction over turns
-  pub sent_after_turn : Begins (filter_map accept_of calls)
-      → IsSentAsTaken buses (λ peer. before peer ++ taken peer calls) (turned buses stand calls)
-  sent_after_turn b = sent_after_visits buses before _ calls b.first b.still b.asked fair b.none b.sent_before_visits
-
--- ---- peers that are accepted
-
--- none of these peers has a connection, and no two of them are one
-record AreNew (connected : List ℕ) (peers : List Accepted) : Type 0 where
-  new : AllByRecursion (λ peer. IsNew peer.peer connected) peers
-  differ : IsDistinct (λ a b. a.peer == b.peer) peers
-
-all_new_push : (other : ℕ) (connected : List ℕ) (peers : List Accepted) → AllByRecursion (λ peer. IsNew peer.peer connected) peers
-    → AllByRecursion (λ peer. (other == peer.peer) ≡ false) peers → AllByRecursion (λ peer. IsNew peer.peer (connected ++ other ∷ [])) peers
-all_new_push other _ [] h k = tt
-all_new_push other connected (peer ∷ peers) h k = (new_push peer.peer other connected h.0 k.0, all_new_push other connected peers h.1 k.1)
-
-all_new_first : (peers : List Accepted) → AllByRecursion (λ peer. IsNew peer.peer []) peers
-all_new_first [] = tt
-all_new_first (peer ∷ peers) = (tt, all_new_first peers)
+      begins peers more (one_accept _ _ calls (refused ++ visits) asked of_peers) asked new
 
 -- nothing was taken of a peer that has no connection
 abbrev IsFresh : (ℕ → List ℕ) → List ℕ → Type 0
@@ -165,19 +162,15 @@ IsFresh before connected = (peer : ℕ) → IsNew peer connected → before peer
 
 module _ (buses : List Bus) where
   -- those that are still to come stay new
-  new_accept : (stand : Stand) (peer : Accepted) (more : List Accepted) → AreNew stand.connected (peer ∷ more)
+  new_accept : (stand : Stand) (peer : Accepted) (more : List ℕ) → AreNew stand.connected (peer.peer ∷ more)
       → AreNew (with_accept buses stand peer).connected more
-  new_accept stand peer more h =
-      let differ = IsDistinct-tail (λ a b. a.peer == b.peer) peer more h.differ in
-      let apart = IsDistinct-head (λ a b. a.peer == b.peer) peer more h.differ in
-      accept_as buses (λ (s : Stand). AreNew s.connected more) stand peer
-      (record { new = all_new_push peer.peer stand.connected more h.new.1 apart; differ = differ })
-      (record { new = h.new.1; differ = differ })
+  new_accept stand peer more h = accept_as buses (λ (s : Stand). AreNew s.connected more) stand peer
+      (rw append_assoc h) (differ_without stand.connected peer.peer more h)
 
-  new_begun : (peers more : List Accepted) (stand : Stand) → AreNew stand.connected (peers ++ more)
+  new_begun : (peers : List Accepted) (more : List ℕ) (stand : Stand) → AreNew stand.connected (peers_in peers ++ more)
       → AreNew (fold (with_accept buses) stand peers).connected more
   new_begun [] more stand h = h
-  new_begun (peer ∷ peers) more stand h = new_begun peers more _ (new_accept stand peer (peers ++ more) h)
+  new_begun (peer ∷ peers) more stand h = new_begun peers more _ (new_accept stand peer (peers_in peers ++ more) h)
 
   -- the connected peers only grow
   was_new_accept : (peer : ℕ) (other : Accepted) (stand : Stand) → IsNew peer (with_accept buses stand other).connected
@@ -190,14 +183,15 @@ module _ (buses : List Bus) where
   was_new peer [] stand h = h
   was_new peer (other ∷ peers) stand h = was_new_accept peer other stand (was_new peer peers (with_accept buses stand other) h)
 
-  even_begun : (before : ℕ → List ℕ) (peers more : List Accepted) (stand : Stand) → AreNew stand.connected (peers ++ more)
-      → IsFresh before stand.connected → IsSentAsTaken buses before stand
+  even_begun : (before : ℕ → List ℕ) (peers : List Accepted) (more : List ℕ) (stand : Stand)
+      → AreNew stand.connected (peers_in peers ++ more) → IsFresh before stand.connected → IsSentAsTaken buses before stand
       → IsSentAsTaken buses before (fold (with_accept buses) stand peers)
   even_begun before [] more stand new fresh as_taken = as_taken
   even_begun before (peer ∷ peers) more stand new fresh as_taken =
-      even_begun before peers more (with_accept buses stand peer) (new_accept stand peer (peers ++ more) new)
+      let here = differ_last stand.connected peer.peer (peers_in peers ++ more) new in
+      even_begun before peers more (with_accept buses stand peer) (new_accept stand peer (peers_in peers ++ more) new)
       (λ other h. fresh other (was_new_accept other peer stand h))
-      (sent_after_accept buses before stand peer new.new.0 (fresh peer.peer new.new.0) as_taken)
+      (sent_after_accept buses before stand peer here (fresh peer.peer here) as_taken)
 
   -- those that are not connected are written nothing
   refused_no_writes : (events : List Event) (peers : List Accepted) → no_writes (flat_map (refuses buses events) peers) ≡ true
@@ -208,8 +202,8 @@ module _ (buses : List Bus) where
 
 -- ---- after a turn
 
-module _ (buses : List Bus) (before : ℕ → List ℕ) (stand : Stand) (calls : List Call) (more : List Accepted)
-    (new : AreNew stand.connected (filter_map accept_of calls ++ more)) (fresh : IsFresh before stand.connected)
+module _ (buses : List Bus) (before : ℕ → List ℕ) (stand : Stand) (calls : List Call) (more : List ℕ)
+    (new : AreNew stand.connected (peers_in (filter_map accept_of calls) ++ more)) (fresh : IsFresh before stand.connected)
     (as_taken : IsSentAsTaken buses before stand) where
   abbrev peers : List Accepted
   peers = filter_map accept_of calls
@@ -220,7 +214,7 @@ module _ (buses : List Bus) (before : ℕ → List ℕ) (stand : Stand) (calls :
   same_connected : now.connected ≡ stand.connected
   same_connected = (sent_after_moments buses before stand (filter_map moment_of calls) as_taken).1
 
-  new_now : AreNew now.connected (peers ++ more)
+  new_now : AreNew now.connected (peers_in peers ++ more)
   new_now = rw same_connected new
 
   new_turned : AreNew (turned buses stand calls).connected more
@@ -229,18 +223,15 @@ module _ (buses : List Bus) (before : ℕ → List ℕ) (stand : Stand) (calls :
   fresh_turned : map question calls ≡ turn_asks buses stand calls
       → IsFresh (λ peer. before peer ++ taken peer calls) (turned buses stand calls).connected
   fresh_turned asked peer none =
-      let after = begun buses stand calls in
       let first = expects buses stand.events ∷ Moments ∷ Accepts ∷ flat_map (refuses buses now.events) peers in
-      let none_now = was_new buses peer peers now none in
-      let none_before = rw same_connected at none_now in
       let fresh_now : IsFresh before now.connected = λ other h. fresh other (rw same_connected at h) in
       let even_after =
       even_begun buses before peers more now new_now fresh_now
       (sent_after_moments buses before stand (filter_map moment_of calls) as_taken).0 in
       let unconnected = new_unconnected peer _ _ none even_after.known in
       cc (
-        fresh peer none_before,
-        nothing_taken buses before after calls first (refused_no_writes buses now.events peers) asked peer unconnected,
+        fresh peer (rw same_connected at (was_new buses peer peers now none)),
+        nothing_taken buses before (begun buses stand calls) calls first (refused_no_writes buses now.events peers) asked peer unconnected,
       )
 
 -- ---- who was accepted
@@ -250,18 +241,6 @@ pub peers_trace : (calls : List Call) → filter_map peer_of (map door_call call
 peers_trace [] = refl
 peers_trace (AcceptCall (Ok (Some peer)) granted ∷ calls) = ap (λ peers. peer ∷ peers) (peers_trace calls)
 peers_trace (other ∷ calls) = peers_trace calls
-
-apart_accepts : (peer : ℕ) (connected : List Accepted)
-    → AllByRecursion (λ other. (peer == other) ≡ false) (map (λ accept. accept.peer) connected)
-    → AllByRecursion (λ accept. (peer == accept.peer) ≡ false) connected
-apart_accepts peer [] h = tt
-apart_accepts peer (accept ∷ connected) h = (h.0, apart_accepts peer connected h.1)
-
-differ_accepts : (connected : List Accepted) → IsDistinct (λ a b. a == b) (map (λ accept. accept.peer) connected)
-    → IsDistinct (λ a b. a.peer == b.peer) connected
-unfolding IsDistinct
-differ_accepts [] h = tt
-differ_accepts (accept ∷ connected) h = (apart_accepts accept.peer connected h.0, differ_accepts connected h.1)
 
 -- ---- after all turns
 
@@ -282,30 +261,25 @@ module _ (buses : List Bus) where
       ≡ map (λ peer. before peer ++ taken peer (joined all)) (fold (turned buses) stand all).connected
 
   turns_taken : (all : List (List Call)) (before : ℕ → List ℕ) (stand : Stand) → AreTurnsAsked buses stand all
-      → AllByRecursion IsFair (joined all) → AreNew stand.connected (filter_map accept_of (joined all)) → IsFresh before stand.connected
-      → IsSentAsTaken buses before stand
+      → AllByRecursion IsFair (joined all) → AreNew stand.connected (peers_in (filter_map accept_of (joined all)))
+      → IsFresh before stand.connected → IsSentAsTaken buses before stand
       → OfEachTurn buses IsTurnOfPeers stand all × SentAfter all before stand
   turns_taken [] before stand asked fair new fresh as_taken =
       (tt, as_taken.sending.sends ∙ simp append-nil)
   turns_taken (calls ∷ all) before stand asked fair new fresh as_taken =
       let parts = all_parts IsFair calls (joined all) fair in
-      let more = filter_map accept_of (joined all) in
-      let apart = rw filter_map-append at new in
-      let coming = (all_parts (λ peer. IsNew peer.peer stand.connected) (filter_map accept_of calls) more apart.new).0 in
-      let b = turn_begins buses before stand calls parts.0 fresh as_taken asked.0 coming in
+      let more = peers_in (filter_map accept_of (joined all)) in
+      let apart = rw (filter_map-append, map-append) at new in
+      let b = turn_begins buses before stand calls parts.0 fresh as_taken more asked.0 apart in
       let s = b.sent_before_visits in
       let now = begun buses stand calls in
-      let here : IsTurnOfPeers stand calls =
-      record {
-        known = s.known;
-        apart = s.apart;
-        asked = visits_parted buses b.first now.events calls (clients now.slots) s.apart b.none b.asked;
-        fair = parts.0;
-      } in
+      let parted = visits_parted buses b.first now.events calls (clients now.slots) s.apart b.none b.asked in
+      let fair_here = parts.0 in
+      let here : IsTurnOfPeers stand calls = search in
       let rest = turns_taken all (λ peer. before peer ++ taken peer calls) (turned buses stand calls) asked.1 parts.1
       (new_turned buses before stand calls more apart fresh as_taken)
       (fresh_turned buses before stand calls more apart fresh as_taken asked.0)
-      (sent_after_turn buses before stand calls parts.0 fresh as_taken b) in
+      (sent_after_visits buses before now calls b.first b.still b.asked parts.0 b.none s) in
       ((here, rest.0), rest.1 ∙ simp (append_assoc, flat_map-append))
 
   -- the calls before the first moment, and then the turns, are all the calls
@@ -321,9 +295,7 @@ module _ (buses : List Bus) where
 
     all_turns : OfEachTurn buses IsTurnOfPeers empty_stand (turns trace) × SentAfter (turns trace) (λ peer. []) empty_stand
     all_turns =
-        let connected = filter_map accept_of trace in
-        let first : AreNew [] connected =
-        record { new = all_new_first connected; differ = differ_accepts connected (rw peers_trace at differ) } in
+        let first : AreNew [] (peers_in (filter_map accept_of trace)) = rw peers_trace at differ in
         turns_taken (turns trace) (λ peer. []) empty_stand (turns_parted buses empty_stand trace [] tt served.asked).1 (rw whole fair)
         (rw whole first) (λ peer h. refl)
         (record { sending = record { steady = tt; sends = refl }; known = tt; apart = tt })

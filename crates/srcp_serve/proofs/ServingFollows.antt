@@ -77,8 +77,8 @@ serves_on count opened opens old mid new trace_old trace_mid trace_new owns owns
     let peers = filter_map peer_of first in
     let stood = stand_after buses s.calls in
     let x = turn buses stood s.keys trace s.in_state is peers later.0 w (rw filter_map-append at differ_all) s.known in
-    let same = same_calls w x.made.adds in
     let more = served-more buses count s.calls x.calls s.served x.asked in
+    let same = same_calls w x.made.adds in
     let known =
     rw (ap (λ c. peers ++ filter_map peer_of c) (sym same) ∙ sym (filter_map-append peer_of first later.0)
     ∙ ap (filter_map peer_of) (sym whole)) at (known_turned buses peers stood x.calls s.known) in
@@ -102,7 +102,6 @@ serves_all count turns opened old now _ _ owns e asks so buses before calls layo
     let s = so buses before calls layout stands was is differ in
     let a = asks _ is in
     let same = same_calls a.1 (record { before = before; was = was; is = refl }) ∙ sym s.are in
-    let fair = fair_given s.calls (rw same at (fair_turns a.0 a.2)) in
     let served = rw e at s.served in
     record {
       calls = s.calls;
@@ -114,7 +113,7 @@ serves_all count turns opened old now _ _ owns e asks so buses before calls layo
         served = served;
         stands = s.in_state.stands;
         opened = sym s.opened ∙ sym s.in_state.long ∙ s.in_state.stands.long;
-        taken = sent_taken buses turns s.calls served (rw s.are differ) fair;
+        taken = sent_taken buses turns s.calls served (rw s.are differ) (fair_given s.calls (rw same at (fair_turns a.0 a.2)));
       };
     }
 

@@ -6,10 +6,11 @@ use Rattle.srcp_serve.proofs.Names.{prefix_len, AllByRecursion, AllZip, Event, S
 use Rattle.srcp_serve.proofs.Names.{IsInState, Owns, is_about, asks_of, visit, visit_asks, visits_ask, visit_events, exchange, is_close}
 use Rattle.srcp_serve.proofs.Names.{Client, Stand, with_client, clients, kept, Slots, question, Keys, sum_by-cons, course, Held, key_of}
 use Rattle.srcp_serve.proofs.Names.{without_key, StandsFor, key_push, key_within, without_other, Own, cond_both, eqb-false, ltb-false}
-use Rattle.srcp_serve.proofs.Names.{ne_eqb, or_from, or_parts, all_weaker}
+use Rattle.srcp_serve.proofs.Names.{ne_eqb, or_from, or_parts, all_weaker, filter_map-append}
 use Rattle.std.specs.List.{IsDistinct}
 use Rattle.srcp_serve.proofs.PeersAreSentTheirVisits.{connected_all}
 use Rattle.srcp_serve.proofs.VisitsFollow.{AreAbout}
+use Rattle.srcp_serve.proofs.VisitsSendWhatIsTaken.{all_parts}
 use Rattle.srcp_serve.proofs.CallsByTurnAndPeer.{AreOf as AskOf, no_calls, none_asked, turned_round}
 
 -- the slots of a server are those of the state, place by place
@@ -131,7 +132,7 @@ own_here keys (own ∷ owns) [] slot after zero d e h = h.0
 own_here keys (own ∷ owns) (p ∷ before) slot after (suc i) d e h = own_here keys owns before slot after i d (omega (arith, e)) h.1
 own_here keys (own ∷ owns) before slot after i d e h = cc
 
-owns_cleared : (keys : Keys) (owns : Owns) (before : Slots) (slot : Option Client)
+pub owns_cleared : (keys : Keys) (owns : Owns) (before : Slots) (slot : Option Client)
     (after : Slots) (i : ℕ)
     → length before ≡ i → AreSlotsOf keys owns (before ++ slot ∷ after) → AreSlotsOf keys (slice_set owns i None) (before ++ None ∷ after)
 owns_cleared keys [] [] slot after i e h = absurd h
@@ -145,7 +146,7 @@ owns_cleared keys (own ∷ owns) before slot after i e h = cc
 abbrev HasNoNumber : ℕ → Slots → Type 0
 HasNoNumber n slots = AllByRecursion (λ client. (n == client.conn) ≡ false) (clients slots)
 
-owns_kept : (n : ℕ) (keys : Keys) (owns : Owns) (slots : Slots) → HasNoNumber n slots
+pub owns_kept : (n : ℕ) (keys : Keys) (owns : Owns) (slots : Slots) → HasNoNumber n slots
     → AreSlotsOf keys owns slots → AreSlotsOf (without_key n keys) owns slots
 owns_kept n keys [] [] free h = tt
 owns_kept n keys (None ∷ owns) (None ∷ slots) free h = (tt, owns_kept n keys owns slots free h.1)
@@ -155,7 +156,7 @@ owns_kept n keys (Some own ∷ owns) (Some client ∷ slots) free h = (
 )
 owns_kept n keys owns slots free h = search
 
-numbers_after : (client : Client) (slots : Slots) → AllByRecursion (IsApartFrom client) (clients slots) → HasNoNumber client.conn slots
+pub numbers_after : (client : Client) (slots : Slots) → AllByRecursion (IsApartFrom client) (clients slots) → HasNoNumber client.conn slots
 numbers_after client slots = all_weaker (IsApartFrom client) _ (λ other h. (or_parts (client.conn == other.conn) _ h).0) (clients slots)
 
 -- no more slots are taken than there are connections
@@ -177,23 +178,14 @@ all_around P [] client after h = (h.0, h.1)
 all_around P (None ∷ before) client after h = all_around P before client after h
 all_around P (Some other ∷ before) client after h = let more = all_around P before client after h.1 in (more.0, (h.0, more.1))
 
-numbers_around : (before : Slots) (client : Client) (after : Slots) → ClientsDiffer (before ++ Some client ∷ after)
-    → HasNoNumber client.conn (before ++ None ∷ after)
+-- the others are apart from it
+pub apart_around : (before : Slots) (client : Client) (after : Slots) → ClientsDiffer (before ++ Some client ∷ after)
+    → AllByRecursion (IsApartFrom client) (clients (before ++ None ∷ after))
 unfolding IsDistinct
-numbers_around [] client after h = numbers_after client after h.0
-numbers_around (None ∷ before) client after h = numbers_around before client after h
-numbers_around (Some other ∷ before) client after h =
-    let apart = apart_round other client (all_around (IsApartFrom other) before client after h.0).0 in
-    ((or_parts (client.conn == other.conn) _ apart).0, numbers_around before client after h.1)
-
--- the peer that has that slot is disconnected
-pub owns_without : (keys : Keys) (owns : Owns) (before : Slots) (client : Client)
-    (after : Slots) (i : ℕ)
-    → length before ≡ i → ClientsDiffer (before ++ Some client ∷ after) → AreSlotsOf keys owns (before ++ Some client ∷ after)
-    → AreSlotsOf (without_key client.conn keys) (slice_set owns i None) (before ++ None ∷ after)
-owns_without keys owns before client after i e differ h =
-    owns_kept client.conn keys (slice_set owns i None) (before ++ None ∷ after) (numbers_around before client after differ)
-    (owns_cleared keys owns before (Some client) after i e h)
+apart_around [] client after h = h.0
+apart_around (None ∷ before) client after h = apart_around before client after h
+apart_around (Some other ∷ before) client after h =
+    (apart_round other client (all_around (IsApartFrom other) before client after h.0).0, apart_around before client after h.1)
 
 pub differ_cleared : (before : Slots) (client : Client) (after : Slots) → ClientsDiffer (before ++ Some client ∷ after)
     → ClientsDiffer (before ++ None ∷ after)
@@ -295,18 +287,12 @@ module _ (buses : List Bus) (slot : Option Client) (after : Slots) (events : Lis
   unfolding IsDistinct
   none_next slots h e = by slot h
     where
-      apart : (slots : Slots) (client : Client) → ClientsDiffer (slots ++ Some client ∷ after)
-          → AllByRecursion (λ other. (other.peer == client.peer) ≡ false) (clients slots)
-      apart [] client h = tt
-      apart (None ∷ slots) client h = apart slots client h
-      apart (Some other ∷ slots) client h =
-          let one = (all_around (IsApartFrom other) slots client after h.0).0 in
-          ((or_parts (other.conn == client.conn) _ one).1, apart slots client h.1)
-
       by : (next : Option Client) → ClientsDiffer (slots ++ next ∷ after) → NoVisits calls (clients (next ∷ []))
       by None h = tt
-      by (Some client) h = (
-        no_visit calls client
-            (ap (filter (asks_of client.peer)) e ∙ none_asked buses client.peer events calls (clients slots) (apart slots client h)),
-        tt,
-      )
+      by (Some client) h =
+          let first = (all_parts (IsApartFrom client) (clients slots) _ (rw filter_map-append at (apart_around slots client after h))).0 in
+          let apart = all_weaker _ _ (λ other a. (or_parts (other.conn == client.conn) _ (apart_round client other a)).1) _ first in (
+            no_visit calls client
+                (ap (filter (asks_of client.peer)) e ∙ none_asked buses client.peer events calls (clients slots) apart),
+            tt,
+          )

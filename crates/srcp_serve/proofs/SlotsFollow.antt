@@ -7,9 +7,9 @@ use Rattle.srcp_serve.proofs.Names.{clients, Stand, is_about, is_close, kept, qu
 use Rattle.srcp_serve.proofs.Names.{HasVisited, VisitsSlot, VisitsSlots, FromEveryState, Owns, AreFreeFrom, MayFree, AreAboutPeers, Asks}
 use Rattle.srcp_serve.proofs.Names.{Call, Keys, Visits, Own, filter_every, filter_map-append, flat_map, ClientsDiffer}
 use Rattle.std.proofs.Math.ListN.{length-set}
-use Rattle.srcp_serve.proofs.SlotsAreTakenAndFreed.{differ_cleared, in_state_on, length-owns, owns_without, AreSlotsOf, own_here}
+use Rattle.srcp_serve.proofs.SlotsAreTakenAndFreed.{differ_cleared, in_state_on, length-owns, owns_kept, owns_cleared, AreSlotsOf, own_here}
 use Rattle.srcp_serve.proofs.SlotsAreTakenAndFreed.{about_asked, first_visits, none_before, none_next, same_asked, same_kept, same_made}
-use Rattle.srcp_serve.proofs.SlotsAreTakenAndFreed.{SameVisits, second_visits, visits_ask-append}
+use Rattle.srcp_serve.proofs.SlotsAreTakenAndFreed.{SameVisits, apart_around, numbers_after, second_visits, visits_ask-append}
 use Rattle.srcp_serve.proofs.CallsByTurnAndPeer.{visit_own}
 use Rattle.srcp_serve.proofs.CallsAreAdded.{makes_none, makes_then}
 use Rattle.srcp_serve.proofs.DoorIsCalled.{asks_none}
@@ -37,27 +37,6 @@ module _ (slot : ℕ) (d : Option Own) (own : Own) (old new : Held) (trace_old t
       → IsInState buses
       (record { events = events; connected = stand.connected; slots = before ++ (if not stays then None else Some client) ∷ after })
       (if not stays then without_key client.conn keys else keys) new owns_after) where
-    -- the peer of the slot was visited, and has the slot still or not
-    visited_here : (buses : List Bus) (stand : Stand) (keys : Keys) (trace : List DoorCall) (conn : ℕ) (before after : Slots)
-        → trace_new ≡ Some trace → length before ≡ slot → key_of conn keys ≡ Some own.key
-        → IsInState buses (record stand { slots = before ++ Some (record { peer = own.peer; conn = conn }) ∷ after }) keys old owns
-        → HasVisited buses stand trace_old trace new owns_after old before (Some (record { peer = own.peer; conn = conn }) ∷ []) after
-    visited_here buses stand keys trace conn before after is e named h =
-        let client : Client = record { peer = own.peer; conn = conn } in
-        let x = visits buses stand.events keys conn trace (record { layout = h.layout; named = named; stands = h.stands }) is in
-        let about = about_asked own.peer x.calls (rw x.asked (visit_own buses stand.events x.calls client)) in
-        let mine : visit x.calls client ≡ x.calls = filter_every (is_about own.peer) x.calls about in
-        let left : kept x.calls (Some client) ≡ (if not stays then None else Some client) =
-        ap (λ calls. if list_any is_close calls then None else Some client) mine ∙ ap (λ b. if b then None else Some client) x.stays_is in
-        let all = append-nil (visit_events x.calls client) in
-        record {
-          calls = x.calls;
-          keys = if not stays then without_key conn keys else keys;
-          made = rw all x.made;
-          asked = x.asked ∙ sym (append-nil _ ∙ ap (λ calls. visit_asks buses stand.events calls client) mine);
-          in_state = rw (all, left) (in_state_after buses stand _ keys before client after e h named x.stands);
-        }
-
     slot_visited : VisitsSlot old trace_old owns new trace_new owns_after slot
     slot_visited buses stand keys trace in_state is before None after e at =
         absurd (rw here at
@@ -65,11 +44,20 @@ module _ (slot : ℕ) (d : Option Own) (own : Own) (old new : Held) (trace_old t
     slot_visited buses stand keys trace in_state is before (Some client) after e at =
         let h = subst (λ (all : Slots). IsInState buses (record stand { slots = all }) keys old owns) at in_state in
         let own_is = rw here at (own_here keys owns before (Some client) after slot d e h.owns_are) in
-        let of : ℕ → Client = λ peer. record { peer = peer; conn = client.conn } in
-        let same : of own.peer ≡ client = ap of own_is.0 in
-        subst (λ (c : Client). HasVisited buses stand trace_old trace new owns_after old before (Some c ∷ []) after) same
-        (visited_here buses stand keys trace client.conn before after is e own_is.1
-        (subst (λ (c : Client). IsInState buses (record stand { slots = before ++ Some c ∷ after }) keys old owns) (sym same) h))
+        let x = rw own_is.0 at (visits buses stand.events keys client.conn trace
+        (record { layout = h.layout; named = own_is.1; stands = h.stands }) is) in
+        let about = about_asked client.peer x.calls (rw x.asked (visit_own buses stand.events x.calls client)) in
+        let mine : visit x.calls client ≡ x.calls = filter_every (is_about client.peer) x.calls about in
+        let left : kept x.calls (Some client) ≡ (if not stays then None else Some client) =
+        ap (λ calls. if list_any is_close calls then None else Some client) mine ∙ ap (λ b. if b then None else Some client) x.stays_is in
+        let all = append-nil (visit_events x.calls client) in
+        record {
+          calls = x.calls;
+          keys = if not stays then without_key client.conn keys else keys;
+          made = rw all x.made;
+          asked = x.asked ∙ sym (append-nil _ ∙ ap (λ calls. visit_asks buses stand.events calls client) mine);
+          in_state = rw (all, left) (in_state_after buses stand _ keys before client after e h own_is.1 x.stands);
+        }
 
   pub slot_stays : Visits own.peer own.key old trace_old new trace_new true → VisitsSlot old trace_old owns new trace_new owns slot
   slot_stays visits = slot_visited true owns visits (λ buses stand events keys before client after e h named stands.
@@ -80,7 +68,9 @@ module _ (slot : ℕ) (d : Option Own) (own : Own) (old new : Held) (trace_old t
   slot_goes visits = slot_visited false _ visits (λ buses stand events keys before client after e h named stands.
       record {
         layout = h.layout;
-        owns_are = owns_without keys owns before client after slot e h.differ h.owns_are;
+        owns_are = owns_kept client.conn keys (slice_set owns slot None) (before ++ None ∷ after)
+            (numbers_after client (before ++ None ∷ after) (apart_around before client after h.differ))
+            (owns_cleared keys owns before (Some client) after slot e h.owns_are);
         differ = differ_cleared before client after h.differ;
         long = length_without client.conn keys ∙ h.long;
         stands = stands;

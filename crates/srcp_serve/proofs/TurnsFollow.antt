@@ -16,7 +16,7 @@ use Rattle.srcp_serve.proofs.VisitsFollow.{closing_call}
 use Rattle.srcp_serve.proofs.CallsByTurnAndPeer.{accept_as, fold_keeps, same_peer}
 use Rattle.srcp_serve.proofs.SlotsAreTakenAndFreed.{AreOf, HasNone, NoVisits, SameVisits, same_asked, same_kept, same_made, second_visits}
 use Rattle.srcp_serve.proofs.CallsAreAdded.{adds_one, adds_then, asked_moment, given_then, makes_then, same_calls}
-use Rattle.srcp_serve.proofs.SentIsTakenAfterAllTurns.{peers_trace}
+use Rattle.srcp_serve.proofs.SentIsTakenAfterAllTurns.{differ_last, peers_trace}
 use Rattle.srcp_serve.specs.Calls as door
 
 -- calls about peers tell no moment and accept nobody
@@ -37,34 +37,22 @@ unfolding IsDistinct
 differ_prefix [] ys h = tt
 differ_prefix (x ∷ xs) ys h = ((all_parts (λ y. (x == y) ≡ false) xs ys h.0).0, differ_prefix xs ys h.1)
 
-differ_last : (xs : List ℕ) (y : ℕ) (ys : List ℕ) → IsDistinct (λ a b. a == b) (xs ++ y ∷ ys) → AllByRecursion (λ x. (x == y) ≡ false) xs
-unfolding IsDistinct
-differ_last [] y ys h = tt
-differ_last (x ∷ xs) y ys h = ((all_parts (λ z. (x == z) ≡ false) xs (y ∷ ys) h.0).1.0, differ_last xs y ys h.1)
-
 pub peers_prefix : (peers : List ℕ) (xs ys : List DoorCall) → PeersDiffer peers (xs ++ ys) → PeersDiffer peers xs
 peers_prefix peers xs ys h =
-    let first = filter_map peer_of xs in
-    let rest = filter_map peer_of ys in
-    differ_prefix _ rest
-    (rw (ap (λ ps. peers ++ ps) (filter_map-append peer_of xs ys) ∙ sym (append_assoc peers first rest)) at h)
-
-no_either : (x p r : ℕ) → (x == p) ≡ false → (x == r) ≡ true → (p == r) ≡ false
-no_either x p r a b = grind (arith, nat_tests)
+    differ_prefix _ (filter_map peer_of ys)
+    (rw (filter_map-append, ← append_assoc peers (filter_map peer_of xs) (filter_map peer_of ys)) at h)
 
 not_known : (peers : List ℕ) (p r : ℕ) → AllByRecursion (λ x. (x == p) ≡ false) peers → list_any (λ q. q == r) peers ≡ true
     → (p == r) ≡ false
 not_known [] p r h k = cc
-not_known (x ∷ peers) p r h k = ⊎_elim (no_either x p r h.0) (not_known peers p r h.1) (or_cases (x == r) _ k)
-
-fresh : (peers : List ℕ) (p : ℕ) (slots : Slots) → AllByRecursion (λ x. (x == p) ≡ false) peers → AreOf peers slots → HasNone p slots
-fresh peers p slots h = all_weaker _ _ (λ client known. not_known peers p client.peer h known) (clients slots)
+not_known (x ∷ peers) p r h k = ⊎_elim (λ e. let apart = h.0 in grind (arith, nat_tests)) (not_known peers p r h.1) (or_cases (x == r) _ k)
 
 -- a peer that the door accepts has no slot
 new_peer : (peers : List ℕ) (answer : Result (Option ℕ) DoorFault) (later : List DoorCall) (slots : Slots)
     → PeersDiffer peers (door.AcceptCall answer ∷ later) → AreOf peers slots → (peer : ℕ) → answer ≡ Ok (Some peer) → HasNone peer slots
 new_peer peers answer later slots differ known peer e =
-    fresh peers peer slots (differ_last peers peer (filter_map peer_of later) (rw e at differ)) known
+    let last = differ_last peers peer (filter_map peer_of later) (rw e at differ) in
+    all_weaker _ _ (λ client k. not_known peers peer client.peer last k) (clients slots) known
 
 known_more : (peers more : List ℕ) (slots : Slots) → AreOf peers slots → AreOf (peers ++ more) slots
 known_more peers more slots = all_weaker (λ client. list_any (λ peer. peer == client.peer) peers ≡ true) _
@@ -85,20 +73,15 @@ closed_seen peer answer =
     all_weaker _ _ (λ client apart. filter_no_one (is_about client.peer) (CloseCall peer answer ∷ []) (apart, tt))
 
 module _ (buses : List Bus) where
-  known_accept : (peers : List ℕ) (stand : Stand) (accept : Accepted) → AreOf peers stand.slots
-      → AreOf (peers ++ accept.peer ∷ []) (with_accept buses stand accept).slots
-  known_accept peers stand accept h =
-      let more = known_more peers (accept.peer ∷ []) stand.slots h in
-      accept_as buses (λ (s : Stand). AreOf (peers ++ accept.peer ∷ []) s.slots) stand accept
-      (connected_all _ (record { peer = accept.peer; conn = length stand.connected + 1 }) stand.slots (known_last peers accept.peer) more)
-      more
-
   known_accepts : (accepts : List Accepted) (peers : List ℕ) (stand : Stand) → AreOf peers stand.slots
       → AreOf (peers ++ map (λ accept. accept.peer) accepts) (fold (with_accept buses) stand accepts).slots
   known_accepts [] peers stand h = known_more peers [] stand.slots h
   known_accepts (accept ∷ accepts) peers stand h =
-      rw append_assoc at
-      (known_accepts accepts (peers ++ accept.peer ∷ []) (with_accept buses stand accept) (known_accept peers stand accept h))
+      let more = known_more peers (accept.peer ∷ []) stand.slots h in
+      let client : Client = record { peer = accept.peer; conn = length stand.connected + 1 } in
+      rw append_assoc at (known_accepts accepts (peers ++ accept.peer ∷ []) (with_accept buses stand accept)
+      (accept_as buses (λ (s : Stand). AreOf (peers ++ accept.peer ∷ []) s.slots) stand accept
+      (connected_all _ client stand.slots (known_last peers accept.peer) more) more))
 
   known_moments : (moments : List ℕ) (peers : List ℕ) (stand : Stand) → AreOf peers stand.slots
       → AreOf peers (fold (with_moment buses) stand moments).slots
@@ -108,8 +91,8 @@ module _ (buses : List Bus) where
   pub known_turned : (peers : List ℕ) (stand : Stand) (calls : List Call) → AreOf peers stand.slots
       → AreOf (peers ++ filter_map peer_of (map door_call calls)) (turned buses stand calls).slots
   known_turned peers stand calls h =
-      let timed_known = known_moments (filter_map moment_of calls) peers stand h in
-      let begun_known = known_accepts (filter_map accept_of calls) peers (timed buses stand calls) timed_known in
+      let begun_known = known_accepts (filter_map accept_of calls) peers (timed buses stand calls)
+      (known_moments (filter_map moment_of calls) peers stand h) in
       kept_all _ calls (begun buses stand calls).slots (rw peers_trace begun_known)
 
   -- the calls that follow an accept are about no peer that has a slot then
@@ -169,24 +152,13 @@ pub accepts_peer : (peer : ℕ) (opens : Bool) (old new : Held) (trace_old trace
     → Connects old trace_mid owns new trace_new owns_new peer opens → AcceptsOne old trace_old owns new trace_new owns_new opens
 accepts_peer peer opens old new trace_old trace_mid trace_new owns owns_new h asks own_is buses stand keys trace in_state is peers calls
     adds differ known =
-    let call = door.AcceptCall (Ok (Some peer)) in
     let later = asks trace is in
-    let first = adds_one call trace_old trace_mid later.1.before h later.1.was in
+    let first = adds_one _ trace_old trace_mid later.1.before h later.1.was in
     let apart = rw (same_calls adds (adds_then later.1.was first later.1)) at differ in
-    let x = own_is buses stand keys trace in_state is (new_peer peers (Ok (Some peer)) later.0 stand.slots apart known peer refl) in (
-      Ok (Some peer),
-      x.0,
-      record {
-        early = x.1.early;
-        keys = x.1.keys;
-        adds = given_then (AcceptCall (Ok (Some peer)) x.0 ∷ []) x.1.early later.1.was first x.1.adds;
-        counted = x.1.counted;
-        asked_for = x.1.asked_for;
-        asked = x.1.asked;
-        in_state = x.1.in_state;
-        opened = x.1.opened;
-      },
-    )
+    let x = own_is buses stand keys trace in_state is (new_peer peers (Ok (Some peer)) later.0 stand.slots apart known peer refl) in
+    let settled = x.1 in
+    let all = given_then (AcceptCall (Ok (Some peer)) x.0 ∷ []) settled.early later.1.was first settled.adds in
+    (Ok (Some peer), x.0, search)
 
 -- ---- the calls of a turn
 
@@ -268,9 +240,8 @@ makes_turn opens old mid between new trace_old trace_mid trace_between trace_new
     let first_stand = timed buses stand (NowCall t.answer ∷ []) in
     let in_state_then = in_state_timed buses t.answer stand keys old mid owns_old in_state t.stands in
     let in_calls = one.0 in
-    let prefix = door.ExpectCall t.due t.slack ∷ door.NowCall t.answer ∷ in_calls in
     let whole = same_calls adds (adds_then w.was (adds_then v.was t.adds v) w) in
-    let differ_in = peers_prefix peers prefix later.0 (rw whole at differ) in
+    let differ_in = peers_prefix peers (door.ExpectCall t.due t.slack ∷ door.NowCall t.answer ∷ in_calls) later.0 (rw whole at differ) in
     let known_first = known_moments buses (filter_map moment_of (NowCall t.answer ∷ [])) peers stand known in
     let b = accepts_one buses first_stand keys w.before in_state_then w.was peers in_calls v differ_in known_first in
     let second_stand = fold (with_accept buses) first_stand (filter_map accept_of (AcceptCall b.0 b.1 ∷ [])) in

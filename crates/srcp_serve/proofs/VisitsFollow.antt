@@ -1,10 +1,10 @@
 -- A visit: one read, the writes, and how it ends.
-use Rattle.srcp_serve.proofs.Names.{◌⊎◌, ⊎_elim, ◌≡◌, ◌∙◌, ℕ, ◌+◌, Bool, true, false, cond, not, List, [], ◌∷◌, ◌++◌, map, take, Some, refl}
+use Rattle.srcp_serve.proofs.Names.{◌⊎◌, ⊎_elim, ◌≡◌, ◌∙◌, ℕ, ◌+◌, Bool, true, false, cond, not, List, [], ◌∷◌, ◌++◌, map, take, refl}
 use Rattle.srcp_serve.proofs.Names.{ap, sym, arith, append_assoc, append-nil, Result, map-append, filter_map-append, list_any-append}
 use Rattle.srcp_serve.proofs.Names.{sum_by-append, list_any, filter_map, count_by, AllByRecursion, ◌||◌, if◌then◌else◌, all_append}
-use Rattle.srcp_serve.proofs.Names.{filter_every, Bus, course, Held, is_last, hung_up, finish_at, without_key, StandsFor, Event, Bytes}
+use Rattle.srcp_serve.proofs.Names.{filter_every, Bus, course, Held, is_last, hung_up, finish_at, StandsFor, Event, Bytes}
 use Rattle.srcp_serve.proofs.Names.{Room, Shut, calls_agree, calls_lead, DoorCall, Trace, Call, ReadCall, WriteCall, CloseCall, answers_of}
-use Rattle.srcp_serve.proofs.Names.{Client, Reads, Writes, ClosesQuestion, question, visit, visit_asks, exchange, rooms, handed, is_closing}
+use Rattle.srcp_serve.proofs.Names.{Client, Reads, Writes, ClosesQuestion, question, visit, exchange, rooms, handed, is_closing}
 use Rattle.srcp_serve.proofs.Names.{reads_of, writes_of, closes_of, visit_events, is_about, is_close, is_write, is_ready, loses}
 use Rattle.srcp_serve.proofs.Names.{loses_reading, falls_short, piece_of, count_of, AreAboutPeers, Asks, FromEveryCourse, HasActed, Makes}
 use Rattle.srcp_serve.proofs.Names.{Disconnects, ReadsIn, Visits, WritesOut, Keys, DoorFault, or-false, inl, inr, or_left, or_right}
@@ -67,30 +67,13 @@ any_second p xs ys e = simp (list_any-append, e)
 any_first : (p : Call → Bool) (xs ys : List Call) → list_any p ys ≡ false → list_any p (xs ++ ys) ≡ list_any p xs
 any_first p xs ys e = simp (list_any-append, e, or-false)
 
-same_rooms : (xs ys : List Call) → filter_map count_of xs ≡ filter_map count_of ys → list_any loses xs ≡ list_any loses ys
-    → list_any falls_short xs ≡ list_any falls_short ys → count_by is_write xs ≡ count_by is_write ys → rooms xs ≡ rooms ys
-same_rooms xs ys c l s k = cc
-
 module _ (buses : List Bus) (events : List Event) (keys : Keys) (n peer : ℕ)
     (old : Trace) (trace : List DoorCall) (new core_old : Held) where
-  -- what each function of a visit did
-  abbrev pub IsReadFrom : Bool → Type 0
-  IsReadFrom = HasActed buses events core_old old new trace (λ calls. reads_of buses events (record { peer = peer; conn = n }))
-      (λ calls. map (Bytes n) (filter_map piece_of calls)) loses_reading keys
-
+  -- the peer was written to
   abbrev pub IsWrittenTo : Bool → Type 0
   IsWrittenTo = HasActed buses events core_old old new trace
       (λ calls. map (Writes peer) (take 300 (handed buses n events (filter_map count_of calls)))) (λ calls. map (Room n) (rooms calls))
       loses keys
-
-  abbrev pub IsDisconnected : Type 0
-  IsDisconnected =
-      HasActed buses events core_old old new trace (λ calls. ClosesQuestion peer ∷ []) (λ calls. Shut n ∷ []) is_close (without_key n keys)
-      false
-
-  abbrev pub IsVisited : Bool → Type 0
-  IsVisited stays = HasActed buses events core_old old new trace (λ calls. visit_asks buses events calls (record { peer = peer; conn = n }))
-      (λ calls. visit_events calls (record { peer = peer; conn = n })) is_close (if not stays then without_key n keys else keys) stays
 
   -- the peer was read and then written to
   pub record IsExchanged (stays : Bool) : Type 0 where
@@ -109,27 +92,20 @@ abbrev pub Exchanges : (peer key : ℕ) (old : Held) (trace_old : Trace) (new : 
 Exchanges peer key old trace_old new trace_new stays = FromEveryCourse peer key old trace_old new trace_new
     (λ buses events keys n trace. IsExchanged buses events keys n peer trace_old trace new old stays)
 
-module _ (buses : List Bus) (events : List Event) (keys : Keys) (n peer : ℕ) (core_old : Held) where
-  abbrev client : Client
-  client = record { peer = peer; conn = n }
+-- ---- the functions
 
-  same_writes : (xs ys : List Call) → list_any loses_reading xs ≡ list_any loses_reading ys
-      → filter_map piece_of xs ≡ filter_map piece_of ys → filter_map count_of xs ≡ filter_map count_of ys
-      → writes_of buses events xs client ≡ writes_of buses events ys client
-  same_writes xs ys l p c = cc
+module _ (peer key : ℕ) (old mid : Held) (trace_old trace_mid : Trace) where
+  -- the peer is lost, or its connection is to be closed
+  abbrev pub Ends : Type 0
+  Ends = Exchanges peer key old trace_old mid trace_mid false
+      ⊎ (Exchanges peer key old trace_old mid trace_mid true × (is_last (finish_at key mid) ≡ true))
 
-  same_exchange : (xs ys : List Call) → filter_map piece_of xs ≡ filter_map piece_of ys → rooms xs ≡ rooms ys
-      → exchange n xs ≡ exchange n ys
-  same_exchange xs ys p r = cc
-
-  -- the peer was lost in reading
-  pub exchanged_lost : (old : Trace) (trace : List DoorCall) (new : Held)
-      → IsReadFrom buses events keys n peer old trace new core_old false → IsExchanged buses events keys n peer old trace new core_old false
-  exchanged_lost old trace new r =
+  pub exchanges_lost : ReadsIn peer key old trace_old mid trace_mid false → Exchanges peer key old trace_old mid trace_mid false
+  exchanges_lost reads buses events keys n trace s is =
+      let client : Client = record { peer = peer; conn = n } in
+      let r = reads buses events keys n trace s is in
       let calls = r.calls in
       let rd = are_reads peer (is_ready buses n events) calls r.asked in
-      let lost = rd.losing ∙ r.stays_is in
-      let no_rooms : rooms calls ≡ [] = cc (rd.counts) in
       let same : exchange n calls ≡ map (Bytes n) (filter_map piece_of calls) =
       cc (append-nil (map (Bytes n) (filter_map piece_of calls))) in
       record {
@@ -138,47 +114,17 @@ module _ (buses : List Bus) (events : List Event) (keys : Keys) (n peer : ℕ) (
         own = rd.about;
         quiet = rd.quiet;
         asked = rw r.stays_is (r.asked ∙ sym (append-nil (reads_of buses events client)));
-        loses_is = lost;
+        loses_is = rd.losing ∙ r.stays_is;
         stands = rw same r.stands;
       }
 
-  -- it was written to after the read
-  pub exchanged : (old trace_mid : Trace) (mid trace : List DoorCall) (between new : Held) (stays : Bool)
-      → trace_mid ≡ Some mid → (r : IsReadFrom buses events keys n peer old mid between core_old true)
-      → IsWrittenTo buses (events ++ map (Bytes n) (filter_map piece_of r.calls)) keys n peer trace_mid trace new between stays
-      → IsExchanged buses events keys n peer old trace new core_old stays
-  exchanged old trace_mid mid trace between new stays is r w =
-      let reads = r.calls in
-      let rd = are_reads peer (is_ready buses n events) reads r.asked in
-      let wr = are_writes peer _ w.calls w.asked in
-      let calls = reads ++ w.calls in
-      let pieces : filter_map piece_of calls ≡ filter_map piece_of reads = simp (filter_map-append, wr.pieces, append-nil) in
-      let counts : filter_map count_of calls ≡ filter_map count_of w.calls = simp (filter_map-append, rd.counts) in
-      let reading = any_second loses_reading reads w.calls r.stays_is ∙ wr.reading in
-      let losing = any_second loses reads w.calls (rd.losing ∙ r.stays_is) in
-      let short = any_second falls_short reads w.calls rd.short in
-      let many : count_by is_write calls ≡ count_by is_write w.calls = omega (arith, count_append reads w.calls, rd.many) in
-      let rooms_same = same_rooms calls w.calls counts losing short many in
-      let read = map (Bytes n) (filter_map piece_of reads) in
-      let more : exchange n calls ≡ read ++ map (Room n) (rooms w.calls) = cc in
-      let all : (events ++ read) ++ map (Room n) (rooms w.calls) ≡ events ++ exchange n calls = rw (more, append_assoc) in
-      let asks : writes_of buses events calls client
-      ≡ map (Writes peer) (take 300 (handed buses n (events ++ read) (filter_map count_of w.calls))) = cc in
-      record {
-        calls = calls;
-        made = rw all at (makes_then is r.made w.made);
-        own = all_append _ reads w.calls rd.about wr.about;
-        quiet = any_second is_close reads w.calls rd.quiet ∙ wr.quiet;
-        asked = rw (map-append, r.asked, w.asked, ← asks);
-        loses_is = losing ∙ w.stays_is;
-        stands = rw all at w.stands;
-      }
-
-  -- it keeps its slot
-  pub visited_stays : (old : Trace) (trace : List DoorCall) (new : Held)
-      → (x : IsExchanged buses events keys n peer old trace new core_old true) → is_closing buses n (events ++ exchange n x.calls) ≡ false
-      → IsVisited buses events keys n peer old trace new core_old true
-  visited_stays old trace new x open_still =
+  pub visit_stays : (closing : Bool) → Exchanges peer key old trace_old mid trace_mid true → closing ≡ is_last (finish_at key mid)
+      → closing ≡ false → Visits peer key old trace_old mid trace_mid true
+  visit_stays closing exchanges says open_still buses events keys n trace s is =
+      let x = exchanges buses events keys n trace s is in
+      let client : Client = record { peer = peer; conn = n } in
+      let closes = calls_agree.closes key mid buses (events ++ exchange n x.calls) keys n s.layout s.named x.stands in
+      let over : is_closing buses n (events ++ exchange n x.calls) ≡ false = sym (says ∙ closes) ∙ open_still in
       let mine : visit x.calls client ≡ x.calls = filter_every (is_about peer) x.calls x.own in
       let more : visit_events x.calls client ≡ exchange n x.calls = cc (append-nil (exchange n x.calls)) in
       let none : closes_of buses events x.calls client ≡ [] = cc in
@@ -190,59 +136,6 @@ module _ (buses : List Bus) (events : List Event) (keys : Keys) (n peer : ℕ) (
         stands = rw more x.stands;
       }
 
-  -- it is disconnected
-  pub visited_goes : (old trace_mid : Trace) (mid trace : List DoorCall) (between new : Held) (value : Bool)
-      → trace_mid ≡ Some mid → (x : IsExchanged buses events keys n peer old mid between core_old value)
-      → list_any loses x.calls || is_closing buses n (events ++ exchange n x.calls) ≡ true
-      → IsDisconnected buses (events ++ exchange n x.calls) keys n peer trace_mid trace new between
-      → IsVisited buses events keys n peer old trace new core_old false
-  visited_goes old trace_mid mid trace between new value is x ends g =
-      let c = closing_call peer g.calls g.asked in
-      let last : Call = CloseCall peer c.0 in
-      let calls : List Call = x.calls ++ last ∷ [] in
-      let pieces : filter_map piece_of calls ≡ filter_map piece_of x.calls = filter_map-append _ x.calls _ ∙ append-nil _ in
-      let counts : filter_map count_of calls ≡ filter_map count_of x.calls = filter_map-append _ x.calls _ ∙ append-nil _ in
-      let reading : list_any loses_reading calls ≡ list_any loses_reading x.calls = any_first _ x.calls _ refl in
-      let losing : list_any loses calls ≡ list_any loses x.calls = any_first loses x.calls _ refl in
-      let short : list_any falls_short calls ≡ list_any falls_short x.calls = any_first _ x.calls _ refl in
-      let many : count_by is_write calls ≡ count_by is_write x.calls = omega (arith, count_append x.calls (last ∷ [])) in
-      let swap : exchange n calls ≡ exchange n x.calls =
-      same_exchange calls x.calls pieces (same_rooms calls x.calls counts losing short many) in
-      let writes : writes_of buses events calls client ≡ writes_of buses events x.calls client =
-      same_writes calls x.calls reading pieces counts in
-      let own : AreAbout peer calls = all_append _ x.calls _ x.own (same_peer peer, tt) in
-      let closing : list_any is_close calls ≡ true = any_second _ x.calls _ x.quiet in
-      let mine : visit calls client ≡ calls = filter_every _ calls own in
-      let more : visit_events calls client ≡ exchange n x.calls ++ Shut n ∷ [] = cc in
-      let all : (events ++ exchange n x.calls) ++ Shut n ∷ [] ≡ events ++ visit_events calls client = rw (more, append_assoc) in
-      let asks : closes_of buses events calls client ≡ ClosesQuestion peer ∷ [] = rw (swap, losing, ends) in
-      record {
-        calls = calls;
-        made = rw all at (makes_then is x.made (rw c.1 at g.made));
-        asked = rw (map-append, x.asked, writes, asks);
-        stays_is = closing;
-        stands = rw all at g.stands;
-      }
-
--- ---- the functions
-
-module _ (peer key : ℕ) (old mid : Held) (trace_old trace_mid : Trace) where
-  -- the peer is lost, or its connection is to be closed
-  abbrev pub Ends : Type 0
-  Ends = Exchanges peer key old trace_old mid trace_mid false
-      ⊎ (Exchanges peer key old trace_old mid trace_mid true × (is_last (finish_at key mid) ≡ true))
-
-  pub exchanges_lost : ReadsIn peer key old trace_old mid trace_mid false → Exchanges peer key old trace_old mid trace_mid false
-  exchanges_lost reads buses events keys n trace s is =
-      exchanged_lost buses events keys n peer old _ trace mid (reads buses events keys n trace s is)
-
-  pub visit_stays : (closing : Bool) → Exchanges peer key old trace_old mid trace_mid true → closing ≡ is_last (finish_at key mid)
-      → closing ≡ false → Visits peer key old trace_old mid trace_mid true
-  visit_stays closing exchanges says open_still buses events keys n trace s is =
-      let x = exchanges buses events keys n trace s is in
-      visited_stays buses events keys n peer old _ trace mid x
-      (sym (says ∙ calls_agree.closes key mid buses (events ++ exchange n x.calls) keys n s.layout s.named x.stands) ∙ open_still)
-
   module _ (new : Held) (trace_new : Trace) (asks : Asks AreAboutPeers trace_mid trace_new) where
     pub exchanges_on : (stays : Bool) → ReadsIn peer key old trace_old mid trace_mid true
         → WritesOut peer key mid trace_mid new trace_new stays
@@ -250,9 +143,33 @@ module _ (peer key : ℕ) (old mid : Held) (trace_old trace_mid : Trace) where
     exchanges_on stays reads writes buses events keys n trace s is =
         let w = (asks trace is).1 in
         let r = reads buses events keys n w.before s w.was in
-        exchanged buses events keys n peer old trace_old trace_mid w.before trace mid new stays w.was r
-        (writes buses (events ++ map (Bytes n) (filter_map piece_of r.calls)) keys n trace
-        (record { layout = s.layout; named = s.named; stands = r.stands }) is)
+        let client : Client = record { peer = peer; conn = n } in
+        let p = writes buses (events ++ map (Bytes n) (filter_map piece_of r.calls)) keys n trace
+        (record { layout = s.layout; named = s.named; stands = r.stands }) is in
+        let reads = r.calls in
+        let rd = are_reads peer (is_ready buses n events) reads r.asked in
+        let wr = are_writes peer _ p.calls p.asked in
+        let calls = reads ++ p.calls in
+        let pieces : filter_map piece_of calls ≡ filter_map piece_of reads = simp (filter_map-append, wr.pieces, append-nil) in
+        let counts : filter_map count_of calls ≡ filter_map count_of p.calls = simp (filter_map-append, rd.counts) in
+        let reading = any_second loses_reading reads p.calls r.stays_is ∙ wr.reading in
+        let losing = any_second loses reads p.calls (rd.losing ∙ r.stays_is) in
+        let short = any_second falls_short reads p.calls rd.short in
+        let many : count_by is_write calls ≡ count_by is_write p.calls = omega (arith, count_append reads p.calls, rd.many) in
+        let read = map (Bytes n) (filter_map piece_of reads) in
+        let more : exchange n calls ≡ read ++ map (Room n) (rooms p.calls) = cc in
+        let all : (events ++ read) ++ map (Room n) (rooms p.calls) ≡ events ++ exchange n calls = rw (more, append_assoc) in
+        let asks : writes_of buses events calls client
+        ≡ map (Writes peer) (take 300 (handed buses n (events ++ read) (filter_map count_of p.calls))) = cc in
+        record {
+          calls = calls;
+          made = rw all at (makes_then w.was r.made p.made);
+          own = all_append _ reads p.calls rd.about wr.about;
+          quiet = any_second is_close reads p.calls rd.quiet ∙ wr.quiet;
+          asked = rw (map-append, r.asked, p.asked, ← asks);
+          loses_is = losing ∙ p.stays_is;
+          stands = rw all at p.stands;
+        }
 
     module _ (goes : Disconnects peer key mid trace_mid new trace_new) where
       visit_goes : (stays : Bool) → (stays ≡ false) ⊎ (is_last (finish_at key mid) ≡ true)
@@ -265,8 +182,32 @@ module _ (peer key : ℕ) (old mid : Held) (trace_old trace_mid : Trace) where
           let over : list_any loses x.calls || is_closing buses n now ≡ true =
           ⊎_elim (λ e. or_left (list_any loses x.calls) (is_closing buses n now) (x.loses_is ∙ ap not e))
           (λ e. or_right (list_any loses x.calls) (is_closing buses n now) (sym closes ∙ e)) ends in
-          visited_goes buses events keys n peer old trace_old trace_mid w.before trace mid new stays w.was x over
-          (goes buses now keys n trace (record { layout = s.layout; named = s.named; stands = x.stands }) is)
+          let client : Client = record { peer = peer; conn = n } in
+          let g = goes buses now keys n trace (record { layout = s.layout; named = s.named; stands = x.stands }) is in
+          let c = closing_call peer g.calls g.asked in
+          let last : Call = CloseCall peer c.0 in
+          let calls : List Call = x.calls ++ last ∷ [] in
+          let pieces : filter_map piece_of calls ≡ filter_map piece_of x.calls = filter_map-append _ x.calls _ ∙ append-nil _ in
+          let counts : filter_map count_of calls ≡ filter_map count_of x.calls = filter_map-append _ x.calls _ ∙ append-nil _ in
+          let reading : list_any loses_reading calls ≡ list_any loses_reading x.calls = any_first _ x.calls _ refl in
+          let losing : list_any loses calls ≡ list_any loses x.calls = any_first loses x.calls _ refl in
+          let short : list_any falls_short calls ≡ list_any falls_short x.calls = any_first _ x.calls _ refl in
+          let many : count_by is_write calls ≡ count_by is_write x.calls = omega (arith, count_append x.calls (last ∷ [])) in
+          let swap : exchange n calls ≡ exchange n x.calls = cc in
+          let writes : writes_of buses events calls client ≡ writes_of buses events x.calls client = cc in
+          let own : AreAbout peer calls = all_append _ x.calls _ x.own (same_peer peer, tt) in
+          let closing : list_any is_close calls ≡ true = any_second _ x.calls _ x.quiet in
+          let mine : visit calls client ≡ calls = filter_every _ calls own in
+          let more : visit_events calls client ≡ exchange n x.calls ++ Shut n ∷ [] = cc in
+          let all : (events ++ exchange n x.calls) ++ Shut n ∷ [] ≡ events ++ visit_events calls client = rw (more, append_assoc) in
+          let asks : closes_of buses events calls client ≡ ClosesQuestion peer ∷ [] = rw (swap, losing, over) in
+          record {
+            calls = calls;
+            made = rw all at (makes_then w.was x.made (rw c.1 at g.made));
+            asked = rw (map-append, x.asked, writes, asks);
+            stays_is = closing;
+            stands = rw all at g.stands;
+          }
 
       -- the visit ends so
       pub visit_ends : Ends → Visits peer key old trace_old new trace_new false

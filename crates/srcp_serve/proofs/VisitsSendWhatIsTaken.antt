@@ -115,9 +115,8 @@ module _ (buses : List Bus) (peer conn : ℕ) where
   sending_writes (WriteCall who bytes (Ok count) ∷ calls) fair most events texts e a =
       let now = lent buses conn events in
       let f = first_of_writes peer who most bytes now _ _ e in
-      let fits = rw f.bytes_are at fair.0 in
       rw (taken_here who count bytes now f.peer_is f.bytes_are)
-      (then_sends calls (sending_writes calls fair.1) f.left count events texts fits f.others a)
+      (then_sends calls (sending_writes calls fair.1) f.left count events texts (rw f.bytes_are at fair.0) f.others a)
   sending_writes (WriteCall who bytes (Err failed) ∷ calls) fair most events texts e a =
       let f = first_of_writes peer who most bytes (lent buses conn events) _ _ e in
       then_sends calls (sending_writes calls fair.1) f.left 0 events texts (omega arith) f.others a

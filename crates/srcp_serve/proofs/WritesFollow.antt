@@ -5,7 +5,7 @@ use Rattle.srcp_serve.proofs.Names.{length-append, nat_tests, Event, Room, Bus, 
 use Rattle.srcp_serve.proofs.Names.{is_write, loses, falls_short, rooms, take-append_seam, map-append, sum_by-cons, list_any, filter_map}
 use Rattle.srcp_serve.proofs.Names.{count_by, ◌||◌, ◌&&◌, nat_lt, course, Held, StandsFor, DoorCall, Trace, Call, WriteCall, AreAboutPeers}
 use Rattle.srcp_serve.proofs.Names.{Asks, AddsGiven, FromEveryCourse, HasWritten, Keys, WritesOnce, WritesOut, All, Less, Failed, take_all}
-use Rattle.srcp_serve.proofs.Names.{Wrote}
+use Rattle.srcp_serve.proofs.Names.{Makes, Wrote}
 use Rattle.srcp_serve.proofs.CallsAreAdded.{adds_none, asked_rooms, given_then}
 use Rattle.srcp_serve.proofs.VisitsFollow.{are_writes, IsWrittenTo}
 
@@ -33,9 +33,8 @@ module _ (buses : List Bus) (conn : ℕ) where
   handed-append events (count ∷ counts) more h =
       let now = lent buses conn events in
       let whole : (count == length now) ≡ true = let full = h.0 in grind (arith, nat_tests) in
-      let some = rw h.0 at h.1 in
       let later = handed-append (events ++ Room conn count ∷ []) counts more h.2 in
-      cc (unless_some now _ some, append_assoc events (Room conn count ∷ []) (map (Room conn) counts))
+      cc (unless_some now _ (rw h.0 at h.1), append_assoc events (Room conn count ∷ []) (map (Room conn) counts))
 
   -- one write more that took all
   pub full-more : (events : List Event) (counts : List ℕ) (count : ℕ) → AreFull events counts
@@ -108,16 +107,6 @@ module _ (buses : List Bus) (peer conn : ℕ) where
         many = omega (arith, sum_by-cons (λ x. cond (is_write x) 1 0) (WriteCall peer (lent buses conn events) (Ok count)) more, w.many);
       }
 
-  -- what was handed over before the last write, and by it
-  handed_then : (events : List Event) (counts last : List ℕ) (end : List (List ℕ)) → AreFull buses conn events counts
-      → handed buses conn (after events counts) last ≡ end → length counts + length end ≤ 300
-      → take 300 (handed buses conn events (counts ++ last)) ≡ texts buses conn events counts ++ end
-  handed_then events counts last end full e few =
-      let all : handed buses conn events (counts ++ last) ≡ texts buses conn events counts ++ end = simp (handed-append, e) in
-      let size : length (texts buses conn events counts ++ end) ≤ 300 =
-      omega (arith, length-append (texts buses conn events counts) end, length-texts events counts, few) in
-      cc (take_all 300 (texts buses conn events counts ++ end) size)
-
   -- the rooms of the writes
   rooms_are : (events : List Event) (counts : List ℕ) (last : List Call) (lost short : Bool) → AreFull buses conn events counts
       → list_any loses last ≡ lost → list_any falls_short last ≡ short
@@ -146,17 +135,13 @@ module _ (buses : List Bus) (peer conn : ℕ) where
         → map question calls ≡ map (Writes peer) (take 300 (handed buses conn events (filter_map count_of calls)))
         → list_any loses calls ≡ not stays
         → StandsFor buses keys new (course buses (events ++ map (Room conn) (rooms calls))) → Writes_out events trace new stays
-    writes_out events trace new stays calls adds asked stays_is stands before same = record {
-      calls = calls;
-      made = record {
-        adds = adds;
-        counted = rw (are_writes peer _ calls asked).answers same;
-        asked_for = asked_rooms buses conn (rooms calls) events before new same;
-      };
-      asked = asked;
-      stays_is = stays_is;
-      stands = stands;
-    }
+    writes_out events trace new stays calls adds asked stays_is stands before same =
+        let made : Makes buses events (events ++ map (Room conn) (rooms calls)) calls old trace before new = record {
+          adds = adds;
+          counted = rw (are_writes peer _ calls asked).answers same;
+          asked_for = asked_rooms buses conn (rooms calls) events before new same;
+        } in
+        search
 
     -- the last write, or none
     ended_by : (events : List Event) (trace : List DoorCall) (new : Held) (counts : List ℕ) (last : List Call) (end : List (List ℕ))
@@ -168,12 +153,17 @@ module _ (buses : List Bus) (peer conn : ℕ) where
         → StandsFor buses keys new (course buses (after events counts ++ map (Room conn) room)) → Writes_out events trace new stays
     ended_by events trace new counts last end room stays full adds hands asks few lost are stands =
         let w = are_written events counts last full in
+        let all : handed buses conn events (counts ++ filter_map count_of last) ≡ texts buses conn events counts ++ end =
+        simp (handed-append, hands) in
+        let size : length (texts buses conn events counts ++ end) ≤ 300 =
+        omega (arith, length-append (texts buses conn events counts) end, length-texts events counts, few) in
         let asked : map question (written events counts last)
         ≡ map (Writes peer) (take 300 (handed buses conn events (filter_map count_of (written events counts last)))) =
         cc (
           w.asked,
           map-append (Writes peer) (texts buses conn events counts) end,
-          handed_then events counts (filter_map count_of last) end full hands few,
+          all,
+          take_all 300 (texts buses conn events counts ++ end) size,
           w.counted,
         ) in
         writes_out events trace new stays (written events counts last) adds asked (w.losing ∙ lost)
@@ -197,18 +187,16 @@ module _ (buses : List Bus) (peer conn : ℕ) where
         unless_some bytes _ some
         ∙ ap (λ t. bytes ∷ (if t then handed buses conn (after events counts ++ Room conn count ∷ []) [] else [])) differs in
         let size : length counts + 1 ≤ 300 = omega arith in
+        let stops : (more : Bool) → not (not stays) && (not short && more) ≡ false = λ more. grind arith in
         let are : rooms (written events counts (call ∷ [])) ≡ counts ++ count ∷ [] =
         cc (
           rooms_are events counts (call ∷ []) (not stays) short full stays_is short_is,
-          stops (not stays) short (nat_lt (length counts + count_by is_write (call ∷ [])) 300) ends,
+          stops (nat_lt (length counts + count_by is_write (call ∷ [])) 300),
           append-nil (counts ++ filter_map count_of (call ∷ [])),
           counted,
         ) in
         ended_by events trace new counts (call ∷ []) (bytes ∷ []) (count ∷ []) stays full adds
         (ap (handed buses conn (after events counts)) counted ∙ hands) (ap (λ q. q ∷ []) asks) size stays_is are stands
-      where
-        stops : (lost short few : Bool) → not lost && not short ≡ false → not lost && (not short && few) ≡ false
-        stops lost short few e = grind arith
 
     -- more calls after these writes
     adds_last : (events : List Event) (counts : List ℕ) (mid trace : List DoorCall) (calls : List Call) (trace_mid : Trace)

@@ -3,11 +3,11 @@ use Rattle.srcp_serve.proofs.Names.{◌≡◌, ◌∙◌, ℕ, zero, suc, true, 
 use Rattle.srcp_serve.proofs.Names.{subst, arith, append-nil, append_assoc, ◌==◌, ◌+◌, ◌*◌, ◌≤◌, length, ◌⊎◌, inl, inr, length-append}
 use Rattle.srcp_serve.proofs.Names.{filter_map, flat_map, fold, slice_get, list_any, AllByRecursion, all_append, all_filter, Bus, Event}
 use Rattle.srcp_serve.proofs.Names.{Bytes, Room, Shut, Call, OfEachVisit, Client, Stand, begun, exchange, is_close, moment_of, accept_of}
-use Rattle.srcp_serve.proofs.Names.{piece_of, rooms, with_client, clients, timed, visit, visit_events, with_accept, with_moment, Slots}
+use Rattle.srcp_serve.proofs.Names.{piece_of, rooms, with_client, clients, visit, visit_events, with_accept, with_moment, Slots}
 use Rattle.srcp_serve.proofs.Names.{IsFair, OfEachTurn, question, turned, visit_asks, is_about, empty_stand, flat_map-append, slice_get-map}
-use Rattle.srcp_serve.proofs.Names.{Next, IsLayout, course, history, numbered, rows, brought, brought_in, ltb-false, fold-append, Change}
+use Rattle.srcp_serve.proofs.Names.{Next, IsLayout, course, history, rows, brought, brought_in, ltb-false, fold-append, Change}
 use Rattle.srcp_serve.proofs.Names.{Shown, beyond, Connection, History, cursor_at, is_open, is_settled, owed, unsent, untold, waiting}
-use Rattle.srcp_serve.proofs.Names.{no_lists, eqb-false, ne_eqb}
+use Rattle.srcp_serve.proofs.Names.{no_lists, eqb-false, ne_eqb, events_of}
 use Rattle.srcp_serve.proofs.PeersAreSentTheirVisits.{ArePeersOf, IsPeerOf}
 use Rattle.srcp_serve.proofs.CallsByTurnAndPeer.{IsNoneOf, PeersApart, AreAsked, accept_as, each_turn, all_if, fold_keeps, turned_round}
 use Rattle.srcp_serve.proofs.PacedTurnsSparePanels.{opening_events, opens, begun_events, turn_events, turned_events}
@@ -46,15 +46,6 @@ among_clients (Some other ∷ slots) zero client e = record { before = []; rest 
 among_clients (Some other ∷ slots) (suc slot) client e =
     let more = among_clients slots slot client e in
     record { before = other ∷ more.before; rest = more.rest; are = ap (λ all. other ∷ all) more.are }
-
-module _ (buses : List Bus) (slot : ℕ) (client : Client) where
-  pub begun_stays : (stand : Stand) (calls : List Call) → HasSlot slot client stand.slots
-      → HasSlot slot client (begun buses stand calls).slots
-  begun_stays stand calls e =
-      let Stays : Stand → Type 0 = λ s. HasSlot slot client s.slots in
-      fold_keeps Stays (with_accept buses) (λ s accept h. accept_as buses Stays s accept (connected_stays _ s.slots slot client h) h)
-      (filter_map accept_of calls) (timed buses stand calls)
-      (fold_keeps Stays (with_moment buses) (λ s moment h. h) (filter_map moment_of calls) stand e)
 
 -- ---- numbers
 
@@ -135,62 +126,6 @@ module _ (buses : List Bus) (layout : IsLayout buses) (slot : ℕ) (client : Cli
   abbrev pub IsStill : Stand → List Call → Type 0
   IsStill stand calls = (brought_in buses stand calls ≡ 0) × TakesAll calls client
 
-  -- after a turn it has its slot still, nothing of it is unsent, and these lines are left to it: none, or it was handed 300
-  pub record IsTurnedWhole (stand : Stand) (calls : List Call) (bytes : List ℕ) (nexts : List Next) : Type 0 where
-    pub lines : List Next
-    pub rest : List Next
-    pub whole : nexts ≡ lines ++ rest
-    pub panel : Panel buses client.conn (turned buses stand calls).events [] rest
-    pub ends : (rest ≡ []) ⊎ (length lines + one_unless_nil bytes ≡ 300)
-    pub stays : HasSlot slot client (turned buses stand calls).slots
-
-  turned_whole : (stand : Stand) (calls : List Call) (bytes : List ℕ) (nexts : List Next) → IsTurnOfPeers buses stand calls
-      → IsStill stand calls → HasSlot slot client stand.slots → Panel buses client.conn stand.events bytes nexts
-      → IsTurnedWhole stand calls bytes nexts
-  turned_whole stand calls bytes nexts t still has p =
-      let n : ℕ = client.conn in
-      let now = begun buses stand calls in
-      let here = begun_stays buses slot client stand calls has in
-      let among = among_clients now.slots slot client here in
-      let apart = others_apart now.connected among.before client among.rest (rw among.are at t.known)
-      (rw among.are at t.apart) in
-      let first = opening_events calls in
-      let before = flat_map (visit_events calls) among.before in
-      let own = visit_events calls client in
-      let rest = flat_map (visit_events calls) among.rest in
-      let a = stand.events ++ first in
-      let b = a ++ before in
-      let c = b ++ own in
-      let all : turn_events buses stand calls ≡ first ++ (before ++ (own ++ rest)) =
-      cc (flat_map-append (visit_events calls) among.before (client ∷ among.rest)) in
-      let nothing : brought buses stand.events (first ++ (before ++ (own ++ rest))) ≡ 0 = cc (turned_events buses stand calls, still.0) in
-      let x = neither (brought buses stand.events first) (brought buses a (before ++ (own ++ rest)))
-      (sym (brought_adds buses stand.events first (before ++ (own ++ rest))) ∙ nothing) in
-      let y = neither (brought buses a before) (brought buses b (own ++ rest)) (sym (brought_adds buses a before (own ++ rest)) ∙ x.1) in
-      let z = neither (brought buses b own) (brought buses c rest) (sym (brought_adds buses b own rest) ∙ y.1) in
-      let at_a = panel_others buses n stand.events bytes nexts p layout first (opening_others n calls) x.0 in
-      let at_b = panel_others buses n a bytes nexts at_a layout before (visits_others n calls among.before apart.0) y.0 in
-      let asked = rw begun_events at (visit_in buses _ now.events calls among.before client among.rest (rw among.are at t.asked)) in
-      let v = visited_whole buses layout client b (visit calls client) bytes nexts at_b asked
-      (all_filter IsFair (is_about client.peer) calls t.fair) still.1.keeps still.1.whole in
-      let at_c = subst (λ (es : List Event). Panel buses n (b ++ es) [] v.rest) (sym (stays_exchange calls client v.stays)) v.panel in
-      let at_end = panel_others buses n c [] v.rest at_c layout rest (visits_others n calls among.rest apart.1) z.1 in
-      let end : c ++ rest ≡ (turned buses stand calls).events =
-      cc (
-        append_assoc b own rest,
-        append_assoc a before (own ++ rest),
-        append_assoc stand.events first (before ++ (own ++ rest)),
-        turned_events buses stand calls,
-      ) in
-      record {
-        lines = v.lines;
-        rest = v.rest;
-        whole = v.whole;
-        panel = rw end at at_end;
-        ends = v.ends;
-        stays = rw (slice_get-map, here, v.stays);
-      }
-
   -- so often that nothing is left
   pub turns_settle : (all : List (List Call)) (stand : Stand) (bytes : List ℕ) (nexts : List Next)
       → OfEachTurn buses (IsTurnOfPeers buses) stand all → OfEachTurn buses (IsStill) stand all
@@ -205,8 +140,45 @@ module _ (buses : List Bus) (layout : IsLayout buses) (slot : ℕ) (client : Cli
       nothing [] (what ∷ nexts) p few = absurd (omega (arith, few))
       nothing (byte ∷ bytes) nexts p few = absurd (omega (arith, few))
   turns_settle (calls ∷ all) stand bytes nexts t still has p few =
-      let h = turned_whole stand calls bytes nexts t.0 still.0 has p in
-      turns_settle all (turned buses stand calls) [] h.rest t.1 still.1 h.stays h.panel (fewer h.lines h.rest h.whole h.ends)
+      let n : ℕ = client.conn in
+      let now = begun buses stand calls in
+      let Stays : Stand → Type 0 = λ s. HasSlot slot client s.slots in
+      let here : HasSlot slot client now.slots = fold_keeps Stays (with_accept buses)
+      (λ s accept h. accept_as buses Stays s accept (connected_stays _ s.slots slot client h) h) (filter_map accept_of calls) _
+      (fold_keeps Stays (with_moment buses) (λ s moment h. h) (filter_map moment_of calls) stand has) in
+      let among = among_clients now.slots slot client here in
+      let apart = others_apart now.connected among.before client among.rest (rw among.are at t.0.known)
+      (rw among.are at t.0.apart) in
+      let first = opening_events calls in
+      let before = flat_map (visit_events calls) among.before in
+      let own = visit_events calls client in
+      let rest = flat_map (visit_events calls) among.rest in
+      let a = stand.events ++ first in
+      let b = a ++ before in
+      let c = b ++ own in
+      let parted : turn_events buses stand calls ≡ first ++ (before ++ (own ++ rest)) =
+      cc (flat_map-append (visit_events calls) among.before (client ∷ among.rest)) in
+      let nothing : brought buses stand.events (first ++ (before ++ (own ++ rest))) ≡ 0 = cc (turned_events buses stand calls, still.0.0) in
+      let x = neither (brought buses stand.events first) (brought buses a (before ++ (own ++ rest)))
+      (sym (brought_adds buses stand.events first (before ++ (own ++ rest))) ∙ nothing) in
+      let y = neither (brought buses a before) (brought buses b (own ++ rest)) (sym (brought_adds buses a before (own ++ rest)) ∙ x.1) in
+      let z = neither (brought buses b own) (brought buses c rest) (sym (brought_adds buses b own rest) ∙ y.1) in
+      let at_a = panel_others buses n stand.events bytes nexts p layout first (opening_others n calls) x.0 in
+      let at_b = panel_others buses n a bytes nexts at_a layout before (visits_others n calls among.before apart.0) y.0 in
+      let asked = rw begun_events at (visit_in buses _ now.events calls among.before client among.rest (rw among.are at t.0.asked)) in
+      let v = visited_whole buses layout client b (visit calls client) bytes nexts at_b asked
+      (all_filter IsFair (is_about client.peer) calls t.0.fair) still.0.1.keeps still.0.1.whole in
+      let at_c = subst (λ (es : List Event). Panel buses n (b ++ es) [] v.rest) (sym (stays_exchange calls client v.stays)) v.panel in
+      let at_end = panel_others buses n c [] v.rest at_c layout rest (visits_others n calls among.rest apart.1) z.1 in
+      let end : c ++ rest ≡ (turned buses stand calls).events =
+      cc (
+        append_assoc b own rest,
+        append_assoc a before (own ++ rest),
+        append_assoc stand.events first (before ++ (own ++ rest)),
+        turned_events buses stand calls,
+      ) in
+      turns_settle all (turned buses stand calls) [] v.rest t.1 still.1 (rw (slice_get-map, here, v.stays)) (rw end at at_end)
+      (fewer v.lines v.rest v.whole v.ends)
     where
       fewer : (lines rest : List Next) → nexts ≡ lines ++ rest → (rest ≡ []) ⊎ (length lines + one_unless_nil bytes ≡ 300)
           → length rest + 0 ≤ 300 * length all
@@ -223,26 +195,19 @@ module _ (buses : List Bus) where
   later_turns Law [] after stand h = h
   later_turns Law (calls ∷ before) after stand h = later_turns Law before after (turned buses stand calls) h.1
 
-  settled_is : (events : List Event) (n : ℕ) (later : Connection) → Panel buses n events [] []
-      → numbered n (course buses events).connections ≡ Some later
-      → is_settled later (history buses (course buses events)) (rows buses (course buses events)) ≡ true
-  settled_is events n later p there =
-      let found = sym p.is.there ∙ there in
-      let same : p.conn ≡ later = cc in
-      let w = course buses events in
-      let settled : is_settled p.conn (history buses w) (rows buses w) ≡ true = cc (p.is.open_now, p.is.info, p.left, p.owes) in
-      rw same at settled
-
   pub settles_soon : SettlesSoon buses
   settles_soon layout count trace served differ fair before after parts slot client has conn is still enough later there =
       let now = fold (turned buses) empty_stand before in
-      let w = course buses now.events in
+      let u = course buses (events_of buses trace) in
       let due = owed conn _ _ in
       let runs = later_turns _ before after _ (rw parts at (turns_of_peers buses count trace served differ fair)) in
       let p : Panel buses client.conn now.events (unsent conn) due = record { conn = conn; is = is; left = refl; owes = refl } in
       let end = ap (λ (s : Stand). s.events) (sym (fold-append _ _ before after) ∙ ap (fold (turned buses) empty_stand) (sym parts)) in
-      let done = turns_settle buses layout slot client after now _ due runs still has p enough in
-      settled_is _ _ later (rw end at done) there
+      let q = rw end at (turns_settle buses layout slot client after now _ due runs still has p enough) in
+      let found = sym q.is.there ∙ there in
+      let same : q.conn ≡ later = cc in
+      let settled : is_settled q.conn (history buses u) (rows buses u) ≡ true = cc (q.is.open_now, q.is.info, q.left, q.owes) in
+      subst (λ (c : Connection). is_settled c (history buses u) (rows buses u) ≡ true) same settled
 
   -- ---- the changes that wait
 
@@ -279,17 +244,14 @@ module _ (buses : List Bus) where
       let found = sym q.is.there ∙ there in
       let same : q.conn ≡ later = cc in
       let few = ltb-false 256 (length (untold conn h)) is.fine in
+      let one : one_unless_nil (unsent conn) ≤ 1 = grind arith in
       let left = sym q.owes ∙ owed_is q.conn past (rows buses u) q.is.open_now q.is.info in
       let none =
       gone (untold conn h) (beyond (cursor_at conn (length h)) shown) v.lines v.rest (untold q.conn past)
       (map Listed (beyond (cursor_at q.conn (length past)) (rows buses u))) (one_unless_nil (unsent conn))
-      (sym (owed_is conn h shown is.open_now is.info) ∙ v.whole) few (at_most (unsent conn)) left v.ends in
+      (sym (owed_is conn h shown is.open_now is.info) ∙ v.whole) few one left v.ends in
       subst (λ (c : Connection). waiting c past ≡ []) same (cc)
     where
-      at_most : (bytes : List ℕ) → one_unless_nil bytes ≤ 1
-      at_most [] = omega arith
-      at_most (byte ∷ bytes) = omega arith
-
       gone : (changes : List Change) (listed : List Shown) (lines rest : List Next) (more : List Change) (others : List Next) (one : ℕ)
           → map Told changes ++ map Listed listed ≡ lines ++ rest → length changes ≤ 256 → one ≤ 1 → rest ≡ map Told more ++ others
           → (rest ≡ []) ⊎ (length lines + one ≡ 300) → more ≡ []

@@ -1,7 +1,7 @@
 -- An information session that goes on: what is unsent of it and what it is owed, and what each event makes of that.
 use Rattle.srcp_serve.proofs.Names.{◌≡◌, ◌∙◌, ◌+◌, List, [], ◌∷◌, ◌++◌, map, length, refl, ap, sym, append-nil, append_assoc, length-append}
 use Rattle.srcp_serve.proofs.Names.{ℕ, true, false, if◌then◌else◌, None, arith, ◌-◌, ◌≤◌, min, Bool, Option, Some, length-drop, flat_map}
-use Rattle.srcp_serve.proofs.Names.{nat_le, nat_lt, filter, fold, ◌||◌, ◌==◌, AllByRecursion, enumerate_from, drop_at, drop_all}
+use Rattle.srcp_serve.proofs.Names.{nat_le, filter, fold, ◌||◌, ◌==◌, AllByRecursion, enumerate_from, drop_at, drop_all}
 use Rattle.srcp_serve.proofs.Names.{flat_map-append, fold-append, Change, Bus, History, Connection, concerning, cursor_at, overran, owed}
 use Rattle.srcp_serve.proofs.Names.{untold, available, fitting, given, given_room, line_of, took, unsent, World, start, happens, course}
 use Rattle.srcp_serve.proofs.Names.{state, history, history_from, state_after, stepped, updates_of, numbered, open_connection}
@@ -137,9 +137,6 @@ module _ (conn : Connection) where
     untold_same : (past more : History) → AreNone more → untold conn (past ++ more) ≡ untold conn past
     untold_same past more none = cc (concerning_same past more none)
 
-    pub overran_same : (past more : History) → AreNone more → overran conn (past ++ more) ≡ overran conn past
-    overran_same past more none = ap (λ (cs : List Change). nat_lt 256 (length cs)) (untold_same past more none)
-
     pub owed_same : (past more : History) (rows : List Shown) → AreBy (length past) conn.items → IsDoneBy (length past) conn.done
         → AreNone more → owed conn (past ++ more) rows ≡ owed conn past rows
     owed_same past more rows numbers finished none =
@@ -260,17 +257,12 @@ module _ (buses : List Bus) (n : ℕ) where
         let fit : fitting k (unsent p.conn) due ≡ first_given bytes nexts = cc (first_fits bytes nexts panel_full) in
         let after = owes_after buses layout w k p.conn panel_shut p.is.info (panel_fits layout) in
         let rest = rest_is bytes nexts after.rest (cc) in
-        record {
-          conn = later;
-          is = record {
-            there = cc (there_after buses events n k p.conn panel_open, room_is k);
-            info = p.is.info;
-            open_now = p.is.open_now;
-            fine = cc (took_overran past k due p.conn panel_shut p.is.fine);
-          };
-          left = nothing_left k due refl p.owes fit;
-          owes = cc;
-        }
+        let v = course buses (events ++ Room n k ∷ []) in
+        let there : numbered n v.connections ≡ Some later = cc (there_after buses events n k p.conn panel_open, room_is k) in
+        let fine : overran later (history buses v) ≡ false = cc (took_overran past k due p.conn panel_shut p.is.fine) in
+        let left : unsent later ≡ [] = nothing_left k due refl p.owes fit in
+        let owes : owed later (history buses v) (rows buses v) ≡ owed_then bytes nexts = cc in
+        search
       where
         most : (k u t g f b all : ℕ) → t ≤ g → u ≡ g - t → u ≡ b → k ≡ b + f → k ≤ all → g + f ≤ t + min k all
         most k u t g f b all within left bytes size there = omega arith
@@ -294,17 +286,12 @@ module _ (buses : List Bus) (n : ℕ) where
     -- events that change none of its session but the bytes that it sent
     panel_fed : (more : List Event) (fed : List ℕ) → numbered n (course buses (events ++ more)).connections
         ≡ Some (record p.conn { fed = fed }) → (course buses (events ++ more)).steps ≡ w.steps → Panel (events ++ more) bytes nexts
-    panel_fed more fed there steps = record {
-      conn = record p.conn { fed = fed };
-      is = record {
-        there = there;
-        info = p.is.info;
-        open_now = p.is.open_now;
-        fine = rw (steps, p.is.fine);
-      };
-      left = p.left;
-      owes = rw (steps, p.owes);
-    }
+    panel_fed more fed there steps =
+        let v = course buses (events ++ more) in
+        let conn : Connection = record p.conn { fed = fed } in
+        let fine : overran conn (history buses v) ≡ false = rw (steps, p.is.fine) in
+        let owes : owed conn (history buses v) (rows buses v) ≡ nexts = rw (steps, p.owes) in
+        search
 
     -- what comes of it changes nothing
     pub panel_bytes : (piece : Piece) → Panel (events ++ Bytes n piece ∷ []) bytes nexts
@@ -348,21 +335,16 @@ module _ (buses : List Bus) (n : ℕ) where
     panel_others layout more others none =
         let past = history buses w in
         let f = steps_follow buses events more in
-        let v = course buses (events ++ more) in
         let since = history_from (state buses w) f.0 in
         let empty = nil_from_length _ (sym (brought_is buses events more f.0 f.1) ∙ none) in
         let each = none_each since empty in
         let grown = history_follows buses events more f.0 f.1 in
         let shows = ap shown_rows (state_follows buses events more f.0 f.1 ∙ same_state _ f.0 empty) in
         let fits = panel_fits layout in
-        record {
-          conn = p.conn;
-          is = record {
-            there = cc (fold-append (happens buses) start events more, stays_all buses n p.conn more w others p.is.there);
-            info = p.is.info;
-            open_now = p.is.open_now;
-            fine = cc (overran_same p.conn panel_shut past since each);
-          };
-          left = p.left;
-          owes = cc (owed_same p.conn panel_shut past since (rows buses w) fits.numbers fits.finished each);
-        }
+        let v = course buses (events ++ more) in
+        let there : numbered n v.connections ≡ Some p.conn =
+        cc (fold-append (happens buses) start events more, stays_all buses n p.conn more w others p.is.there) in
+        let fine : overran p.conn (history buses v) ≡ false = cc (untold_same p.conn panel_shut past since each) in
+        let owes : owed p.conn (history buses v) (rows buses v) ≡ nexts =
+        cc (owed_same p.conn panel_shut past since (rows buses w) fits.numbers fits.finished each) in
+        search

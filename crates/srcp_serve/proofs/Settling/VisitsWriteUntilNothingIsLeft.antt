@@ -15,9 +15,6 @@ use Rattle.srcp_serve.proofs.Settling.PanelsTakeTheirLines.{panel_lends, panel_o
 abbrev pub IsWhole : Call → Type 0
 IsWhole call = IsFair call × (loses call ≡ false) × (falls_short call ≡ false)
 
-whole_count : (peer count : ℕ) (bytes : List ℕ) → IsWhole (WriteCall peer bytes (Ok count)) → count ≡ length bytes
-whole_count peer count bytes h = let low = ltb-false count _ h.2 in let high = h.0 in omega (arith, low, high)
-
 -- one write more if something is unsent
 abbrev pub one_unless_nil : List ℕ → ℕ
 one_unless_nil bytes = if is_nil bytes then 0 else 1
@@ -49,7 +46,9 @@ module _ (buses : List Bus) (layout : IsLayout buses) (peer n : ℕ) where
       let rest : Bool → List (List ℕ) = λ b. if b then handed buses n (events ++ Room n count ∷ []) counts else [] in
       let f = first_of_writes peer who most text now (map question calls) (rest (count == length now)) e in
       let lends = panel_lends buses n events bytes nexts p layout in
-      let full : count ≡ length now = cc (whole_count who count text h) in
+      let fits = ltb-false count (length text) h.2 in
+      let all : count ≡ length text = let most = h.0 in omega (arith, most, fits) in
+      let full : count ≡ length now = cc in
       let yes : (count == length now) ≡ true = grind (arith, nat_tests) in
       let size : length (first_text bytes nexts) ≡ count = sym (cc) in
       record {
@@ -223,11 +222,6 @@ module _ (buses : List Bus) (layout : IsLayout buses) (client : Client) (events 
   last_room now rest false none q = rw append-nil q
   last_room now rest true none q = let empty = none refl in rw empty (panel_room buses _ now [] [] (rw empty at q) layout)
 
-  -- of a session that goes on
-  not_closing : (now : List Event) (left : List ℕ) (rest : List Next) → Panel buses client.conn now left rest
-      → is_closing buses client.conn now ≡ false
-  not_closing now left rest q = cc (panel_open buses client.conn now left rest q, panel_goes_on buses client.conn now left rest q)
-
   pub visited_whole : IsVisitedWhole
   visited_whole =
       let r = wrote in
@@ -237,7 +231,9 @@ module _ (buses : List Bus) (layout : IsLayout buses) (client : Client) (events 
       let whole : (read_events ++ map (Room n) (filter_map count_of calls)) ++ map (Room n) (if asks_last then 0 ∷ [] else [])
       ≡ events ++ exchange n calls = simp (append_assoc, map-append) in
       let panel = rw whole at last in
-      let open_still = not_closing (events ++ exchange n calls) [] r.rest panel in
+      let now = events ++ exchange n calls in
+      let open_still : is_closing buses n now ≡ false =
+      cc (panel_open buses n now [] r.rest panel, panel_goes_on buses n now [] r.rest panel) in
       let reads : NoCloses (reads_of buses events client) =
       cond_both (is_ready buses client.conn events) (Reads client.peer 256 ∷ []) [] NoCloses (λ e. refl) (λ e. refl) in
       let texts = take 300 (handed buses client.conn read_events (filter_map count_of calls)) in
@@ -245,14 +241,10 @@ module _ (buses : List Bus) (layout : IsLayout buses) (client : Client) (events 
       cond_both (list_any loses_reading calls) [] (map (Writes client.peer) texts) NoCloses (λ e. refl)
       (λ e. writes_close client.peer texts) in
       let none_closed : closes_of buses events calls client ≡ [] = cc in
-      record {
-        lines = r.lines;
-        rest = r.rest;
-        whole = r.whole;
-        panel = panel;
-        ends = rw r.many r.ends;
-        stays = rw (closes_asked, asked, list_any-append, none_closed, list_any-append, reads, writes);
-      }
+      let ends : (r.rest ≡ []) ⊎ (length r.lines + one_unless_nil bytes ≡ 300) = rw r.many r.ends in
+      let stays : list_any is_close calls ≡ false =
+      rw (closes_asked, asked, list_any-append, none_closed, list_any-append, reads, writes) in
+      search
     where
       few : (rest : List Next) → (rest ≡ []) ⊎ (length (filter_map count_of calls) ≡ 300) → lent_none_last calls ≡ true → rest ≡ []
       few rest (inl none) e = none

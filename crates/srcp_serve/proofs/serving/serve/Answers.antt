@@ -8,11 +8,10 @@ pub loop-init : goal.loop-init
 loop-init g c =
     let n = c.new-server.ensures in
     let trace = g.D.Door.trace _ in
-    let first = serves_first _ trace in
     record {
       same_door = refl;
       faults = rw (n.faults, n.door) (none_failed 0 _ _ (omega arith) refl);
-      course = rw (n.door, n.slots) first;
+      course = rw (n.door, n.slots) (serves_first _ trace);
       few = omega arith;
       trace = rw n.door (turns_none trace);
     }
@@ -44,15 +43,12 @@ same_served trace_of turns opened core new old e s = rw e s
 pub returns-clause-trace : goal.returns-clause-trace
 returns-clause-trace g c =
     let all : c.loop.counter ≡ c.args.turns = omega (arith, c.loop-test.false, c.loop.auto.counter-end) in
-    let old = g.D.Door.trace _ in
-    same_trace g.D.Door.trace _ old {x = c.loop.server.door.now} (search rules)
+    same_trace g.D.Door.trace _ (g.D.Door.trace _) {x = c.loop.server.door.now} (search rules)
     (rw all at c.loop.invariant.trace)
 
 pub returns-clause-course : goal.returns-clause-course
 returns-clause-course g c =
     let all : c.loop.counter ≡ c.args.turns = omega (arith, c.loop-test.false, c.loop.auto.counter-end) in
-    let old = g.D.Door.trace _ in
-    let new = g.D.Door.trace _ in
-    same_served g.D.Door.trace _ _ _ _ old {x = c.loop.server.door.now} (search rules)
-    (serves_all _ _ _ _ _ old new c.loop.server.slots all
+    same_served g.D.Door.trace _ _ _ _ (g.D.Door.trace _) {x = c.loop.server.door.now} (search rules)
+    (serves_all _ _ _ _ _ (g.D.Door.trace _) (g.D.Door.trace _) c.loop.server.slots all
     (rw all at c.loop.invariant.trace) c.loop.invariant.course)

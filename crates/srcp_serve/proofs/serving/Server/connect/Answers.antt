@@ -4,21 +4,17 @@ use Rattle.srcp_serve.proofs.serving.Server.connect.Goals as goal
 
 pub returns-in_default-clause-course : goal.returns-in_default-clause-course
 returns-in_default-clause-course g c =
-    let s = c.args.self.now in
-    let before = g.D.Door.trace s.door.now in
-    let after = g.D.Door.trace c.close.new.self.door.now in
     rw c.close.ensures.slots
-    (connects_refused c.args.peer c.args.core.now c.connect.new.self c.in_default.field-0 before after s.slots c.close.ensures.course
-    c.in_default.ensures.refused)
+    (connects_refused c.args.peer c.args.core.now c.connect.new.self c.in_default.field-0
+    (g.D.Door.trace c.args.self.now.door.now) (g.D.Door.trace c.close.new.self.door.now) c.args.self.now.slots
+    c.close.ensures.course c.in_default.ensures.refused)
 
 pub returns-in_default-first_free-clause-course : goal.returns-in_default-first_free-clause-course
 returns-in_default-first_free-clause-course g c =
-    let s = c.args.self.now in
-    let before = g.D.Door.trace s.door.now in
-    let after = g.D.Door.trace c.disconnect.new.self.door.now in
     rw c.disconnect.ensures.slots
-    (connects_without_slot c.args.peer false c.args.core.now c.disconnect.new.core before after s.slots c.in-Ok.ensures.admitted.room
-    c.first_free.ensures.all (sym c.first_free.ensures.first ∙ c.in_default-first_free.is))
+    (connects_without_slot c.args.peer false c.args.core.now c.disconnect.new.core
+    (g.D.Door.trace c.args.self.now.door.now) (g.D.Door.trace c.disconnect.new.self.door.now) c.args.self.now.slots
+    c.in-Ok.ensures.admitted.room c.first_free.ensures.all (sym c.first_free.ensures.first ∙ c.in_default-first_free.is))
 
 pub returns-clause-course : goal.returns-clause-course
 returns-clause-course g c =

@@ -9,12 +9,9 @@ returns-clause-calls g c =
 
 pub returns-clause-course : goal.returns-clause-course
 returns-clause-course g c =
-    let s = c.args.self.now in
-    let t = c.take_moment.new.self in
-    let i = c.accept_one-opens.new.self in
-    let v = c.visit_slots.new.self in
     makes_turn _ _ _ _ _
     _ _ _ _
-    s.slots i.slots v.slots c.take_moment.ensures.course c.take_moment.ensures.denied c.accept_one-opens.ensures.calls.asks
+    c.args.self.now.slots c.accept_one-opens.new.self.slots c.visit_slots.new.self.slots c.take_moment.ensures.course
+    c.take_moment.ensures.denied c.accept_one-opens.ensures.calls.asks
     (rw c.take_moment.ensures.slots at c.accept_one-opens.ensures.course)
     c.visit_slots.ensures.calls.asks c.visit_slots.ensures.course (returns-clause-calls g c).asks

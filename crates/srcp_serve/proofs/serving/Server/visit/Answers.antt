@@ -23,8 +23,7 @@ returns-then-not-closing-clause-course g c =
 
 pub returns-clause-calls : goal.returns-clause-calls
 returns-clause-calls g c =
-    let old = c.args.self.now in
-    let first : CallsDoor g.D.Door.faults g.D.Door.trace AreAboutPeers old c.else-read_in.self =
+    let first : CallsDoor g.D.Door.faults g.D.Door.trace AreAboutPeers c.args.self.now c.else-read_in.self =
     elim c.else-read_in.branch [
       | else-read_in-via-then-read_in+then-write_out+else-not-closing w ↦
           rw w.self-is (calls_on _ _ _ _ _ c.read_in.ensures.calls w.write_out.ensures.calls)

@@ -9,18 +9,12 @@ returns-in_default-clause-course g c =
 
 pub returns-then-not-visit-clause-course : goal.returns-then-not-visit-clause-course
 returns-then-not-visit-clause-course g c =
-    let s = c.args.self.now in
-    let held = c.visit.new.core in
-    let before = g.D.Door.trace s.door.now in
-    let after = g.D.Door.trace c.visit.new.self.door.now in
-    rw c.free.ensures (rw c.visit.ensures.slots (slot_goes c.args.slot None c.in-Some.client c.args.core.now held before after s.slots
+    rw c.free.ensures (rw c.visit.ensures.slots (slot_goes c.args.slot None c.in-Some.client c.args.core.now c.visit.new.core
+    (g.D.Door.trace c.args.self.now.door.now) (g.D.Door.trace c.visit.new.self.door.now) c.args.self.now.slots
     (sym c.client.ensures ∙ c.in-Some.is) c.if-not-visit.ensures.course))
 
 pub returns-else-not-visit-clause-course : goal.returns-else-not-visit-clause-course
 returns-else-not-visit-clause-course g c =
-    let s = c.args.self.now in
-    let held = c.visit.new.core in
-    let before = g.D.Door.trace s.door.now in
-    let after = g.D.Door.trace c.visit.new.self.door.now in
-    rw c.visit.ensures.slots (slot_stays c.args.slot None c.in-Some.client c.args.core.now held before after s.slots
+    rw c.visit.ensures.slots (slot_stays c.args.slot None c.in-Some.client c.args.core.now c.visit.new.core
+    (g.D.Door.trace c.args.self.now.door.now) (g.D.Door.trace c.visit.new.self.door.now) c.args.self.now.slots
     (sym c.client.ensures ∙ c.in-Some.is) c.if-not-visit.ensures.course)
