@@ -171,6 +171,7 @@ class DccEx(Case):
     def test_a_station_in_the_network(self):
         self.driver.end()
         door = listener()
+        door.settimeout(WAIT)
         self.addCleanup(door.close)
         self.start(f"127.0.0.1:{door.getsockname()[1]}")
         client, line = door.accept()[0], os.open(self.link, os.O_RDWR | os.O_NOCTTY)

@@ -6,7 +6,7 @@ import subprocess
 import time
 import unittest
 
-from .common import PROGRAMS, Case, interpreter, listener, parsed, program, rows, until
+from .common import PROGRAMS, WAIT, Case, interpreter, listener, parsed, program, rows, until
 
 
 class Parsing(unittest.TestCase):
@@ -152,6 +152,7 @@ class Following(Case):
     def test_another_server_at_that_port(self):
         """One that babbles without an end of line, and one that does not speak SRCP: the program waits."""
         door = listener()
+        door.settimeout(WAIT)
         self.addCleanup(door.close)
         guard = self.starts("guard.py", port=door.getsockname()[1])
         with door.accept()[0] as peer:
