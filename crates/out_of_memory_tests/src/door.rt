@@ -1,5 +1,5 @@
 //! Serving two peers, of which one is refused its memory.
-ghost use Rattle.srcp_serve.specs.Calls.{one_more};
+ghost use Rattle.srcp_door.specs.Calls.{one_more};
 
 use crate::calls::one_bus;
 use crate::outcome::{Outcome, Refused};

@@ -25,5 +25,6 @@ pub mod RoomsAddUp
 pub mod OverrunAt256
 pub mod EventsKeep
 pub mod WaitsGrow
+pub mod LockedIsLeftAlone
 pub mod LinesBringTheirWeight
 pub mod OneLineIsUnsent

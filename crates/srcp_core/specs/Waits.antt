@@ -5,7 +5,7 @@ use Rattle.std.specs.List.{sum_by}
 use Rattle.std.specs.Option.{option_map_or}
 use Rattle.srcp_grammar.specs.Layout.{IsLayout}
 use Rattle.srcp_rules.specs.State.{State}
-use Rattle.srcp_rules.specs.Weight.{weight}
+use Rattle.srcp_grammar.specs.Weight.{weight}
 use Rattle.srcp_grammar.specs.declared.layout.Bus.{Bus}
 use Rattle.srcp_text.specs.Marks.{Mark, Line, TooLong}
 use Rattle.srcp_core.specs.Connection.{Connection, History, waiting, is_open, overran}
@@ -76,11 +76,10 @@ module _ (buses : List Bus) where
     pub open_now : is_open conn ≡ true
     pub fine : overran conn (history buses w) ≡ false
 
-  -- it is an open information session that overran
+  -- it is an information session that overran, whether it was shut since or not
   pub record IsOverrun (w : World) (number : ℕ) (conn : Connection) : Type 0 where
     pub there : numbered number w.connections ≡ Some conn
     pub info : conn.info ≡ true
-    pub open_now : is_open conn ≡ true
     pub over : overran conn (history buses w) ≡ true
 
   -- whatever happens, no more changes wait for an information session than waited before it happened and were brought
@@ -96,7 +95,7 @@ module _ (buses : List Bus) where
   abbrev pub room : World → ℕ
   room w = option_or_256 (slack w)
 
-  -- only those sessions overran after the later events that overran before them
+  -- only those sessions overran by the end of the later events that overran before them, whether shut since or not
   abbrev pub NoneOverruns : (events more : List Event) → Type 0
   NoneOverruns events more = (number : ℕ) (later : Connection) → IsOverrun (course buses (events ++ more)) number later
       → (conn : Connection) × IsOverrun (course buses events) number conn

@@ -1,12 +1,9 @@
 //! The limits of a core. SRCP 0.8 has none of them.
 
-use srcp_info::LONGEST_SHORT_REPLY;
+use srcp_info::{LONGEST_SHORT_REPLY, MOST_IN_PIECE};
 
 /// The most connections that are open at once.
 pub const MOST_CONNECTIONS: usize = 64;
-
-/// The most bytes of a piece.
-pub const MOST_IN_PIECE: usize = 256;
 
 /// The most unsent bytes of a connection: a short reply for each byte of a piece, and 256 for a line that began in an
 /// earlier one.

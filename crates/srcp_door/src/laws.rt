@@ -3,7 +3,7 @@
 ghost use Rattle.std.specs.Prelude.{◌+◌, ◌≤◌};
 
 use crate::pacing::{MOST_SLACK, RESERVE};
-use srcp_rules::MOST_CHANGES;
+use srcp_grammar::MOST_CHANGES;
 
 /// States that the reserve for moments and ends of sessions is enough for a session that ends with 150 locks. What
 /// remains is enough for any line while no change waits for a panel.

@@ -6,7 +6,7 @@ ghost use Rattle.srcp_door.specs.Pacing.{Allows, IsFirstWeight, IsLongest, IsSho
 ghost use Rattle.srcp_door.specs.Pacing.{lines, pace_of, share_after, spent, weight_of};
 
 use memchr::memchr;
-use srcp_rules::{MOST_CHANGES, weight};
+use srcp_grammar::{MOST_CHANGES, weight};
 
 /// The most changes of a turn before a panel overruns, if no panel is there at its beginning: one may begin in it.
 pub const MOST_SLACK: usize = 256;

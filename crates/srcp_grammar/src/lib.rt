@@ -1,4 +1,4 @@
-//! The layout of a server, and which line is which command of it.
+//! The layout of a server, which line is which command of it, and how many changes a line can bring.
 //!
 //! It is no registry: what a command changes, and whether a session may give it, `srcp_rules` says.
 #![tactic(auto)]
@@ -11,6 +11,7 @@ mod arguments;
 mod buses;
 mod command;
 mod layout;
+mod line_weight;
 mod parse;
 mod power_text;
 mod single_words;
@@ -20,4 +21,5 @@ pub use command::{
     Command, DeviceGroup, Drive, NewGa, NewGl, PowerSwitch, Sensor, Switch, Target, TimedLock,
 };
 pub use layout::{Bus, Layout, LayoutFault};
+pub use line_weight::{MOST_CHANGES, weight};
 pub use parse::parse_command;

@@ -36,6 +36,9 @@ pub const MOST_MILLISECONDS: u32 = 60000;
 /// The most bytes of the text of a power row.
 pub const LONGEST_TEXT: usize = 80;
 
+/// The most bytes of a piece: what a connection is handed at once.
+pub const MOST_IN_PIECE: usize = 256;
+
 /// The most bytes of a line, its LF included.
 pub const LONGEST_LINE: usize = 126;
 

@@ -15,10 +15,10 @@ use Rattle.srcp_peers.specs.declared.peer.Peer.{Peer}
 use Rattle.srcp_peers.specs.declared.stay.Stay.TheVariants as stay
 use Rattle.srcp_peers.specs.Steps.{Step, Tells, Reads, Shuts, Writes, Waits, Answers}
 use Rattle.srcp_peers.specs.Steps.{refusal_of}
-use Rattle.srcp_serve.specs.Calls.{ReadCall}
-use Rattle.srcp_serve.specs.declared.door.DoorFault.{DoorFault}
-use Rattle.srcp_serve.specs.declared.door.Got.{Got}
-use Rattle.srcp_serve.specs.declared.door.Got.TheVariants as got
+use Rattle.srcp_door.specs.Calls.{ReadCall}
+use Rattle.srcp_door.specs.declared.door.DoorFault.{DoorFault}
+use Rattle.srcp_door.specs.declared.door.Got.{Got}
+use Rattle.srcp_door.specs.declared.door.Got.TheVariants as got
 use Rattle.srcp_peers.specs.Accounts.{Account, Sent, Received, account, account_step, answered_step, is_at_rest, is_short_wait}
 use Rattle.srcp_peers.specs.Accounts.{may_end, may_fail}
 use Rattle.srcp_peers.specs.Accounts.{refused_read, refused_write, shut_down, untouched, waited, wrote, woken, woken_sent}

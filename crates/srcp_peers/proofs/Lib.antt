@@ -9,3 +9,4 @@ pub mod Lists
 pub mod AccountStreams
 pub mod Lined
 pub mod Offering
+pub mod Making

@@ -17,9 +17,9 @@ use Rattle.srcp_peers.specs.Peers.{woken_output}
 use Rattle.srcp_peers.specs.Steps.{SaysNothing, Step, Writes}
 
 -- the one step that came is the write
-pub offered_now : (socket : ℕ) (bytes : List ℕ) (old new : Option (List Step)) → Offers socket bytes old new
-    → IsOffered socket bytes old new
-offered_now socket bytes old new offers later is =
+pub offered_now : (p q : Peer) (old new : Option (List Step)) → Offers p q old new
+    → IsOffered p.number p.outgoing old new
+offered_now p q old new offers later is =
     let t = offers.1 later is in
     (t.0, [], offers.0, [], t.1, t.2)
 
@@ -56,10 +56,10 @@ offered_after socket bytes old mid new says offered later is =
     )
 
 -- by the write of a flush
-pub flushed_now : (what : Flush) (p : Peer) (old new : Option (List Step))
+pub flushed_now : (what : Flush) (p q : Peer) (old new : Option (List Step))
     → (woken_output p.output (tries_again what) ≡ output.Open → p.outgoing ≢ [] → is_due what p ≡ true
-    → Offers p.number p.outgoing old new) → IsFlushed what p → IsOffered p.number p.outgoing old new
-flushed_now what p old new offers due = offered_now p.number p.outgoing old new (offers due.0 due.1 due.2)
+    → Offers (record p { output = output.Open }) q old new) → IsFlushed what p → IsOffered p.number p.outgoing old new
+flushed_now what p q old new offers due = offered_now (record p { output = output.Open }) q old new (offers due.0 due.1 due.2)
 
 -- ---- what is due, by how a peer stays
 

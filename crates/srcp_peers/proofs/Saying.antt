@@ -4,7 +4,7 @@ use Rattle.std.proofs.Common.{Option, Some, None, ℕ, refl, ap, sym, append-nil
 use Rattle.std.proofs.lemmas.List.Elements.{filter_map-append}
 use Rattle.srcp_peers.specs.Steps.{Step, SaysNothing, SaysOne, Tells, Accepts, Clocks, Closes, Reads, Shuts, Writes, Waits, Answers, calls}
 use Rattle.srcp_peers.specs.Steps.{call_of}
-use Rattle.srcp_serve.specs.Calls.{Call}
+use Rattle.srcp_door.specs.Calls.{Call}
 use Rattle.std.proofs.lemmas.List.Sums.{fold-append}
 use Rattle.srcp_peers.specs.Times.{KeepsTimes, Times, first_times, times, times_step}
 

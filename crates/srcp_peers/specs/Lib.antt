@@ -3,6 +3,7 @@ pub mod AllPeers
 pub mod Ends
 pub mod Listeners
 pub mod Peers
+pub mod Reports
 pub mod Steps
 pub mod Streams
 pub mod Times

@@ -1,6 +1,7 @@
 -- What a peer's states mean.
 use Rattle.std.specs.Prelude.{◌≡◌, ◌≢◌, ◌⊎◌, ℕ, ◌==◌, ◌&&◌, ◌||◌, nat_lt, Bool, true, false, not, if◌then◌else◌, cond}
-use Rattle.std.specs.Prelude.{List, [], ◌∷◌, ◌++◌, ◌-◌, length, min, take, Option, Some, Result, Ok, Err}
+use Rattle.std.specs.Prelude.{List, [], ◌∷◌, ◌++◌, ◌+◌, ◌-◌, count_by, drop, length, min, take, Option, Some, Result}
+use Rattle.std.specs.Prelude.{Ok, Err}
 use Rattle.std.specs.Io.{StartsWith}
 use Rattle.std.specs.declared.io.ErrorKind.{ErrorKind}
 use Rattle.srcp_peers.specs.declared.system.Ready.{Ready}
@@ -87,13 +88,15 @@ abbrev pub Spares : ℕ → Option (List Step) → Option (List Step) → Type 0
 Spares socket old new = (later : List Step) → new ≡ Some later
     → (log : List Step) × (old ≡ Some log) × (account socket later ≡ account socket log)
 
--- the step that came is a read of this socket
-abbrev pub Asks : ℕ → Option (List Step) → Option (List Step) → Type 0
-Asks socket old new = (buffer : List ℕ) × (answer : Result ℕ ErrorKind) × Tells old (Reads socket buffer answer) new
+-- as many of the steps that came are such
+abbrev pub Makes : (is_such : Step → Bool) → ℕ → Option (List Step) → Option (List Step) → Type 0
+Makes is_such count old new = (later : List Step) → new ≡ Some later
+    → (log : List Step) × (old ≡ Some log) × (count_by is_such later ≡ count_by is_such log + count)
 
--- the step that came is a write of these bytes to this socket
-abbrev pub Offers : ℕ → List ℕ → Option (List Step) → Option (List Step) → Type 0
-Offers socket bytes old new = (answer : Result ℕ ErrorKind) × Tells old (Writes socket bytes answer) new
+-- a read of this socket
+abbrev pub is_read_of : ℕ → Step → Bool
+is_read_of socket (Reads who buffer answer) = who == socket
+is_read_of socket other = false
 
 -- among the steps that came is a write of these bytes to this socket
 abbrev pub IsOffered : ℕ → List ℕ → Option (List Step) → Option (List Step) → Type 0
@@ -157,6 +160,26 @@ after_read p buffer (Ok count) = record p {
   input = given p.input count (length buffer);
 }
 after_read p buffer (Err fault) = record p { input = missed p.input (refusal_of fault) }
+
+-- a write of all that is queued
+abbrev pub after_write : Peer → Result ℕ ErrorKind → Peer
+after_write p (Ok count) = record p {
+  outgoing = drop count p.outgoing;
+  output = output_after count (length p.outgoing);
+  asked = false;
+}
+after_write p (Err fault) = record p { output = refused p.output (refusal_of fault); asked = false }
+
+-- the step that came is a read of its socket, and `new` has what that gave
+abbrev pub Asks : (p new : Peer) → Option (List Step) → Option (List Step) → Type 0
+Asks p new trace_old trace_new = (buffer : List ℕ) × (answer : Result ℕ ErrorKind)
+    × Tells trace_old (Reads p.number buffer answer) trace_new
+    × (new.incoming ≡ (after_read p buffer answer).incoming) × (new.input ≡ (after_read p buffer answer).input)
+
+-- the step that came is a write of what is queued to its socket, and `new` is what that leaves
+abbrev pub Offers : (p new : Peer) → Option (List Step) → Option (List Step) → Type 0
+Offers p new trace_old trace_new = (answer : Result ℕ ErrorKind)
+    × Tells trace_old (Writes p.number p.outgoing answer) trace_new × (new ≡ after_write p answer)
 
 -- its socket was found ready
 abbrev pub woken_input : Input → (readable closed : Bool) → Input
@@ -285,6 +308,10 @@ has_rest p = rests_writing p.outgoing p.output
 abbrev pub is_resting : Peer → Bool
 is_resting p = is_here p.stay && has_rest p
 
+-- it is there, and something happens to it though no socket is found ready
+abbrev pub is_busy : Peer → Bool
+is_busy p = is_here p.stay && not (is_resting p)
+
 -- ---- when a peer may be closed
 
 abbrev pub closable_as : (clock : ℕ) → Output → Stay → Bool
@@ -312,6 +339,11 @@ gone_as clock came state (stay.Shut since) = is_lost state || (has_ended came ||
 -- nothing is left to do for it: it lingers, and is owed nothing and ended too, or lost, or its time is over
 abbrev pub is_gone : (clock : ℕ) → Peer → Bool
 is_gone clock p = gone_as clock p.input p.output p.stay
+
+-- one that was shut down is drained: its socket was read until nothing came, or 64 times
+abbrev pub IsDrained : (old new : Peer) → (trace_old trace_new : Option (List Step)) → Type 0
+IsDrained old new trace_old trace_new = is_shut old.stay ≡ true
+    → (may_have new.input ≡ false) ⊎ Makes (is_read_of old.number) 64 trace_old trace_new
 
 -- ---- who is read
 

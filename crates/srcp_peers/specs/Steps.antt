@@ -5,7 +5,7 @@ use Rattle.std.specs.declared.io.ErrorKind.TheVariants as kind
 use Rattle.srcp_peers.specs.declared.system.Ready.{Ready}
 use Rattle.srcp_peers.specs.declared.system.Refusal.{Refusal}
 use Rattle.srcp_peers.specs.declared.system.Refusal.TheVariants.{Later, Again, Fault}
-use Rattle.srcp_serve.specs.Calls.{Call}
+use Rattle.srcp_door.specs.Calls.{Call}
 
 -- a call of the system with its answer, or an answer of the door
 pub data Step : Type 0 where

@@ -1,8 +1,8 @@
 -- The bytes that the steps carried to and from each socket of a door.
 use Rattle.std.specs.Prelude.{ℕ, ◌==◌, List, [], take, flat_map, if◌then◌else◌}
 use Rattle.std.specs.Prelude.{Ok}
-use Rattle.srcp_serve.specs.declared.door.Got.TheVariants as got
-use Rattle.srcp_serve.specs.Calls.{Call, ReadCall, WriteCall}
+use Rattle.srcp_door.specs.declared.door.Got.TheVariants as got
+use Rattle.srcp_door.specs.Calls.{Call, ReadCall, WriteCall}
 use Rattle.srcp_peers.specs.Steps.{Step, Reads, Writes, calls}
 
 -- what a call of the door said it took for a peer

@@ -5,10 +5,10 @@ use Rattle.std.specs.Option.{option_map_or}
 use Rattle.srcp_door.specs.Pacing.{fits, line_after, weight_of}
 use Rattle.srcp_door.specs.declared.pacing.Line.{Line}
 use Rattle.srcp_door.specs.declared.pacing.Line.TheVariants.{Ended}
-use Rattle.srcp_serve.specs.declared.door.DoorFault.{DoorFault}
-use Rattle.srcp_serve.specs.declared.door.DoorFault.TheVariants.{Accept}
-use Rattle.srcp_serve.specs.declared.door.Got.{Got}
-use Rattle.srcp_serve.specs.Calls.{Call, NowCall, AcceptCall, ReadCall}
+use Rattle.srcp_door.specs.declared.door.DoorFault.{DoorFault}
+use Rattle.srcp_door.specs.declared.door.DoorFault.TheVariants.{Accept}
+use Rattle.srcp_door.specs.declared.door.Got.{Got}
+use Rattle.srcp_door.specs.Calls.{Call, NowCall, AcceptCall, ReadCall}
 use Rattle.std.specs.declared.io.ErrorKind.{ErrorKind}
 use Rattle.srcp_peers.specs.declared.system.Refusal.{Refusal}
 use Rattle.srcp_peers.specs.declared.system.Refusal.TheVariants.{Later, Again, Fault}
@@ -22,7 +22,8 @@ pub record Times : Type 0 where
   pub turn : Turn  -- the turn, by the calls so far
   pub clock : ℕ  -- what the monotonic clock showed last; 0 before it is read
   pub waits : ℕ  -- how often the door waited
-  pub exact : Bool  -- each moment was the one that was to be reported
+  pub fresh : Bool  -- the clock was read since a moment was answered last
+  pub exact : Bool  -- each moment was the one that was to be reported, by a clock that was read since the one before
   pub punctual : Bool  -- no wait ended past what falls due
   pub patient : Bool  -- each long wait came after a turn in which nothing happened, or there was no panel
   pub prompt : Bool  -- no input was handed out in a turn that was late
@@ -37,6 +38,7 @@ first_times wall start = record {
   turn = first_turn wall start;
   clock = 0;
   waits = 0;
+  fresh = false;
   exact = true;
   punctual = true;
   patient = true;
@@ -60,9 +62,10 @@ in_time turn most = option_map_or (λ left. ends_by left most) (time_left turn) 
 abbrev pub answered_moment : Times → Result ℕ DoorFault → Times
 answered_moment t (Ok moment) = record t {
   turn = reported_at t.turn t.clock moment;
-  exact = t.exact && (moment == moment_at t.turn t.clock);
+  fresh = false;
+  exact = t.exact && (t.fresh && (moment == moment_at t.turn t.clock));
 }
-answered_moment t (Err fault) = record t { turn = begun t.turn false }
+answered_moment t (Err fault) = record t { turn = begun t.turn false; fresh = false }
 
 -- the line of each socket after a read
 abbrev pub lines_after : (ℕ → Line) → (who : ℕ) → Result Got DoorFault → List ℕ → (socket : ℕ) → Line
@@ -117,7 +120,7 @@ answered_times t (AcceptCall answer) = answered_accept t answer
 answered_times t other = record t { turn = after_call t.turn other }
 
 abbrev pub clocked : Times → Option ℕ → Times
-clocked t (Some time) = record t { clock = time }
+clocked t (Some time) = record t { clock = time; fresh = true }
 clocked t None = t
 
 abbrev pub times_step : Times → Step → Times

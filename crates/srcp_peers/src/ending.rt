@@ -3,7 +3,7 @@
 ghost use Rattle.std.specs.Prelude.{◌≡◌, ◌≢◌, ◌↔◌, ◌⊎◌, ◌<◌, false, true, IsTrue, ℕ};
 ghost use Rattle.srcp_peers.specs.Ends.{begun, written};
 
-use srcp_serve::MOST_WRITES;
+use srcp_door::MOST_WRITES;
 
 /// The state of a peer before its end. That is reported once its input is over, a whole visit behind that had no
 /// more for it, and its socket took all of it. So changes that go on coming put it off no longer than that.

@@ -3,12 +3,13 @@
 //! lose what it did not read.
 
 ghost use Rattle.std.specs.Prelude.{◌≡◌, ◌≢◌, ◌<◌, ℕ, [], true, false, IfSome, length, slice_index_or, filter, not};
+ghost use Rattle.std.specs.Prelude.{◌⊎◌};
 ghost use Rattle.std.specs.Prelude.{position};
 ghost use Rattle.srcp_peers.specs.declared.peer.Peer.{Peer};
 ghost use Rattle.srcp_peers.specs.Steps.{SaysNothing};
 ghost use Rattle.srcp_peers.specs.Times.{KeepsTimes};
 ghost use Rattle.srcp_peers.specs.Peers.{IsKept, OffersDue, Spares, is_closable, is_gone, is_here, is_lost, is_shut};
-ghost use Rattle.srcp_peers.specs.Peers.{stay_after};
+ghost use Rattle.srcp_peers.specs.Peers.{Asks, IsDrained, Makes, is_read_of, may_have, stay_after};
 
 use crate::peer::Peer;
 use crate::readiness::Flush;
@@ -41,6 +42,7 @@ impl Peer {
         ensures number { self.new.number ≡ self.old.number }
         ensures offered { OffersDue what self.old (S.trace system.old) (S.trace system.new) }
         ensures stay { self.new.stay ≡ stay_after self.old.stay self.new.outgoing self.new.output }
+        ensures drained { IsDrained self.old self.new (S.trace system.old) (S.trace system.new) }
     {
         if self.stay.is_here() {
             self.flush(system, what);
@@ -62,6 +64,7 @@ impl Peer {
         ensures offered { is_here self.old.stay ≡ false
             → OffersDue Flush.All self.old (S.trace system.old) (S.trace system.new) }
         ensures stay { self.new.stay ≡ stay_after self.old.stay self.new.outgoing self.new.output }
+        ensures drained { IsDrained self.old self.new (S.trace system.old) (S.trace system.new) }
     {
         match self.stay {
             Stay::Here => (),
@@ -118,6 +121,8 @@ impl Peer {
         ensures times { KeepsTimes (S.trace system.old) (S.trace system.new) }
         ensures number { self.new.number ≡ self.old.number }
         ensures stay { self.new.stay ≡ self.old.stay }
+        ensures drained { (may_have self.new.input ≡ false)
+            ⊎ Makes (is_read_of self.old.number) 64 (S.trace system.old) (S.trace system.new) }
     {
         for _ in 0..MOST_DRAINED {
             if !self.input.is_ready() {
@@ -138,6 +143,8 @@ impl Peer {
         ensures times { KeepsTimes (S.trace system.old) (S.trace system.new) }
         ensures number { self.new.number ≡ self.old.number }
         ensures stay { self.new.stay ≡ self.old.stay }
+        ensures asked { may_have self.old.input ≡ true
+            → Asks (record self.old { incoming = [] }) self.new (S.trace system.old) (S.trace system.new) }
     {
         self.drop_input();
         self.fill(system);

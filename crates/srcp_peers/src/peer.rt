@@ -1,18 +1,21 @@
 //! A peer with its socket.
 
-ghost use Rattle.std.specs.Prelude.{◌≡◌, ◌≢◌, ◌<◌, ◌≤◌, ◌++◌, ◌==◌, ◌&&◌, true, false, not, ℕ, List, [], Option, Some};
+ghost use Rattle.std.specs.Prelude.{◌≡◌, ◌≢◌, ◌<◌, ◌≤◌, ◌++◌, ◌==◌, ◌&&◌, true, false, not, cond, ℕ, List, [], Option};
+ghost use Rattle.std.specs.Prelude.{Some};
 ghost use Rattle.std.specs.Prelude.{Ok, IfErr, OnErr, length, take, drop, min, fold, nat_lt};
 ghost use Rattle.srcp_peers.specs.Steps.{SaysNothing, Tells, Answers};
-ghost use Rattle.srcp_serve.specs.Calls.{ReadCall, WriteCall};
+ghost use Rattle.srcp_door.specs.Calls.{ReadCall, WriteCall};
 ghost use Rattle.srcp_peers.specs.Times.{KeepsTimes};
 ghost use Rattle.srcp_peers.specs.Peers.{Asks, IsKept, MayEnd, MayFail, Offers, Spares, IsRead, after_wake, has_rest};
-ghost use Rattle.srcp_peers.specs.Peers.{holds_input, is_due, is_over, is_resting, is_waiting, is_wanting, may_have};
+ghost use Rattle.srcp_peers.specs.Peers.{holds_input, is_busy, is_due, is_over, is_resting, is_waiting, is_wanting};
+ghost use Rattle.srcp_peers.specs.Peers.{may_have};
 ghost use Rattle.srcp_peers.specs.Peers.{enqueued, queued_more, room_after, tries_again, woken_output};
 ghost use Rattle.srcp_peers.specs.declared.readiness.Input.{Input};
 ghost use Rattle.srcp_peers.specs.declared.readiness.Output.{Output};
 ghost use Rattle.srcp_peers.specs.Turns.{after_read, got_bytes, reports_end};
 ghost use Rattle.srcp_peers.specs.Ends.{begun, written};
-ghost use Rattle.srcp_door.specs.Pacing.{IsShort, fits, line_after, weight_of};
+ghost use Rattle.srcp_peers.specs.Reports.{IsAnswered, end_in, is_ended, is_failed, keeps_back, piece_of};
+ghost use Rattle.srcp_door.specs.Pacing.{Allows, IsShort, fits, line_after, share_after, weight_of};
 ghost use Rattle.srcp_peers.specs.declared.ending.Ending.{Ending};
 ghost use Rattle.srcp_door.specs.declared.pacing.Line.{Line};
 
@@ -22,10 +25,8 @@ use crate::readiness::{Flush, Input, Output};
 use crate::stay::Stay;
 use crate::system::{Ready, System, refusal_of};
 use crate::turn::Turn;
-use srcp_core::MOST_IN_PIECE;
-use srcp_door::{Line, Share};
-use srcp_info::LONGEST_LINE;
-use srcp_serve::{DoorFault, Got, MOST_WRITES};
+use srcp_door::{DoorFault, Got, Line, MOST_WRITES, Share};
+use srcp_info::{LONGEST_LINE, MOST_IN_PIECE};
 
 /// A peer with more queued bytes than this is flushed before the clock goes on. The queue then has space for all that a
 /// visit writes.
@@ -143,7 +144,7 @@ impl Peer {
         } }
         ensures offered { woken_output self.old.output (tries_again what) ≡ Output.Open → self.old.outgoing ≢ []
             → is_due what self.old ≡ true
-            → Offers self.old.number self.old.outgoing (S.trace system.old) (S.trace system.new) }
+            → Offers (record self.old { output = Output.Open }) self.new (S.trace system.old) (S.trace system.new) }
     {
         self.output = self.output.woken(what.tries_again());
         self.write_out(system, what);
@@ -164,7 +165,7 @@ impl Peer {
           asked = self.new.asked;
         } }
         ensures offered { self.old.output ≡ Output.Open → self.old.outgoing ≢ [] → is_due what self.old ≡ true
-            → Offers self.old.number self.old.outgoing (S.trace system.old) (S.trace system.new) }
+            → Offers self.old self.new (S.trace system.old) (S.trace system.new) }
     {
         if !self.output.is_open() || self.outgoing.is_empty() || !self.is_due(what) {
             return;
@@ -202,7 +203,7 @@ impl Peer {
         ensures number { self.new.number ≡ self.old.number }
         ensures stay { self.new.stay ≡ self.old.stay }
         ensures asked { may_have self.old.input ≡ true → length self.old.incoming < MOST_IN_PIECE
-            → Asks self.old.number (S.trace system.old) (S.trace system.new) }
+            → Asks self.old self.new (S.trace system.old) (S.trace system.new) }
         ensures read { IsRead (S.trace system.new) self.old.number }
         ensures ending { self.new.ending ≡ begun self.old.ending (is_over self.new.incoming self.new.input) }
         ensures mark { self.new.share ≡ record self.old.share { mark = not clear && self.old.share.mark } }
@@ -240,7 +241,7 @@ impl Peer {
         ensures times { KeepsTimes (S.trace system.old) (S.trace system.new) }
         ensures number { self.new.number ≡ self.old.number }
         ensures asked { may_have self.old.input ≡ true → length self.old.incoming < MOST_IN_PIECE
-            → Asks self.old.number (S.trace system.old) (S.trace system.new) }
+            → Asks self.old self.new (S.trace system.old) (S.trace system.new) }
         ensures read { IsRead (S.trace system.new) self.old.number }
         ensures same { self.new ≡ record self.old { incoming = self.new.incoming; input = self.new.input } }
     {
@@ -270,6 +271,9 @@ impl Peer {
         ensures turn { turn.new ≡ after_read turn.old self.old.share.line result.got buffer.new }
         ensures fits { fits turn.old.pace (weight_of self.old.share.line (got_bytes result.got buffer.new)) ≡ true }
         ensures ends { reports_end result.got ≡ true → turn.old.ends ≡ true }
+        ensures answered { IsAnswered turn.old self.old (length buffer.old) result.got
+            (got_bytes result.got buffer.new) result.refused }
+        ensures share { self.new.share ≡ share_after self.old.share (got_bytes result.got buffer.new) }
         ensures refused { result.refused ≡ true → IsShort turn.new.pace }
         ensures same { self.new ≡ record self.old {
           incoming = self.new.incoming;
@@ -292,6 +296,9 @@ impl Peer {
         ensures turn { turn.new ≡ after_read turn.old self.old.share.line result.got buffer.new }
         ensures fits { fits turn.old.pace (weight_of self.old.share.line (got_bytes result.got buffer.new)) ≡ true }
         ensures ends { reports_end result.got ≡ true → turn.old.ends ≡ true }
+        ensures answered { IsAnswered turn.old self.old (length buffer.old) result.got
+            (got_bytes result.got buffer.new) result.refused }
+        ensures share { self.new.share ≡ share_after self.old.share (got_bytes result.got buffer.new) }
         ensures refused { result.refused ≡ true → IsShort turn.new.pace }
         ensures same { self.new ≡ record self.old {
           incoming = self.new.incoming;
@@ -316,6 +323,11 @@ impl Peer {
         ensures line { self.new.share.line ≡ line_after self.old.share.line (got_bytes result.got buffer.new) }
         ensures turn { turn.new ≡ after_read turn.old self.old.share.line result.got buffer.new }
         ensures fits { fits turn.old.pace (weight_of self.old.share.line (got_bytes result.got buffer.new)) ≡ true }
+        ensures allows { Allows turn.old.pace self.old.share (piece_of self.old (length buffer.old))
+            (length (got_bytes result.got buffer.new)) }
+        ensures share { self.new.share ≡ share_after self.old.share (got_bytes result.got buffer.new) }
+        ensures back { result.refused ≡ keeps_back (piece_of self.old (length buffer.old))
+            (got_bytes result.got buffer.new) self.new.share }
         ensures refused { result.refused ≡ true → IsShort turn.new.pace }
         ensures same { self.new ≡ record self.old {
           incoming = self.new.incoming;
@@ -347,6 +359,7 @@ impl Peer {
         ensures bytes { (buffer : List ℕ) → got_bytes result buffer ≡ [] }
         ensures ended { result ≡ Ok Got.Ended → self.now.incoming ≡ [] → MayEnd self.now }
         ensures failed { OnErr result (MayFail self.now) }
+        ensures exact { result ≡ end_in turn.old self.now }
         ensures fault { IfErr result (λ fault. fault ≡ DoorFault.Read) }
         ensures turn { (line : Line) (buffer : List ℕ) → turn.new ≡ after_read turn.old line result buffer }
         ensures ends { reports_end result ≡ true → turn.old.ends ≡ true }
@@ -362,6 +375,7 @@ impl Peer {
     fn due_end(&self) -> Due
         ensures end { result ≡ Due.End → self.now.incoming ≡ [] → MayEnd self.now }
         ensures fault { result ≡ Due.Fault → MayFail self.now }
+        ensures exact { result ≡ cond (is_failed self.now) Due.Fault (cond (is_ended self.now) Due.End Due.Nothing) }
     {
         if self.output.is_lost() {
             return Due::Fault;
@@ -389,7 +403,7 @@ impl Peer {
           outgoing = queued_more self.old.output self.old.outgoing (take result bytes.now);
           room = room_after self.old.output self.old.room;
           cut = nat_lt result (length bytes.now);
-          ending = self.new.ending;
+          ending = written self.old.ending (not (nat_lt result (length bytes.now)));
         } }
     {
         let count = self.enqueue(bytes);
@@ -435,7 +449,7 @@ impl Peer {
 
     /// Returns whether it is there, and something happens to it though no socket is found ready.
     pub(crate) fn is_busy(&self) -> bool
-        ensures { is_resting self.now ≡ true → result ≡ false }
+        ensures { result ≡ is_busy self.now }
     {
         self.stay.is_here() && !self.is_resting()
     }

@@ -1,11 +1,11 @@
 //! What a door asks of the system.
 
 ghost use Rattle.std.specs.Prelude.{◌≡◌, ◌<◌, ◌≤◌, List, Option, None, IfOk, length};
-ghost use Rattle.srcp_serve.specs.Calls.{ExpectCall, NowCall, AcceptCall, ReadCall, WriteCall, CloseCall};
+ghost use Rattle.srcp_door.specs.Calls.{ExpectCall, NowCall, AcceptCall, ReadCall, WriteCall, CloseCall};
 ghost use Rattle.srcp_peers.specs.Steps.{Step, Tells, Accepts, Clocks, Closes, Reads, Shuts, Writes, Waits, Answers};
 ghost use Rattle.srcp_peers.specs.Steps.{refusal_of};
 
-use srcp_serve::{DoorFault, Got};
+use srcp_door::{DoorFault, Got};
 use std::io::ErrorKind;
 
 /// What a socket was found ready for. The listener is socket 0.

@@ -2,28 +2,25 @@
 
 ghost use Rattle.std.specs.Prelude.{◌≡◌, ◌<◌, ◌≤◌, ◌-◌, ◌/◌, ◌||◌, ◌⊎◌, true, false, ℕ, List, Some, None, Ok, Err};
 ghost use Rattle.std.specs.Prelude.{IfErr, Result, cond, length, take, ◌↔◌, IsTrue, All, min};
-ghost use Rattle.srcp_serve.specs.declared.door.DoorFault.{DoorFault};
-ghost use Rattle.srcp_serve.specs.Calls.{ExpectCall, AcceptCall, WriteCall, CloseCall};
-ghost use Rattle.srcp_door.specs.Pacing.{Allows, IsShort, fits, line_after, weight_of};
+ghost use Rattle.srcp_door.specs.declared.door.DoorFault.{DoorFault};
+ghost use Rattle.srcp_door.specs.Calls.{ExpectCall, AcceptCall, WriteCall, CloseCall};
+ghost use Rattle.srcp_door.specs.Pacing.{Allows, IsShort, fits, line_after, share_after, weight_of};
 ghost use Rattle.srcp_door.specs.declared.pacing.Line.{Line};
 ghost use Rattle.srcp_peers.specs.Turns.{after_call, after_read, after_wait, begun, earlier, ended, first_turn};
 ghost use Rattle.srcp_peers.specs.Turns.{handed_out, is_behind, is_pending, is_short, lack, moment_at, stop};
 ghost use Rattle.srcp_peers.specs.Turns.{reports_end, time_left, reported_at};
 ghost use Rattle.std.specs.Option.{option_map};
 ghost use Rattle.srcp_peers.specs.Accounts.{is_short_wait};
-ghost use Rattle.srcp_peers.specs.Peers.{is_resting};
+ghost use Rattle.srcp_peers.specs.Peers.{is_busy, is_resting};
+ghost use Rattle.srcp_peers.specs.Reports.{keeps_back};
+ghost use Rattle.std.specs.List.{list_all, list_any};
 ghost use Rattle.srcp_peers.specs.Listeners.{refused_listening};
-ghost use Rattle.srcp_peers.specs.Waiting.{IsWithin};
+ghost use Rattle.srcp_peers.specs.Waiting.{IsWithin, longest_wait, sooner};
 
 use crate::peer::Peer;
 use crate::system::Refusal;
-use srcp_door::{Allowed, MOST_SLACK, Pace, RESERVE, Share, Timekeeper};
-use srcp_feed::MOST_WAITING;
-use srcp_rules::MOST_CHANGES;
-use srcp_serve::{DoorFault, Got, MOST_WRITES};
-
-// The most changes that may wait for a panel are those that may come before one overruns for which none waits.
-const _: () = prove!(MOST_SLACK == MOST_WAITING);
+use srcp_door::{Allowed, DoorFault, Got, MOST_WRITES, Pace, RESERVE, Share, Timekeeper};
+use srcp_grammar::MOST_CHANGES;
 
 /// A wait for what falls due ends earlier than it by this part of the wait: the system may end a wait late by a
 /// thousandth of it, or a two-hundredth for a process of low priority. The turns behind it wait for the rest.
@@ -220,6 +217,8 @@ impl Turn {
         ensures line { share.new.line ≡ line_after share.old.line (take result.count piece.now) }
         ensures fits { fits self.old.pace (weight_of share.old.line (take result.count piece.now)) ≡ true }
         ensures allows { Allows self.old.pace share.old piece.now result.count }
+        ensures share { share.new ≡ share_after share.old (take result.count piece.now) }
+        ensures back { result.refused ≡ keeps_back piece.now (take result.count piece.now) share.new }
         ensures fair { result.refused ≡ true → IsShort self.new.pace }
     {
         let allowed = self.pace.allow(share, piece);
@@ -317,14 +316,10 @@ pub fn longest_wait(
     turn: &Turn,
     most: Option<u64>,
 ) -> Option<u64>
+    ensures exact { result ≡ longest_wait peers.now listening turn.now most }
     ensures rest { is_short_wait result ≡ false → All (λ peer. is_resting peer ≡ true) peers.now }
     ensures accepts { is_short_wait result ≡ false → listening ≡ Listening.Quiet }
     ensures panels { is_short_wait result ≡ false → is_pending turn.now.slack turn.now.busy ≡ false }
-    ensures stirred { is_pending turn.now.slack turn.now.busy ≡ true → IsWithin (stop turn.now) result }
-    ensures sleeps { All (λ peer. is_resting peer ≡ true) peers.now → listening ≡ Listening.Quiet
-        → is_pending turn.now.slack turn.now.busy ≡ false → most ≡ None
-        → result ≡ option_map (λ left. min left LONGEST_WAIT) (time_left turn.now) }
-    ensures most { (n : ℕ) → most ≡ Some n → IsWithin n result }
     ensures due { (left : ℕ) → time_left turn.now ≡ Some left → IsWithin left result }
 {
     let left = sooner(turn.left(), most);
@@ -340,9 +335,8 @@ pub fn longest_wait(
 
 /// Returns the lesser of two waits; `None` is without limit.
 fn sooner(one: Option<u64>, other: Option<u64>) -> Option<u64>
+    ensures exact { result ≡ sooner one other }
     ensures one { (n : ℕ) → one ≡ Some n → IsWithin n result }
-    ensures other { (n : ℕ) → other ≡ Some n → IsWithin n result }
-    ensures alone { other ≡ None → result ≡ one }
 {
     match (one, other) {
         (Some(one), Some(other)) => Some(one.min(other)),
@@ -353,15 +347,15 @@ fn sooner(one: Option<u64>, other: Option<u64>) -> Option<u64>
 
 /// Returns whether something happens to a peer that is there though no socket is found ready.
 fn are_busy(peers: &[Peer]) -> bool
-    ensures { All (λ peer. is_resting peer ≡ true) peers.now → result ≡ false }
+    ensures { result ≡ list_any is_busy peers.now }
 {
     peers.iter().any(|peer| peer.is_busy())
 }
 
 /// Returns whether all are there, and nothing happens to them unless a socket is found ready.
 fn are_resting(peers: &[Peer]) -> bool
+    ensures is { result ≡ list_all is_resting peers.now }
     ensures yes { result ≡ true → All (λ peer. is_resting peer ≡ true) peers.now }
-    ensures no { All (λ peer. is_resting peer ≡ true) peers.now → result ≡ true }
 {
     peers.iter().all(|peer| peer.is_resting())
 }

@@ -115,13 +115,13 @@ module _ (buses : List Bus) (moment : ℕ) (now : IsMoment moment) where
 -- ---- what a SET leaves behind
 
 -- a command that is accepted makes its changes
-accepted_done : (refused : List (Bool × Code)) (updates : List Update) → (unless_refused refused updates).reply ≡ Accepted
+pub accepted_done : (refused : List (Bool × Code)) (updates : List Update) → (unless_refused refused updates).reply ≡ Accepted
     → (unless_refused refused updates).updates ≡ updates
 accepted_done refused updates =
     unless_made (λ did. did.reply ≡ Accepted → did.updates ≡ updates) (λ code e. cc) refused updates (λ none e. refl)
 
 -- so the row that a SET puts is there
-put_there : (refused : List (Bool × Code)) (row : Row) (state : State) → (unless_refused refused (put_of row ∷ [])).reply ≡ Accepted
+pub put_there : (refused : List (Bool × Code)) (row : Row) (state : State) → (unless_refused refused (put_of row ∷ [])).reply ≡ Accepted
     → row_at row.shown.key (updated_all (unless_refused refused (put_of row ∷ [])).updates state) ≡ Some row
 put_there refused row state e =
     ap (λ us. row_at row.shown.key (updated_all us state)) (accepted_done refused (put_of row ∷ []) e) ∙ row_at-put_same row state

@@ -19,7 +19,8 @@ use Rattle.srcp_grammar.specs.declared.command.CommandGroup.TheVariants.{Session
 use Rattle.srcp_grammar.specs.Layout.{has_group}
 use Rattle.srcp_grammar.specs.Grammar.{◌>>=◌, groups, named_in}
 use Rattle.srcp_grammar.specs.Grammar.{asked, directed, parsed}
-use Rattle.srcp_rules.specs.Weight.{names_session, weight_of, weight, LinesWeighEnough, WeightsAreSmall, GoesWeighOne}
+use Rattle.srcp_grammar.specs.Weight.{names_session, weight_of, weight}
+use Rattle.srcp_rules.specs.Weight.{LinesWeighEnough, WeightsAreSmall, GoesWeighOne}
 use Rattle.srcp_grammar.proofs.GrammarLaws.{read_any, then_ok, reads_fits}
 use Rattle.srcp_rules.proofs.CountLaws.{effect_few}
 use Rattle.srcp_rules.proofs.CommandLaws.{changes_of, of_changes}

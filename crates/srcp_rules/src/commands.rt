@@ -16,11 +16,11 @@ use crate::drive::{gl_refusal, set_ga, set_gl};
 use crate::init::term_device;
 use crate::lock::{refusal, refuse_if, set_lock, term_lock};
 use crate::new_device::{init_ga, init_gl};
-use crate::obeyed::{MOST_CHANGES, Obeyed};
+use crate::obeyed::Obeyed;
 use crate::registry::{set_one, show};
 use crate::rows::Rows;
 use crate::sender::Sender;
-use srcp_grammar::{Command, PowerSwitch, Sensor, Switch, Target};
+use srcp_grammar::{Command, MOST_CHANGES, PowerSwitch, Sensor, Switch, Target};
 use srcp_info::{Code, Value};
 
 /// Answers TERM of a session. A session ends itself alone.

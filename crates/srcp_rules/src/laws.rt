@@ -11,6 +11,8 @@ ghost use Rattle.srcp_rules.specs.Laws.{MomentsKeepSessions, EndsFreeAll};
 ghost use Rattle.srcp_rules.specs.Weight.{LinesWeighEnough, WeightsAreSmall, GoesWeighOne};
 ghost use Rattle.srcp_rules.specs.Laws.{MomentsCarryOut, PortsAreSet, LocksAreSet, PortsFallBack, LocksRunOut};
 ghost use Rattle.srcp_rules.specs.Laws.{MomentsEnd};
+ghost use Rattle.srcp_rules.specs.SafetyLaws.{DrivesAreSet, EndsChangeNoDevice, EndsKeepOtherLocks, PowersAreSet};
+ghost use Rattle.srcp_rules.specs.SafetyLaws.{InitsStandStill, OwnLocksLast, SensorsAreSet, StopsStop};
 
 /// The registry of a layout begins whole.
 pub fn openings_are_whole()
@@ -152,4 +154,44 @@ pub fn locks_run_out()
 /// A moment past the greatest is the greatest.
 pub fn moments_end()
     ensures { MomentsEnd }
+{}
+
+/// SET of power is accepted, on or off, whatever is locked. It is what GET shows next, and no other row changes.
+pub fn powers_are_set()
+    ensures { PowersAreSet }
+{}
+
+/// SET of a feedback port is accepted, whatever is locked. It is what GET shows next, and no other row changes.
+pub fn sensors_are_set()
+    ensures { SensorsAreSet }
+{}
+
+/// After a SET of a locomotive that is accepted, the locomotive drives as the command says, and GET shows it. Functions
+/// that the command does not give stay, and no other row changes.
+pub fn drives_are_set()
+    ensures { DrivesAreSet }
+{}
+
+/// An emergency stop that gives no function is accepted if the locomotive is there and no other session has its lock.
+/// The locomotive stands then, with the functions that it had.
+pub fn stops_stop()
+    ensures { StopsStop }
+{}
+
+/// An INIT of a locomotive that is accepted leaves it as it is if its parameters are the same. Any other locomotive
+/// stands still afterwards, forward, with all functions off.
+pub fn inits_stand_still()
+    ensures { InitsStandStill }
+{}
+
+/// A session that has a lock keeps it over each of its commands but TERM of the lock and TERM and INIT of the device.
+pub fn own_locks_last()
+    ensures { OwnLocksLast }
+{}
+
+/// The end of a session changes no locomotive, no accessory, no power and no feedback port (`devices`). Nor does it
+/// change a lock that another session has (`locks`).
+pub fn ends_change_no_device()
+    ensures devices { EndsChangeNoDevice }
+    ensures locks { EndsKeepOtherLocks }
 {}

@@ -4,7 +4,7 @@ use Rattle.srcp_serve.proofs.Names.{if◌then◌else◌, Ok, Err, append_cancel_
 use Rattle.srcp_serve.proofs.Names.{Event, Room, none_denied, DoorCall, Tells, Adds, Trace, Call, CountsRefusals, GivesUnlessCounted}
 use Rattle.srcp_serve.proofs.Names.{answers_in, answers_of, NowCall, AddsGiven, CountsAsked, Makes, DoorFault, Bus, counted, course}
 use Rattle.srcp_serve.proofs.Names.{denied_in, start, Stand, timed}
-use Rattle.srcp_serve.specs.Calls.{CloseCall}
+use Rattle.srcp_door.specs.Calls.{CloseCall}
 use Rattle.srcp_serve.specs.Visits.{Closes}
 use Rattle.srcp_core.proofs.Agreement.RefusalsAreCounted.{denied_over_push}
 

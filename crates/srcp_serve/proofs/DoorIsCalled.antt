@@ -3,12 +3,12 @@ use Rattle.srcp_serve.proofs.Names.{◌≡◌, ◌∙◌, ℕ, ◌+◌, true, no
 use Rattle.srcp_serve.proofs.Names.{◌≤◌, length, Ok, Err, arith, flat_map-append, list_all-append, all_append, list_all, AllByRecursion}
 use Rattle.srcp_serve.proofs.Names.{IfOk, flat_map, Tells, Trace, one_more, AreAboutPeers, AreTurns, AreMoment, Asks, AreAccept, IsTurn}
 use Rattle.srcp_serve.proofs.Names.{is_of_peer, DoorFault, Got}
-use Rattle.srcp_serve.specs.Calls.{Call, ExpectCall, NowCall, AcceptCall, ReadCall, WriteCall, IsFair, is_expect, turns}
+use Rattle.srcp_door.specs.Calls.{Call, ExpectCall, NowCall, AcceptCall, ReadCall, WriteCall, IsFair, is_expect, turns}
 use Rattle.srcp_serve.proofs.CallsByTurnAndPeer.{one_part, parts-append}
 use Rattle.srcp_serve.proofs.CallsAreAdded.{adds_none, adds_one, adds_then}
 use Rattle.srcp_serve.specs.Tally.{CountsFaults, CallsDoor}
 use Rattle.srcp_serve.specs.declared.serving.Server.{Server}
-use Rattle.srcp_serve.specs.declared.door.Got.TheVariants as got
+use Rattle.srcp_door.specs.declared.door.Got.TheVariants as got
 
 pub of_peers_then : (xs ys : List Call) → AreAboutPeers xs → AreAboutPeers ys → AreAboutPeers (xs ++ ys)
 of_peers_then xs ys x y = record {

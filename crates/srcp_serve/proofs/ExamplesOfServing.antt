@@ -1,19 +1,20 @@
 -- Told calls of three turns, and what they make happen.
 use Rattle.srcp_serve.proofs.Names.{◌≡◌, ℕ, true, false, List, [], ◌∷◌, ◌++◌, drop, length, ◌-◌, replicate, map, Some, None, Ok, Err, codes}
 use Rattle.srcp_serve.proofs.Names.{refl, Bus, sent, course, welcome, Open, Bytes, Room, At, Shut, giving, Call, ExpectCall, NowCall}
-use Rattle.srcp_serve.proofs.Names.{AcceptCall, ReadCall, WriteCall, CloseCall, IsServed, SendsWhatIsTaken, events_of}
+use Rattle.srcp_serve.proofs.Names.{AcceptCall, ReadCall, WriteCall, CloseCall, FeedsWhatIsHanded, IsServed, SendsWhatIsTaken, events_of}
 use Rattle.std.specs.Fmt.{digits}
-use Rattle.srcp_serve.specs.declared.door.DoorFault.TheVariants as fault
-use Rattle.srcp_serve.specs.declared.door.Got.TheVariants as got
+use Rattle.srcp_door.specs.declared.door.DoorFault.TheVariants as fault
+use Rattle.srcp_door.specs.declared.door.Got.TheVariants as got
 
 -- bus 1 with power alone
 abbrev buses : List Bus
 buses = record { number = 1; power = true; gl_max = 0; ga_max = 0; ga_ports = 2; fb_ports = 0 } ∷ []
 
--- these are the calls of so many turns, and each peer took what was sent of its connection
+-- these are the calls of so many turns, each peer took what was sent of its connection, and what was handed out of it was fed
 abbrev IsServedOf : ℕ → List Call → List (List ℕ) → Type 0
 IsServedOf count calls texts =
-    IsServed buses count calls × SendsWhatIsTaken buses calls × (map sent (course buses (events_of buses calls)).connections ≡ texts)
+    IsServed buses count calls × SendsWhatIsTaken buses calls × FeedsWhatIsHanded buses calls
+    × (map sent (course buses (events_of buses calls)).connections ≡ texts)
 
 -- a buffer that begins with these bytes
 abbrev buffer : List ℕ → List ℕ
@@ -38,7 +39,7 @@ one_peer_makes = refl
 
 one_peer_is_served : IsServedOf 3 one_peer ((welcome ++ go_line) ∷ [])
 unfolding digits
-one_peer_is_served = (record { turns_are = refl; asked = refl }, refl, refl)
+one_peer_is_served = (record { turns_are = refl; asked = refl }, refl, refl, refl)
 
 -- the same if the second write fails
 abbrev failing : List Call
@@ -54,7 +55,7 @@ failing_makes = refl
 
 failing_is_served : IsServedOf 3 failing (welcome ∷ [])
 unfolding digits
-failing_is_served = (record { turns_are = refl; asked = refl }, refl, refl)
+failing_is_served = (record { turns_are = refl; asked = refl }, refl, refl, refl)
 
 -- ---- a peer that gives GO when it is first read
 
@@ -73,7 +74,7 @@ late = ExpectCall None None ∷ NowCall (Ok 0) ∷ AcceptCall (Err fault.Accept)
 
 late_is_served : IsServedOf 3 late ((welcome ++ go_line) ∷ [])
 unfolding digits
-late_is_served = (record { turns_are = refl; asked = refl }, refl, refl)
+late_is_served = (record { turns_are = refl; asked = refl }, refl, refl, refl)
 
 -- the first read fails
 abbrev unread : List Call
@@ -136,9 +137,11 @@ two_peers =
     ∷ (nobody_beside 254 ++ quiet 1 ∷ wrote 1 (codes "0.000 101 INFO 0 SESSION 2 COMMAND\n") ∷ wrote 1 (codes "0.000 100 INFO 1 POWER ON\n")
     ∷ quiet 2 ∷ [])
 
-two_peers_are_served : IsServed buses 5 two_peers × SendsWhatIsTaken buses two_peers
+two_peers_are_served : IsServed buses 5 two_peers × SendsWhatIsTaken buses two_peers × FeedsWhatIsHanded buses two_peers
+    × (map (λ conn. conn.fed) (course buses (events_of buses two_peers)).connections
+    ≡ codes "SET CONNECTIONMODE SRCP INFO\nGO\n" ∷ codes "GO\nSET 1 POWER ON\n" ∷ [])
 unfolding digits
-two_peers_are_served = (record { turns_are = refl; asked = refl }, refl)
+two_peers_are_served = (record { turns_are = refl; asked = refl }, refl, refl, refl)
 
 -- ---- memory is refused
 

@@ -1,11 +1,13 @@
 pub mod Names
 mod ExamplesOfServing
 mod OnlyRoomSends
+mod Stream
 mod RoomSendsWhatIsLent
 mod VisitsSendWhatIsTaken
+mod VisitsFeedWhatIsHanded
 mod CallsByTurnAndPeer
-mod PeersAreSentTheirVisits
-pub mod SentIsTakenAfterAllTurns
+mod VisitsCarryStreams
+pub mod TurnsCarryStreams
 pub mod SlotsAreTakenAndFreed
 pub mod CallsAreAdded
 pub mod WritesFollow

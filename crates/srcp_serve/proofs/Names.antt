@@ -2,7 +2,8 @@
 pub use Rattle.srcp_core.proofs.Agreement.CallLaws.{calls_agree, calls_lead}
 pub use Rattle.srcp_core.proofs.Agreement.MemoryAnswers.{line_law, none_denied}
 pub use Rattle.srcp_core.proofs.Agreement.NumbersAndKeys.{key_push, key_push_last, key_within, length_without, numbered_with, without_other}
-pub use Rattle.srcp_core.proofs.CourseLaws.EventsKeep.{IsAnswered, IsKept, kept_all, kept_fed, kept_shut, numbered_after}
+pub use Rattle.srcp_core.proofs.CourseLaws.EventsKeep.{IsAnswered, IsKept, kept_all, kept_fed, kept_lines, kept_shut}
+pub use Rattle.srcp_core.proofs.CourseLaws.EventsKeep.{numbered_after}
 pub use Rattle.srcp_core.proofs.CourseLaws.RoomGivesWhatIsOwed.{fitting_none, no_lists, took_within}
 pub use Rattle.srcp_core.proofs.CourseLaws.RoomsAddUp.{owed_plain, takes_within, took_overran}
 pub use Rattle.srcp_core.proofs.CourseLaws.SessionsAreKept.{all_numbered, all_push, opened}
@@ -30,12 +31,13 @@ pub use Rattle.srcp_grammar.specs.declared.layout.Bus.{Bus}
 pub use Rattle.srcp_info.proofs.ClientLaws.{all_append, all_filter, all_weaker, filter-map, filter_every, filter_no_one}
 pub use Rattle.srcp_info.specs.declared.change.Change.{Change}
 pub use Rattle.srcp_info.specs.declared.change.Shown.{Shown}
-pub use Rattle.srcp_serve.specs.Calls.{Adds, Call as DoorCall, PeersDiffer, Tells, Trace, one_more, parts, peer_of}
+pub use Rattle.srcp_door.specs.Calls.{Adds, Call as DoorCall, PeersDiffer, Tells, Trace, one_more, parts, peer_of}
 pub use Rattle.srcp_serve.specs.Given.{AcceptCall, Accepted, Call, CloseCall, CountsRefusals, ExpectCall, GivesUnlessCounted, NowCall}
 pub use Rattle.srcp_serve.specs.Given.{ReadCall, WriteCall, answers_in, answers_of, door_call}
 pub use Rattle.srcp_serve.specs.Pacing.{IsLight, IsPaced, ServingSparesAll, SparesPanels, TurnsSpare, brought_in, trace_room}
 pub use Rattle.srcp_serve.specs.Serving.{Accepts, Client, Closes, Closes as ClosesQuestion, Expects, IsFair, IsServed, Moments, OfEachTurn}
-pub use Rattle.srcp_serve.specs.Serving.{OfEachVisit, Question, Reads, SendsWhatIsTaken, SentIsTaken, Slots, Stand, Writes, accept_of}
+pub use Rattle.srcp_serve.specs.Serving.{FedIsHanded, FeedsWhatIsHanded, HasWhatIsCarried, OfEachServed, OfEachVisit, Question}
+pub use Rattle.srcp_serve.specs.Serving.{Reads, SendsWhatIsTaken, SentIsTaken, Slots, Stand, Writes, accept_of, handed_out, handed_out_in}
 pub use Rattle.srcp_serve.specs.Serving.{asks_of, begun, clients, closes_of, connects, count_of, empty_stand, events_of, exchange, expects}
 pub use Rattle.srcp_serve.specs.Serving.{falls_short, handed, is_about, is_close, is_closing, is_expect, is_ready, is_write, kept, lent}
 pub use Rattle.srcp_serve.specs.Serving.{lent_none_last, loses, loses_reading, moment_of, piece_of, question, reads_of, refuses, rooms}
@@ -48,8 +50,8 @@ pub use Rattle.srcp_serve.specs.Slots.{one_if}
 pub use Rattle.srcp_serve.specs.Turns.{AreAboutPeers, AreAccept, AreMoment, AreTurns, Asks, IsTurn, is_of_peer}
 pub use Rattle.srcp_serve.specs.Visits.{AddsGiven, CountsAsked, Disconnects, FromEveryCourse, HasActed, HasWritten, Keys, Makes, ReadsIn}
 pub use Rattle.srcp_serve.specs.Visits.{Took, Visits, WritesOnce, WritesOut}
-pub use Rattle.srcp_serve.specs.declared.door.DoorFault.{DoorFault}
-pub use Rattle.srcp_serve.specs.declared.door.Got.{Got}
+pub use Rattle.srcp_door.specs.declared.door.DoorFault.{DoorFault}
+pub use Rattle.srcp_door.specs.declared.door.Got.{Got}
 pub use Rattle.srcp_serve.specs.declared.serving.visit.Client.{Client as Own}
 pub use Rattle.srcp_serve.specs.declared.serving.visit.Wrote.{Wrote}
 pub use Rattle.srcp_serve.specs.declared.serving.visit.Wrote.TheVariants.{All, Failed, Less}

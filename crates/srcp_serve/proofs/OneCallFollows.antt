@@ -7,14 +7,14 @@ use Rattle.srcp_serve.proofs.Names.{piece_of, loses_reading, lent, TakesMoment, 
 use Rattle.srcp_serve.proofs.Names.{is_none, if◌then◌else◌, MatchResult, OnOk, CoreFault, ReadCall, Got, All, Less, Failed, or-false}
 use Rattle.srcp_serve.proofs.Names.{eqb-true, nil_from_length, timed, Wrote}
 use Rattle.srcp_index.specs.Earliest.{IsEarliestDue}
-use Rattle.srcp_serve.specs.Calls.{WriteCall}
+use Rattle.srcp_door.specs.Calls.{WriteCall}
 use Rattle.srcp_serve.proofs.CallsAreAdded.{adds_one, adds_then, asked_none, asked_one, makes_none, adds_none}
 use Rattle.std.specs.Result.{is_ok}
 use Rattle.srcp_core.specs.Agrees.{OfConnection}
 use Rattle.srcp_core.specs.Run.{LeadsAt}
-use Rattle.srcp_serve.specs.Calls as door
+use Rattle.srcp_door.specs.Calls as door
 use Rattle.srcp_serve.specs.Given as given
-use Rattle.srcp_serve.specs.declared.door.Got.TheVariants as got
+use Rattle.srcp_door.specs.declared.door.Got.TheVariants as got
 
 -- what the core is after the answer
 abbrev pub IsTold : Held → Result ℕ DoorFault → Held → Type 0

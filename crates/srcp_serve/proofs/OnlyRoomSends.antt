@@ -5,8 +5,8 @@ use Rattle.srcp_serve.proofs.Names.{fold, nat_lt, AllByRecursion, take-append-le
 use Rattle.srcp_serve.proofs.Names.{Bytes, At, Shut, Obeyed, Began, Ended, Event, Room, Bus, Connection, given, sent, given_room, World}
 use Rattle.srcp_serve.proofs.Names.{fresh, numbered, with_numbered, open_connection, at_connection, did, replied, counted, is_info, state}
 use Rattle.srcp_serve.proofs.Names.{entered, goes, greeted, ended, commanded, answered_as, answered, order_of, fault, new_lines}
-use Rattle.srcp_serve.proofs.Names.{fed_to, shut_as, or_refused, happens, rows, history, line_law, all_numbered, all_push, opened}
-use Rattle.srcp_serve.proofs.Names.{eqb-false, map-append, IsAnswered, kept_fed, kept_shut, numbered_after, cond_both, or_parts}
+use Rattle.srcp_serve.proofs.Names.{fed_to, shut_as, or_refused, happens, rows, history, line_law, all_numbered, opened}
+use Rattle.srcp_serve.proofs.Names.{eqb-false, IsAnswered, kept_fed, kept_shut, numbered_after, cond_both, or_parts}
 use Rattle.srcp_info.specs.Line.{reply_line}
 use Rattle.srcp_info.specs.declared.change.Code.{Code}
 use Rattle.srcp_info.specs.declared.change.Code.TheVariants.{C500}
@@ -182,14 +182,6 @@ module _ (buses : List Bus) (n : ℕ) (texts : List (List ℕ)) where
 
   pub sending_shut : (w : World) → Sends w → Sends (happens buses w (Shut n))
   sending_shut w a = event_keeps buses (IsSending texts) (Shut n) w (sending_shut_as (open_connection (counted w) n) (counted w) a) a
-
-module _ (buses : List Bus) (texts : List (List ℕ)) where
-  -- a connection more was sent nothing
-  pub sending_opened : (granted : Bool) (w : World) → IsSending texts w.connections → fault buses w (Open granted) ≡ None
-      → IsSending (texts ++ [] ∷ []) (happens buses w (Open granted)).connections
-  sending_opened granted w a e =
-      let more = all_push IsSteady _ fresh a.steady (record { plain = λ h. refl; goes_on = λ h. refl; within = omega arith }) in
-      rw e (record { steady = more; sends = cc (map-append sent w.connections (fresh ∷ []), a.sends) })
 
 -- ---- what happens to others leaves a connection as it is
 

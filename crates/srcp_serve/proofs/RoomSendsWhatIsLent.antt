@@ -1,15 +1,16 @@
 -- What a connection lends and its peer then takes is what the course says was sent.
 use Rattle.srcp_serve.proofs.Names.{◌≡◌, ◌∙◌, ℕ, zero, suc, ◌+◌, ◌-◌, ◌≤◌, min, Bool, true, false, ◌==◌, List, [], ◌∷◌, ◌++◌, take, drop}
 use Rattle.srcp_serve.proofs.Names.{length, refl, ap, sym, arith, length-append, length-drop, take-add, append-nil, append_assoc, add-zero}
-use Rattle.srcp_serve.proofs.Names.{if◌then◌else◌, Option, Some, None, map, ◌<◌, flat_map, nat_tests, zero-min, min-eq_left, take-append-le}
+use Rattle.srcp_serve.proofs.Names.{if◌then◌else◌, Option, Some, None, ◌<◌, flat_map, nat_tests, zero-min, min-eq_left, take-append-le}
 use Rattle.srcp_serve.proofs.Names.{drop_at, flat_map-append, Shown, Next, Connection, History, line_of, text, given, sent, unsent, prefix}
 use Rattle.srcp_serve.proofs.Names.{fitting, available, items_of, owed, overran, took, given_room, is_open, take-nil, fold-append}
 use Rattle.srcp_serve.proofs.Names.{same_Some, AllByRecursion, Event, Open, Bytes, Room, At, Shut, Bus, World, fresh, start, numbered}
-use Rattle.srcp_serve.proofs.Names.{with_numbered, open_connection, at_connection, counted, or_refused, happens, course, history, rows}
+use Rattle.srcp_serve.proofs.Names.{open_connection, at_connection, counted, or_refused, happens, course, history, rows}
 use Rattle.srcp_serve.proofs.Names.{NoSuch, owed_plain, numbered_with, fitting_none, took_within, all_numbered, all_push, lent, and-false}
 use Rattle.srcp_serve.proofs.Names.{cond_both, is_none, opened}
 use Rattle.srcp_serve.proofs.OnlyRoomSends.{IsSteady, IsSending, event_keeps, sending_bytes, sending_shut, steady_at}
 use Rattle.srcp_serve.proofs.CallsByTurnAndPeer.{fold_keeps}
+use Rattle.srcp_serve.proofs.Stream.{put, put_none, put_with}
 
 -- the text that is given after room for this many bytes, and how many bytes of it are taken then
 abbrev pub now_given : (left got : List ℕ) → List Next → ℕ → List ℕ
@@ -132,33 +133,6 @@ conn_sends past shown conn bytes false false e e' within h =
 
 -- ---- of all connections
 
--- that one has these more
-abbrev pub put : ℕ → List ℕ → List (List ℕ) → List (List ℕ)
-put n more [] = []
-put zero more (text ∷ texts) = text ∷ texts
-put (suc zero) more (text ∷ texts) = (text ++ more) ∷ texts
-put (suc (suc n)) more (text ∷ texts) = text ∷ put (suc n) more texts
-
-pub put_none : (n : ℕ) (texts : List (List ℕ)) → put n [] texts ≡ texts
-put_none n [] = refl
-put_none zero (text ∷ texts) = refl
-put_none (suc zero) (text ∷ texts) = ap (λ t. t ∷ texts) (append-nil text)
-put_none (suc (suc n)) (text ∷ texts) = ap (λ ts. text ∷ ts) (put_none (suc n) texts)
-
-pub put_put : (n : ℕ) (a b : List ℕ) (texts : List (List ℕ)) → put n b (put n a texts) ≡ put n (a ++ b) texts
-put_put n a b [] = refl
-put_put zero a b (text ∷ texts) = refl
-put_put (suc zero) a b (text ∷ texts) = ap (λ t. t ∷ texts) (append_assoc text a b)
-put_put (suc (suc n)) a b (text ∷ texts) = ap (λ ts. text ∷ ts) (put_put (suc n) a b texts)
-
-put_with : (n : ℕ) (f : Connection → Connection) (more : List ℕ) (conns : List Connection)
-    → ((conn : Connection) → numbered n conns ≡ Some conn → sent (f conn) ≡ sent conn ++ more)
-    → map sent (with_numbered n f conns) ≡ put n more (map sent conns)
-put_with n f more [] h = refl
-put_with zero f more _ h = refl
-put_with (suc zero) f more (conn ∷ conns) h = ap (λ t. t ∷ map sent conns) (h conn refl)
-put_with (suc (suc n)) f more (conn ∷ conns) h = ap (λ ts. sent conn ∷ ts) (put_with (suc n) f more conns h)
-
 steady_room : (bytes : ℕ) (past : History) (shown : List Shown) (conn : Connection) → IsSteady conn
     → IsSteady (given_room bytes past shown conn)
 steady_room bytes past shown conn s =
@@ -215,7 +189,7 @@ module _ (buses : List Bus) where
           λ c t. rw (same_Some conn c (sym there ∙ t)) at one in
           rw (after_room events n bytes conn e) (record {
             steady = all_numbered _ n _ _ (λ c t s. steady_room bytes past shown c s) a.steady;
-            sends = cc (put_with n (given_room bytes past shown) (take bytes (lent buses n events)) w.connections same, a.sends);
+            sends = cc (put_with sent n (given_room bytes past shown) (take bytes (lent buses n events)) w.connections same, a.sends);
           })
       by None e =
           let w = course buses events in

@@ -5,9 +5,10 @@ use Rattle.srcp_serve.proofs.Names.{AllZip, Bus, denied_over, start, Held, DoorC
 use Rattle.srcp_serve.proofs.Names.{IsServed, stand_after, events_of, Begins, IsInState, one_if, MakesTurn, ClientsDiffer, IsSlotOf}
 use Rattle.srcp_serve.proofs.Names.{ServesCourse, Owns, IsTurn, Asks, AreTurns, CountsAsked, Keys}
 use Rattle.std.specs.List.{IsDistinct}
+use Rattle.srcp_serve.specs.Serving.{PeersDiffer}
 use Rattle.srcp_serve.proofs.CallsByTurnAndPeer.{served-more}
 use Rattle.srcp_serve.proofs.CallsAreAdded.{adds_then, refusals_then, same_calls}
-use Rattle.srcp_serve.proofs.SentIsTakenAfterAllTurns.{sent_taken}
+use Rattle.srcp_serve.proofs.TurnsCarryStreams.{fed_handed, sent_taken}
 use Rattle.srcp_serve.proofs.DoorIsCalled.{fair_turns}
 use Rattle.srcp_serve.proofs.TurnsFollow.{fair_given, known_turned, peers_prefix}
 use Rattle.srcp_serve.proofs.SlotsAreTakenAndFreed.{AreOf}
@@ -103,6 +104,8 @@ serves_all count turns opened old now _ _ owns e asks so buses before calls layo
     let a = asks _ is in
     let same = same_calls a.1 (record { before = before; was = was; is = refl }) ∙ sym s.are in
     let served = rw e at s.served in
+    let differ_given : PeersDiffer buses s.calls = rw s.are differ in
+    let fair = fair_given s.calls (rw same at (fair_turns a.0 a.2)) in
     record {
       calls = s.calls;
       are = s.are;
@@ -113,7 +116,8 @@ serves_all count turns opened old now _ _ owns e asks so buses before calls layo
         served = served;
         stands = s.in_state.stands;
         opened = sym s.opened ∙ sym s.in_state.long ∙ s.in_state.stands.long;
-        taken = sent_taken buses turns s.calls served (rw s.are differ) (fair_given s.calls (rw same at (fair_turns a.0 a.2)));
+        taken = sent_taken buses turns s.calls served differ_given fair;
+        fed = fed_handed buses turns s.calls served differ_given fair;
       };
     }
 

@@ -8,7 +8,7 @@ use Rattle.srcp_serve.proofs.Names.{Client, Stand, with_client, clients, kept, S
 use Rattle.srcp_serve.proofs.Names.{without_key, StandsFor, key_push, key_within, without_other, Own, cond_both, eqb-false, ltb-false}
 use Rattle.srcp_serve.proofs.Names.{ne_eqb, or_from, or_parts, all_weaker, filter_map-append}
 use Rattle.std.specs.List.{IsDistinct}
-use Rattle.srcp_serve.proofs.PeersAreSentTheirVisits.{connected_all}
+use Rattle.srcp_serve.proofs.VisitsCarryStreams.{connected_all}
 use Rattle.srcp_serve.proofs.VisitsFollow.{AreAbout}
 use Rattle.srcp_serve.proofs.VisitsSendWhatIsTaken.{all_parts}
 use Rattle.srcp_serve.proofs.CallsByTurnAndPeer.{AreOf as AskOf, no_calls, none_asked, turned_round}

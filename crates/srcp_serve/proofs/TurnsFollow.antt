@@ -11,13 +11,13 @@ use Rattle.srcp_serve.proofs.Names.{Owns, AreAccept, Asks, AreAboutPeers, IsTurn
 use Rattle.srcp_serve.proofs.Names.{⊎_elim, all_weaker}
 use Rattle.std.specs.List.{IsDistinct}
 use Rattle.srcp_serve.proofs.VisitsSendWhatIsTaken.{all_parts}
-use Rattle.srcp_serve.proofs.PeersAreSentTheirVisits.{connected_all, kept_all}
+use Rattle.srcp_serve.proofs.VisitsCarryStreams.{connected_all, kept_all}
 use Rattle.srcp_serve.proofs.VisitsFollow.{closing_call}
 use Rattle.srcp_serve.proofs.CallsByTurnAndPeer.{accept_as, fold_keeps, same_peer}
 use Rattle.srcp_serve.proofs.SlotsAreTakenAndFreed.{AreOf, HasNone, NoVisits, SameVisits, same_asked, same_kept, same_made, second_visits}
 use Rattle.srcp_serve.proofs.CallsAreAdded.{adds_one, adds_then, asked_moment, given_then, makes_then, same_calls}
-use Rattle.srcp_serve.proofs.SentIsTakenAfterAllTurns.{differ_last, peers_trace}
-use Rattle.srcp_serve.specs.Calls as door
+use Rattle.srcp_serve.proofs.TurnsCarryStreams.{differ_last, peers_trace}
+use Rattle.srcp_door.specs.Calls as door
 
 -- calls about peers tell no moment and accept nobody
 no_begin : (calls : List Call) → list_all is_of_peer (map door_call calls) ≡ true

@@ -5,9 +5,10 @@ use Rattle.srcp_serve.proofs.Names.{filter_map, list_all, list_any, AllByRecursi
 use Rattle.srcp_serve.proofs.Names.{filter_map-append, fold-append, Bus, Piece, Event, Bytes, Room, Shut, World, start, happens, course}
 use Rattle.srcp_serve.proofs.Names.{Call, WriteCall, Question, Reads, Writes, Closes, Client, question, IsFair, taken, taken_in, piece_of}
 use Rattle.srcp_serve.proofs.Names.{count_of, is_close, loses, loses_reading, lent_none_last, exchange, is_ready, is_closing, lent, handed}
-use Rattle.srcp_serve.proofs.Names.{unless_nil, reads_of, writes_of, closes_of, visit_asks, cond_both, take-nil}
+use Rattle.srcp_serve.proofs.Names.{unless_nil, reads_of, writes_of, closes_of, visit_asks, cond_both, take-nil, is_about, sent}
 use Rattle.srcp_serve.proofs.OnlyRoomSends.{IsSending, sending_bytes, sending_shut}
-use Rattle.srcp_serve.proofs.RoomSendsWhatIsLent.{put, put_none, put_put, sending_room}
+use Rattle.srcp_serve.proofs.RoomSendsWhatIsLent.{sending_room, steady_course}
+use Rattle.srcp_serve.proofs.Stream.{Stream, asks_bytes, made_of, put, put_none, put_put}
 
 -- ---- calls by their questions
 
@@ -138,10 +139,6 @@ module _ (buses : List Bus) (peer conn : ℕ) where
       (sending_shut buses conn texts (course buses events) a)
   last_shut events texts false a = rw append-nil a
 
--- what a visit makes happen
-abbrev pub made_of : ℕ → List Call → List Event
-made_of conn calls = exchange conn calls ++ (if list_any is_close calls then Shut conn ∷ [] else [])
-
 module _ (buses : List Bus) (client : Client) (events : List Event) (calls : List Call) where
   abbrev read_events : List Event
   read_events = events ++ map (Bytes client.conn) (filter_map piece_of calls)
@@ -213,3 +210,25 @@ module _ (buses : List Bus) (client : Client) (events : List Event) (calls : Lis
       (lent_none_last calls) wrote in
       rw joined at (last_shut buses client.peer client.conn ((read_events ++ map (Room client.conn) (filter_map count_of calls))
       ++ map (Room client.conn) (if lent_none_last calls then 0 ∷ [] else [])) now (list_any is_close calls) roomed)
+
+-- ---- the stream to the peers
+
+-- a call about another takes nothing of a peer
+pub taken_own : (peer : ℕ) (call : Call) → is_about peer call ≡ false → taken_in peer call ≡ []
+taken_own peer (WriteCall who bytes (Ok count)) e = ap (λ b. if b then take count bytes else []) e
+taken_own peer other e = refl
+
+pub taken_none : (peer : ℕ) (call : Call) → asks_bytes (question call) ≡ false → taken_in peer call ≡ []
+taken_none peer (WriteCall who bytes answer) e = cc
+taken_none peer other e = refl
+
+abbrev pub sent_stream : (buses : List Bus) → Stream buses
+sent_stream buses = record {
+  bytes = sent;
+  carried_in = taken_in;
+  begins = refl;
+  own = taken_own;
+  none = taken_none;
+  visits = λ client events calls texts e fair a.
+      (sending_visit buses client events calls texts e fair (record { steady = steady_course buses events; sends = a })).sends;
+}

@@ -3,10 +3,10 @@ use Rattle.std.specs.Prelude.{◌≡◌, ℕ, Bool, IsTrue, List, [], ◌∷◌,
 use Rattle.std.specs.List.{AllByRecursion}
 use Rattle.srcp_core.specs.Held.{Held}
 use Rattle.srcp_core.specs.Under.{denied_by}
-use Rattle.srcp_serve.specs.Calls.{Call as DoorCall}
-use Rattle.srcp_serve.specs.declared.door.DoorFault.{DoorFault}
-use Rattle.srcp_serve.specs.declared.door.Got.{Got}
-use Rattle.srcp_serve.specs.Calls as door
+use Rattle.srcp_door.specs.Calls.{Call as DoorCall}
+use Rattle.srcp_door.specs.declared.door.DoorFault.{DoorFault}
+use Rattle.srcp_door.specs.declared.door.Got.{Got}
+use Rattle.srcp_door.specs.Calls as door
 
 -- a call of a door with its answer: if a peer was accepted, whether its connection was given memory; if bytes were
 -- read, for each line that ends in them whether it was given memory

@@ -1,4 +1,3 @@
-pub mod Calls
 pub mod Given
 pub mod Pacing
 pub mod Slots

@@ -20,7 +20,7 @@ module _ (buses : List Bus) where
   brought_in stand calls = changes_since buses (length (course buses stand.events).steps)
       (course buses (turned buses stand calls).events)
 
-  -- each session that has overrun after the turn had overrun before it
+  -- each session that has overrun by the end of the turn, closed in it or not, had overrun before it
   abbrev pub SparesPanels : Stand → List Call → Type 0
   SparesPanels stand calls = (number : ℕ) (later : Connection)
       → IsOverrun buses (course buses (turned buses stand calls).events) number later
@@ -35,7 +35,7 @@ module _ (buses : List Bus) where
   TurnsSpare Law = (count : ℕ) (trace : List Call) → IsServed buses count trace
       → OfEachTurn buses (λ stand calls. Law stand calls → SparesPanels stand calls) empty_stand (turns trace)
 
-  -- if each turn is so, no panel ever overran
+  -- if each turn is so, no panel ever overran, whether it was closed since or not
   abbrev pub ServingSparesAll : (Stand → List Call → Type 0) → Type 0
   ServingSparesAll Law = (count : ℕ) (trace : List Call) → IsServed buses count trace
       → OfEachTurn buses Law empty_stand (turns trace)

@@ -1,21 +1,23 @@
 -- What a server asks of its door, turn by turn, and which events the answers make.
 -- A turn tells the door what to expect, asks for the time, accepts one peer, and visits each peer that has a slot.
 -- A peer is handed exactly what the course of these events leaves unsent of its connection. So each peer took what the
--- course says that it was sent: that is SentIsTaken, which `laws::sent_is_taken` ensures.
+-- course says that it was sent: that is SentIsTaken, which `laws::sent_is_taken` ensures. A peer is read only if its
+-- connection accepts bytes. So each connection was fed what the door handed out of its peer: FedIsHanded, which
+-- `laws::fed_is_handed` ensures.
 use Rattle.std.specs.Prelude.{⊤, ◌≡◌, ℕ, ◌+◌, Bool, true, false, not, ◌&&◌, ◌||◌, ◌==◌, nat_lt, if◌then◌else◌, List, []}
 use Rattle.std.specs.Prelude.{◌∷◌, ◌++◌, map, take, length, filter, filter_map, flat_map, fold, count_by, replicate}
 use Rattle.std.specs.Prelude.{Option, Some, None, is_none, option_map, Ok, Err}
 use Rattle.std.specs.List.{list_any, AllByRecursion}
 use Rattle.srcp_grammar.specs.declared.layout.Bus.{Bus}
 use Rattle.srcp_core.specs.Agrees.{closes, lent as lent_in}
-use Rattle.srcp_core.specs.Connection.{sent}
+use Rattle.srcp_core.specs.Connection.{Connection, sent}
 use Rattle.srcp_core.specs.Course.{course, fault}
 use Rattle.srcp_core.specs.Under.{Event, Piece, Open, Bytes, Room, At, Shut, giving}
 use Rattle.srcp_core.specs.Waits.{due_next, slack}
 use Rattle.srcp_serve.specs.Given.{Accepted, Call, door_call, ExpectCall, NowCall, AcceptCall, ReadCall, WriteCall}
 use Rattle.srcp_serve.specs.Given.{CloseCall}
-use Rattle.srcp_serve.specs.Calls as door
-use Rattle.srcp_serve.specs.declared.door.Got.TheVariants as got
+use Rattle.srcp_door.specs.Calls as door
+use Rattle.srcp_door.specs.declared.door.Got.TheVariants as got
 
 -- ---- calls and their answers
 
@@ -112,6 +114,16 @@ taken_in peer other = []
 -- and in all these calls
 abbrev pub taken : ℕ → List Call → List ℕ
 taken peer trace = flat_map (taken_in peer) trace
+
+-- the bytes of a peer that the door handed out in a call
+abbrev pub handed_out_in : ℕ → Call → List ℕ
+handed_out_in peer (ReadCall who (Ok (got.Bytes count)) buffer grants) =
+    if who == peer then take count buffer else []
+handed_out_in peer other = []
+
+-- and in all these calls
+abbrev pub handed_out : ℕ → List Call → List ℕ
+handed_out peer trace = flat_map (handed_out_in peer) trace
 
 -- ---- peers and slots
 
@@ -324,18 +336,34 @@ module _ (buses : List Bus) where
     pub turns_are : length (turns trace) ≡ count
     pub asked : map question trace ≡ turns_ask empty_stand (turns trace)
 
-  -- ---- what the peers took
+  -- ---- what the peers took, and what was handed out of them
 
   -- the door accepted no peer twice
   abbrev pub PeersDiffer : List Call → Type 0
   PeersDiffer trace = door.PeersDiffer [] (map door_call trace)
 
+  -- each connection has exactly what the calls carried for its peer
+  abbrev pub HasWhatIsCarried : (Connection → List ℕ) → (ℕ → List Call → List ℕ) → List Call → Type 0
+  HasWhatIsCarried bytes carried trace = map bytes (course buses (events_of trace)).connections
+      ≡ map (λ peer. carried peer trace) (stand_after trace).connected
+
   -- each connection was sent exactly what its peer took
   abbrev pub SendsWhatIsTaken : List Call → Type 0
-  SendsWhatIsTaken trace = map sent (course buses (events_of trace)).connections
-      ≡ map (λ peer. taken peer trace) (stand_after trace).connected
+  SendsWhatIsTaken = HasWhatIsCarried sent taken
 
-  -- so it is in every list of calls that is served
+  -- each connection was fed exactly what the door handed out of its peer
+  abbrev pub FeedsWhatIsHanded : List Call → Type 0
+  FeedsWhatIsHanded = HasWhatIsCarried (λ conn. conn.fed) handed_out
+
+  -- the law holds of every list of calls that is served
+  abbrev pub OfEachServed : (List Call → Type 0) → Type 0
+  OfEachServed Law = (count : ℕ) (trace : List Call) → IsServed count trace → PeersDiffer trace
+      → AllByRecursion IsFair trace → Law trace
+
+  -- so it is with what is sent
   abbrev pub SentIsTaken : Type 0
-  SentIsTaken = (count : ℕ) (trace : List Call) → IsServed count trace → PeersDiffer trace → AllByRecursion IsFair trace
-      → SendsWhatIsTaken trace
+  SentIsTaken = OfEachServed SendsWhatIsTaken
+
+  -- and with what is fed
+  abbrev pub FedIsHanded : Type 0
+  FedIsHanded = OfEachServed FeedsWhatIsHanded

@@ -8,13 +8,13 @@ use Rattle.srcp_core.specs.Course.{course, denied_over, start}
 use Rattle.srcp_core.specs.Held.{Held}
 use Rattle.srcp_core.specs.Recording.{key_of}
 use Rattle.srcp_core.specs.Stands.{StandsFor}
-use Rattle.srcp_serve.specs.Calls.{Call as DoorCall, Adds, PeersDiffer, Trace}
+use Rattle.srcp_door.specs.Calls.{Call as DoorCall, Adds, PeersDiffer, Trace}
 use Rattle.srcp_serve.specs.Given.{Call, ExpectCall, NowCall, AcceptCall, CountsRefusals, door_call}
 use Rattle.srcp_serve.specs.Serving.{Client, clients, Stand, Expects, expects, IsServed, question, accept_of, kept}
 use Rattle.srcp_serve.specs.Serving.{visit_events, visits_ask, timed, turned, turn_asks, refuses, after_accept}
-use Rattle.srcp_serve.specs.Serving.{events_of, SendsWhatIsTaken, Slots}
+use Rattle.srcp_serve.specs.Serving.{events_of, FeedsWhatIsHanded, SendsWhatIsTaken, Slots}
 use Rattle.srcp_serve.specs.Visits.{AddsGiven, CountsAsked, Keys, Makes}
-use Rattle.srcp_serve.specs.declared.door.DoorFault.{DoorFault}
+use Rattle.srcp_door.specs.declared.door.DoorFault.{DoorFault}
 use Rattle.srcp_serve.specs.declared.serving.visit.Client.{Client as Own}
 
 -- the slots of a server
@@ -158,13 +158,15 @@ Begins After old trace_old trace_new = (buses : List Bus) (before calls : List D
     → PeersDiffer [] calls → After buses calls
 
 -- the calls are exactly those of `count` turns, and each write is handed what the course leaves unsent; the core stands
--- for the events of the calls; each connection was sent, to the byte, what its peer took
+-- for the events of the calls; each connection was sent, to the byte, what its peer took, and was fed, to the byte,
+-- what the door handed out of its peer
 pub record IsOfCourse (buses : List Bus) (count opens : ℕ) (trace : List Call) (held : Held) : Type 0 where
   pub keys : Keys
   pub served : IsServed buses count trace
   pub stands : StandsFor buses keys held (course buses (events_of buses trace))
   pub opened : opens ≡ length (course buses (events_of buses trace)).connections  -- one for each Open that is accepted
   pub taken : SendsWhatIsTaken buses trace
+  pub fed : FeedsWhatIsHanded buses trace
 
 -- there are answers of memory by which the kept calls are those of the course; the core counted exactly the refusals
 -- among them, and each of these was asked for in that course

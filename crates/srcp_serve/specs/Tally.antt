@@ -1,6 +1,6 @@
 -- What a method of a server does to its door, and how the failures of a door are counted.
 use Rattle.std.specs.Prelude.{◌≡◌, ℕ, ◌+◌, ◌<◌, ◌≤◌, List}
-use Rattle.srcp_serve.specs.Calls.{Call, Trace}
+use Rattle.srcp_door.specs.Calls.{Call, Trace}
 use Rattle.srcp_serve.specs.declared.serving.Server.{Server}
 use Rattle.srcp_serve.specs.Turns.{Asks}
 

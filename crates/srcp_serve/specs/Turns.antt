@@ -1,8 +1,8 @@
 -- Which calls a turn makes, whatever the core decides: what to expect, the time, one accept, then calls about peers.
 use Rattle.std.specs.Prelude.{⊤, ◌≡◌, ℕ, Bool, true, false, List, [], ◌∷◌, length, flat_map, Some}
 use Rattle.std.specs.List.{list_all, AllByRecursion}
-use Rattle.srcp_serve.specs.Calls.{Call, Trace, ExpectCall, NowCall, AcceptCall, ReadCall, WriteCall, CloseCall, Adds}
-use Rattle.srcp_serve.specs.Calls.{IsFair, turns}
+use Rattle.srcp_door.specs.Calls.{Call, Trace, ExpectCall, NowCall, AcceptCall, ReadCall, WriteCall, CloseCall, Adds}
+use Rattle.srcp_door.specs.Calls.{IsFair, turns}
 
 -- the call is about a peer
 abbrev pub is_of_peer : Call → Bool

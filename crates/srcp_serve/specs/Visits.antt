@@ -9,16 +9,16 @@ use Rattle.srcp_core.specs.Held.{Held}
 use Rattle.srcp_core.specs.Recording.{key_of, without_key}
 use Rattle.srcp_core.specs.Stands.{StandsFor}
 use Rattle.srcp_core.specs.Under.{Event, Bytes, Room, Shut}
-use Rattle.srcp_serve.specs.Calls.{Call as DoorCall, Trace, Adds}
+use Rattle.srcp_door.specs.Calls.{Call as DoorCall, Trace, Adds}
 use Rattle.srcp_serve.specs.Given.{Call, WriteCall, CountsRefusals, door_call}
 use Rattle.srcp_serve.specs.Serving.{Client, Question, Writes, Closes as ClosesQuestion, question, piece_of, count_of}
 use Rattle.srcp_serve.specs.Serving.{is_close, loses, loses_reading, rooms, lent, handed, reads_of, visit_asks}
 use Rattle.srcp_serve.specs.Serving.{visit_events}
 use Rattle.srcp_serve.specs.Turns.{Asks}
-use Rattle.srcp_serve.specs.declared.door.DoorFault.{DoorFault}
+use Rattle.srcp_door.specs.declared.door.DoorFault.{DoorFault}
 use Rattle.srcp_serve.specs.declared.serving.visit.Wrote.{Wrote}
 use Rattle.srcp_serve.specs.declared.serving.visit.Wrote.TheVariants.{All, Less, Failed}
-use Rattle.srcp_serve.specs.Calls as door
+use Rattle.srcp_door.specs.Calls as door
 
 -- the keys of the core's connections, in the order of the connections; `None` if it has none
 abbrev pub Keys : Type 0

@@ -4,7 +4,7 @@ ghost use Rattle.std.specs.Prelude.{List};
 ghost use Rattle.srcp_grammar.specs.Layout.{IsLayout};
 ghost use Rattle.srcp_grammar.specs.declared.layout.Bus.{Bus};
 ghost use Rattle.srcp_serve.specs.Given.{GivesUnlessCounted};
-ghost use Rattle.srcp_serve.specs.Serving.{SentIsTaken};
+ghost use Rattle.srcp_serve.specs.Serving.{FedIsHanded, SentIsTaken};
 ghost use Rattle.srcp_serve.specs.Settling.{SettlesSoon, WaitsAreGoneAfterAVisit};
 ghost use Rattle.srcp_serve.specs.Pacing.{IsLight, IsPaced, ServingSparesAll, TurnsSpare};
 
@@ -14,22 +14,30 @@ pub fn sent_is_taken()
     ensures { (buses : List Bus) → SentIsTaken buses }
 {}
 
+/// States that each connection was fed, to the byte, what the door handed out of its peer. The calls are as those of
+/// `sent_is_taken`.
+pub fn fed_is_handed()
+    ensures { (buses : List Bus) → FedIsHanded buses }
+{}
+
 /// States that memory was given in all calls, if the core counted exactly the refusals in them, and counts none.
 pub fn gives_unless_counted()
     ensures { GivesUnlessCounted }
 {}
 
 /// States that a turn makes no panel overrun if it brings at most as many changes as the slack that the door was told
-/// (`each`). The slack is 256 if there was no panel. If each turn is so, no panel ever overran (`all`).
+/// (`each`). That is said of each panel, also of one that is closed in the turn. The slack is 256 if there was no panel.
+/// If each turn is so, no panel ever overran (`all`).
 pub fn paced_turns()
     ensures each { (buses : List Bus) → TurnsSpare buses (IsPaced buses) }
     ensures all { (buses : List Bus) → ServingSparesAll buses (IsPaced buses) }
 {}
 
-/// States that a turn makes no panel overrun if its lines are light enough (`each`). Two sums together have to be
-/// within the slack that the door was told, which is 256 if there was no panel. One is of the weights, by
-/// `srcp_rules::weight`, of the lines that end in the bytes of the turn. The other is of the changes of its moment and
-/// of the ends of sessions. If each turn is so, no panel ever overran (`all`).
+/// States that a turn makes no panel overrun if its lines are light enough (`each`). That is said of each panel, also of
+/// one that is closed in the turn. Two sums together have to be within the slack that the door was told, which is 256 if
+/// there was no panel. One is of the weights, by `srcp_grammar::weight`, of the lines that end in the bytes of the turn.
+/// The other is of the changes of its moment and of the ends of sessions. If each turn is so, no panel ever overran
+/// (`all`).
 pub fn light_turns()
     ensures each { (buses : List Bus) → IsLayout buses → TurnsSpare buses (IsLight buses) }
     ensures all { (buses : List Bus) → IsLayout buses → ServingSparesAll buses (IsLight buses) }

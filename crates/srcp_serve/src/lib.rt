@@ -4,10 +4,9 @@
 //! The crate reads no configuration and prints nothing: `srcp_tool` does. `srcp_core` makes the replies to peers.
 #![tactic(auto)]
 
-mod door;
 pub mod laws;
 mod serving;
 mod tally;
 
-pub use door::{Door, DoorFault, Got, Served};
-pub use serving::{MOST_WRITES, serve};
+pub use serving::{Served, serve};
+pub use srcp_door::{Door, DoorFault, Got, MOST_WRITES};

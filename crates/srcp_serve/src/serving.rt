@@ -10,13 +10,27 @@ ghost use Rattle.std.specs.List.{slice_index_or};
 
 mod visit;
 
-use crate::door::{Door, Served};
 use crate::tally::Tally;
 use srcp_core::{Core, MOST_CONNECTIONS, MOST_IN_PIECE};
+use srcp_door::{Door, MOST_SLACK};
+use srcp_feed::MOST_WAITING;
 use srcp_rules::Rows;
 use std::marker::Model;
 use visit::Client;
-pub use visit::MOST_WRITES;
+
+// The most changes that may wait for a panel are those that may come before one overruns for which none waits.
+const _: () = prove!(MOST_SLACK == MOST_WAITING);
+
+/// The counts of a server that ended.
+#[derive(Clone, Copy, Debug, PartialEq, Eq)]
+pub struct Served {
+    /// The number of turns.
+    pub turns: u64,
+    /// The number of peers that got a connection.
+    pub opened: u64,
+    /// The number of calls of the door that failed. It stops at the greatest u64.
+    pub faults: u64,
+}
 
 /// A server over a door, with the slots of its peers.
 #[derive(Drop)]

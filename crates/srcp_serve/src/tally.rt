@@ -1,7 +1,7 @@
 //! The count of a door's failed calls.
 
 ghost use Rattle.std.specs.Prelude.{◌≡◌};
-ghost use Rattle.srcp_serve.specs.Calls.{one_more};
+ghost use Rattle.srcp_door.specs.Calls.{one_more};
 
 /// Counts the calls of a door that failed. It stops at the greatest u64.
 #[derive(Drop)]

@@ -2,7 +2,7 @@
 use Rattle.std.proofs.Common.{◌≡◌, ◌∙◌, List, [], ◌∷◌, ◌++◌, Option, Some, None, ap}
 use Rattle.std.specs.Prelude.{IfSome, MatchOption, map, option_map}
 use Rattle.std.proofs.lemmas.List.{map-append}
-use Rattle.srcp_serve.specs.Calls.{Call, Tells}
+use Rattle.srcp_door.specs.Calls.{Call, Tells}
 
 -- if it keeps one call more behind the others, or keeps none from now on, it tells that call
 pub tells_kept : {A V : Type 0} (kept : V → List A) (call : A → Call) (old new : Option V) (a : A)

@@ -2,8 +2,8 @@
 
 ghost use Rattle.std.specs.Prelude.{◌≡◌, ◌<◌, ◌≤◌, ◌∷◌, ◌++◌, [], ℕ, None, Ok, IfErr, IfOk, IfSome, MatchOption};
 ghost use Rattle.std.specs.Prelude.{OnOk, OnErr, length};
-ghost use Rattle.srcp_serve.specs.declared.door.Got.{Got};
-ghost use Rattle.srcp_serve.specs.Calls.{one_more};
+ghost use Rattle.srcp_door.specs.declared.door.Got.{Got};
+ghost use Rattle.srcp_door.specs.Calls.{one_more};
 
 use crate::trace_turns::{Asked, events_of};
 use srcp_core::Event;
@@ -239,7 +239,7 @@ impl<'a> ScriptDoor<'a> {
 
 impl Door for ScriptDoor<'_> {
     ghost use Rattle.std.specs.Prelude.{map, option_map};
-    ghost use Rattle.srcp_serve.specs.Calls.{Call, ExpectCall, NowCall, AcceptCall, ReadCall, WriteCall, CloseCall};
+    ghost use Rattle.srcp_door.specs.Calls.{Call, ExpectCall, NowCall, AcceptCall, ReadCall, WriteCall, CloseCall};
     ghost use Rattle.srcp_serve_tests.specs.declared.trace_turns.Asked.TheVariants as asked;
 
     ghost faults = { λ d. d.faults };

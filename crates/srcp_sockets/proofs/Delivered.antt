@@ -67,6 +67,13 @@ waited_keeps count old mid new waited keeps later is =
     let w = waited k.0 k.1 in
     (w.0, w.1, λ wall start. ap (λ t. t.waits) (k.2 wall start) ∙ w.2 wall start)
 
+pub waited_after : (count : ℕ) (old mid new : Option (List Step)) → KeepsTimes old mid → HasWaited count mid new
+    → HasWaited count old new
+waited_after count old mid new keeps waited later is =
+    let w = waited later is in
+    let k = keeps w.0 w.1 in
+    (k.0, k.1, λ wall start. w.2 wall start ∙ ap (λ t. t.waits + count) (k.2 wall start))
+
 same : (t : Times) (answer : Option ℕ) → (times_step t (Clocks answer)).waits ≡ t.waits
 same t None = refl
 same t (Some time) = refl

@@ -1,35 +1,38 @@
 -- The sockets follow the course.
 use Rattle.std.proofs.Common.{◌≡◌, ◌∙◌, ℕ, ◌<◌, List, [], ◌∷◌, ◌++◌, length, take, refl, ap, sym, subst, arith, get_or, ◌==◌, if◌then◌else◌}
-use Rattle.std.proofs.Common.{Ok, Err, Option}
+use Rattle.std.proofs.Common.{Ok, Option}
 use Rattle.std.specs.Prelude.{map, flat_map, option_map, slice_index_or}
 use Rattle.std.specs.Io.{StartsWith}
 use Rattle.std.proofs.lemmas.List.{get_or_default, length-map}
 use Rattle.std.proofs.Math.ListN.{get_or-map}
-use Rattle.srcp_core.specs.Connection.{sent}
+use Rattle.srcp_core.specs.Connection.{Connection, sent}
 use Rattle.srcp_core.specs.Course.{course}
 use Rattle.srcp_core.specs.Held.{Held}
 use Rattle.srcp_sockets.specs.Names.{IsNamed}
-use Rattle.srcp_serve.specs.Given.{Call, door_call, ExpectCall, NowCall, AcceptCall, ReadCall, WriteCall, CloseCall}
-use Rattle.srcp_serve.specs.Serving.{events_of, stand_after, taken as given_taken}
+use Rattle.srcp_serve.specs.Given.{Call, door_call, ReadCall, WriteCall}
+use Rattle.srcp_serve.specs.Serving.{events_of, handed_out, stand_after, taken as given_taken}
 use Rattle.srcp_serve.specs.Slots.{IsOfGiven, ServesCourse}
 use Rattle.srcp_peers.specs.Accounts.{account}
 use Rattle.srcp_sockets.specs.Doors.{AreSound}
 use Rattle.srcp_sockets.specs.Follows.{Follows}
-use Rattle.srcp_peers.specs.Streams.{taken, taken_in, took}
+use Rattle.srcp_peers.specs.Streams.{handed, handed_in, taken, taken_in, took}
 use Rattle.srcp_peers.specs.Steps.{Step, calls}
-use Rattle.srcp_peers.proofs.AccountStreams.{taken_is, took_is}
+use Rattle.srcp_door.specs.declared.door.Got.TheVariants as got
+use Rattle.srcp_peers.proofs.AccountStreams.{gave_is, handed_is, taken_is, took_is}
 
 -- what a peer took by the calls with what memory answered is what it took by the calls
 taken_trace : (peer : ℕ) (trace : List Call) → given_taken peer trace ≡ flat_map (taken_in peer) (map door_call trace)
 taken_trace peer [] = refl
-taken_trace peer (ExpectCall due slack ∷ trace) = taken_trace peer trace
-taken_trace peer (NowCall answer ∷ trace) = taken_trace peer trace
-taken_trace peer (AcceptCall answer granted ∷ trace) = taken_trace peer trace
-taken_trace peer (ReadCall who answer buffer grants ∷ trace) = taken_trace peer trace
 taken_trace peer (WriteCall who bytes (Ok count) ∷ trace) = ap (λ xs. (if who == peer then take count bytes else []) ++ xs)
     (taken_trace peer trace)
-taken_trace peer (WriteCall who bytes (Err fault) ∷ trace) = taken_trace peer trace
-taken_trace peer (CloseCall who answer ∷ trace) = taken_trace peer trace
+taken_trace peer (other ∷ trace) = taken_trace peer trace
+
+-- and so it is with what was handed out of it
+handed_trace : (peer : ℕ) (trace : List Call) → handed_out peer trace ≡ flat_map (handed_in peer) (map door_call trace)
+handed_trace peer [] = refl
+handed_trace peer (ReadCall who (Ok (got.Bytes count)) buffer grants ∷ trace) =
+    ap (λ xs. (if who == peer then take count buffer else []) ++ xs) (handed_trace peer trace)
+handed_trace peer (other ∷ trace) = handed_trace peer trace
 
 -- the elements of two lists that are mapped to one
 at_index : {X Y : Type 0} (f : X → List ℕ) (g : Y → List ℕ) (xs : List X) (ys : List Y) → map f xs ≡ map g ys
@@ -47,9 +50,7 @@ follows count opens last old trace_old new trace_new serves sound named buses lo
     let given : IsOfGiven buses count opens (calls log) old new =
     serves buses [] (calls log) layout stands (ap (option_map calls) none) (ap (option_map calls) is) (named log is).differ in
     record {
-      trace = given.calls;
-      are = given.are;
-      served = given.course;
+      given = given;
       sockets = λ k conn other within.
           let peer = slice_index_or (stand_after buses given.calls).connected k other in
           let here : sent (slice_index_or (course buses (events_of buses given.calls)).connections k conn) ≡ given_taken peer given.calls =
@@ -59,4 +60,15 @@ follows count opens last old trace_old new trace_new serves sound named buses lo
           here ∙ taken_trace peer given.calls ∙ ap (flat_map (taken_in peer)) given.are in
           subst (λ (xs : List ℕ). StartsWith xs (took peer log)) (taken_is peer log ∙ sym all)
           (subst (λ (xs : List ℕ). StartsWith (account peer log).sent.written xs) (took_is peer log) (sound log is peer).took);
+      fed = λ k conn other within.
+          let peer = slice_index_or (stand_after buses given.calls).connected k other in
+          let here : (slice_index_or (course buses (events_of buses given.calls)).connections k conn).fed ≡ handed_out peer given.calls =
+          at_index (λ (c : Connection). c.fed) (λ p. handed_out p given.calls) (course buses (events_of buses given.calls)).connections
+          (stand_after buses given.calls).connected given.course.fed k conn other within in
+          let all : (slice_index_or (course buses (events_of buses given.calls)).connections k conn).fed ≡ handed peer log =
+          here ∙ handed_trace peer given.calls ∙ ap (flat_map (handed_in peer)) given.are in
+          subst (λ (xs : List ℕ). StartsWith xs (slice_index_or (course buses (events_of buses given.calls)).connections k conn).fed)
+          (gave_is peer log)
+          (subst (λ (xs : List ℕ). StartsWith (account peer log).received.gave xs) (handed_is peer log ∙ sym all)
+          (sound log is peer).handed);
     }

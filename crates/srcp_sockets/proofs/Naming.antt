@@ -9,7 +9,7 @@ use Rattle.std.proofs.lemmas.List.{length-append, get_or_push, get_or_append_lef
 use Rattle.std.proofs.lemmas.List.Elements.{filter_map-append}
 use Rattle.srcp_peers.specs.declared.system.Refusal.{Refusal}
 use Rattle.srcp_peers.specs.declared.system.Refusal.TheVariants.{Later, Again, Fault}
-use Rattle.srcp_serve.specs.Calls.{AcceptCall, Call, peer_of}
+use Rattle.srcp_door.specs.Calls.{AcceptCall, Call, peer_of}
 use Rattle.srcp_sockets.specs.Names.{IsNamed, Named}
 use Rattle.srcp_peers.specs.Steps.{SaysNothing, SaysOne, Step, calls}
 use Rattle.srcp_peers.proofs.Saying.{calls_stay}

@@ -6,15 +6,15 @@ use Rattle.std.proofs.lemmas.Bool.{cases_eq, cases_lt}
 use Rattle.std.proofs.lemmas.List.{get_or_default}
 use Rattle.std.proofs.lemmas.List.Edits.{length-remove, get_or-remove_below, get_or-remove_above}
 use Rattle.std.specs.List.{remove}
-use Rattle.srcp_serve.specs.declared.door.DoorFault.{DoorFault}
+use Rattle.srcp_door.specs.declared.door.DoorFault.{DoorFault}
 use Rattle.std.proofs.lemmas.Bool.Decides.{nat_tests}
 use Rattle.srcp_peers.specs.declared.peer.Peer.{Peer}
 use Rattle.srcp_peers.specs.declared.stay.Stay.TheVariants as stay
 use Rattle.srcp_peers.specs.declared.turn.Listening.{Listening}
 use Rattle.srcp_peers.specs.Steps.{Clocks, Closes, Step, Tells, Answers}
-use Rattle.srcp_serve.specs.Calls.{Call, CloseCall, ReadCall, WriteCall}
-use Rattle.srcp_serve.specs.declared.door.Got.{Got}
-use Rattle.srcp_serve.specs.declared.door.Got.TheVariants as got
+use Rattle.srcp_door.specs.Calls.{Call, CloseCall, ReadCall, WriteCall}
+use Rattle.srcp_door.specs.declared.door.Got.{Got}
+use Rattle.srcp_door.specs.declared.door.Got.TheVariants as got
 use Rattle.srcp_peers.specs.Accounts.{Account, account, account_step, closed, left_by_core, may_close, may_fail, answered_step}
 use Rattle.srcp_peers.specs.Peers.{Agrees, IsKept, is_closable}
 use Rattle.srcp_peers.specs.AllPeers.{AreApart, IsAbsent}

@@ -4,10 +4,10 @@ use Rattle.std.proofs.Common.{Option, Ok, Err, true≢false}
 use Rattle.std.specs.Prelude.{Result, ◌&&◌, ◌||◌, fold}
 use Rattle.std.proofs.lemmas.List.Sums.{fold-append}
 use Rattle.std.specs.declared.io.ErrorKind.{ErrorKind}
-use Rattle.srcp_serve.specs.declared.door.DoorFault.{DoorFault}
-use Rattle.srcp_serve.specs.declared.door.Got.TheVariants as got
+use Rattle.srcp_door.specs.declared.door.DoorFault.{DoorFault}
+use Rattle.srcp_door.specs.declared.door.Got.TheVariants as got
 use Rattle.srcp_peers.specs.declared.system.Ready.{Ready}
-use Rattle.srcp_serve.specs.Calls.{Call, ExpectCall, NowCall, AcceptCall, ReadCall, WriteCall, CloseCall}
+use Rattle.srcp_door.specs.Calls.{Call, ExpectCall, NowCall, AcceptCall, ReadCall, WriteCall, CloseCall}
 use Rattle.srcp_peers.specs.Steps.{Accepts, Clocks, Closes, Reads, Shuts, Step, Answers, Waits, Writes}
 use Rattle.srcp_peers.specs.Accounts.{Account, accepted, account, account_step, closed, heard, is_at_rest, is_short_wait}
 use Rattle.srcp_peers.specs.Accounts.{may_close, may_end}

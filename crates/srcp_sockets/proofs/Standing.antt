@@ -13,7 +13,7 @@ use Rattle.srcp_peers.specs.declared.readiness.Output.TheVariants as output
 use Rattle.srcp_peers.specs.declared.stay.Stay.TheVariants as stay
 use Rattle.srcp_peers.specs.declared.turn.Listening.{Listening}
 use Rattle.srcp_peers.specs.Steps.{Step, Tells, Answers}
-use Rattle.srcp_serve.specs.Calls.{Call}
+use Rattle.srcp_door.specs.Calls.{Call}
 use Rattle.srcp_peers.specs.Accounts.{Account, account, account_step, answered_step}
 use Rattle.srcp_peers.specs.Peers.{Agrees, IsKept, Spares, WritesAs}
 use Rattle.srcp_peers.specs.declared.ending.Ending.TheVariants as ending

@@ -5,9 +5,9 @@ use Rattle.std.specs.Prelude.{◌&&◌, ◌||◌, not, Result}
 use Rattle.std.specs.Option.{option_map_or}
 use Rattle.std.proofs.lemmas.Bool.Decides.{nat_tests}
 use Rattle.std.specs.declared.io.ErrorKind.{ErrorKind}
-use Rattle.srcp_serve.specs.declared.door.DoorFault.{DoorFault}
-use Rattle.srcp_serve.specs.declared.door.Got.{Got}
-use Rattle.srcp_serve.specs.declared.door.Got.TheVariants as got
+use Rattle.srcp_door.specs.declared.door.DoorFault.{DoorFault}
+use Rattle.srcp_door.specs.declared.door.Got.{Got}
+use Rattle.srcp_door.specs.declared.door.Got.TheVariants as got
 use Rattle.srcp_door.specs.Pacing.{fits, weight_of}
 use Rattle.srcp_door.specs.Moments.{Moments}
 use Rattle.srcp_door.specs.declared.pacing.Line.{Line}
@@ -19,7 +19,7 @@ use Rattle.srcp_peers.specs.Peers.{IsKept}
 use Rattle.srcp_peers.proofs.Lined.{line_is}
 use Rattle.srcp_peers.specs.declared.system.Ready.{Ready}
 use Rattle.srcp_peers.specs.declared.turn.Turn.{Turn}
-use Rattle.srcp_serve.specs.Calls.{Call, ExpectCall, NowCall, AcceptCall, ReadCall, WriteCall, CloseCall}
+use Rattle.srcp_door.specs.Calls.{Call, ExpectCall, NowCall, AcceptCall, ReadCall, WriteCall, CloseCall}
 use Rattle.srcp_peers.specs.Accounts.{is_short_wait}
 use Rattle.srcp_peers.specs.Steps.{Accepts, Clocks, Step, Tells, Answers, Waits}
 use Rattle.srcp_sockets.specs.KeptTimes.{IsTimed, IsTimedFrom, Timed}

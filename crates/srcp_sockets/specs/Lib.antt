@@ -1,3 +1,4 @@
+pub mod Asked
 pub mod Delivery
 pub mod Doors
 pub mod Facts
@@ -5,3 +6,4 @@ pub mod Faults
 pub mod Follows
 pub mod KeptTimes
 pub mod Names
+pub mod Work

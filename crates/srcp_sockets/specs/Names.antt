@@ -3,7 +3,7 @@ use Rattle.std.specs.Prelude.{◌≡◌, ℕ, ◌<◌, ◌≤◌, ◌==◌, List
 use Rattle.std.specs.List.{IsDistinct}
 use Rattle.std.proofs.Props.{props}
 use Rattle.std.proofs.lemmas.Map.Keys.{IsDistinct-prop}
-use Rattle.srcp_serve.specs.Calls.{peer_of}
+use Rattle.srcp_door.specs.Calls.{peer_of}
 use Rattle.srcp_peers.specs.Steps.{Step, calls}
 
 -- no number was given twice, and none is above the last

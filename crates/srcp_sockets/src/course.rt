@@ -1,6 +1,6 @@
 //! Serving over the system.
 
-ghost use Rattle.std.specs.Prelude.{◌≡◌};
+ghost use Rattle.std.specs.Prelude.{◌≡◌, ◌<◌, ◌+◌};
 ghost use Rattle.srcp_sockets.specs.Follows.{Follows};
 
 use crate::door::SocketDoor;
@@ -9,14 +9,17 @@ use srcp_peers::System;
 use srcp_rules::Rows;
 use srcp_serve::{Served, serve};
 
-/// Serves the peers of a door for `turns` turns. Whatever the system answers, the socket of each peer took a prefix of
-/// what the course sends it.
+/// Serves the peers of a door for `turns` turns. Returns how many connections were opened, and how many calls of the
+/// door failed. Whatever the system answers, what socket k took is a prefix of what the course sends connection k, where
+/// connection k is fed a prefix of what socket k gave. In that course the core counted exactly the refusals of memory.
 pub fn serve_sockets<R: Rows, S: System + Drop>(
     core: &mut Core<'_, R>,
     door: &mut SocketDoor<S>,
     turns: u64,
 ) -> Served
-    ensures { Follows turns result.opened core.old (S.trace door.old.sockets.system)
+    ensures turns { result.turns ≡ turns }
+    ensures faults { door.new.faults < 18446744073709551615 → door.old.faults + result.faults ≡ door.new.faults }
+    ensures course { Follows turns result.opened core.old (S.trace door.old.sockets.system)
         core.new (S.trace door.new.sockets.system) }
 {
     serve(core, door, turns)

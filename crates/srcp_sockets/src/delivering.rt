@@ -1,6 +1,6 @@
 //! What a door does at its end: it delivers what was taken.
 
-ghost use Rattle.std.specs.Prelude.{◌≡◌, All, true, false};
+ghost use Rattle.std.specs.Prelude.{◌≡◌, length, All, true, false};
 ghost use Rattle.srcp_sockets.specs.Delivery.{HasEnded, HaveEnded, is_over};
 ghost use Rattle.srcp_sockets.specs.Doors.{AreStanding};
 ghost use Rattle.srcp_peers.specs.AllPeers.{AreApart, AreKept, AreOffered};
@@ -21,6 +21,7 @@ pub(crate) fn deliver<S: System>(
 )
     requires kept { AreKept (S.trace system.old) peers.old }
     requires apart { AreApart peers.old }
+    requires ready { length ready.old ≡ 128 }
     ensures kept { AreKept (S.trace system.new) peers.new }
     ensures ended { HaveEnded until (S.trace system.old) (S.trace system.new) peers.new }
     ensures standing { AreStanding (S.trace system.old) peers.old → AreStanding (S.trace system.new) peers.new }

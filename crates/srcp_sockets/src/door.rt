@@ -1,13 +1,16 @@
 //! The door over the system's sockets.
 
-ghost use Rattle.std.specs.Prelude.{◌≡◌, ◌⊎◌, ℕ, Option, Some, None, [], IfOk, OnOk, OnErr};
-ghost use Rattle.srcp_serve.specs.Calls.{one_more};
-ghost use Rattle.srcp_peers.specs.Turns.{first_turn};
+ghost use Rattle.std.specs.Prelude.{◌≡◌, ◌⊎◌, ◌<◌, ◌≤◌, IfErr, Ok, true, false, option_map, ℕ, Option, Some, None, []};
+ghost use Rattle.std.specs.Prelude.{IfOk, OnOk, OnErr, length, vec_capacity};
+ghost use Rattle.srcp_door.specs.Calls.{ReadCall, Tells, one_more};
+ghost use Rattle.srcp_peers.specs.Steps.{calls};
+ghost use Rattle.srcp_peers.specs.Turns.{first_turn, got_bytes};
+ghost use Rattle.srcp_sockets.specs.Work.{IsPeerRead};
 
 use crate::sockets::Sockets;
 use srcp_core::MOST_CONNECTIONS;
+use srcp_door::{Door, DoorFault, Got};
 use srcp_peers::{MOST_LINGERING, Ready, System, Turn};
-use srcp_serve::{Door, DoorFault, Got};
 use std::alloc::{AllocError, Global};
 use std::vec::Vec;
 
@@ -23,6 +26,7 @@ pub struct SocketDoor<S: System + Drop> {
     alloc: Global,
     ready: Vec<Ready>,
     faults: u64,
+    ghost most: { length ready.items ≡ 128 },
 }
 
 impl<S: System + Drop> SocketDoor<S> {
@@ -41,6 +45,7 @@ impl<S: System + Drop> SocketDoor<S> {
         ensures faults { IfOk result (λ door. door.faults ≡ 0) }
         ensures system { IfOk result (λ door. door.sockets.system ≡ system) }
         ensures turn { IfOk result (λ door. door.sockets.turn ≡ first_turn wall start) }
+        ensures places { IfOk result (λ door. vec_capacity door.sockets.peers ≡ 129) }
     {
         let nothing = Ready {
             socket: 0,
@@ -125,7 +130,18 @@ impl<S: System + Drop> Door for SocketDoor<S> {
         answer
     }
 
-    fn read(&mut self, peer: u32, buf: &mut [u8]) -> Result<Got, DoorFault> {
+    fn read(&mut self, peer: u32, buf: &mut [u8]) -> Result<Got, DoorFault>
+        ensures ok { OnOk result (self.new.faults ≡ self.old.faults) }
+        ensures err { OnErr result (self.new.faults ≡ one_more self.old.faults) }
+        ensures fault { IfErr result (λ fault. fault ≡ DoorFault.Read) }
+        ensures count { (n : ℕ) → result ≡ Ok (Got.Bytes n) → (0 < n) × (n ≤ length buf.old) }
+        ensures trace { Tells (option_map calls (S.trace self.old.sockets.system)) (ReadCall peer result buf.new)
+            (option_map calls (S.trace self.new.sockets.system)) }
+        ensures late { self.old.sockets.turn.late ≡ true → result ≡ Ok Got.Nothing }
+        ensures answered { self.old.sockets.turn.late ≡ false
+            → IsPeerRead self.old.sockets.turn self.old.sockets.peers.items peer (length buf.old) result
+            (got_bytes result buf.new) self.old.sockets.refused self.new.sockets.refused }
+    {
         if self.sockets.is_late() {
             return self.sockets.hold_back(peer, buf);
         }

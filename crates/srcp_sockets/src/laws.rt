@@ -5,21 +5,22 @@ ghost use Rattle.std.specs.Prelude.{◌≡◌, ◌++◌, ◌∷◌, ◌==◌, �
 ghost use Rattle.std.specs.Prelude.{slice_index_or, Option, Some, Ok, Err, Result, true, false};
 ghost use Rattle.std.specs.Io.{StartsWith};
 ghost use Rattle.srcp_peers.specs.declared.peer.Peer.{Peer};
-ghost use Rattle.srcp_serve.specs.declared.door.DoorFault.{DoorFault};
-ghost use Rattle.srcp_serve.specs.declared.door.Got.{Got};
+ghost use Rattle.srcp_door.specs.declared.door.DoorFault.{DoorFault};
+ghost use Rattle.srcp_door.specs.declared.door.Got.{Got};
 ghost use Rattle.srcp_peers.specs.declared.system.Ready.{Ready};
-ghost use Rattle.srcp_serve.specs.Calls.{ReadCall, NowCall, WriteCall};
+ghost use Rattle.srcp_door.specs.Calls.{ReadCall, NowCall, WriteCall};
 ghost use Rattle.srcp_peers.specs.Accounts.{account, is_at_rest, is_short_wait, may_close, may_end, may_fail, may_shut};
 ghost use Rattle.srcp_peers.specs.Steps.{Closes, Shuts, Step, Answers, Waits};
+ghost use Rattle.srcp_sockets.specs.Asked.{AreAsked};
 ghost use Rattle.srcp_sockets.specs.Doors.{IsThere};
 ghost use Rattle.srcp_sockets.specs.KeptTimes.{AreKeptTimes, ArePaced};
 ghost use Rattle.srcp_peers.specs.Times.{times};
 ghost use Rattle.srcp_peers.specs.Streams.{gave, handed, taken, took};
 
 use crate::door::SocketDoor;
+use srcp_door::MOST_WRITES;
 use srcp_info::LONGEST_LINE;
 use srcp_peers::{MOST_OUTGOING, System};
-use srcp_serve::MOST_WRITES;
 
 /// What each socket took is a prefix of what the door said it took for its peer. What the door handed out of a peer is
 /// a prefix of what its socket gave.
@@ -104,9 +105,9 @@ pub fn closed_rightly<S: System + Drop>(door: &SocketDoor<S>)
     let _sockets = &door.sockets;
 }
 
-/// Each moment was the one that was to be reported by the clock that was read. No wait ended past what the door
-/// expects to fall due; no wait began in a turn that was late. A wait longer than the retry delay came after a turn in
-/// which nothing happened, unless there was no panel. No input was handed out in a turn that was late.
+/// Each moment was the one that was to be reported by a clock that was read since the moment before. No wait ended past
+/// what the door expects to fall due; no wait began in a turn that was late. A wait longer than the retry delay came
+/// after a turn in which nothing happened, unless there was no panel. No input was handed out in a turn that was late.
 pub fn times_are_kept<S: System + Drop>(door: &SocketDoor<S>)
     ensures { (log : List Step) → S.trace door.now.sockets.system ≡ Some log
         → AreKeptTimes (times door.now.sockets.turn.timekeeper.wall door.now.sockets.turn.timekeeper.start log) }
@@ -120,6 +121,15 @@ pub fn times_are_kept<S: System + Drop>(door: &SocketDoor<S>)
 pub fn accepts_are_true<S: System + Drop>(door: &SocketDoor<S>)
     ensures { (log : List Step) → S.trace door.now.sockets.system ≡ Some log
         → (times door.now.sockets.turn.timekeeper.wall door.now.sockets.turn.timekeeper.start log).honest ≡ true }
+{
+    let _sockets = &door.sockets;
+}
+
+/// If the door answered `accept` by nobody, it had asked the system since `accept` was answered last, or the listener,
+/// which is socket 0, was found quiet, or there was no place. Then at least 128 sockets were accepted and are not closed,
+/// or 63 linger: there is no place with one more, and one may have been closed just now to make a place.
+pub fn accepts_are_asked<S: System + Drop>(door: &SocketDoor<S>)
+    ensures { AreAsked (S.trace door.now.sockets.system) }
 {
     let _sockets = &door.sockets;
 }

@@ -13,6 +13,7 @@ mod fault;
 pub mod laws;
 mod mio_system;
 mod opening;
+mod options;
 mod sockets;
 
 pub use course::serve_sockets;

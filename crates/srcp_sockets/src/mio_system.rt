@@ -3,10 +3,11 @@
 ghost use Rattle.std.specs.Prelude.{◌≡◌, IfOk, ◌<◌, IfSome, length};
 
 use crate::door::MOST_READY;
+use crate::options::set_options;
 use mio::net::{TcpListener, TcpStream};
 use mio::{Events, Interest, Poll, Token};
+use srcp_door::{DoorFault, Got};
 use srcp_peers::{Ready, System};
-use srcp_serve::{DoorFault, Got};
 use std::alloc::Global;
 use std::io;
 use std::io::{ErrorKind, Read, Write};
@@ -58,6 +59,7 @@ impl<C: Clock + Drop> MioSystem<C> {
         ensures { IfOk result (λ system. system.address ≡ address) }
     {
         let mut listener = TcpListener::bind(net, address)?;
+        set_options(&listener)?;
         let poll = Poll::new(net)?;
         poll.registry()
             .register(&mut listener, LISTENER, Interest::READABLE)?;

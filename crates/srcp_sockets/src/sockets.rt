@@ -1,31 +1,36 @@
 //! The system's sockets, with their peers.
 
-ghost use Rattle.std.specs.Prelude.{not, All, false, true, ◌≡◌, ◌<◌, ◌≤◌, ◌-◌, ◌&&◌, ℕ, ◌⊎◌, Some, None, Ok, Err};
+ghost use Rattle.std.specs.Prelude.{not, cond, vec_capacity, All, false, true, ◌≡◌, ◌<◌, ◌≤◌, ◌-◌, ◌&&◌, ℕ, ◌⊎◌, Some};
+ghost use Rattle.std.specs.Prelude.{None, Ok, Err};
 ghost use Rattle.std.specs.Prelude.{IfErr, IfNone, IfOk, IfSome, [], length, slice_index_or};
 ghost use Rattle.srcp_peers.specs.declared.peer.Peer.{Peer};
-ghost use Rattle.srcp_sockets.specs.Delivery.{HasEnded, linger_end};
+ghost use Rattle.srcp_sockets.specs.Asked.{AreAsked, AreAsked-prop};
+ghost use Rattle.srcp_sockets.specs.Delivery.{HasEnded, HasWaited, linger_end};
+ghost use Rattle.srcp_sockets.specs.Work.{AreClosedUp, IsClocked, IsPeerRead, IsWaiting, goes_on, is_close};
 ghost use Rattle.srcp_sockets.specs.Facts.{Stands-prop};
 ghost use Rattle.std.specs.List.{list_any};
 ghost use Rattle.srcp_sockets.specs.Names.{IsNamed, IsNamed-prop};
 ghost use Rattle.srcp_sockets.specs.KeptTimes.{IsTimed, IsTimed-prop};
 ghost use Rattle.srcp_peers.specs.Accounts.{is_short_wait};
-ghost use Rattle.srcp_peers.specs.Peers.{is_resting, holds_input, is_closable, is_here};
-ghost use Rattle.srcp_peers.specs.Turns.{first_turn, flushing, has_ticked, is_pending, room_of, time_left};
-ghost use Rattle.srcp_peers.specs.Waiting.{IsWithin};
-ghost use Rattle.srcp_serve.specs.Calls.{ExpectCall, NowCall, ReadCall, WriteCall, CloseCall};
-ghost use Rattle.srcp_peers.specs.Steps.{SaysNothing, SaysOne};
+ghost use Rattle.srcp_peers.specs.Peers.{Makes, is_resting, holds_input, is_closable, is_here};
+ghost use Rattle.srcp_peers.specs.Times.{KeepsTimes};
+ghost use Rattle.srcp_peers.specs.Turns.{after_wait, first_turn, got_bytes, flushing, has_ticked, is_pending, room_of};
+ghost use Rattle.srcp_peers.specs.Turns.{time_left};
+ghost use Rattle.srcp_peers.specs.Waiting.{IsWithin, longest_wait};
+ghost use Rattle.srcp_door.specs.Calls.{ExpectCall, NowCall, ReadCall, WriteCall, CloseCall};
+ghost use Rattle.srcp_peers.specs.Steps.{Closes, SaysNothing, SaysOne, Tells};
 ghost use Rattle.srcp_peers.specs.AllPeers.{AreMarked, AreOffered};
 ghost use Rattle.srcp_sockets.specs.Doors.{AreRead, IsMissing, IsPresent, Stands, flushed_in};
 
 mod accepting;
 
 use crate::delivering::deliver;
+use srcp_door::{DoorFault, Got, MOST_WRITES};
 use srcp_peers::peers::{begin_visits, flush, listen, wake};
 use srcp_peers::{
     Flush, LINGER, Listening, MOST_LINGERING, Peer, Queues, Ready, System, Turn, first_gone,
     longest_wait,
 };
-use srcp_serve::{DoorFault, Got, MOST_WRITES};
 use std::alloc::{AllocError, Global};
 use std::vec::Vec;
 
@@ -50,6 +55,8 @@ pub(crate) struct Sockets<S: System + Drop> {
     ghost stands: { Stands (S.trace system) peers.items listening last } by { Stands-prop _ _ _ _ },
     ghost named: { IsNamed (S.trace system) last } by { IsNamed-prop (S.trace system) last },
     ghost timed: { IsTimed (S.trace system) turn } by { IsTimed-prop (S.trace system) turn },
+    ghost asked: { AreAsked (S.trace system) } by { AreAsked-prop (S.trace system) },
+    ghost places: { 129 ≤ vec_capacity peers },
 }
 
 impl<S: System + Drop> Sockets<S> {
@@ -72,10 +79,17 @@ impl<S: System + Drop> Sockets<S> {
     /// is queued is flushed once the clock went on, or before a wait. Until then the system is not asked who is ready
     /// while input is held.
     pub(crate) fn begin_turn(&mut self, ready: &mut [Ready])
+        requires ready { length ready.old ≡ 128 }
         ensures calls { SaysNothing (S.trace self.old.system) (S.trace self.new.system) }
         ensures read { AreRead (S.trace self.new.system) }
         ensures offered { AreOffered (flushed_in self.old.turn self.old.flushed self.old.peers.items)
             self.old.peers.items (S.trace self.old.system) (S.trace self.new.system) }
+        ensures waits { HasWaited (cond (goes_on self.old.turn self.old.flushed self.old.peers.items) 0 1)
+            (S.trace self.old.system) (S.trace self.new.system) }
+        ensures rooms { All (λ peer. peer.room ≡ room_of (list_any holds_input self.old.peers.items)
+            self.old.turn.slack) self.new.peers.items }
+        ensures flushed { self.new.flushed ≡ self.old.turn.clock }
+        ensures reset { self.new.refused ≡ false }
     {
         let holds = self.holds_input();
         let held = self.goes_on(holds);
@@ -125,6 +139,7 @@ impl<S: System + Drop> Sockets<S> {
 
     /// Returns how many milliseconds the turn waits at most; `None` if only a socket ends the wait.
     fn longest_wait(&self) -> Option<u64>
+        ensures exact { result ≡ longest_wait self.now.peers.items self.now.listening self.now.turn self.now.most }
         ensures rest { is_short_wait result ≡ false → All (λ peer. is_resting peer ≡ true) self.now.peers.items }
         ensures accepts { is_short_wait result ≡ false → self.now.listening ≡ Listening.Quiet }
         ensures panels { is_short_wait result ≡ false → is_pending self.now.turn.slack self.now.turn.busy ≡ false }
@@ -135,7 +150,12 @@ impl<S: System + Drop> Sockets<S> {
 
     /// Waits, but not while input is held.
     fn look(&mut self, held: bool, ready: &mut [Ready])
-        ensures { SaysNothing (S.trace self.old.system) (S.trace self.new.system) }
+        requires ready { length ready.old ≡ 128 }
+        ensures calls { SaysNothing (S.trace self.old.system) (S.trace self.new.system) }
+        ensures waits { HasWaited (cond held 0 1) (S.trace self.old.system) (S.trace self.new.system) }
+        ensures slack { self.new.turn.slack ≡ self.old.turn.slack }
+        ensures flushed { self.new.flushed ≡ self.old.flushed }
+        ensures refused { self.new.refused ≡ self.old.refused }
     {
         if held {
             return;
@@ -147,6 +167,9 @@ impl<S: System + Drop> Sockets<S> {
     fn flush(&mut self, what: Flush)
         ensures calls { SaysNothing (S.trace self.old.system) (S.trace self.new.system) }
         ensures offered { AreOffered what self.old.peers.items (S.trace self.old.system) (S.trace self.new.system) }
+        ensures times { KeepsTimes (S.trace self.old.system) (S.trace self.new.system) }
+        ensures keeps { (self.new.turn ≡ self.old.turn) × (self.new.refused ≡ self.old.refused) }
+        ensures flushed { self.new.flushed ≡ self.old.turn.clock }
     {
         self.flushed = self.turn.clock;
         flush(&mut self.system, self.peers.as_mut_slice(), what);
@@ -154,7 +177,13 @@ impl<S: System + Drop> Sockets<S> {
 
     /// Waits until a socket is ready, but no longer than until something else is to be done. Notes which are ready.
     fn wait(&mut self, ready: &mut [Ready])
-        ensures { SaysNothing (S.trace self.old.system) (S.trace self.new.system) }
+        requires ready { length ready.old ≡ 128 }
+        ensures calls { SaysNothing (S.trace self.old.system) (S.trace self.new.system) }
+        ensures waits { IsWaiting (longest_wait self.old.peers.items self.old.listening self.old.turn self.old.most)
+            (S.trace self.old.system) (S.trace self.new.system) }
+        ensures turn { self.new.turn ≡ after_wait self.old.turn }
+        ensures flushed { self.new.flushed ≡ self.old.flushed }
+        ensures refused { self.new.refused ≡ self.old.refused }
     {
         let most = self.longest_wait();
         let count = self.system.wait(most, ready);
@@ -170,6 +199,9 @@ impl<S: System + Drop> Sockets<S> {
         ensures read { AreRead (S.trace self.new.system) }
         ensures marks { AreMarked (not self.old.refused) self.old.peers.items self.new.peers.items }
         ensures rooms { All (λ peer. peer.room ≡ room_of holds self.old.turn.slack) self.new.peers.items }
+        ensures times { KeepsTimes (S.trace self.old.system) (S.trace self.new.system) }
+        ensures flushed { self.new.flushed ≡ self.old.flushed }
+        ensures reset { self.new.refused ≡ false }
     {
         let clear = !self.refused;
         let room = self.room(holds);
@@ -187,6 +219,7 @@ impl<S: System + Drop> Sockets<S> {
 
     /// Delivers what was taken, for 10 seconds at most, and returns the system.
     pub(crate) fn deliver(self, ready: &mut [Ready]) -> S
+        requires ready { length ready.old ≡ 128 }
         ensures ended { HasEnded (linger_end self.turn.clock) (S.trace self.system) (S.trace result) }
         ensures offered { AreOffered Flush.All self.peers.items (S.trace self.system) (S.trace result) }
     {
@@ -219,7 +252,9 @@ impl<S: System + Drop> Sockets<S> {
     ) -> Result<Sockets<S>, AllocError>
         requires trace { S.trace system ≡ Some [] ⊎ S.trace system ≡ None }
         requires turn { turn ≡ first_turn turn.timekeeper.wall turn.timekeeper.start }
-        ensures { IfOk result (λ sockets. (sockets.system ≡ system) × (sockets.turn ≡ turn)) }
+        requires places { 129 ≤ most }
+        ensures { IfOk result (λ sockets. (sockets.system ≡ system) × (sockets.turn ≡ turn)
+            × (vec_capacity sockets.peers ≡ most)) }
     {
         Ok(Sockets {
             system,
@@ -255,6 +290,11 @@ impl<S: System + Drop> Sockets<S> {
     fn close_gone(&mut self)
         ensures calls { SaysNothing (S.trace self.old.system) (S.trace self.new.system) }
         ensures last { self.new.last ≡ self.old.last }
+        ensures times { KeepsTimes (S.trace self.old.system) (S.trace self.new.system) }
+        ensures keeps { (self.new.turn ≡ self.old.turn) × (self.new.refused ≡ self.old.refused) }
+        ensures flushed { self.new.flushed ≡ self.old.flushed }
+        ensures closed { AreClosedUp self.old.turn.clock self.new.peers.items
+            (S.trace self.old.system) (S.trace self.new.system) }
     {
         for _ in 0..MOST_LINGERING {
             let Some(index) = first_gone(self.peers.as_slice(), self.turn.clock) else {
@@ -271,6 +311,11 @@ impl<S: System + Drop> Sockets<S> {
             (slice_index_or self.old.peers.items index d) ≡ true }
         ensures calls { SaysNothing (S.trace self.old.system) (S.trace self.new.system) }
         ensures last { self.new.last ≡ self.old.last }
+        ensures times { KeepsTimes (S.trace self.old.system) (S.trace self.new.system) }
+        ensures keeps { (self.new.turn ≡ self.old.turn) × (self.new.refused ≡ self.old.refused) }
+        ensures flushed { self.new.flushed ≡ self.old.flushed }
+        ensures closed { Makes is_close 1 (S.trace self.old.system) (S.trace self.new.system) }
+        ensures one { (who : ℕ) × Tells (S.trace self.old.system) (Closes who) (S.trace self.new.system) }
     {
         let number = self.peers[index].number;
         self.peers.remove(index);
@@ -285,6 +330,9 @@ impl<S: System + Drop> Sockets<S> {
         requires { AreRead (S.trace self.old.system) }
         ensures trace { SaysOne (S.trace self.old.system) (NowCall result) (S.trace self.new.system) }
         ensures fault { IfErr result (λ fault. fault ≡ DoorFault.Now) }
+        ensures clock { IsClocked self.old.turn result (S.trace self.old.system) (S.trace self.new.system) }
+        ensures flushed { self.new.flushed ≡ self.old.flushed }
+        ensures refused { self.new.refused ≡ self.old.refused }
     {
         let shown = self.system.clock();
         let answer = self.turn.report_moment(shown);
@@ -365,13 +413,15 @@ impl<S: System + Drop> Sockets<S> {
             (S.trace self.new.system) }
         ensures count { (n : ℕ) → result ≡ Ok (Got.Bytes n) → (0 < n) × (n ≤ length buffer.old) }
         ensures fault { IfErr result (λ fault. fault ≡ DoorFault.Read) }
+        ensures answered { IsPeerRead self.old.turn self.old.peers.items number (length buffer.old) result
+            (got_bytes result buffer.new) self.old.refused self.new.refused }
     {
         let Some(index) = self.index_of(number) else {
             return self.read_nobody(number, buffer);
         };
         self.recent = index;
         let handed = self.peers[index].read(&mut self.system, &mut self.turn, buffer);
-        self.refused = self.refused || handed.refused;
+        self.refused |= handed.refused;
         handed.got
     }
 

@@ -62,7 +62,7 @@ impl<'a> Recorder<'a> {
 
 impl System for Recorder<'_> {
     ghost use Rattle.std.specs.Prelude.{map, option_map};
-    ghost use Rattle.srcp_serve.specs.Calls.{ExpectCall, NowCall, AcceptCall, ReadCall, WriteCall, CloseCall};
+    ghost use Rattle.srcp_door.specs.Calls.{ExpectCall, NowCall, AcceptCall, ReadCall, WriteCall, CloseCall};
     ghost use Rattle.srcp_peers.specs.Steps.{Step, Accepts, Clocks, Closes, Reads, Shuts, Writes, Waits, Answers};
     ghost use Rattle.srcp_sockets_tests.specs.declared.record.Entry.TheVariants as entry;
 

@@ -20,7 +20,7 @@ use Rattle.srcp_core.specs.Handshake.{greets as greets_of, greets_mode, greets_p
 use Rattle.srcp_text.specs.Words.{words_of, is_keyword}
 use Rattle.srcp_core.specs.Under.{effect}
 use Rattle.srcp_core.specs.Waits.{brought_besides, completed, due_and_freed, may_bring, weighs, weight_of_mark}
-use Rattle.srcp_rules.specs.Weight.{weight}
+use Rattle.srcp_grammar.specs.Weight.{weight}
 use Rattle.srcp_rules.proofs.WeightLaws.{line_weighs, go_weighs_one}
 use Rattle.srcp_core.proofs.Agreement.MemoryAnswers.{effect_law}
 use Rattle.srcp_core.proofs.CourseLaws.ShownRegistry.{length_history}

@@ -5,9 +5,9 @@ ghost use Rattle.srcp_core.specs.Held.{IsSound};
 ghost use Rattle.srcp_core.specs.Machine.{unsent_at, bytes_fault, heard_at, IsReceived, HasRoom, IsLineAnswered};
 
 use super::Core;
-use crate::limits::MOST_IN_PIECE;
 use crate::line::{Asked, LineRecord};
 use crate::record::CoreFault;
+use srcp_info::MOST_IN_PIECE;
 use srcp_rules::Rows;
 
 impl<'a, R: Rows> Core<'a, R> {

@@ -8,13 +8,13 @@ use Rattle.srcp_serve.proofs.Names.{IsFair, OfEachTurn, question, turned, visit_
 use Rattle.srcp_serve.proofs.Names.{Next, IsLayout, course, history, rows, brought, brought_in, ltb-false, fold-append, Change}
 use Rattle.srcp_serve.proofs.Names.{Shown, beyond, Connection, History, cursor_at, is_open, is_settled, owed, unsent, untold, waiting}
 use Rattle.srcp_serve.proofs.Names.{no_lists, eqb-false, ne_eqb, events_of}
-use Rattle.srcp_serve.proofs.PeersAreSentTheirVisits.{ArePeersOf, IsPeerOf}
+use Rattle.srcp_serve.proofs.VisitsCarryStreams.{ArePeersOf, IsPeerOf}
 use Rattle.srcp_serve.proofs.CallsByTurnAndPeer.{IsNoneOf, PeersApart, AreAsked, accept_as, each_turn, all_if, fold_keeps, turned_round}
 use Rattle.srcp_serve.proofs.PacedTurnsSparePanels.{opening_events, opens, begun_events, turn_events, turned_events}
 use Rattle.srcp_serve.proofs.OnlyRoomSends.{AreOfOthers, is_of}
 use Rattle.srcp_serve.proofs.VisitsSendWhatIsTaken.{all_parts}
 use Rattle.srcp_serve.specs.Settling.{SettlesSoon, TakesAll, TakesWaits, WaitsAreGoneAfterAVisit}
-use Rattle.srcp_serve.proofs.SentIsTakenAfterAllTurns.{IsTurnOfPeers, turns_of_peers}
+use Rattle.srcp_serve.proofs.TurnsCarryStreams.{IsTurnOfPeers, turns_of_peers}
 use Rattle.srcp_serve.proofs.Settling.PanelsTakeTheirLines.{Panel, panel_others, brought_adds, no_map}
 use Rattle.srcp_serve.proofs.Settling.VisitsWriteUntilNothingIsLeft.{one_unless_nil, visited_whole}
 use Rattle.srcp_feed.specs.declared.feed.Next.TheVariants.{Told, Listed}

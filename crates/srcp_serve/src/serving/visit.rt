@@ -6,12 +6,9 @@ ghost use Rattle.srcp_serve.specs.Turns.{AreAboutPeers};
 ghost use Rattle.srcp_serve.specs.Visits.{Closes, Disconnects, ReadsIn, Visits, WritesOnce, WritesOut};
 
 use super::Server;
-use crate::door::{Door, Got};
 use srcp_core::Core;
+use srcp_door::{Door, Got, MOST_WRITES};
 use srcp_rules::Rows;
-
-/// The most writes of a visit.
-pub const MOST_WRITES: u32 = 300;
 
 /// A peer that has a connection, and the key of that connection.
 #[derive(Clone, Copy)]

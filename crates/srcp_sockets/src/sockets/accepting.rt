@@ -1,18 +1,20 @@
 //! How a pending connection is accepted.
 
 ghost use Rattle.std.specs.Prelude.{false, true, ◌≡◌, ◌<◌, ◌+◌, ◌⊎◌, None, Ok, Err, IfErr, length, vec_capacity};
-ghost use Rattle.std.specs.Prelude.{◌||◌, filter, nat_le, not};
-ghost use Rattle.srcp_peers.specs.Peers.{is_here};
+ghost use Rattle.std.specs.Prelude.{ℕ, OnErr, Some, position};
+ghost use Rattle.srcp_peers.specs.Peers.{Makes, is_shut};
+ghost use Rattle.srcp_sockets.specs.Asked.{MayRefuse};
+ghost use Rattle.srcp_sockets.specs.Work.{is_accept, is_close, is_crowded, may_accept};
 ghost use Rattle.srcp_peers.specs.Times.{refused_accept};
-ghost use Rattle.srcp_serve.specs.Calls.{AcceptCall};
-ghost use Rattle.srcp_peers.specs.Steps.{SaysNothing, SaysOne};
+ghost use Rattle.srcp_door.specs.Calls.{AcceptCall};
+ghost use Rattle.srcp_peers.specs.Steps.{Closes, SaysNothing, SaysOne, Tells};
 
 use super::Sockets;
+use srcp_door::DoorFault;
 use srcp_peers::{
     Listening, MOST_LINGERING, Peer, Queues, Refusal, System, count_lingering, first_shut,
     refusal_of,
 };
-use srcp_serve::DoorFault;
 use std::alloc::{AllocError, Global};
 
 impl<S: System + Drop> Sockets<S> {
@@ -23,15 +25,19 @@ impl<S: System + Drop> Sockets<S> {
     pub(crate) fn accept(&mut self, alloc: Global) -> Result<Option<u32>, DoorFault>
         ensures trace { SaysOne (S.trace self.old.system) (AcceptCall result) (S.trace self.new.system) }
         ensures fault { IfErr result (λ fault. fault ≡ DoorFault.Accept) }
+        ensures rests { OnErr result (self.new.listening ≡ Listening.Refused) }
+        ensures asks { may_accept self.old.listening (vec_capacity self.old.peers) self.old.peers.items ≡ true
+            → (result ≡ Err DoorFault.Accept)
+            ⊎ Makes is_accept 1 (S.trace self.old.system) (S.trace self.new.system) }
     {
         if !self.may_accept() {
             return self.note_nobody(Ok(None));
         }
         let Some(number) = self.last.checked_add(1) else {
-            return self.note_nobody(Err(DoorFault::Accept));
+            return self.put_off();
         };
         let Ok(queues) = spare_or_new(&mut self.spare, alloc) else {
-            return self.note_nobody(Err(DoorFault::Accept));
+            return self.put_off();
         };
         self.accept_next(number, queues)
     }
@@ -41,6 +47,9 @@ impl<S: System + Drop> Sockets<S> {
     fn may_accept(&mut self) -> bool
         ensures calls { SaysNothing (S.trace self.old.system) (S.trace self.new.system) }
         ensures room { result ≡ true → length self.new.peers.items < vec_capacity self.new.peers }
+        ensures is { result ≡ may_accept self.old.listening (vec_capacity self.old.peers) self.old.peers.items }
+        ensures same { result ≡ true → S.trace self.new.system ≡ S.trace self.old.system }
+        ensures excused { result ≡ false → MayRefuse (S.trace self.new.system) }
     {
         if self.listening.is_quiet() {
             return false;
@@ -52,14 +61,27 @@ impl<S: System + Drop> Sockets<S> {
         true
     }
 
+    /// Puts off a pending connection for which memory or the numbers ran out: it is accepted after a rest, if there is
+    /// some by then.
+    fn put_off(&mut self) -> Result<Option<u32>, DoorFault>
+        ensures trace { SaysOne (S.trace self.old.system) (AcceptCall result) (S.trace self.new.system) }
+        ensures fault { result ≡ Err DoorFault.Accept }
+        ensures rests { self.new.listening ≡ Listening.Refused }
+    {
+        self.listening = Listening::Refused;
+        self.note_nobody(Err(DoorFault::Accept))
+    }
+
     /// Notes that nobody came, or a fault, if the system was not asked.
     fn note_nobody(
         &mut self,
         answer: Result<Option<u32>, DoorFault>,
     ) -> Result<Option<u32>, DoorFault>
-        requires { (answer ≡ Ok None) ⊎ (answer ≡ Err DoorFault.Accept) }
+        requires nobody { (answer ≡ Ok None) ⊎ (answer ≡ Err DoorFault.Accept) }
+        requires excused { answer ≡ Ok None → MayRefuse (S.trace self.old.system) }
         ensures trace { SaysOne (S.trace self.old.system) (AcceptCall result) (S.trace self.new.system) }
         ensures same { result ≡ answer }
+        ensures listening { self.new.listening ≡ self.old.listening }
     {
         self.system.note_accept(answer);
         self.turn.note_accept(answer);
@@ -72,6 +94,8 @@ impl<S: System + Drop> Sockets<S> {
         requires room { length self.old.peers.items < vec_capacity self.old.peers }
         ensures trace { SaysOne (S.trace self.old.system) (AcceptCall result) (S.trace self.new.system) }
         ensures fault { IfErr result (λ fault. fault ≡ DoorFault.Accept) }
+        ensures rests { OnErr result (self.new.listening ≡ Listening.Refused) }
+        ensures asks { Makes is_accept 1 (S.trace self.old.system) (S.trace self.new.system) }
     {
         match self.system.accept(number) {
             Ok(()) => {
@@ -95,8 +119,7 @@ impl<S: System + Drop> Sockets<S> {
 
     /// Returns whether one that lingers has to be closed before a connection is accepted.
     fn is_crowded(&self) -> bool
-        ensures is { result ≡ (nat_le (vec_capacity self.now.peers) (length self.now.peers.items)
-            || nat_le MOST_LINGERING (length (filter (λ peer. not (is_here peer.stay)) self.now.peers.items))) }
+        ensures is { result ≡ is_crowded (vec_capacity self.now.peers) self.now.peers.items }
         ensures room { result ≡ false → length self.now.peers.items < vec_capacity self.now.peers }
     {
         self.peers.len() >= self.peers.capacity()
@@ -108,6 +131,12 @@ impl<S: System + Drop> Sockets<S> {
     fn make_room(&mut self)
         ensures calls { SaysNothing (S.trace self.old.system) (S.trace self.new.system) }
         ensures last { self.new.last ≡ self.old.last }
+        ensures closes { (S.trace self.new.system ≡ S.trace self.old.system)
+            ⊎ ((who : ℕ) × Tells (S.trace self.old.system) (Closes who) (S.trace self.new.system)) }
+        ensures none { position (λ peer. is_shut peer.stay) self.old.peers.items ≡ None
+            → self.new.listening ≡ Listening.Refused }
+        ensures one { (index : ℕ) → position (λ peer. is_shut peer.stay) self.old.peers.items ≡ Some index
+            → Makes is_close 1 (S.trace self.old.system) (S.trace self.new.system) }
     {
         match first_shut(self.peers.as_slice()) {
             Some(index) => self.close_at(index),

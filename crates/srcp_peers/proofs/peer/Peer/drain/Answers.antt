@@ -1,7 +1,8 @@
-use Rattle.std.proofs.Common.{◌∙◌, refl, ap}
-use Rattle.srcp_peers.specs.Peers.{is_here}
+use Rattle.std.proofs.Common.{◌≡◌, ◌∙◌, ◌+◌, ℕ, [], arith, refl, ap, inr, subst, sym}
+use Rattle.srcp_peers.specs.Peers.{Makes, is_here, is_read_of}
 use Rattle.srcp_peers.proofs.Saying.{says_none, says_then, keeps_none, keeps_then}
 use Rattle.srcp_peers.proofs.Keeping.{spares_none, spares_then}
+use Rattle.srcp_peers.proofs.Making.{asked_more, makes_none}
 use Rattle.srcp_peers.proofs.peer.Peer.drain.Goals as goal
 
 pub loop-init : goal.loop-init
@@ -12,6 +13,7 @@ loop-init g c = record {
   calls = says_none (g.S.System.trace c.args.system.now);
   times = keeps_none (g.S.System.trace c.args.system.now);
   number = refl;
+  made = makes_none (is_read_of c.args.self.now.number) (g.S.System.trace c.args.system.now);
   stay = refl;
 }
 
@@ -29,5 +31,15 @@ loop-preserved g c =
       calls = says_then first old new was.calls c.skip.ensures.calls;
       times = keeps_then first old new was.times c.skip.ensures.times;
       number = c.skip.ensures.number ∙ was.number;
+      made = subst (λ (n : ℕ). Makes (is_read_of n) (c.loop.counter + 1) first new) was.number
+          (asked_more (record c.loop.self { incoming = [] }) c.skip.new.self c.loop.counter first old new
+          (subst (λ (n : ℕ). Makes (is_read_of n) c.loop.counter first old) (sym was.number) was.made)
+          (c.skip.ensures.asked (sym c.is_ready.ensures ∙ c.if-not-is_ready.false)));
       stay = c.skip.ensures.stay ∙ was.stay;
     }
+
+pub returns-clause-drained : goal.returns-clause-drained
+returns-clause-drained g c =
+    let all : c.loop.counter ≡ 64 = omega arith in
+    inr (subst (λ (n : ℕ). Makes (is_read_of c.args.self.now.number) n (g.S.System.trace c.args.system.now)
+    (g.S.System.trace c.loop.system)) all c.loop.invariant.made)

@@ -1,7 +1,7 @@
 use Rattle.std.proofs.Common.{◌≡◌, ◌≢◌, ℕ, false}
 use Rattle.srcp_peers.specs.Steps.{SaysNothing}
 use Rattle.srcp_peers.specs.Times.{KeepsTimes}
-use Rattle.srcp_peers.specs.Peers.{IsKept, Spares, is_here}
+use Rattle.srcp_peers.specs.Peers.{IsKept, Makes, Spares, is_here, is_read_of}
 use Rattle.srcp_peers.proofs.peer.Peer.drain.Given as goal
 
 abbrev pub invariant-loop : goal.invariant-loop
@@ -12,5 +12,6 @@ invariant-loop g l = record {
   calls : SaysNothing (g.S.System.trace l.fn.system) (g.S.System.trace l.system);
   times : KeepsTimes (g.S.System.trace l.fn.system) (g.S.System.trace l.system);
   number : l.self.number ≡ l.fn.self.number;
+  made : Makes (is_read_of l.fn.self.number) l.counter (g.S.System.trace l.fn.system) (g.S.System.trace l.system);
   stay : l.self.stay ≡ l.fn.self.stay;
 }

@@ -1,4 +1,5 @@
-use Rattle.std.proofs.Common.{refl, Ok, Err}
+use Rattle.std.proofs.Common.{◌∙◌, ◌-◌, ℕ, Ok, Err, ap, refl, sym}
+use Rattle.srcp_peers.specs.Peers.{given, missed}
 use Rattle.srcp_peers.specs.Steps.{Reads}
 use Rattle.srcp_peers.proofs.Saying.{says_step, keeps_step}
 use Rattle.srcp_peers.proofs.peer.Peer.fill.Goals as goal
@@ -22,7 +23,20 @@ returns-in-Err-clause-times g c = keeps_step (g.S.System.trace c.args.system.now
     (Reads c.args.self.now.number c.in-Err.ensures.0 (Err c.in-Err.fault)) c.in-Err.ensures.2 (λ t. refl)
 
 pub returns-in-Ok-clause-asked : goal.returns-in-Ok-clause-asked
-returns-in-Ok-clause-asked g c ready few = (c.in-Ok.ensures.0, Ok c.in-Ok.count, c.in-Ok.ensures.2)
+returns-in-Ok-clause-asked g c ready few =
+    let room = ap (λ (n : ℕ). 4096 - n) c.len-room.ensures.count in (
+      c.in-Ok.ensures.0,
+      Ok c.in-Ok.count,
+      c.in-Ok.ensures.2,
+      c.in-Ok.ensures.3.1,
+      c.given-self.ensures ∙ ap (given c.args.self.now.input c.in-Ok.count) (room ∙ sym c.in-Ok.ensures.1),
+    )
 
 pub returns-in-Err-clause-asked : goal.returns-in-Err-clause-asked
-returns-in-Err-clause-asked g c ready few = (c.in-Err.ensures.0, Err c.in-Err.fault, c.in-Err.ensures.2)
+returns-in-Err-clause-asked g c ready few = (
+  c.in-Err.ensures.0,
+  Err c.in-Err.fault,
+  c.in-Err.ensures.2,
+  c.in-Err.ensures.3,
+  c.missed-self.ensures ∙ ap (missed c.args.self.now.input) c.refusal_of.ensures,
+)

@@ -21,11 +21,11 @@ returns-then-not-is_lost-clause-offered g c =
     let flushed = g.S.System.trace c.flush.new.system in
     let new = g.S.System.trace c.shut_down.new.system in
     due_all p old new (λ due. offered_then p.number p.outgoing old flushed new
-    (flushed_now flush.All p old flushed c.flush.ensures.offered due) c.shut_down.ensures.calls)
+    (flushed_now flush.All p c.flush.new.self old flushed c.flush.ensures.offered due) c.shut_down.ensures.calls)
 
 pub returns-else-is_empty-clause-offered : goal.returns-else-is_empty-clause-offered
 returns-else-is_empty-clause-offered g c =
     let p = c.args.self.now in
     let old = g.S.System.trace c.args.system.now in
     let new = g.S.System.trace c.flush.new.system in
-    due_all p old new (flushed_now flush.All p old new c.flush.ensures.offered)
+    due_all p old new (flushed_now flush.All p c.flush.new.self old new c.flush.ensures.offered)

@@ -7,4 +7,4 @@ returns-then-is_here-clause-offered g c =
     let old = g.S.System.trace c.args.system.now in
     let new = g.S.System.trace c.flush.new.system in
     due_here c.args.what p old new (c.is_here.ensures.yes c.if-is_here.true)
-    (flushed_now c.args.what p old new c.flush.ensures.offered)
+    (flushed_now c.args.what p c.flush.new.self old new c.flush.ensures.offered)

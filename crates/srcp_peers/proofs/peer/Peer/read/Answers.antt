@@ -1,5 +1,5 @@
 use Rattle.std.proofs.Common.{◌≡◌, ℕ, ap, subst}
-use Rattle.srcp_serve.specs.Calls.{ReadCall}
+use Rattle.srcp_door.specs.Calls.{ReadCall}
 use Rattle.srcp_peers.specs.declared.peer.Peer.{Peer}
 use Rattle.srcp_peers.specs.Steps.{Tells, Answers}
 use Rattle.srcp_peers.proofs.Keeping.{kept_got}

@@ -30,6 +30,7 @@ returns-in-Ok-clause-offered g c is_open some due = (
   Ok c.in-Ok.count,
   subst (λ (f : List ℕ). Tells (g.S.System.trace c.args.system.now) (Writes c.args.self.now.number f (Ok c.in-Ok.count))
       (g.S.System.trace c.write.new.self)) c.front.ensures c.in-Ok.ensures.trace,
+  search rules,
 )
 
 pub returns-in-Err-clause-offered : goal.returns-in-Err-clause-offered
@@ -37,4 +38,5 @@ returns-in-Err-clause-offered g c is_open some due = (
   Err c.in-Err.fault,
   subst (λ (f : List ℕ). Tells (g.S.System.trace c.args.system.now) (Writes c.args.self.now.number f (Err c.in-Err.fault))
       (g.S.System.trace c.write.new.self)) c.front.ensures c.in-Err.ensures.trace,
+  search rules,
 )

@@ -1,6 +1,6 @@
 use Rattle.std.proofs.Common.{List, Option, ap, subst, sym}
 use Rattle.std.specs.Prelude.{option_map}
-use Rattle.srcp_serve.specs.Calls.{NowCall, Tells}
+use Rattle.srcp_door.specs.Calls.{NowCall, Tells}
 use Rattle.srcp_peers.specs.Steps.{Step, calls}
 use Rattle.srcp_peers.proofs.Saying.{says_after}
 use Rattle.srcp_sockets.proofs.Serving.{tells_one}

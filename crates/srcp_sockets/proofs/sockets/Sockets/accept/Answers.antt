@@ -1,4 +1,5 @@
-use Rattle.srcp_serve.specs.Calls.{AcceptCall}
+use Rattle.std.proofs.Common.{inl, refl, rules}
+use Rattle.srcp_door.specs.Calls.{AcceptCall}
 use Rattle.srcp_peers.proofs.Saying.{says_after}
 use Rattle.srcp_sockets.proofs.sockets.Sockets.accept.Goals as goal
 
@@ -14,12 +15,15 @@ returns-then-not-may_accept-clause-trace g c = says_after (g.S.System.trace c.ar
 
 pub returns-in_default-clause-trace : goal.returns-in_default-clause-trace
 returns-in_default-clause-trace g c =
-    let none = c.note_nobody-in_default in
+    let none = c.put_off in
     says_after (g.S.System.trace c.args.self.now.system) (g.S.System.trace c.may_accept.new.self.system)
     (g.S.System.trace none.new.self.system) (AcceptCall none.result) c.may_accept.ensures.calls none.ensures.trace
 
 pub returns-in_default-spare_or_new-clause-trace : goal.returns-in_default-spare_or_new-clause-trace
 returns-in_default-spare_or_new-clause-trace g c =
-    let none = c.note_nobody-in_default-spare_or_new in
+    let none = c.put_off-in_default-spare_or_new in
     says_after (g.S.System.trace c.args.self.now.system) (g.S.System.trace c.may_accept.new.self.system)
     (g.S.System.trace none.new.self.system) (AcceptCall none.result) c.may_accept.ensures.calls none.ensures.trace
+
+pub note_nobody-requires : goal.note_nobody-requires
+note_nobody-requires g c = record { nobody = inl refl; excused = λ e. c.may_accept.ensures.excused (search rules) }

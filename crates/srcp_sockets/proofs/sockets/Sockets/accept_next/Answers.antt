@@ -1,16 +1,17 @@
 use Rattle.std.specs.declared.io.ErrorKind.{ErrorKind}
 use Rattle.std.specs.Prelude.{Result, filter_map}
-use Rattle.std.proofs.Common.{◌≡◌, ◌∙◌, ◌∷◌, ◌++◌, [], ap, refl, rules, sym, subst, arith, true, Ok, Err, Some}
-use Rattle.srcp_serve.specs.Calls.{AcceptCall, peer_of}
+use Rattle.std.proofs.Common.{◌≡◌, ◌∙◌, ◌∷◌, ◌++◌, [], ap, le_trans, refl, rules, sym, subst, arith, true, Ok, Err, Some}
+use Rattle.srcp_door.specs.Calls.{AcceptCall, peer_of}
 use Rattle.srcp_peers.specs.declared.system.Refusal.{Refusal}
 use Rattle.srcp_peers.specs.declared.system.Refusal.TheVariants.{Later, Again, Fault}
 use Rattle.srcp_peers.specs.declared.turn.Listening.{Listening}
 use Rattle.srcp_sockets.specs.Doors.{Stands}
 use Rattle.srcp_peers.specs.Listeners.{refused_listening}
-use Rattle.srcp_peers.specs.Steps.{Accepts}
+use Rattle.srcp_peers.specs.Steps.{Accepts, Answers}
 use Rattle.srcp_peers.specs.Times.{is_as_heard, refused_accept}
 use Rattle.srcp_peers.proofs.Keeping.{own}
 use Rattle.srcp_peers.proofs.Saying.{says_after, says_call, says_step}
+use Rattle.srcp_sockets.proofs.Asking.{asked_accept, asked_step, was_asked}
 use Rattle.srcp_sockets.proofs.Naming.{named_call, named_come, named_silent, nobody_named}
 use Rattle.srcp_sockets.proofs.Coming.{stands_came, stands_refused}
 use Rattle.srcp_sockets.proofs.Standing.{stands_answered}
@@ -36,6 +37,9 @@ invariant_of-self g c =
       timed = timed_asked old mid new self.turn c.note_accept-in-Ok.new.self number said (Ok (Some number)) c.note_accept-in-Ok.ensures
           (own number)
           c.in-Ok.ensures c.note_accept.ensures self.timed;
+      asked = asked_step mid new (Answers call) c.note_accept.ensures refl
+          (asked_step old mid (Accepts number said) c.in-Ok.ensures refl self.asked);
+      places = le_trans self.places c.push.ensures.capacity;
     }
 
 pub returns-in-Ok-clause-trace : goal.returns-in-Ok-clause-trace
@@ -76,6 +80,9 @@ invariant_of-self-in-Err g c =
           (ap (λ a. is_as_heard (Some a) answer) (ap refused_accept (sym c.refusal_of-said.ensures))
           ∙ ap (is_as_heard (Some (refused_accept c.refusal_of-said.result))) is ∙ answered_so c.refusal_of-said.result)
           c.in-Err.ensures c.note_accept-in-Err.ensures self.timed;
+      asked = asked_accept mid new answer c.note_accept-in-Err.ensures (λ e. was_asked old mid number said c.in-Err.ensures)
+          (asked_step old mid (Accepts number said) c.in-Err.ensures refl self.asked);
+      places = self.places;
     }
 
 pub returns-in-Err-clause-trace : goal.returns-in-Err-clause-trace

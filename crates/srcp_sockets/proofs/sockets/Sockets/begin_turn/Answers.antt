@@ -1,11 +1,14 @@
-use Rattle.std.proofs.Common.{◌≡◌, ◌∙◌, ap, subst}
-use Rattle.std.specs.Prelude.{◌&&◌, not}
+use Rattle.std.proofs.Common.{◌≡◌, ◌∙◌, Bool, ap, subst}
+use Rattle.std.specs.Prelude.{◌&&◌, cond, not}
 use Rattle.srcp_peers.specs.declared.readiness.Flush.{Flush}
 use Rattle.srcp_peers.specs.AllPeers.{AreOffered}
 use Rattle.srcp_peers.specs.Turns.{flushing, has_ticked}
 use Rattle.srcp_peers.proofs.Offering.{all_offered_then}
-use Rattle.srcp_peers.proofs.Saying.{says_then}
+use Rattle.srcp_peers.proofs.Saying.{keeps_then, says_then}
+use Rattle.srcp_sockets.specs.Delivery.{HasWaited}
 use Rattle.srcp_sockets.specs.Doors.{flushed_in}
+use Rattle.srcp_sockets.specs.Work.{goes_on}
+use Rattle.srcp_sockets.proofs.Delivered.{waited_after, waited_keeps}
 use Rattle.srcp_sockets.proofs.sockets.Sockets.begin_turn.Goals as goal
 
 pub returns-clause-calls : goal.returns-clause-calls
@@ -16,7 +19,7 @@ returns-clause-calls g c =
     let looked = g.S.System.trace c.look.new.self.system in
     let new = g.S.System.trace c.begin_visits.new.self.system in
     says_then old gone new (says_then old flushed gone c.flush.ensures.calls c.close_gone.ensures.calls)
-    (says_then gone looked new c.look.ensures c.begin_visits.ensures.calls)
+    (says_then gone looked new c.look.ensures.calls c.begin_visits.ensures.calls)
 
 pub returns-clause-offered : goal.returns-clause-offered
 returns-clause-offered g c =
@@ -33,4 +36,21 @@ returns-clause-offered g c =
     all_offered_then what was.peers.items old flushed new
     (subst (λ (f : Flush). AreOffered f was.peers.items old flushed) same c.flush.ensures.offered)
     (says_then flushed gone new c.close_gone.ensures.calls
-    (says_then gone looked new c.look.ensures c.begin_visits.ensures.calls))
+    (says_then gone looked new c.look.ensures.calls c.begin_visits.ensures.calls))
+
+pub returns-clause-waits : goal.returns-clause-waits
+returns-clause-waits g c =
+    let was = c.args.self.now in
+    let old = g.S.System.trace was.system in
+    let flushed = g.S.System.trace c.flush.new.self.system in
+    let gone = g.S.System.trace c.close_gone.new.self.system in
+    let looked = g.S.System.trace c.look.new.self.system in
+    let new = g.S.System.trace c.begin_visits.new.self.system in
+    let ticked = has_ticked was.turn was.flushed in
+    let held : c.goes_on-held.result ≡ goes_on was.turn was.flushed was.peers.items = c.goes_on-held.ensures
+    ∙ ap (λ holds. not ticked && holds) c.holds_input-holds.ensures in
+    subst (λ (h : Bool). HasWaited (cond h 0 1) old new) held
+    (waited_keeps (cond c.goes_on-held.result 0 1) old looked new
+    (waited_after (cond c.goes_on-held.result 0 1) old gone looked
+    (keeps_then old flushed gone c.flush.ensures.times c.close_gone.ensures.times) c.look.ensures.waits)
+    c.begin_visits.ensures.times)

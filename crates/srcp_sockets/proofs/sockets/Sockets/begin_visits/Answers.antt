@@ -5,6 +5,7 @@ use Rattle.srcp_peers.specs.declared.peer.Peer.{Peer}
 use Rattle.srcp_peers.specs.AllPeers.{AreMarked}
 use Rattle.srcp_sockets.specs.Doors.{Stands}
 use Rattle.srcp_peers.specs.Turns.{room_of}
+use Rattle.srcp_sockets.proofs.Asking.{asked_silent}
 use Rattle.srcp_sockets.proofs.Naming.{named_silent}
 use Rattle.srcp_sockets.proofs.Serving.{all_read}
 use Rattle.srcp_sockets.proofs.Standing.{stands_turned}
@@ -25,6 +26,8 @@ invariant_of-self g c =
           (subst (λ (ps : List Peer). Stands old ps listening last) (sym c.as_mut_slice.ensures.value) c.args.self.now.stands));
       named = named_silent old new last c.begin_visits.ensures.calls c.args.self.now.named;
       timed = timed_kept old new c.args.self.now.turn c.begin_visits.ensures.times c.args.self.now.timed;
+      asked = asked_silent old new c.begin_visits.ensures.calls c.args.self.now.asked;
+      places = c.args.self.now.places;
     }
 
 pub returns-clause-read : goal.returns-clause-read

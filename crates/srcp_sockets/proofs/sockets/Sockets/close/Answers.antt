@@ -1,8 +1,10 @@
 use Rattle.std.proofs.Common.{◌∙◌, ap, refl, sym, Ok, Err}
 use Rattle.srcp_peers.specs.declared.peer.Peer.{Peer}
-use Rattle.srcp_serve.specs.declared.door.DoorFault.TheVariants.{Close}
-use Rattle.srcp_serve.specs.Calls.{CloseCall}
+use Rattle.srcp_door.specs.declared.door.DoorFault.TheVariants.{Close}
+use Rattle.srcp_door.specs.Calls.{CloseCall}
+use Rattle.srcp_sockets.proofs.Asking.{asked_step}
 use Rattle.srcp_sockets.proofs.Clocking.{clock_is}
+use Rattle.srcp_peers.specs.Steps.{Answers}
 use Rattle.srcp_peers.proofs.Saying.{says_call}
 use Rattle.srcp_sockets.proofs.Naming.{named_call}
 use Rattle.srcp_sockets.proofs.Parting.{stands_left, stands_missing}
@@ -25,6 +27,8 @@ invariant_of-self g c =
       timed = timed_close old new c.args.self.now.turn c.note_close-in_default.new.self c.args.number (Err Close)
           (λ peer. c.note_close-in_default.ensures peer (Err Close))
           c.note_close.ensures c.args.self.now.timed;
+      asked = asked_step old new (Answers call) c.note_close.ensures refl c.args.self.now.asked;
+      places = c.args.self.now.places;
     }
 
 pub invariant_of-self-2 : goal.invariant_of-self-2
@@ -44,6 +48,8 @@ invariant_of-self-2 g c =
       timed = timed_close old new c.args.self.now.turn c.note_close-3.new.self c.args.number (Ok tt)
           (λ peer. c.note_close-3.ensures peer (Ok tt))
           c.note_close-2.ensures c.args.self.now.timed;
+      asked = asked_step old new (Answers call) c.note_close-2.ensures refl c.args.self.now.asked;
+      places = c.args.self.now.places;
     }
 
 pub returns-clause-trace : goal.returns-clause-trace

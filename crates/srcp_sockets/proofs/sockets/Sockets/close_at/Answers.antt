@@ -1,8 +1,11 @@
-use Rattle.std.proofs.Common.{List, refl, sym, subst}
+use Rattle.std.proofs.Common.{List, refl, rules, sym, subst}
 use Rattle.srcp_peers.specs.declared.peer.Peer.{Peer}
 use Rattle.srcp_sockets.specs.Doors.{Stands}
+use Rattle.srcp_sockets.specs.Work.{is_close}
 use Rattle.srcp_peers.specs.Steps.{Closes}
+use Rattle.srcp_sockets.proofs.Asking.{asked_step}
 use Rattle.srcp_sockets.proofs.Clocking.{clock_is}
+use Rattle.srcp_peers.proofs.Making.{makes_more, makes_none}
 use Rattle.srcp_peers.proofs.Saying.{says_step, keeps_step}
 use Rattle.srcp_sockets.proofs.Naming.{named_silent}
 use Rattle.srcp_sockets.proofs.Parting.{stands_closed_at}
@@ -22,6 +25,8 @@ invariant_of-self g c =
           (clock_is old self.turn peer.number self.timed) c.close.ensures self.stands);
       named = named_silent old new self.last (says_step old new (Closes peer.number) c.close.ensures refl) self.named;
       timed = timed_kept old new self.turn (keeps_step old new (Closes peer.number) c.close.ensures (λ t. refl)) self.timed;
+      asked = asked_step old new (Closes peer.number) c.close.ensures refl self.asked;
+      places = search rules;
     }
 
 pub returns-clause-calls : goal.returns-clause-calls
@@ -29,3 +34,18 @@ returns-clause-calls g c =
     let old = g.S.System.trace c.args.self.now.system in
     let new = g.S.System.trace c.close.new.self in
     says_step old new (Closes c.index.result.now.number) c.close.ensures refl
+
+pub returns-clause-times : goal.returns-clause-times
+returns-clause-times g c =
+    let old = g.S.System.trace c.args.self.now.system in
+    let new = g.S.System.trace c.close.new.self in
+    keeps_step old new (Closes c.index.result.now.number) c.close.ensures (λ t. refl)
+
+pub returns-clause-closed : goal.returns-clause-closed
+returns-clause-closed g c =
+    let old = g.S.System.trace c.args.self.now.system in
+    let new = g.S.System.trace c.close.new.self in
+    makes_more is_close 0 old old new (Closes c.index.result.now.number) (makes_none is_close old) c.close.ensures refl
+
+pub returns-clause-one : goal.returns-clause-one
+returns-clause-one g c = (c.index.result.now.number, c.close.ensures)

@@ -1,16 +1,42 @@
-use Rattle.std.proofs.Common.{◌∙◌, refl}
-use Rattle.srcp_peers.proofs.Saying.{says_none, says_then}
+use Rattle.std.proofs.Common.{◌≡◌, ◌∙◌, ℕ, arith, inr, refl, subst}
+use Rattle.srcp_peers.specs.Peers.{Makes}
+use Rattle.srcp_peers.proofs.Making.{makes_none, makes_then}
+use Rattle.srcp_peers.proofs.Saying.{keeps_none, keeps_then, says_none, says_then}
+use Rattle.srcp_sockets.specs.Work.{is_close}
 use Rattle.srcp_sockets.proofs.sockets.Sockets.close_gone.Goals as goal
 
 pub loop-init : goal.loop-init
-loop-init g c = record { calls = says_none (g.S.System.trace c.args.self.now.system); last = refl }
+loop-init g c =
+    let old = g.S.System.trace c.args.self.now.system in
+    record {
+      calls = says_none old;
+      last = refl;
+      times = keeps_none old;
+      turn = refl;
+      refused = refl;
+      flushed = refl;
+      made = makes_none is_close old;
+    }
 
 pub loop-preserved : goal.loop-preserved
 loop-preserved g c =
     let first = g.S.System.trace c.args.self.now.system in
     let old = g.S.System.trace c.loop.self.system in
     let new = g.S.System.trace c.close_at.new.self.system in
+    let was = c.loop.invariant in
+    let now = c.close_at.ensures in
     record {
-      calls = says_then first old new c.loop.invariant.calls c.close_at.ensures.calls;
-      last = c.close_at.ensures.last ∙ c.loop.invariant.last;
+      calls = says_then first old new was.calls now.calls;
+      last = now.last ∙ was.last;
+      times = keeps_then first old new was.times now.times;
+      turn = now.keeps.0 ∙ was.turn;
+      refused = now.keeps.1 ∙ was.refused;
+      flushed = now.flushed ∙ was.flushed;
+      made = makes_then is_close c.loop.counter 1 first old new was.made now.closed;
     }
+
+pub returns-clause-closed : goal.returns-clause-closed
+returns-clause-closed g c =
+    let all : c.loop.counter ≡ 64 = omega arith in
+    inr (subst (λ (n : ℕ). Makes is_close n (g.S.System.trace c.args.self.now.system) (g.S.System.trace c.loop.self.system)) all
+    c.loop.invariant.made)

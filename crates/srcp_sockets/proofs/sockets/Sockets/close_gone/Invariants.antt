@@ -1,9 +1,17 @@
 use Rattle.std.proofs.Common.{◌≡◌}
+use Rattle.srcp_peers.specs.Peers.{Makes}
 use Rattle.srcp_peers.specs.Steps.{SaysNothing}
+use Rattle.srcp_peers.specs.Times.{KeepsTimes}
+use Rattle.srcp_sockets.specs.Work.{is_close}
 use Rattle.srcp_sockets.proofs.sockets.Sockets.close_gone.Given as goal
 
 abbrev pub invariant-loop : goal.invariant-loop
 invariant-loop g l = record {
   calls : SaysNothing (g.S.System.trace l.fn.self.system) (g.S.System.trace l.self.system);
   last : l.self.last ≡ l.fn.self.last;
+  times : KeepsTimes (g.S.System.trace l.fn.self.system) (g.S.System.trace l.self.system);
+  turn : l.self.turn ≡ l.fn.self.turn;
+  refused : l.self.refused ≡ l.fn.self.refused;
+  flushed : l.self.flushed ≡ l.fn.self.flushed;
+  made : Makes is_close l.counter (g.S.System.trace l.fn.self.system) (g.S.System.trace l.self.system);
 }

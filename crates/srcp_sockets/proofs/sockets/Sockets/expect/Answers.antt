@@ -1,7 +1,8 @@
 use Rattle.std.proofs.Common.{refl}
-use Rattle.srcp_serve.specs.Calls.{ExpectCall}
+use Rattle.srcp_door.specs.Calls.{ExpectCall}
 use Rattle.srcp_peers.specs.Steps.{Answers}
 use Rattle.srcp_peers.proofs.Saying.{says_call}
+use Rattle.srcp_sockets.proofs.Asking.{asked_step}
 use Rattle.srcp_sockets.proofs.Naming.{named_call}
 use Rattle.srcp_sockets.proofs.Standing.{stands_step}
 use Rattle.srcp_sockets.proofs.Timing.{timed_expect}
@@ -19,6 +20,8 @@ invariant_of-self g c =
       named = named_call old new c.args.self.now.last call (says_call old new call c.note_expect.ensures) refl c.args.self.now.named;
       timed = timed_expect old new c.args.self.now.turn c.expect.new.self c.args.due c.args.slack c.expect.ensures c.note_expect.ensures
           c.args.self.now.timed;
+      asked = asked_step old new (Answers call) c.note_expect.ensures refl c.args.self.now.asked;
+      places = c.args.self.now.places;
     }
 
 pub returns : goal.returns

@@ -3,6 +3,7 @@ use Rattle.std.proofs.lemmas.List.{with_items_is}
 use Rattle.srcp_peers.specs.declared.peer.Peer.{Peer}
 use Rattle.srcp_peers.specs.AllPeers.{AreOffered}
 use Rattle.srcp_sockets.specs.Doors.{Stands}
+use Rattle.srcp_sockets.proofs.Asking.{asked_silent}
 use Rattle.srcp_sockets.proofs.Naming.{named_silent}
 use Rattle.srcp_sockets.proofs.Standing.{stands_turned}
 use Rattle.srcp_sockets.proofs.Timing.{timed_kept}
@@ -22,6 +23,8 @@ invariant_of-self g c =
           (subst (λ (ps : List Peer). Stands old ps listening last) (sym c.as_mut_slice.ensures.value) c.args.self.now.stands));
       named = named_silent old new last c.flush.ensures.calls c.args.self.now.named;
       timed = timed_kept old new c.args.self.now.turn c.flush.ensures.times c.args.self.now.timed;
+      asked = asked_silent old new c.flush.ensures.calls c.args.self.now.asked;
+      places = c.args.self.now.places;
     }
 
 pub returns-clause-offered : goal.returns-clause-offered

@@ -1,8 +1,9 @@
 use Rattle.std.proofs.Common.{refl, Ok}
-use Rattle.srcp_serve.specs.declared.door.Got.TheVariants.{Nothing}
-use Rattle.srcp_serve.specs.Calls.{ReadCall}
+use Rattle.srcp_door.specs.declared.door.Got.TheVariants.{Nothing}
+use Rattle.srcp_door.specs.Calls.{ReadCall}
 use Rattle.srcp_peers.specs.Steps.{Answers}
 use Rattle.srcp_peers.proofs.Saying.{says_call}
+use Rattle.srcp_sockets.proofs.Asking.{asked_step}
 use Rattle.srcp_sockets.proofs.Naming.{named_call}
 use Rattle.srcp_sockets.proofs.Standing.{stands_step}
 use Rattle.srcp_sockets.proofs.Timing.{timed_nothing}
@@ -18,6 +19,8 @@ invariant_of-self g c =
           (λ s a. refl) c.note_read.ensures c.args.self.now.stands;
       named = named_call old new c.args.self.now.last call (says_call old new call c.note_read.ensures) refl c.args.self.now.named;
       timed = timed_nothing old new c.args.self.now.turn c.args.number c.args.buffer.now c.note_read.ensures c.args.self.now.timed;
+      asked = asked_step old new (Answers call) c.note_read.ensures refl c.args.self.now.asked;
+      places = c.args.self.now.places;
     }
 
 pub returns-clause-trace : goal.returns-clause-trace

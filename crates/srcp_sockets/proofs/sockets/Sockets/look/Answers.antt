@@ -1,5 +1,24 @@
+use Rattle.std.proofs.Common.{subst, sym, Bool}
+use Rattle.std.specs.Prelude.{cond}
+use Rattle.srcp_peers.specs.Waiting.{longest_wait}
 use Rattle.srcp_peers.proofs.Saying.{says_none}
+use Rattle.srcp_sockets.specs.Delivery.{HasWaited}
+use Rattle.srcp_sockets.proofs.Delivered.{waited_more, waited_none}
 use Rattle.srcp_sockets.proofs.sockets.Sockets.look.Goals as goal
 
-pub returns-then-held : goal.returns-then-held
-returns-then-held g c = says_none (g.S.System.trace c.args.self.now.system)
+pub returns-then-held-clause-calls : goal.returns-then-held-clause-calls
+returns-then-held-clause-calls g c = says_none (g.S.System.trace c.args.self.now.system)
+
+pub returns-then-held-clause-waits : goal.returns-then-held-clause-waits
+returns-then-held-clause-waits g c =
+    let old = g.S.System.trace c.args.self.now.system in
+    subst (λ (held : Bool). HasWaited (cond held 0 1) old old) (sym c.if-held.true) (waited_none old)
+
+pub returns-clause-waits : goal.returns-clause-waits
+returns-clause-waits g c =
+    let old = g.S.System.trace c.args.self.now.system in
+    let new = g.S.System.trace c.wait.new.self.system in
+    let self = c.args.self.now in
+    let w = c.wait.ensures.waits in
+    subst (λ (held : Bool). HasWaited (cond held 0 1) old new) (sym c.if-held.false)
+    (waited_more 0 old old new (longest_wait self.peers.items self.listening self.turn self.most) w.0 w.1 w.2 (waited_none old))

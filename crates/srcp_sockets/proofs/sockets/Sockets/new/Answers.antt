@@ -1,3 +1,4 @@
+use Rattle.srcp_sockets.proofs.Asking.{asked_first}
 use Rattle.srcp_sockets.proofs.Timing.{timed_first}
 use Rattle.srcp_sockets.proofs.Naming.{named_first}
 use Rattle.srcp_sockets.proofs.sockets.Sockets.new.Goals as goal
@@ -7,3 +8,6 @@ invariant_of-result-clause-named g c = named_first (g.S.System.trace c.args.syst
 
 pub invariant_of-result-clause-timed : goal.invariant_of-result-clause-timed
 invariant_of-result-clause-timed g c = timed_first (g.S.System.trace c.args.system) c.args.turn c.requires.turn c.requires.trace
+
+pub invariant_of-result-clause-asked : goal.invariant_of-result-clause-asked
+invariant_of-result-clause-asked g c = asked_first (g.S.System.trace c.args.system) c.requires.trace

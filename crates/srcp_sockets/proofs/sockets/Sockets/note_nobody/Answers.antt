@@ -1,8 +1,9 @@
 use Rattle.std.proofs.Common.{◌≡◌, ap, refl, ⊎_elim, true, None, [], ◌∷◌}
 use Rattle.std.specs.Prelude.{filter_map}
-use Rattle.srcp_serve.specs.Calls.{AcceptCall, peer_of}
+use Rattle.srcp_door.specs.Calls.{AcceptCall, peer_of}
 use Rattle.srcp_peers.specs.Times.{is_as_heard}
 use Rattle.srcp_peers.proofs.Saying.{says_call}
+use Rattle.srcp_sockets.proofs.Asking.{asked_accept}
 use Rattle.srcp_sockets.proofs.Naming.{named_call}
 use Rattle.srcp_sockets.proofs.Standing.{stands_answered}
 use Rattle.srcp_sockets.proofs.Timing.{timed_unasked}
@@ -15,8 +16,9 @@ invariant_of-self g c =
     let answer = c.args.answer in
     let self = c.args.self.now in
     let none : filter_map peer_of (AcceptCall answer ∷ []) ≡ [] = ⊎_elim
-    (λ e. ap (λ a. filter_map peer_of (AcceptCall a ∷ [])) e) (λ e. ap (λ a. filter_map peer_of (AcceptCall a ∷ [])) e) c.requires in
-    let as_heard : is_as_heard None answer ≡ true = ⊎_elim (λ e. ap (is_as_heard None) e) (λ e. ap (is_as_heard None) e) c.requires in
+    (λ e. ap (λ a. filter_map peer_of (AcceptCall a ∷ [])) e) (λ e. ap (λ a. filter_map peer_of (AcceptCall a ∷ [])) e) c.requires.nobody in
+    let as_heard : is_as_heard None answer ≡ true = ⊎_elim
+    (λ e. ap (is_as_heard None) e) (λ e. ap (is_as_heard None) e) c.requires.nobody in
     record {
       stands =
           stands_answered old new self.peers.items self.listening self.last (AcceptCall answer) (λ s a. refl) c.note_accept.ensures
@@ -25,6 +27,8 @@ invariant_of-self g c =
           named_call old new self.last (AcceptCall answer) (says_call old new (AcceptCall answer) c.note_accept.ensures) none self.named;
       timed = timed_unasked old new self.turn c.note_accept-2.new.self answer c.note_accept-2.ensures as_heard
           c.note_accept.ensures self.timed;
+      asked = asked_accept old new answer c.note_accept.ensures c.requires.excused self.asked;
+      places = self.places;
     }
 
 pub returns-clause-trace : goal.returns-clause-trace

@@ -1,7 +1,14 @@
-use Rattle.std.proofs.Common.{refl}
-use Rattle.srcp_serve.specs.Calls.{NowCall}
-use Rattle.srcp_peers.specs.Steps.{Clocks}
+use Rattle.std.proofs.Common.{◌≡◌, ◌∙◌, ◌++◌, ◌∷◌, [], ℕ, List, Err, None, Ok, Option, Some, ap, append_assoc, refl}
+use Rattle.std.specs.Prelude.{Result}
+use Rattle.srcp_door.specs.declared.door.DoorFault.{DoorFault}
+use Rattle.srcp_door.specs.declared.door.DoorFault.TheVariants.{Now}
+use Rattle.srcp_peers.specs.declared.turn.Turn.{Turn}
+use Rattle.srcp_peers.specs.Turns.{moment_at}
+use Rattle.srcp_sockets.specs.Work.{moment_of}
+use Rattle.srcp_door.specs.Calls.{NowCall}
+use Rattle.srcp_peers.specs.Steps.{Answers, Clocks, Step}
 use Rattle.srcp_peers.proofs.Saying.{says_after, says_call, says_step}
+use Rattle.srcp_sockets.proofs.Asking.{asked_step}
 use Rattle.srcp_sockets.proofs.Naming.{named_call, named_silent}
 use Rattle.srcp_sockets.proofs.Parting.{stands_clocked}
 use Rattle.srcp_sockets.proofs.Serving.{read_clocked, stands_now}
@@ -25,6 +32,9 @@ invariant_of-self g c =
       timed = timed_moment old mid new c.args.self.now.turn c.report_moment-answer.new.self c.clock-shown.result answer
           c.report_moment-answer.ensures.none c.report_moment-answer.ensures.some c.clock-shown.ensures
           c.note_now.ensures c.args.self.now.timed;
+      asked = asked_step mid new (Answers (NowCall answer)) c.note_now.ensures refl
+          (asked_step old mid (Clocks c.clock-shown.result) c.clock-shown.ensures refl c.args.self.now.asked);
+      places = c.args.self.now.places;
     }
 
 pub returns-clause-trace : goal.returns-clause-trace
@@ -35,3 +45,29 @@ returns-clause-trace g c =
     let answer = c.report_moment-answer.result in
     says_after old mid new (NowCall answer) (says_step old mid (Clocks c.clock-shown.result) c.clock-shown.ensures refl)
     (says_call mid new (NowCall answer) c.note_now.ensures)
+
+-- the moment that follows of what the clock showed
+moment_is : (turn : Turn) (answer : Result ℕ DoorFault) (shown : Option ℕ) → (shown ≡ None → answer ≡ Err Now)
+    → ((time : ℕ) → shown ≡ Some time → answer ≡ Ok (moment_at turn time)) → answer ≡ moment_of turn shown
+moment_is turn answer None none some = none refl
+moment_is turn answer (Some time) none some = some time refl
+
+pub returns-clause-clock : goal.returns-clause-clock
+returns-clause-clock g c =
+    let old = g.S.System.trace c.args.self.now.system in
+    let mid = g.S.System.trace c.clock-shown.new.self in
+    let new = g.S.System.trace c.note_now.new.self in
+    let answer = c.report_moment-answer.result in
+    let shown = c.clock-shown.result in (
+      shown,
+      moment_is c.args.self.now.turn answer shown (λ e. (c.report_moment-answer.ensures.none e).0)
+          (λ time e. (c.report_moment-answer.ensures.some time e).0),
+      λ later is.
+          let n = c.note_now.ensures later is in
+          let s = c.clock-shown.ensures n.0 n.1 in (
+            s.0,
+            s.1,
+            n.2 ∙ ap (λ (l : List Step). l ++ Answers (NowCall answer) ∷ []) s.2
+                ∙ append_assoc s.0 (Clocks shown ∷ []) (Answers (NowCall answer) ∷ []),
+          ),
+    )

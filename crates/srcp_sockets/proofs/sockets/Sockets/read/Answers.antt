@@ -1,9 +1,16 @@
-use Rattle.std.proofs.Common.{◌∙◌, ℕ, ap, refl, sym, subst, true≢false}
+use Rattle.std.proofs.Common.{◌≡◌, ◌∙◌, ◌<◌, ℕ, List, length, ap, refl, rules, sym, subst, true≢false, ⊎_elim}
+use Rattle.std.specs.Prelude.{slice_index_or}
+use Rattle.std.proofs.lemmas.Bool.{cases_eq}
+use Rattle.std.proofs.lemmas.List.{get_or_default}
+use Rattle.srcp_peers.specs.AllPeers.{AreApart}
+use Rattle.srcp_peers.specs.Reports.{IsAnswered}
+use Rattle.srcp_peers.specs.Turns.{got_bytes}
 use Rattle.srcp_peers.specs.declared.peer.Peer.{Peer}
-use Rattle.srcp_serve.specs.Calls.{ReadCall}
+use Rattle.srcp_door.specs.Calls.{ReadCall}
 use Rattle.srcp_peers.specs.Peers.{IsKept}
-use Rattle.srcp_peers.specs.Steps.{SaysOne}
+use Rattle.srcp_peers.specs.Steps.{Answers, SaysOne}
 use Rattle.srcp_peers.proofs.Saying.{says_call}
+use Rattle.srcp_sockets.proofs.Asking.{asked_step}
 use Rattle.srcp_sockets.proofs.Naming.{named_call}
 use Rattle.srcp_sockets.proofs.Standing.{stands_one}
 use Rattle.srcp_sockets.proofs.Timing.{line_kept, timed_read}
@@ -35,6 +42,8 @@ invariant_of-self g c =
             light = c.read-handed.ensures.fits;
             single = c.read-handed.ensures.ends;
           }) c.read-handed.ensures.trace c.args.self.now.timed;
+      asked = asked_step old new (Answers (ReadCall x.number answer buffer)) c.read-handed.ensures.trace refl c.args.self.now.asked;
+      places = c.args.self.now.places;
     }
 
 pub returns-clause-trace : goal.returns-clause-trace
@@ -45,3 +54,25 @@ returns-clause-trace g c =
     (g.S.System.trace c.read-handed.new.system)) e
     (says_call (g.S.System.trace c.args.self.now.system) (g.S.System.trace c.read-handed.new.system)
     (ReadCall x.number c.read-handed.result.got c.read-handed.new.buffer) c.read-handed.ensures.trace)
+
+-- a peer of the list that has the number of another is that one
+the_one : (peers : List Peer) (i k : ℕ) (x d : Peer) → x ≡ slice_index_or peers i x → i < length peers → AreApart peers
+    → k < length peers → (slice_index_or peers k d).number ≡ (slice_index_or peers i d).number → x ≡ slice_index_or peers k d
+the_one peers i k x d is within apart lt same = ⊎_elim
+    (λ (e : k ≡ i). is ∙ get_or_default peers i x d within ∙ ap (λ n. slice_index_or peers n d) (sym e))
+    (λ (ne : k ≡ i → ⊥). absurd (apart k i d lt within ne same))
+    (cases_eq k i)
+
+pub returns-clause-answered : goal.returns-clause-answered
+returns-clause-answered g c k d lt there =
+    let self = c.args.self.now in
+    let x = c.index_mut.result.now in
+    let found = c.in-Some.ensures.found in
+    let handed = c.read-handed in
+    let is = the_one self.peers.items c.in-Some.index k x d c.index_mut.ensures.value found.0 self.stands.apart lt
+    (there.0 ∙ sym (found.1 d).0) in (
+      handed.result.refused,
+      subst (λ (p : Peer). IsAnswered self.turn p (length c.args.buffer.now) handed.result.got
+          (got_bytes handed.result.got handed.new.buffer) handed.result.refused) is handed.ensures.answered,
+      search rules,
+    )

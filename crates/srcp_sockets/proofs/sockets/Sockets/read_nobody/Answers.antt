@@ -1,6 +1,8 @@
 use Rattle.std.proofs.Common.{refl}
-use Rattle.srcp_serve.specs.Calls.{ReadCall}
+use Rattle.srcp_door.specs.Calls.{ReadCall}
+use Rattle.srcp_peers.specs.Steps.{Answers}
 use Rattle.srcp_peers.proofs.Saying.{says_call}
+use Rattle.srcp_sockets.proofs.Asking.{asked_step}
 use Rattle.srcp_sockets.proofs.Naming.{named_call}
 use Rattle.srcp_sockets.proofs.Parting.{stands_missed}
 use Rattle.srcp_sockets.proofs.Timing.{timed_missed}
@@ -19,6 +21,8 @@ invariant_of-self g c =
       timed = timed_missed old new c.args.self.now.turn c.report_fault-answer.new.self c.args.number answer c.args.buffer.now
           c.report_fault-answer.ensures.reported c.report_fault-answer.ensures.new c.report_fault-answer.ensures.ends c.note_read.ensures
           c.args.self.now.timed;
+      asked = asked_step old new (Answers call) c.note_read.ensures refl c.args.self.now.asked;
+      places = c.args.self.now.places;
     }
 
 pub returns-clause-trace : goal.returns-clause-trace

@@ -1,4 +1,4 @@
-use Rattle.std.proofs.Common.{◌≡◌, ◌∙◌, List, rules, refl, sym, subst, false, true}
+use Rattle.std.proofs.Common.{◌≡◌, ◌∙◌, ℕ, List, Option, rules, refl, sym, subst, false, true}
 use Rattle.std.specs.Prelude.{All}
 use Rattle.std.proofs.lemmas.List.{with_items_is}
 use Rattle.srcp_peers.specs.declared.peer.Peer.{Peer}
@@ -7,9 +7,10 @@ use Rattle.srcp_peers.specs.declared.turn.Listening.{Listening}
 use Rattle.srcp_peers.specs.Accounts.{is_short_wait}
 use Rattle.srcp_sockets.specs.Doors.{Stands}
 use Rattle.srcp_peers.specs.Peers.{is_resting}
-use Rattle.srcp_peers.specs.Steps.{Waits}
+use Rattle.srcp_peers.specs.Steps.{Tells, Waits}
 use Rattle.srcp_sockets.specs.KeptTimes.{IsTimed}
 use Rattle.srcp_peers.proofs.Saying.{says_step}
+use Rattle.srcp_sockets.proofs.Asking.{asked_step}
 use Rattle.srcp_sockets.proofs.Naming.{named_silent}
 use Rattle.srcp_sockets.proofs.Waited.{stands_waited}
 use Rattle.srcp_sockets.proofs.Timing.{timed_wait}
@@ -39,8 +40,18 @@ invariant_of-self g c =
       timed = subst (λ (t : Turn). IsTimed new t) (sym c.wait.ensures)
           (timed_wait old new c.args.self.now.turn most count ready c.longest_wait-most.ensures.due c.longest_wait-most.ensures.panels
           c.wait-count.ensures.trace c.args.self.now.timed);
+      asked = asked_step old new (Waits most count ready) c.wait-count.ensures.trace refl c.args.self.now.asked;
+      places = c.args.self.now.places;
     }
 
-pub returns : goal.returns
-returns g c = says_step (g.S.System.trace c.args.self.now.system) (g.S.System.trace c.wait-count.new.self)
+pub returns-clause-calls : goal.returns-clause-calls
+returns-clause-calls g c = says_step (g.S.System.trace c.args.self.now.system) (g.S.System.trace c.wait-count.new.self)
     (Waits c.longest_wait-most.result c.wait-count.result c.wait-count.new.ready) c.wait-count.ensures.trace refl
+
+pub returns-clause-waits : goal.returns-clause-waits
+returns-clause-waits g c = (
+  c.wait-count.result,
+  c.wait-count.new.ready,
+  subst (λ (most : Option ℕ). Tells (g.S.System.trace c.args.self.now.system) (Waits most c.wait-count.result c.wait-count.new.ready)
+      (g.S.System.trace c.wait-count.new.self)) c.longest_wait-most.ensures.exact c.wait-count.ensures.trace,
+)

@@ -1,9 +1,10 @@
 use Rattle.std.proofs.Common.{◌∙◌, ℕ, ap, refl, subst, Ok, Err}
 use Rattle.srcp_peers.specs.declared.peer.Peer.{Peer}
-use Rattle.srcp_serve.specs.declared.door.DoorFault.TheVariants.{Write}
-use Rattle.srcp_serve.specs.Calls.{WriteCall}
-use Rattle.srcp_peers.specs.Steps.{SaysOne}
+use Rattle.srcp_door.specs.declared.door.DoorFault.TheVariants.{Write}
+use Rattle.srcp_door.specs.Calls.{WriteCall}
+use Rattle.srcp_peers.specs.Steps.{Answers, SaysOne}
 use Rattle.srcp_peers.proofs.Saying.{says_call}
+use Rattle.srcp_sockets.proofs.Asking.{asked_step}
 use Rattle.srcp_sockets.proofs.Naming.{named_call}
 use Rattle.srcp_sockets.proofs.Parting.{stands_unwritten}
 use Rattle.srcp_sockets.proofs.Standing.{stands_one}
@@ -31,6 +32,9 @@ invariant_of-self-2 g c =
       timed = timed_write (g.S.System.trace c.args.self.now.system) (g.S.System.trace c.write-count.new.system) c.args.self.now.turn
           c.note_write-2.new.self
           x.number c.args.bytes.now (Ok c.write-count.result) c.note_write-2.ensures c.write-count.ensures.trace c.args.self.now.timed;
+      asked = asked_step (g.S.System.trace c.args.self.now.system) (g.S.System.trace c.write-count.new.system)
+          (Answers (WriteCall x.number c.args.bytes.now (Ok c.write-count.result))) c.write-count.ensures.trace refl c.args.self.now.asked;
+      places = c.args.self.now.places;
     }
 
 pub returns-clause-trace : goal.returns-clause-trace
@@ -58,3 +62,7 @@ pub invariant_of-self-clause-stands : goal.invariant_of-self-clause-stands
 invariant_of-self-clause-stands g c = stands_unwritten (g.S.System.trace c.args.self.now.system) (g.S.System.trace c.note_write.new.self)
     c.args.self.now.peers.items c.args.self.now.listening c.args.self.now.last c.args.number c.args.bytes.now Write
     c.in_default.ensures.none c.note_write.ensures c.args.self.now.stands
+
+pub invariant_of-self-clause-asked : goal.invariant_of-self-clause-asked
+invariant_of-self-clause-asked g c = asked_step (g.S.System.trace c.args.self.now.system) (g.S.System.trace c.note_write.new.self)
+    (Answers (WriteCall c.args.number c.args.bytes.now (Err Write))) c.note_write.ensures refl c.args.self.now.asked

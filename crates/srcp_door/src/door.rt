@@ -1,0 +1,107 @@
+//! The door of a server: what it asks of the outside.
+
+ghost use Rattle.std.specs.Prelude.{◌≡◌, ℕ, ◌<◌, ◌≤◌, List, Option, None, length, OnOk, OnErr, IfOk, IfErr};
+ghost use Rattle.srcp_door.specs.Calls.{Call, Tells, one_more};
+ghost use Rattle.srcp_door.specs.Calls.{ExpectCall, NowCall, AcceptCall, ReadCall, WriteCall, CloseCall};
+
+/// Names the call of a door that failed.
+#[derive(Clone, Copy, Debug, PartialEq, Eq)]
+pub enum DoorFault {
+    /// The time is not known.
+    Now,
+    /// No peer could be accepted, or the one that was is lost.
+    Accept,
+    /// A peer could not be read.
+    Read,
+    /// A peer could not be written to.
+    Write,
+    /// A peer could not be closed.
+    Close,
+}
+
+/// The answer to a read.
+#[derive(Clone, Copy, Debug, PartialEq, Eq)]
+pub enum Got {
+    /// This many bytes, at the start of the buffer. They are at least one.
+    Bytes(usize),
+    /// No bytes are here yet, and more may come.
+    Nothing,
+    /// The input is over: the peer sends no more.
+    Ended,
+}
+
+/// The most writes to a peer in a visit.
+pub const MOST_WRITES: u32 = 300;
+
+/// What a server asks of the outside: the time, and the input and output of its peers. A failure names its call, and
+/// the door counts it.
+pub trait Door {
+    /// The number of calls that failed. It stops at the greatest u64.
+    ghost faults: { Self → ℕ };
+
+    /// The calls with their answers, if the door keeps them.
+    ghost trace: { Self → Option (List Call) } = { λ _. None };
+
+    /// Tells the door when the next row falls due, and how many more changes each information session can take. Each
+    /// is `None` if there is none. `serve` calls it right before `now`, so that a door knows how long it may wait. The
+    /// door also knows how much input it may then hand out.
+    fn expect(&mut self, due: Option<u64>, slack: Option<usize>)
+        ensures faults { faults self.new ≡ faults self.old }
+        ensures trace { Tells (trace self.old) (ExpectCall due slack) (trace self.new) };
+
+    /// Returns the time, in milliseconds since 1970. A door over sockets waits here for input, for room, and for the
+    /// next row that falls due.
+    ///
+    /// # Errors
+    /// Returns `Now` if the time is not known.
+    fn now(&mut self) -> Result<u64, DoorFault>
+        ensures ok { OnOk result (faults self.new ≡ faults self.old) }
+        ensures err { OnErr result (faults self.new ≡ one_more (faults self.old)) }
+        ensures fault { IfErr result (λ fault. fault ≡ DoorFault.Now) }
+        ensures trace { Tells (trace self.old) (NowCall result) (trace self.new) };
+
+    /// Accepts a pending peer, if there is one, and returns its number. All later calls name the peer by that number,
+    /// and no later peer gets it.
+    ///
+    /// # Errors
+    /// Returns `Accept` if no peer could be accepted, or the one that was is lost.
+    fn accept(&mut self) -> Result<Option<u32>, DoorFault>
+        ensures ok { OnOk result (faults self.new ≡ faults self.old) }
+        ensures err { OnErr result (faults self.new ≡ one_more (faults self.old)) }
+        ensures fault { IfErr result (λ fault. fault ≡ DoorFault.Accept) }
+        ensures trace { Tells (trace self.old) (AcceptCall result) (trace self.new) };
+
+    /// Reads the bytes that came from a peer, at most as many as the buffer holds.
+    ///
+    /// # Errors
+    /// Returns `Read` if the peer cannot be read. The peer is lost then.
+    fn read(&mut self, peer: u32, buf: &mut [u8]) -> Result<Got, DoorFault>
+        requires { 0 < length buf.old }
+        ensures ok { OnOk result (faults self.new ≡ faults self.old) }
+        ensures err { OnErr result (faults self.new ≡ one_more (faults self.old)) }
+        ensures fault { IfErr result (λ fault. fault ≡ DoorFault.Read) }
+        ensures count { (n : ℕ) → result ≡ Ok (Got.Bytes n) → (0 < n) × (n ≤ length buf.old) }
+        ensures trace { Tells (trace self.old) (ReadCall peer result buf.new) (trace self.new) };
+
+    /// Writes to a peer as many bytes as it takes, from the first on. Returns how many these were. The others have to
+    /// be written again.
+    ///
+    /// # Errors
+    /// Returns `Write` if the peer cannot be written to. It took none of these bytes then, and is lost.
+    fn write(&mut self, peer: u32, bytes: &[u8]) -> Result<usize, DoorFault>
+        ensures ok { OnOk result (faults self.new ≡ faults self.old) }
+        ensures err { OnErr result (faults self.new ≡ one_more (faults self.old)) }
+        ensures fault { IfErr result (λ fault. fault ≡ DoorFault.Write) }
+        ensures count { IfOk result (λ n. n ≤ length bytes.now) }
+        ensures trace { Tells (trace self.old) (WriteCall peer bytes.now result) (trace self.new) };
+
+    /// Closes a peer. No later call names it.
+    ///
+    /// # Errors
+    /// Returns `Close` if that fails. The peer is closed all the same.
+    fn close(&mut self, peer: u32) -> Result<(), DoorFault>
+        ensures ok { OnOk result (faults self.new ≡ faults self.old) }
+        ensures err { OnErr result (faults self.new ≡ one_more (faults self.old)) }
+        ensures fault { IfErr result (λ fault. fault ≡ DoorFault.Close) }
+        ensures trace { Tells (trace self.old) (CloseCall peer result) (trace self.new) };
+}

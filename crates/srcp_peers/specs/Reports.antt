@@ -1,0 +1,67 @@
+-- What a read of a peer answers.
+use Rattle.std.specs.Prelude.{◌≡◌, ◌≢◌, ℕ, ◌==◌, ◌&&◌, ◌||◌, Bool, true, false, not, cond, List, [], length, min, take}
+use Rattle.std.specs.Prelude.{Result, Ok, Err}
+use Rattle.srcp_door.specs.Pacing.{Allows, lines, share_after}
+use Rattle.srcp_door.specs.declared.pacing.Share.{Share}
+use Rattle.srcp_door.specs.declared.door.DoorFault.{DoorFault}
+use Rattle.srcp_door.specs.declared.door.DoorFault.TheVariants as fault
+use Rattle.srcp_door.specs.declared.door.Got.{Got}
+use Rattle.srcp_door.specs.declared.door.Got.TheVariants as got
+use Rattle.srcp_peers.specs.declared.ending.Ending.{Ending}
+use Rattle.srcp_peers.specs.declared.ending.Ending.TheVariants as ending
+use Rattle.srcp_peers.specs.declared.peer.Peer.{Peer}
+use Rattle.srcp_peers.specs.declared.readiness.Input.{Input}
+use Rattle.srcp_peers.specs.declared.readiness.Input.TheVariants as input
+use Rattle.srcp_peers.specs.declared.turn.Turn.{Turn}
+use Rattle.srcp_peers.specs.Peers.{is_lost, is_over}
+use Rattle.srcp_peers.specs.Turns.{reports_end}
+
+-- ---- if nothing is held of it
+
+-- a read of its socket failed
+abbrev pub has_failed : Input → Bool
+has_failed input.Ready = false
+has_failed input.Draining = false
+has_failed input.Quiet = false
+has_failed input.Ended = false
+has_failed input.Failed = true
+
+-- a whole visit behind the end of its input had no more for it
+abbrev pub is_settled : Ending → Bool
+is_settled ending.Open = false
+is_settled (ending.Settling writes) = false
+is_settled ending.Settled = true
+
+-- it is lost: a read or a write of its socket failed
+abbrev pub is_failed : Peer → Bool
+is_failed p = is_lost p.output || has_failed p.input
+
+-- it ended: a read found the end, a whole visit behind that had no more for it, and its socket took all
+abbrev pub is_ended : Peer → Bool
+is_ended p = is_over [] p.input && (is_settled p.ending && (length p.outgoing == 0))
+
+-- what is reported of it, if the turn reported no other end
+abbrev pub end_in : Turn → Peer → Result Got DoorFault
+end_in turn p = cond turn.ends (cond (is_failed p) (Err fault.Read) (cond (is_ended p) (Ok got.Ended) (Ok got.Nothing)))
+    (Ok got.Nothing)
+
+-- ---- if something is
+
+-- the piece of it that a buffer of `room` bytes takes
+abbrev pub piece_of : Peer → (room : ℕ) → List ℕ
+piece_of p room = take (min 256 room) p.incoming
+
+-- a line of a piece is kept back of a peer that got none since the marks were cleared
+abbrev pub keeps_back : (piece handed : List ℕ) → Share → Bool
+keeps_back piece handed share = not (lines handed == lines piece) && not share.mark
+
+-- ---- the answer
+
+-- a read with room for so many bytes answered so and handed that out, or kept a line back. It handed out as much as the
+-- turn's pace and the peer's mark allow; if nothing was held, it reported the end
+pub record IsAnswered (turn : Turn) (p : Peer) (room : ℕ) (answer : Result Got DoorFault) (handed : List ℕ)
+    (kept : Bool) : Type 0 where
+  pub end : p.incoming ≡ [] → answer ≡ end_in turn p
+  pub some : p.incoming ≢ [] → (reports_end answer ≡ false)
+      × Allows turn.pace p.share (piece_of p room) (length handed)
+  pub back : kept ≡ keeps_back (piece_of p room) handed (share_after p.share handed)

@@ -1,0 +1,338 @@
+-- Nobody is accepted only if the system was asked, or had nobody, or there is no place.
+use Rattle.std.proofs.Common.{◌≡◌, ◌∙◌, ℕ, zero, suc, ◌<◌, ◌≤◌, Bool, true, false, cond, List, [], ◌∷◌, ◌++◌, length, map, refl}
+use Rattle.std.proofs.Common.{ap, sym, subst}
+use Rattle.std.proofs.Common.{arith, ⊎_elim, inl, inr, ◌⊎◌, ◌==◌, ◌||◌, ◌&&◌, not, nat_le, filter, Option, Some, None, Ok, Err, true≢false}
+use Rattle.std.proofs.Common.{append-nil}
+use Rattle.std.specs.Prelude.{slice_index_or, Result}
+use Rattle.std.specs.List.{AllByRecursion, IsDistinct, list_any}
+use Rattle.std.proofs.lemmas.Cmp.{nat_eq_equiv}
+use Rattle.std.proofs.lemmas.Bool.{cases_eq, or_cases}
+use Rattle.std.proofs.lemmas.Bool.Decides.{nat_tests}
+use Rattle.std.proofs.lemmas.Map.Made.{length-le_from_is_member}
+use Rattle.std.proofs.lemmas.Map.Keys.{IsDistinct-from_apart}
+use Rattle.std.specs.declared.io.ErrorKind.{ErrorKind}
+use Rattle.srcp_door.specs.declared.door.DoorFault.{DoorFault}
+use Rattle.srcp_door.specs.Calls.{AcceptCall}
+use Rattle.srcp_peers.specs.declared.peer.Peer.{Peer}
+use Rattle.srcp_peers.specs.declared.stay.Stay.{Stay}
+use Rattle.srcp_peers.specs.declared.stay.Stay.TheVariants as stay
+use Rattle.srcp_peers.specs.declared.turn.Listening.{Listening}
+use Rattle.srcp_peers.specs.Accounts.{Account, Lingering, account, closed, is_lingering}
+use Rattle.srcp_peers.specs.AllPeers.{AreApart}
+use Rattle.srcp_peers.specs.Peers.{StaysAs, is_here}
+use Rattle.srcp_peers.specs.Steps.{Accepts, Answers, Clocks, Closes, Reads, SaysNothing, Shuts, Step, Tells, Waits, Writes, calls}
+use Rattle.srcp_peers.specs.Times.{Times, accept_answer, times}
+use Rattle.srcp_peers.proofs.Keeping.{account_more, alien, skips}
+use Rattle.srcp_peers.proofs.Saying.{times_more}
+use Rattle.srcp_sockets.specs.Asked.{AreAsked, Covers, IsExcused, MayRefuse}
+use Rattle.srcp_sockets.specs.Doors.{Stands}
+use Rattle.srcp_sockets.specs.Work.{is_crowded}
+use Rattle.srcp_sockets.proofs.Coming.{new_peer}
+
+-- ---- steps that came
+
+-- the door answers that it accepted nobody
+abbrev nobody : Step
+nobody = Answers (AcceptCall (Ok None))
+
+abbrev pub is_nobody : Step → Bool
+is_nobody (Answers (AcceptCall (Ok None))) = true
+is_nobody other = false
+
+-- a step stands in what was there, or in what came
+splits : (log came before after : List Step) (step : Step) → log ++ came ≡ before ++ step ∷ after
+    → ((rest : List Step) × (log ≡ before ++ step ∷ rest))
+    ⊎ ((mid : List Step) × (came ≡ mid ++ step ∷ after) × (before ≡ log ++ mid))
+splits [] came before after step e = inr (before, e, refl)
+splits (x ∷ log) came [] after step e = inl (log, (let same : x ≡ step = cc in ap (λ s. s ∷ log) same))
+splits (x ∷ log) came (y ∷ before) after step e =
+    let same : x ≡ y = cc in
+    let more : log ++ came ≡ before ++ step ∷ after = cc in
+    ⊎_elim
+    (λ (here : (rest : List Step) × (log ≡ before ++ step ∷ rest)).
+    inl (here.0, ap (λ s. s ∷ log) same ∙ ap (λ (l : List Step). y ∷ l) here.1))
+    (λ (there : (mid : List Step) × (came ≡ mid ++ step ∷ after) × (before ≡ log ++ mid)).
+    inr (there.0, there.1, ap (λ s. s ∷ before) (sym same) ∙ ap (λ (l : List Step). x ∷ l) there.2))
+    (splits log came before after step more)
+
+or_last : (a : Bool) → (a || true) ≡ true
+or_last true = refl
+or_last false = refl
+
+any_in : (mid after : List Step) → list_any is_nobody (mid ++ nobody ∷ after) ≡ true
+any_in [] after = refl
+any_in (step ∷ mid) after = ap (λ b. is_nobody step || b) (any_in mid after) ∙ or_last (is_nobody step)
+
+asked_came : (old new : Option (List Step)) → ((later : List Step) → new ≡ Some later
+    → (log : List Step) × (came : List Step) × (old ≡ Some log) × (later ≡ log ++ came) × (list_any is_nobody came ≡ false))
+    → AreAsked old → AreAsked new
+asked_came old new says asked before after is =
+    let s = says (before ++ nobody ∷ after) is in
+    ⊎_elim
+    (λ (here : (rest : List Step) × (s.0 ≡ before ++ nobody ∷ rest)). asked before here.0 (s.2 ∙ ap Some here.1))
+    (λ (there : (mid : List Step) × (s.1 ≡ mid ++ nobody ∷ after) × (before ≡ s.0 ++ mid)).
+    absurd (true≢false (sym (any_in there.0 after) ∙ ap (list_any is_nobody) (sym there.1) ∙ s.4)))
+    (splits s.0 s.1 before after nobody (sym s.3))
+
+none_silent : (came : List Step) → calls came ≡ [] → list_any is_nobody came ≡ false
+none_silent [] e = refl
+none_silent (Accepts number answer ∷ came) e = none_silent came e
+none_silent (Reads who buffer answer ∷ came) e = none_silent came e
+none_silent (Writes who bytes answer ∷ came) e = none_silent came e
+none_silent (Waits most count ready ∷ came) e = none_silent came e
+none_silent (Shuts who ∷ came) e = none_silent came e
+none_silent (Closes who ∷ came) e = none_silent came e
+none_silent (Clocks answer ∷ came) e = none_silent came e
+none_silent (Answers call ∷ came) e = cc
+
+pub asked_silent : (old new : Option (List Step)) → SaysNothing old new → AreAsked old → AreAsked new
+asked_silent old new says asked =
+    asked_came old new (λ later is. let s = says later is in (s.0, s.1, s.2, s.3, none_silent s.1 s.4)) asked
+
+pub asked_step : (old new : Option (List Step)) (step : Step) → Tells old step new → is_nobody step ≡ false → AreAsked old → AreAsked new
+asked_step old new step tells none asked =
+    asked_came old new (λ later is. let t = tells later is in (t.0, step ∷ [], t.1, t.2, ap (λ b. b || false) none)) asked
+
+-- ---- nobody is accepted
+
+alone : (mid after : List Step) → nobody ∷ [] ≡ mid ++ nobody ∷ after → mid ≡ []
+alone [] after e = refl
+alone (step ∷ mid) after e =
+    let none : [] ≡ mid ++ nobody ∷ after = cc in
+    absurd (true≢false (sym (any_in mid after) ∙ ap (list_any is_nobody) (sym none)))
+
+asked_nobody : (old new : Option (List Step)) → Tells old nobody new → MayRefuse old → AreAsked old → AreAsked new
+asked_nobody old new tells may asked before after is =
+    let t = tells (before ++ nobody ∷ after) is in
+    ⊎_elim
+    (λ (here : (rest : List Step) × (t.0 ≡ before ++ nobody ∷ rest)). asked before here.0 (t.1 ∙ ap Some here.1))
+    (λ (there : (mid : List Step) × (nobody ∷ [] ≡ mid ++ nobody ∷ after) × (before ≡ t.0 ++ mid)).
+    let same : t.0 ≡ before = sym (there.2 ∙ ap (λ (l : List Step). t.0 ++ l) (alone there.0 after there.1) ∙ append-nil t.0) in
+    subst IsExcused same (may t.0 t.1))
+    (splits t.0 (nobody ∷ []) before after nobody (sym t.2))
+
+pub asked_accept : (old new : Option (List Step)) (answer : Result (Option ℕ) DoorFault) → Tells old (Answers (AcceptCall answer)) new
+    → (answer ≡ Ok None → MayRefuse old) → AreAsked old → AreAsked new
+asked_accept old new (Ok (Some number)) tells may asked = asked_step old new (Answers (AcceptCall (Ok (Some number)))) tells refl asked
+asked_accept old new (Ok None) tells may asked = asked_nobody old new tells (may refl) asked
+asked_accept old new (Err fault) tells may asked = asked_step old new (Answers (AcceptCall (Err fault))) tells refl asked
+
+-- the system was asked
+pub was_asked : (old new : Option (List Step)) (number : ℕ) (said : Result Unit ErrorKind) → Tells old (Accepts number said) new
+    → MayRefuse new
+was_asked old new number said tells log is wall start none =
+    let t = tells log is in
+    let some : (times wall start log).heard ≡ Some (accept_answer number said) =
+    ap (λ (x : Times). x.heard) (ap (times wall start) t.2 ∙ times_more wall start t.0 (Accepts number said)) in
+    absurd (nothing (sym none ∙ some))
+  where
+    nothing : None ≡ Some (accept_answer number said) → ⊥
+    nothing e = cc
+
+-- ---- there is no place
+
+abbrev numbers : List Peer → List ℕ
+numbers peers = map (λ (p : Peer). p.number) peers
+
+length_numbers : (peers : List Peer) → length (numbers peers) ≡ length peers
+length_numbers [] = refl
+length_numbers (p ∷ peers) = omega (arith, length_numbers peers)
+
+number_at : (peers : List Peer) (k d : ℕ) (p : Peer) → k < length peers
+    → slice_index_or (numbers peers) k d ≡ (slice_index_or peers k p).number
+number_at [] k d p lt = absurd (omega (arith, lt))
+number_at (x ∷ peers) zero d p lt = refl
+number_at (x ∷ peers) (suc k) d p lt = number_at peers k d p (omega (arith, lt))
+
+numbers_differ : (peers : List Peer) → AreApart peers → IsDistinct (λ a b. a == b) (numbers peers)
+numbers_differ peers apart = IsDistinct-from_apart (λ a b. a == b) (numbers peers) (λ i j d low lt.
+    let l : j < length peers = omega (arith, lt, length_numbers peers) in
+    let k : i < length peers = omega (arith, low, l) in
+    let one = number_at peers i d (new_peer 0) k in
+    let other = number_at peers j d (new_peer 0) l in
+    ap (λ n. n == slice_index_or (numbers peers) j d) one ∙ ap (λ n. (slice_index_or peers i (new_peer 0)).number == n) other
+    ∙ alien (slice_index_or peers i (new_peer 0)).number (slice_index_or peers j (new_peer 0)).number
+    (apart j i (new_peer 0) l k (λ e. omega (arith, low, e))))
+
+-- those of different numbers that pass differ
+apart_filter : (n : ℕ) (test : ℕ → Bool) (xs : List ℕ) → AllByRecursion (λ y. (n == y) ≡ false) xs
+    → AllByRecursion (λ y. (n == y) ≡ false) (filter test xs)
+apart_filter n test [] h = tt
+apart_filter n test (x ∷ xs) h = by (test x) (apart_filter n test xs h.1)
+  where
+    by : (b : Bool) → AllByRecursion (λ y. (n == y) ≡ false) (filter test xs)
+        → AllByRecursion (λ y. (n == y) ≡ false) (cond b (x ∷ filter test xs) (filter test xs))
+    by true rest = (h.0, rest)
+    by false rest = rest
+
+differ_filter : (test : ℕ → Bool) (xs : List ℕ) → IsDistinct (λ a b. a == b) xs → IsDistinct (λ a b. a == b) (filter test xs)
+unfolding IsDistinct
+differ_filter test [] h = tt
+differ_filter test (x ∷ xs) h = by (test x) (differ_filter test xs h.1)
+  where
+    by : (b : Bool) → IsDistinct (λ c d. c == d) (filter test xs)
+        → IsDistinct (λ c d. c == d) (cond b (x ∷ filter test xs) (filter test xs))
+    by true rest = (apart_filter x test xs h.0, rest)
+    by false rest = rest
+
+same_number : (n m : ℕ) → (n == m) ≡ true → n ≡ m
+same_number n m e = grind (arith, nat_tests)
+
+-- what holds of each number of a list
+each_number : (test : ℕ → Bool) (peers : List Peer)
+    → ((k : ℕ) (d : Peer) → k < length peers → test (slice_index_or peers k d).number ≡ true)
+    → (socket : ℕ) → list_any (λ n. socket == n) (numbers peers) ≡ true → test socket ≡ true
+each_number test [] all socket e = absurd (true≢false (sym e))
+each_number test (p ∷ peers) all socket e = ⊎_elim
+    (λ (here : (socket == p.number) ≡ true). ap test (same_number socket p.number here) ∙ all 0 p (omega arith))
+    (λ there. each_number test peers (λ k d lt. all (suc k) d (omega (arith, lt))) socket there)
+    (or_cases (socket == p.number) (list_any (λ n. socket == n) (numbers peers)) e)
+
+-- one that is filtered passes
+passes : (test : ℕ → Bool) (xs : List ℕ) (socket : ℕ) → list_any (λ n. socket == n) (filter test xs) ≡ true → test socket ≡ true
+passes test [] socket e = absurd (true≢false (sym e))
+passes test (x ∷ xs) socket e = by (test x) refl e (passes test xs socket)
+  where
+    by : (b : Bool) → test x ≡ b → list_any (λ n. socket == n) (cond b (x ∷ filter test xs) (filter test xs)) ≡ true
+        → (list_any (λ n. socket == n) (filter test xs) ≡ true → test socket ≡ true) → test socket ≡ true
+    by true passed f rest = ⊎_elim
+        (λ (here : (socket == x) ≡ true). ap test (same_number socket x here) ∙ passed)
+        rest
+        (or_cases (socket == x) (list_any (λ n. socket == n) (filter test xs)) f)
+    by false failed f rest = rest f
+
+same_count : (test : ℕ → Bool) (peers : List Peer)
+    → ((k : ℕ) (d : Peer) → k < length peers → test (slice_index_or peers k d).number ≡ not (is_here (slice_index_or peers k d).stay))
+    → length (filter test (numbers peers)) ≡ length (filter (λ (p : Peer). not (is_here p.stay)) peers)
+same_count test [] each = refl
+same_count test (p ∷ peers) each = by (test p.number) (not (is_here p.stay)) (each 0 p (omega arith))
+    (same_count test peers (λ k d lt. each (suc k) d (omega (arith, lt))))
+  where
+    by : (b c : Bool) → b ≡ c
+        → length (filter test (numbers peers)) ≡ length (filter (λ (q : Peer). not (is_here q.stay)) peers)
+        → length (cond b (p.number ∷ filter test (numbers peers)) (filter test (numbers peers)))
+        ≡ length (cond c (p ∷ filter (λ (q : Peer). not (is_here q.stay)) peers) (filter (λ (q : Peer). not (is_here q.stay)) peers))
+    by true true e rest = omega (arith, rest)
+    by false false e rest = rest
+    by true false e rest = absurd (true≢false e)
+    by false true e rest = absurd (true≢false (sym e))
+
+stays_lingering : (watched : Bool) (lingering : Lingering) (outgoing : List ℕ) (s : Stay) → StaysAs watched lingering outgoing s
+    → (not watched && lingering.kept) ≡ not (is_here s)
+stays_lingering watched lingering outgoing stay.Here h = ap (λ w. not w && lingering.kept) h.0
+stays_lingering watched lingering outgoing (stay.Draining since) h = ap (λ w. not w && lingering.kept) h.0 ∙ h.1
+stays_lingering watched lingering outgoing (stay.Shut since) h = ap (λ w. not w && lingering.kept) h.0 ∙ h.1
+
+stays_kept : (watched : Bool) (lingering : Lingering) (outgoing : List ℕ) (s : Stay) → StaysAs watched lingering outgoing s
+    → lingering.kept ≡ true
+stays_kept watched lingering outgoing stay.Here h = h.1
+stays_kept watched lingering outgoing (stay.Draining since) h = h.1
+stays_kept watched lingering outgoing (stay.Shut since) h = h.1
+
+abbrev is_kept : Account → Bool
+is_kept a = a.lingering.kept
+
+crowded_is : (trace : Option (List Step)) (peers : List Peer) (l : Listening) (last : ℕ) (log : List Step) → Stands trace peers l last
+    → trace ≡ Some log → is_crowded 129 peers ≡ true → (kept lingering : List ℕ) → Covers is_kept log kept
+    → Covers is_lingering log lingering → (nat_le 129 (length kept) || nat_le 64 (length lingering)) ≡ true
+crowded_is trace peers l last log stands is crowded kept lingering all_kept all_lingering = ⊎_elim
+    (λ (full : nat_le 129 (length peers) ≡ true).
+    let most : length (numbers peers) ≤ length kept = length-le_from_is_member nat_eq_equiv (numbers peers) kept differ
+    (λ socket there. all_kept socket (each_number (λ n. is_kept (account n log)) peers
+    (λ k d lt. let p = slice_index_or peers k d in let a = account p.number log in
+    stays_kept a.watched a.lingering p.outgoing p.stay (stands.kept k d lt log is).stays) socket there)) in
+    ap (λ b. b || nat_le 64 (length lingering))
+    (at_least 129 (length peers) (length kept) full (omega (arith, most, length_numbers peers))))
+    (λ (many : nat_le 64 (length (filter (λ (p : Peer). not (is_here p.stay)) peers)) ≡ true).
+    let most : length (filter lingers (numbers peers)) ≤ length lingering =
+    length-le_from_is_member nat_eq_equiv (filter lingers (numbers peers)) lingering
+    (differ_filter lingers (numbers peers) differ)
+    (λ socket there. all_lingering socket (passes lingers (numbers peers) socket there)) in
+    ap (λ b. nat_le 129 (length kept) || b)
+    (at_least 64 (length (filter (λ (p : Peer). not (is_here p.stay)) peers)) (length lingering) many (omega (arith, most, count)))
+    ∙ or_last (nat_le 129 (length kept)))
+    (or_cases (nat_le 129 (length peers)) (nat_le 64 (length (filter (λ (p : Peer). not (is_here p.stay)) peers))) crowded)
+  where
+    lingers : ℕ → Bool
+    lingers socket = is_lingering (account socket log)
+
+    differ : IsDistinct (λ a b. a == b) (numbers peers)
+    differ = numbers_differ peers stands.apart
+
+    count : length (filter lingers (numbers peers)) ≡ length (filter (λ (p : Peer). not (is_here p.stay)) peers)
+    count = same_count lingers peers (λ k d lt. let p = slice_index_or peers k d in let a = account p.number log in
+        stays_lingering a.watched a.lingering p.outgoing p.stay (stands.kept k d lt log is).stays)
+
+    at_least : (least n m : ℕ) → nat_le least n ≡ true → n ≤ m → nat_le least m ≡ true
+    at_least least n m e le = grind (arith, nat_tests)
+
+-- as crowded as with fewer places
+pub fewer_places : (places : ℕ) (peers : List Peer) → 129 ≤ places → is_crowded places peers ≡ true → is_crowded 129 peers ≡ true
+fewer_places places peers more crowded = ⊎_elim
+    (λ (full : nat_le places (length peers) ≡ true).
+    ap (λ b. b || nat_le 64 (length (filter (λ (p : Peer). not (is_here p.stay)) peers))) (fewer places (length peers) more full))
+    (λ (many : nat_le 64 (length (filter (λ (p : Peer). not (is_here p.stay)) peers)) ≡ true).
+    ap (λ b. nat_le 129 (length peers) || b) many ∙ or_last (nat_le 129 (length peers)))
+    (or_cases (nat_le places (length peers)) (nat_le 64 (length (filter (λ (p : Peer). not (is_here p.stay)) peers))) crowded)
+  where
+    fewer : (places n : ℕ) → 129 ≤ places → nat_le places n ≡ true → nat_le 129 n ≡ true
+    fewer places n more full = grind (arith, nat_tests)
+
+-- one less than so many
+one_less : (kept lingering : ℕ) → (nat_le 129 (suc kept) || nat_le 64 (suc lingering)) ≡ true
+    → (nat_le 128 kept || nat_le 63 lingering) ≡ true
+one_less kept lingering e = ⊎_elim
+    (λ (h : nat_le 129 (suc kept) ≡ true). ap (λ b. b || nat_le 63 lingering) (less 128 kept h))
+    (λ (h : nat_le 64 (suc lingering) ≡ true). ap (λ b. nat_le 128 kept || b) (less 63 lingering h) ∙ or_last (nat_le 128 kept))
+    (or_cases (nat_le 129 (suc kept)) (nat_le 64 (suc lingering)) e)
+  where
+    less : (least n : ℕ) → nat_le (suc least) (suc n) ≡ true → nat_le least n ≡ true
+    less least n h = grind (arith, nat_tests)
+
+-- sockets that are all such, and one more, are all such
+covers_more : (is_such : Account → Bool) (log later : List Step) (one : ℕ) (sockets : List ℕ)
+    → ((socket : ℕ) → (socket ≡ one → ⊥) → is_such (account socket later) ≡ is_such (account socket log)) → Covers is_such later sockets
+    → Covers is_such log (one ∷ sockets)
+covers_more is_such log later one sockets same covers socket such = ⊎_elim
+    (λ (e : socket ≡ one). ap (λ b. b || list_any (λ n. socket == n) sockets) (equal socket one e))
+    (λ (ne : socket ≡ one → ⊥). ap (λ b. (socket == one) || b) (covers socket (same socket ne ∙ such)) ∙ or_last (socket == one))
+    (cases_eq socket one)
+  where
+    equal : (n m : ℕ) → n ≡ m → (n == m) ≡ true
+    equal n m e = grind (arith, nat_tests)
+
+pub may_crowded : (trace : Option (List Step)) (peers : List Peer) (l : Listening) (last : ℕ) → Stands trace peers l last
+    → is_crowded 129 peers ≡ true → MayRefuse trace
+may_crowded trace peers l last stands crowded log is wall start none loud kept lingering all_kept all_lingering =
+    one_less (length kept) (length lingering)
+    (crowded_is trace peers l last log stands is crowded (0 ∷ kept) (0 ∷ lingering)
+    (covers_more is_kept log log 0 kept (λ socket ne. refl) all_kept)
+    (covers_more is_lingering log log 0 lingering (λ socket ne. refl) all_lingering))
+
+-- one was closed to make a place
+pub may_closed : (old new : Option (List Step)) (peers : List Peer) (l : Listening) (last who : ℕ) → Stands old peers l last
+    → is_crowded 129 peers ≡ true → Tells old (Closes who) new → MayRefuse new
+may_closed old new peers l last who stands crowded tells log is wall start none loud kept lingering all_kept all_lingering =
+    let t = tells log is in
+    one_less (length kept) (length lingering)
+    (crowded_is old peers l last t.0 stands t.1 crowded (who ∷ kept) (who ∷ lingering)
+    (covers_more is_kept t.0 log who kept (λ socket ne. ap is_kept (same socket ne)) all_kept)
+    (covers_more is_lingering t.0 log who lingering (λ socket ne. ap is_lingering (same socket ne)) all_lingering))
+  where
+    same : (socket : ℕ) → (socket ≡ who → ⊥) → account socket log ≡ account socket (tells log is).0
+    same socket ne =
+        let t = tells log is in
+        ap (account socket) t.2 ∙ account_more socket t.0 (Closes who)
+        ∙ skips (who == socket) (closed (account socket t.0)) (account socket t.0) (alien who socket ne)
+
+-- no step was made
+pub asked_first : (trace : Option (List Step)) → (trace ≡ Some [] ⊎ trace ≡ None) → AreAsked trace
+asked_first trace begins before after is = ⊎_elim
+    (λ (e : trace ≡ Some []).
+    let same : [] ≡ before ++ nobody ∷ after = cc in
+    absurd (true≢false (sym (any_in before after) ∙ ap (list_any is_nobody) (sym same))))
+    (λ (e : trace ≡ None). absurd (nothing (sym e ∙ is)))
+    begins
+  where
+    nothing : None ≡ Some (before ++ nobody ∷ after) → ⊥
+    nothing e = cc

@@ -1,0 +1,4 @@
+use Rattle.srcp_sockets.proofs.laws.accepts_are_asked.Goals as goal
+
+pub returns : goal.returns
+returns g c = c.args.door.now.sockets.asked

@@ -1,0 +1,38 @@
+-- When nobody is accepted though the system was not asked.
+use Rattle.std.specs.Prelude.{◌≡◌, ℕ, ◌==◌, ◌∷◌, ◌++◌, ◌||◌, nat_le, Bool, true, false, List, length}
+use Rattle.std.specs.Prelude.{Option, Some, None, Ok}
+use Rattle.std.specs.List.{list_any}
+use Rattle.std.proofs.Props.{props}
+use Rattle.srcp_door.specs.Calls.{AcceptCall}
+use Rattle.srcp_peers.specs.Accounts.{Account, account, is_lingering}
+use Rattle.srcp_peers.specs.Steps.{Answers, Step}
+use Rattle.srcp_peers.specs.Times.{times}
+
+-- a list that has all such sockets
+abbrev pub Covers : (is_such : Account → Bool) → List Step → List ℕ → Type 0
+Covers is_such log sockets = (socket : ℕ) → is_such (account socket log) ≡ true
+    → list_any (λ other. socket == other) sockets ≡ true
+
+-- there is no place, whatever lists have them: at least 128 sockets were accepted and are not closed, or 63 linger.
+-- Without a place there are 129, or 64 linger; but one of them may have been closed just now to make a place
+abbrev pub IsCrowded : List Step → Type 0
+IsCrowded log = (kept lingering : List ℕ) → Covers (λ a. a.lingering.kept) log kept → Covers is_lingering log lingering
+    → (nat_le 128 (length kept) || nat_le 63 (length lingering)) ≡ true
+
+-- nobody need be accepted: the system was asked since `accept` was answered last, or the listener was found quiet, or
+-- there is no place
+abbrev pub IsExcused : List Step → Type 0
+IsExcused log = (wall start : ℕ) → (times wall start log).heard ≡ None → (account 0 log).received.quiet ≡ false
+    → IsCrowded log
+
+-- so it was each time when `accept` answered nobody
+abbrev pub AreAsked : Option (List Step) → Type 0
+AreAsked trace = (before after : List Step) → trace ≡ Some (before ++ Answers (AcceptCall (Ok None)) ∷ after)
+    → IsExcused before
+
+-- so it is after all steps
+abbrev pub MayRefuse : Option (List Step) → Type 0
+MayRefuse trace = (log : List Step) → trace ≡ Some log → IsExcused log
+
+pub AreAsked-prop : (trace : Option (List Step)) → IsProp (AreAsked trace)
+AreAsked-prop trace = hlevel props

@@ -1,0 +1,82 @@
+-- What a door does in a turn, whatever it answers.
+use Rattle.std.specs.Prelude.{◌≡◌, ◌⊎◌, ℕ, ◌<◌, ◌∷◌, ◌++◌, Bool, true, false, ◌&&◌, ◌||◌, not, nat_le, List, []}
+use Rattle.std.specs.Prelude.{filter, length, position, slice_index_or, Option, Some, None, Result, Ok, Err}
+use Rattle.std.specs.List.{list_any}
+use Rattle.srcp_door.specs.Calls.{NowCall}
+use Rattle.srcp_door.specs.declared.door.DoorFault.{DoorFault}
+use Rattle.srcp_door.specs.declared.door.DoorFault.TheVariants as fault
+use Rattle.srcp_door.specs.declared.door.Got.{Got}
+use Rattle.srcp_peers.specs.declared.peer.Peer.{Peer}
+use Rattle.srcp_peers.specs.declared.system.Ready.{Ready}
+use Rattle.srcp_peers.specs.declared.turn.Listening.{Listening}
+use Rattle.srcp_peers.specs.declared.turn.Listening.TheVariants as listening
+use Rattle.srcp_peers.specs.declared.turn.Turn.{Turn}
+use Rattle.srcp_peers.specs.Peers.{Makes, holds_input, is_gone, is_here}
+use Rattle.srcp_peers.specs.Reports.{IsAnswered}
+use Rattle.srcp_peers.specs.Steps.{Accepts, Answers, Clocks, Closes, Step, Tells, Waits}
+use Rattle.srcp_peers.specs.Turns.{has_ticked, moment_at}
+use Rattle.srcp_sockets.specs.Doors.{IsPresent}
+
+-- ---- who is closed
+
+-- a socket is closed
+abbrev pub is_close : Step → Bool
+is_close (Closes who) = true
+is_close other = false
+
+-- of those that linger nobody is left for whom nothing is left to do, or 64 sockets were closed
+abbrev pub AreClosedUp : (clock : ℕ) → List Peer → Option (List Step) → Option (List Step) → Type 0
+AreClosedUp clock peers old new = (position (is_gone clock) peers ≡ None) ⊎ Makes is_close 64 old new
+
+-- ---- when the door waits, and what time it is
+
+-- the turn goes on with held input, and does not wait: the clock did not go on since it showed `flushed`
+abbrev pub goes_on : Turn → (flushed : ℕ) → List Peer → Bool
+goes_on turn flushed peers = not (has_ticked turn flushed) && list_any holds_input peers
+
+-- the step that came is a wait of that length
+abbrev pub IsWaiting : (most : Option ℕ) → Option (List Step) → Option (List Step) → Type 0
+IsWaiting most old new = (count : ℕ) × (ready : List Ready) × Tells old (Waits most count ready) new
+
+-- the moment that is reported, if the clock shows this
+abbrev pub moment_of : Turn → (shown : Option ℕ) → Result ℕ DoorFault
+moment_of turn None = Err fault.Now
+moment_of turn (Some time) = Ok (moment_at turn time)
+
+-- the steps that came are a look at the clock, and the moment that follows of it
+abbrev pub IsClocked : Turn → Result ℕ DoorFault → Option (List Step) → Option (List Step) → Type 0
+IsClocked turn answer old new = (shown : Option ℕ) × (answer ≡ moment_of turn shown) × ((later : List Step)
+    → new ≡ Some later
+    → (log : List Step) × (old ≡ Some log) × (later ≡ log ++ (Clocks shown ∷ Answers (NowCall answer) ∷ [])))
+
+-- ---- who is accepted
+
+-- no connection is pending, for all that is known
+abbrev pub is_quiet : Listening → Bool
+is_quiet listening.Ready = false
+is_quiet listening.Refused = false
+is_quiet listening.Quiet = true
+
+-- one that lingers has to be closed first: there is no place for one more, or 64 linger
+abbrev pub is_crowded : (places : ℕ) → List Peer → Bool
+is_crowded places peers = nat_le places (length peers)
+    || nat_le 64 (length (filter (λ peer. not (is_here peer.stay)) peers))
+
+-- the system is asked to accept
+abbrev pub is_accept : Step → Bool
+is_accept (Accepts number answer) = true
+is_accept other = false
+
+-- the next pending connection may be accepted
+abbrev pub may_accept : Listening → (places : ℕ) → List Peer → Bool
+may_accept heard places peers = not (is_quiet heard) && not (is_crowded places peers)
+
+-- ---- who is read
+
+-- the read of a peer that is there answered what that peer's read answers, and it is known then whether a line of some
+-- peer was kept back
+abbrev pub IsPeerRead : Turn → List Peer → (number room : ℕ) → Result Got DoorFault → (handed : List ℕ)
+    → (before after : Bool) → Type 0
+IsPeerRead turn peers number room answer handed before after = (k : ℕ) (d : Peer) → k < length peers
+    → IsPresent number (slice_index_or peers k d)
+    → (kept : Bool) × IsAnswered turn (slice_index_or peers k d) room answer handed kept × (after ≡ (before || kept))
