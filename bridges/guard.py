@@ -6,8 +6,9 @@ a locomotive, this program sets that locomotive's speed to 0. Whoever wants it t
 """
 import asyncio
 
-from program import arguments, run, say
-from srcp import Mirror, Refused
+from srcp_bridges.program import arguments, run, say
+from srcp_bridges.rows import Refused
+from srcp_bridges.srcp import Mirror
 
 
 class Guard:
@@ -34,7 +35,7 @@ class Guard:
         drive = self.mirror.rows.get((bus, "GL", address, "does"))
         if drive and drive.v:
             try:
-                await self.mirror.session.ask(f"SET {bus} GL {address} {drive.mode} 0 {drive.v_max}")
+                await self.mirror.ask(f"SET {bus} GL {address} {drive.mode} 0 {drive.v_max}")
                 say(f"{bus} GL {address}: stopped")
             except (Refused, ConnectionError) as fault:
                 say(f"{bus} GL {address}: {fault}")

@@ -10,16 +10,17 @@ import asyncio
 import os
 import shutil
 
-from program import arguments, run, say
-from srcp import Mirror, Refused
+from srcp_bridges.program import arguments, run, say
+from srcp_bridges.rows import EMERGENCY_STOP, FORWARD, Refused, position
+from srcp_bridges.srcp import Mirror
 
 TOGETHER = 0.002  # seconds between two ports of an accessory, so that their stamps tell which was put last
 SOON = 0.01  # seconds until it is looked again whether the panel has told what was made
 GROUPS = ["POWER", "GL", "GA"]
 
 
-def commands_of(rows, power):
-    """Returns the commands that make these rows again."""
+def commands_of(rows, power, way=lambda bus, address: FORWARD):
+    """Returns the commands that make these rows again. `way` tells the direction of a locomotive that was stopped."""
     commands = []
     wanted = [key for key in rows if key[1] == "POWER" and power or key[1] in ("GL", "GA") and key[3] == "is"]
     for bus, group, address, part in sorted(wanted, key=lambda key: (key[0], GROUPS.index(key[1]), key[2])):
@@ -29,10 +30,12 @@ def commands_of(rows, power):
             continue
         commands.append(f"INIT {bus} {group} {address} {' '.join(map(str, row[1:]))}")
         if drive := rows.get((bus, group, address, "does")):
-            words = [drive.mode, 0, drive.v_max, *drive.functions]
+            mode = way(bus, address) if drive.mode == EMERGENCY_STOP else drive.mode
+            words = [mode, 0, drive.v_max, *drive.functions]
             commands.append(f"SET {bus} GL {address} {' '.join(map(str, words))}")
-        ports = [(*port, number) for number in range(8) if (port := rows.get((bus, group, address, number)))]
-        for stamp, value, number in sorted(ports):  # what was put last comes last
+        ports = [(number, port) for number in range(8) if (port := rows.get((bus, group, address, number)))]
+        put = position(rows, bus, address)
+        for number, (stamp, value) in sorted(ports, key=lambda port: (port[0] == put, port[1])):  # it comes last
             if stamp > row.stamp or value:
                 commands.append(f"SET {bus} GA {address} {number} {value} -1")
     return commands
@@ -108,10 +111,10 @@ class Keeper:
         """Writes FILE, if all that it would lose is gone from the very server that it was restored to."""
         if self.mirror.session is not self.session:
             return self.changed.set()
-        commands = commands_of(self.mirror.rows, self.power)
+        commands = commands_of(self.mirror.rows, self.power, self.mirror.way)
         kept = {device_of(command) for command in commands if makes(command)}
-        for device in filter(None, map(device_of, filter(makes, self.written))):
-            if device not in kept and await self.mirror.has(device):
+        for device in [device_of(command) for command in self.written if makes(command)]:
+            if device and device not in kept and await self.mirror.has(device):
                 return self.changed.set()  # it is there, and has not been told yet
         if commands != self.written and self.mirror.session is self.session:
             self.write(commands)

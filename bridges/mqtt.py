@@ -15,24 +15,27 @@ PREFIX is `srcp` if not told otherwise. One value is a plain word, several are a
 
 To PREFIX/stop/set goes anything: all locomotives make an emergency stop. To PREFIX/1/POWER/set, 1/FB/7/set and
 1/GA/5/1/set go ON, OFF, 1 or 0; to 1/GA/5/position/set the port; to 1/GL/3/set a speed, or any of the members above as
-JSON (`functions` as a list, or as {"2": 1}), and what is left out stays; to 1/GL/3/is/set the words of an INIT
-(`N 1 126 5`), and nothing for TERM. What is refused is told at PREFIX/error. Retained commands are not carried out.
+JSON (`functions` as a list, or as {"2": 1}), and what is left out stays; {"mode": 2} is an emergency stop. To
+1/GL/3/is/set go the words of an INIT (`N 1 126 5`), and nothing for TERM. A command that came before a stop is refused
+after it. What is not carried out is told at PREFIX/error. Retained commands are not carried out.
 """
 import asyncio
 import json
+from typing import Any
 
 # `program` first: it says which Python it takes.
-from program import arguments, names, run, say
+from srcp_bridges.program import PORT, Wrong, arguments, names, run, say
 
-from broker import connect, matches, publish
-from srcp import Mirror, Refused, keys_of
-from stop import stop_all
-from topics import announced, commands_for, device_of, node, shown
+from srcp_bridges.broker import check, connect, matches, publish
+from srcp_bridges.orders import Orders
+from srcp_bridges.rows import Refused, keys_of
+from srcp_bridges.srcp import Mirror
+from srcp_bridges.topics import announced, device_of, node, shown
 
 MOMENT = 0.3  # seconds until what the broker has and the registry has not is looked at again
 READING = 15.0  # seconds that the reading of what the broker has may take
 LONGEST = 1000  # bytes of a command
-WAITING = 1000  # commands that may wait
+LOOKED_AT = 20000  # bytes of a payload; this program sends none that is longer
 
 
 class Bridge:
@@ -44,9 +47,10 @@ class Bridge:
     def __init__(self, asked):
         self.asked, self.prefix, self.wanted, self.there = asked, asked.prefix.strip("/") + "/", {}, {}
         self.node, self.names = node(self.prefix), names(asked.names)
-        self.client, self.following, self.late, self.behind = None, False, set(), asyncio.Event()
-        self.orders, self.urgent = asyncio.Queue(WAITING), asyncio.Queue(WAITING)
+        self.client: Any = None  # paho's
+        self.following, self.late, self.behind = False, set(), asyncio.Event()
         self.mirror = Mirror(asked, self.told, lambda anew: self.online(), self.online)
+        self.orders = Orders(self.mirror, self.refused)
 
     def told(self, change):
         for place, payload in shown(self.mirror.rows, change.key).items():
@@ -88,67 +92,74 @@ class Bridge:
         self.want(self.prefix + "online", "online" if self.mirror.here else "offline", False)
 
     async def clear(self):
-        """Takes out what the broker shows and the registry has not; of what is not listed (yet) the server is asked."""
+        """Takes out what the broker shows and the registry has not."""
         while stale := [topic for topic in self.there if topic not in self.wanted]:
             try:
                 for topic in stale:
-                    device = device_of(self.place(topic))
-                    listed = device and any(key in self.mirror.rows for key in keys_of(device))
-                    if not device or listed or self.mirror.here and not await self.mirror.has(device):
-                        self.put(topic)
+                    await self.look_at(topic)
             except OSError:
                 pass  # the server has gone meanwhile
             await asyncio.sleep(MOMENT)
 
-    def place(self, topic):
-        """Returns a topic without what comes before its bus."""
-        if topic.startswith(self.prefix):
-            return topic.removeprefix(self.prefix)
-        return topic.split("/")[-2].replace("_", "/")
+    async def look_at(self, topic):
+        """Takes out what the broker shows of no row. If its device is not listed (yet), the server is asked."""
+        device = device_of(self.place(topic))
+        if any(key in self.mirror.rows for key in keys_of(device)):
+            self.put(topic)
+        elif self.mirror.here and not await self.mirror.has(device):
+            if await self.owns(device):
+                self.put(topic)
+            else:
+                self.there.pop(topic, None)  # another layout shows it
 
-    async def carry_out(self, orders):
-        """Carries out the commands that come, one after the other."""
-        while True:
-            place, text = await orders.get()
-            try:
-                if place == "stop":
-                    if faults := await stop_all(self.mirror):
-                        raise Refused("; ".join(faults))
-                elif not self.mirror.here:
-                    raise Refused("the server is away")
-                else:
-                    for command in commands_for(self.mirror.rows, place, text):
-                        await self.mirror.session.ask(command)
-            except Exception as fault:  # whatever was sent, this program goes on
-                self.refused(place, text, fault)
+    async def owns(self, device):
+        """Returns whether the layout has such devices on that bus: it then knows the address 1."""
+        bus, group, _, is_lock = device
+        words = "POWER" if group == "POWER" else f"LOCK {group} 1" if is_lock else f"{group} 1" + " 0" * (group == "GA")
+        try:
+            return bool(await self.mirror.ask(f"GET {bus} {words}"))
+        except Refused as reply:
+            return str(reply).startswith("416")
+
+    def place(self, topic):
+        """Returns a topic without its prefix; of an announcement, the name of its device."""
+        return topic.removeprefix(self.prefix) if topic.startswith(self.prefix) else topic.split("/")[-2]
 
     def refused(self, place, text, fault):
         if self.following:
-            words = {"topic": f"{self.prefix}{place}", "payload": text[:LONGEST], "reply": str(fault)}
-            self.client.publish(self.prefix + "error", json.dumps(words))
+            words = {"topic": f"{self.prefix}{place}", "payload": text, "reply": str(fault)}
+            cut = {name: word[:LONGEST] for name, word in words.items()}
+            self.client.publish(self.prefix + "error", json.dumps(cut))
 
     def heard(self, topic, payload, retained):
         if not any(matches(levels, topic) for levels, _ in self.all_topics()):
             return  # nobody asked for it
-        text, place = payload.decode("utf-8", "replace").strip(), self.place(topic)
-        if topic == self.prefix + "mark":
+        text = payload[:LOOKED_AT].decode("utf-8", "replace").strip()
+        if topic == self.prefix + "mark" and not retained:
             self.marked.set()
         elif topic == self.prefix + "online":
             if text == "offline" and self.mirror.here:
                 self.online()  # it was the last will of a connection before this one
-        elif retained and not self.following and not topic.endswith("/set"):
-            self.there[topic] = text
-        elif topic.startswith(self.prefix) and topic.endswith("/set") and not retained:
-            place = place.removesuffix("/set")
-            orders = self.urgent if place == "stop" or place.endswith("/POWER") else self.orders
-            if len(payload) > LONGEST or orders.full():
-                self.refused(place, text, "too long" if len(payload) > LONGEST else "too many commands wait")
+        elif retained and not self.following:
+            self.found(topic, text)
+        elif topic.startswith(self.prefix) and topic.endswith("/set"):
+            place = self.place(topic).removesuffix("/set")
+            if retained or len(payload) > LONGEST:
+                self.refused(place, text, "retained" if retained else "too long")
             else:
-                orders.put_nowait((place, text))
+                self.orders.take(place, text)
+
+    def found(self, topic, text):
+        """Takes in what the broker has retained: what this bridge may have had it show, and another bridge's mark."""
+        if topic.endswith("/online") and text in ("online", "offline"):
+            self.other = topic
+        elif device_of(self.place(topic)):
+            self.there[topic] = text
 
     async def follow(self):
         """One connection to the broker: reads what it shows, has it show what is wanted, until it is lost."""
-        joined, self.lost, self.marked, self.there = asyncio.Event(), asyncio.Event(), asyncio.Event(), {}
+        joined, self.lost, self.marked = asyncio.Event(), asyncio.Event(), asyncio.Event()
+        self.there, self.other = {}, None
         words = self.node + "-bridge", self.prefix + "online", self.heard, joined, self.lost
         client = self.client = await asyncio.to_thread(connect, self.asked, *words, asyncio.get_running_loop())
         tasks = []
@@ -157,6 +168,8 @@ class Bridge:
             client.subscribe(self.all_topics())
             client.publish(self.prefix + "mark", "read")
             await self.comes(self.marked)
+            if self.other:
+                raise Wrong(f"{self.other} is of another bridge: choose a prefix neither below nor above its own")
             self.begin(client)
             tasks = [asyncio.create_task(self.clear()), asyncio.create_task(self.catch_up())]
             await self.lost.wait()
@@ -171,9 +184,11 @@ class Bridge:
             await asyncio.to_thread(client.loop_stop)
 
     def all_topics(self):
-        """QoS 0: of 1 mosquitto sends 1,000 messages and drops the others."""
-        discovery = [(f"{self.asked.home_assistant}/+/{self.node}/+/config", 0)] if self.asked.home_assistant else []
-        return [(self.prefix + "#", 0), *discovery]
+        """Returns what is read as a connection begins; by QoS 0, since of 1 mosquitto sends 1,000 messages at most."""
+        levels, node = self.prefix.split("/")[:-1], f"+/{self.node}/+/config"
+        above = ["/".join([*levels[:count], "online"]) for count in range(1, len(levels))]
+        discovery = [f"{self.asked.home_assistant}/{node}"] if self.asked.home_assistant else []
+        return [(topic, 0) for topic in (self.prefix + "#", *above, *discovery)]
 
     async def comes(self, event):
         """Waits for what has to come from the broker."""
@@ -188,7 +203,7 @@ class Bridge:
         """What the broker shows is known: has it show what is wanted, and takes commands from now on."""
         say(f"broker: joined; it had {len(self.there)} topics")
         client.unsubscribe([topic for topic, _ in self.all_topics()])
-        sets = [f"{self.prefix}{levels}set" for levels in ("+/", "+/+/", "+/+/+/", "+/+/+/+/")]
+        sets = [f"{self.prefix}{'+/' * levels}set" for levels in range(1, 7)]  # more than there are, to tell of errors
         client.subscribe([(topic, 1) for topic in [*sets, self.prefix + "online"]])
         self.following = True
         self.late.clear()
@@ -206,21 +221,28 @@ class Bridge:
             await asyncio.sleep(self.asked.again)
 
     async def run(self):
-        carry_out = self.carry_out(self.urgent), self.carry_out(self.orders)
-        await asyncio.gather(self.mirror.run(), self.keep_broker(), *carry_out)
+        await asyncio.gather(self.mirror.run(), self.keep_broker(), self.orders.run())
+
+
+async def bridge(asked):
+    check(asked)
+    if not asked.prefix.strip("/") or set("+#") & set(asked.prefix):
+        raise Wrong(f"--prefix {asked.prefix}: no topic begins so")
+    await Bridge(asked).run()
 
 
 def main():
     words = arguments(__doc__)
     words.add_argument("--broker", default="127.0.0.1", metavar="HOST", help="where the broker is (%(default)s)")
-    words.add_argument("--broker-port", type=int, default=1883, metavar="PORT", help="its port (%(default)s)")
+    words.add_argument("--broker-port", type=PORT, default=1883, metavar="PORT", help="its port (%(default)s)")
     words.add_argument("--prefix", default="srcp", help="what all topics begin with (%(default)s)")
     words.add_argument("--home-assistant", nargs="?", const="homeassistant", metavar="PREFIX",
                        help="announce all devices to Home Assistant, below its PREFIX (homeassistant)")
     words.add_argument("--names", metavar="FILE", help="names of devices, for Home Assistant")
     words.add_argument("--user", help="its password is taken from the environment: MQTT_PASSWORD")
     words.add_argument("--tls", action="store_true", help="encrypt, and trust the authorities that this machine trusts")
-    run(Bridge(words.parse_args()).run())
+    words.add_argument("--cafile", metavar="FILE", help="encrypt, and trust the authorities in FILE (PEM) alone")
+    run(bridge(words.parse_args()))
 
 
 if __name__ == "__main__":

@@ -19,16 +19,20 @@ if sys.version_info < (3, 11):
     sys.exit("-- this takes Python 3.11 or later")
 NUMBER = r"(0|[1-9]\d*)"
 SYNTAX = {"power": r"([01])", "throttle": rf"t {NUMBER} (-1|{NUMBER}) ([01])", "accessory": rf"a {NUMBER} ([01])",
-          "function": rf"F {NUMBER} {NUMBER} ([01])", "sensors": "Q", "status": "s", "cabs": "#", "stop": "!"}
+          "function": rf"F {NUMBER} {NUMBER} ([01])", "forget": rf"- {NUMBER}", "sensors": "Q", "status": "s",
+          "cabs": "#", "stop": "!"}
 BANNER = "<iDCC-EX V-5.0.7 / MEGA / STANDARD_MOTOR_SHIELD G-sim>\r\n"
 
 
 class Station:
-    """What a station knows, and its line. `faults` has what it refused, `log` all commands with their moments."""
+    """What a station knows, and its line. `faults` has what it refused, `log` all commands with their moments.
+
+    `hand`, `switch` and `overload` are what happens at the station itself. `late`: seconds until it reports.
+    """
 
     def __init__(self, link, show=lambda text: None):
         self.link, self.show, self.boot, self.faults, self.ids, self.stalled = link, show, 0.0, [], {}, False
-        self.rate = 0  # commands a second, 0 for no limit
+        self.rate, self.late, self.slots = 0, 0.0, 50  # commands a second, 0 for no limit
         self.open()
 
     def open(self):
@@ -45,6 +49,7 @@ class Station:
     def reset(self):
         """Knows what a station knows when its power comes: nothing."""
         self.power, self.cabs, self.functions, self.turnouts, self.log = 0, {}, {}, {}, []
+        self.reports, self.known = [], set()  # what is told late; cabs that have a slot
         self.deaf_until = time.monotonic() + self.boot
 
     def restart(self):
@@ -67,10 +72,47 @@ class Station:
         self.ids[number] = on
         self.say(f"<{'Q' if on else 'q'} {number}>\r\n")
 
+    def report(self, text):
+        if self.late:
+            self.reports.append((time.monotonic() + self.late, text))
+        else:
+            self.say(text)
+
+    def tell_late(self):
+        while self.reports and self.reports[0][0] <= time.monotonic():
+            self.say(self.reports.pop(0)[1])
+
+    def report_cab(self, cab):
+        speed, way = self.cabs.get(cab, (0, 1))
+        on = sum(1 << number for (address, number), value in self.functions.copy().items() if address == cab and value)
+        self.report(f"<l {cab} 0 {128 * way + (1 if speed < 0 else speed + 1 if speed else 0)} {on}>\r\n")
+
+    def hand(self, cab, speed=None, way=1, **functions):
+        """A throttle at the station drives a locomotive, or switches functions: f0=1."""
+        if speed is not None:
+            self.cabs[cab] = speed, way
+        for name, on in functions.items():
+            self.functions[cab, int(name[1:])] = on
+        self.report_cab(cab)
+
+    def switch(self, on):
+        """Its own button turns its power."""
+        self.power = on
+        self.report(f"<p{on}>\r\n")
+
+    def overload(self):
+        """It cuts its power, and would try again in a moment."""
+        begun, self.power = len(self.log), 0
+        self.report("<* MAIN TRACK POWER OVERLOAD current=1500 max=1000 offtime=200 *>\r\n")
+        time.sleep(0.2)
+        self.power = int("0" not in [text for _, text in self.log[begun:]])
+
     def run(self):
         begun = b""
         while self.running:
-            if self.stalled or not select.select([self.master], [], [], 0.05)[0]:
+            if not self.stalled:
+                self.tell_late()
+            if self.stalled or not select.select([self.master], [], [], 0.01 if self.reports else 0.05)[0]:
                 time.sleep(0.01 if self.stalled else 0)
                 continue
             more = os.read(self.master, 64)
@@ -98,17 +140,11 @@ class Station:
         """Returns whether the numbers are within their limits."""
         if name == "power":
             self.power = int(words[0])
-            self.say(f"<p{self.power}>\r\n")
-        elif name == "throttle":
-            cab, speed, way = int(words[0]), int(words[1]), int(words[3])
-            if not 1 <= cab <= 10239 or speed > 126:
-                return False
-            self.cabs[cab] = speed, way
-            self.say(f"<l {cab} 0 {128 * way + (1 if speed < 0 else speed + 1 if speed else 0)} 0>\r\n")
-        elif name == "function":
-            if not 1 <= int(words[0]) <= 10239 or int(words[1]) > 68:
-                return False
-            self.functions[int(words[0]), int(words[1])] = int(words[2])
+            self.report(f"<p{self.power}>\r\n")
+        elif name in ("throttle", "function"):
+            return self.obey_cab(name, *(int(word) for word in words if word))
+        elif name == "forget":
+            self.known.discard(int(words[0]))
         elif name == "accessory":
             if not 1 <= int(words[0]) <= 2044:
                 return False
@@ -119,10 +155,28 @@ class Station:
         elif name == "status":
             self.say(f"<p{self.power}>\r\n" + BANNER)
         elif name == "cabs":
-            self.say("<# 50>\r\n")
+            self.say(f"<# {self.slots}>\r\n")
         elif name == "stop":
-            self.cabs = {cab: (-1, way) for cab, (_, way) in self.cabs.items()}
+            self.stop_all()
         return True
+
+    def obey_cab(self, name, cab, first, *rest):
+        """Drives a cab, or switches a function of it; returns whether the numbers are right, and it has a slot."""
+        self.known.add(cab)
+        if not 1 <= cab <= 10239 or first > (126 if name == "throttle" else 68) or len(self.known) > self.slots:
+            return False
+        if name == "throttle":
+            self.cabs[cab] = first, rest[-1]
+        else:
+            self.functions[cab, first] = rest[0]
+        self.report_cab(cab)
+        return True
+
+    def stop_all(self):
+        for cab, (speed, way) in self.cabs.copy().items():
+            self.cabs[cab] = -1, way
+            if speed >= 0:
+                self.report_cab(cab)
 
 
 def main():

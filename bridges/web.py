@@ -8,145 +8,178 @@ locomotives stand that it has taken, and those that drive as it told them last.
 over the network as it is. FILE (TOML) names devices: "1 GL 3" = "V 100".
 """
 import asyncio
-import hashlib
-import hmac
-import ipaddress
 import json
+import math
 import pathlib
 import secrets
-import socket
 import urllib.parse
 
-from page import BEHIND, Page, event, row_event
-from program import arguments, names, run, say
-from srcp import Mirror
-from stop import stop_all
+from srcp_bridges.entrance import Entrance, guest_of
+from srcp_bridges.hosts import address_of, is_own, to_type
+from srcp_bridges.page import BEHIND, Page, event, row_event
+from srcp_bridges.places import Full, Places, add_arguments, listen
+from srcp_bridges.program import arguments, names, run, say
+from srcp_bridges.request import ARRIVE, IDLE, LONGEST_HEAD, NO_REQUEST, TEXT, answer, read_request
+from srcp_bridges.srcp import Mirror
+from srcp_bridges.stop import stop_all
 
-PATIENCE = 20.0  # seconds for a request
-WRONG = 1.0  # seconds from a wrong word to its answer, and to the next word that is looked at
-LONGEST = 1000  # bytes of what a request brings
 AT_ONCE = 4  # pages of one browser: it has 6 connections, and STOP ALL needs one that is free
-FOLDER = pathlib.Path(__file__).parent
-HTML, TEXT = "text/html; charset=utf-8", "text/plain; charset=utf-8"
-STATUS = {200: "OK", 303: "See Other", 401: "Unauthorized", 403: "Forbidden", 404: "Not Found", 413: "Too Large"}
-HEAD = {"Cache-Control": "no-store", "X-Content-Type-Options": "nosniff", "Content-Security-Policy":
-        "default-src 'none'; connect-src 'self'; style-src 'unsafe-inline'; script-src 'unsafe-inline'; img-src data:; "
-        "base-uri 'none'; form-action 'self'; frame-ancestors 'none'"}
+MOST, MOST_OF_ONE = 400, 100  # connections, in all and of one address
+KEPT, KEPT_OF_ONE = 40, 4  # further ones, for stops alone
+FOLDER = pathlib.Path(__file__).resolve().parent / "srcp_bridges"
+HTML, JSON = "text/html; charset=utf-8", "application/json"
+KINDS = {".css": "text/css; charset=utf-8", ".js": "text/javascript; charset=utf-8"}
+FILES = {f"/{path.name}": path for path in FOLDER.iterdir() if path.suffix in KINDS}
 EVENTS = "HTTP/1.1 200 OK\r\nContent-Type: text/event-stream\r\nCache-Control: no-store\r\nConnection: close\r\n\r\n"
 
 
-def address_of(name):
-    """Returns the IP address that a name is, or None."""
-    try:
-        return ipaddress.ip_address(name)
-    except ValueError:
-        return None
+def is_ours(asked):
+    """Returns whether a page of ours asks: no other site's page, and no other site's name that leads here."""
+    host, site = asked.headers.get("host", ""), asked.headers.get("sec-fetch-site", "none")
+    is_elsewhere = asked.path != "/" and site not in ("none", "same-origin")  # a link may lead to the page, and no more
+    return is_own(host) and asked.headers.get("origin", f"http://{host}") == f"http://{host}" and not is_elsewhere
+
+
+def enter(entrance, writer, asked, guest):
+    """Asks for the word. Who was wrong too often has to wait; nobody else has."""
+    page = (FOLDER / "word.html").read_text("utf-8")
+    if wait := entrance.wait(guest):
+        return answer(writer, 429, HTML, page.replace('data-wait="0"', f'data-wait="{math.ceil(wait)}"'))
+    is_wrong = bool(asked.cookies.get(entrance.cookie))  # of before a restart, or a guess
+    if (asked.method, asked.path) == ("POST", "/word"):
+        word = urllib.parse.parse_qs(asked.body).get("word", [""])[0]
+        if token := entrance.enter(guest, word):
+            return answer(writer, 303, TEXT, "", [f"{entrance.cookie}={token}"])
+        is_wrong = True
+    elif is_wrong:
+        entrance.wrong(guest)
+    if is_wrong:
+        say(f"page {guest}: a wrong word{', and has to wait' if entrance.wait(guest) else ''}")
+    return answer(writer, 401, HTML, page, [f"{entrance.cookie}="] * is_wrong)
 
 
 class Web:
     def __init__(self, asked):
-        self.asked, self.names, self.pages, self.guesses = asked, names(asked.names), {}, asyncio.Lock()
+        self.asked, self.names, self.pages = asked, names(asked.names), {}
         self.mirror = Mirror(asked, self.told, lambda anew: self.tell(event("here", True)),
                              lambda: self.tell(event("here", False)))
-        address, own = address_of(asked.bind), socket.gethostname()
-        self.hosts = {"localhost", own, own + ".local"}
+        address = address_of(asked.bind)
         self.word = asked.word or (None if address and address.is_loopback else secrets.token_hex(4))
-        self.token = self.word and hashlib.sha256(f"srcp {self.word}".encode()).hexdigest()
+        self.entrance = Entrance(self.word, asked.web) if self.word else None
+        self.places, self.kept, self.turned_away = Places(MOST, MOST_OF_ONE), Places(KEPT, KEPT_OF_ONE), None
 
     def told(self, change):
-        self.tell(row_event(change.key, change.row))
+        self.tell(row_event(self.mirror, change.key, change.row))
 
     def tell(self, text):
         for page in self.pages.values():
             page.tell(text)
 
-    def ours(self, headers):
-        """Returns whether a page of ours asks, by a number or this machine's name: no other site's page, and no other
-        site's name that leads here."""
-        host = headers.get("host", "")
-        name = host.rsplit(":", 1)[0] if ":" in host.rpartition("]")[2] else host
-        own = address_of(name.strip("[]")) or name.lower() in self.hosts
-        return own and headers.get("origin", f"http://{host}") == f"http://{host}"
-
     async def serve(self, reader, writer):
-        """Answers the requests of a connection, one after the other."""
+        """Serves a connection, if there is a place for it; one for which there is not, a stop."""
+        if not (peer := writer.get_extra_info("peername")):
+            return writer.close()  # it is closed already
+        guest = guest_of(peer[0])
         try:
-            while await self.request(reader, writer):
-                await writer.drain()
-        except (OSError, EOFError, ValueError, asyncio.LimitOverrunError):
-            pass  # the browser has closed it, is silent, or does not speak HTTP
+            with self.places.place(guest):
+                while await self.request(reader, writer, guest):
+                    await writer.drain()
+        except Full as fault:
+            await self.serve_stop(reader, writer, guest, fault)
+        except NO_REQUEST:
+            pass
         finally:
             writer.close()
 
-    async def request(self, reader, writer):
-        """Answers a request; returns whether the connection goes on."""
-        async with asyncio.timeout(PATIENCE):
-            first, *lines = (await reader.readuntil(b"\r\n\r\n")).decode("latin-1").split("\r\n")[:-2]
-            headers = {name.lower(): value.strip() for name, _, value in (line.partition(":") for line in lines)}
-            length = int(headers.get("content-length", 0))
-            if not 0 <= length <= LONGEST:
-                return self.answer(writer, 413, TEXT, "too long\n")
-            body = (await reader.readexactly(length)).decode("latin-1")
-        method, path, _ = first.split(" ")
-        cookies = dict(part.strip().partition("=")[::2] for part in headers.get("cookie", "").split(";"))
-        if not self.ours(headers):
-            return self.answer(writer, 403, TEXT, "not from here\n")
-        if self.token and not hmac.compare_digest(cookies.get("srcp_word", "").encode(), self.token.encode()):
-            return await self.enter(writer, body if (method, path) == ("POST", "/word") else None)
-        if (method, path) == ("GET", "/events"):
-            return await self.events(reader, writer, cookies.get("srcp_browser"))
-        if (method, path) == ("GET", "/"):
-            kept = [] if "srcp_browser" in cookies else [f"srcp_browser={secrets.token_hex(8)}"]
-            return self.answer(writer, 200, HTML, (FOLDER / "web.html").read_text("utf-8"), kept)
-        if method == "POST" and "x-page" in headers:  # other sites cannot send this header
-            return self.answer(writer, *await self.obey(path, headers["x-page"], body))
-        return self.answer(writer, 404, TEXT, "no such page\n")
+    async def serve_stop(self, reader, writer, guest, fault):
+        """Serves a connection for which only the places are left that are kept for stops."""
+        if self.turned_away != guest:
+            say(f"page {guest}: turned away but for stops, {fault}")
+        self.turned_away = guest
+        try:
+            with self.kept.place(guest):
+                await self.request(reader, writer, guest, only="/stop")
+        except (Full, *NO_REQUEST):
+            pass
 
-    async def enter(self, writer, body):
-        """Asks for the word. A wrong one keeps the next waiting, so that nobody tries many."""
-        if body is not None:
-            async with self.guesses:
-                word = urllib.parse.parse_qs(body).get("word", [""])[0]
-                if hmac.compare_digest(word.encode(), self.word.encode()):
-                    return self.answer(writer, 303, TEXT, "", [f"srcp_word={self.token}"])
-                say("page: a wrong word")
-                await asyncio.sleep(WRONG)
-        return self.answer(writer, 401, HTML, (FOLDER / "word.html").read_text("utf-8"))
+    async def request(self, reader, writer, guest, only=None):
+        """Answers a request; returns whether the connection goes on. `only`: the path that is not turned away."""
+        asked = await read_request(reader, ARRIVE if only else IDLE)
+        if not is_ours(asked):
+            return answer(writer, 403, TEXT, "not from here\n")
+        if only not in (None, asked.path):
+            return answer(writer, 503, TEXT, "too many connections\n")
+        if asked.body is None:
+            return answer(writer, 413, TEXT, "too long\n")
+        if asked.method == "GET" and asked.path in FILES:
+            path = FILES[asked.path]
+            return answer(writer, 200, KINDS[path.suffix], path.read_text("utf-8"))
+        if self.entrance and not self.entrance.is_open(asked.cookies.get(self.entrance.cookie, "")):
+            return enter(self.entrance, writer, asked, guest)
+        if (asked.method, asked.path) == ("GET", "/events"):
+            return await self.events(reader, writer, asked.cookies.get("srcp_browser"))
+        if (asked.method, asked.path) == ("GET", "/"):
+            kept = [] if "srcp_browser" in asked.cookies else [f"srcp_browser={secrets.token_hex(8)}"]
+            return answer(writer, 200, HTML, (FOLDER / "web.html").read_text("utf-8"), kept)
+        if asked.method == "POST" and "x-page" in asked.headers:  # other sites cannot send this header
+            seen = asked.headers.get("x-stops", "0")
+            return answer(writer, *await self.obey(asked.path, asked.headers["x-page"], asked.body, int(seen)))
+        return answer(writer, 404, TEXT, "no such page\n")
 
-    async def obey(self, path, key, body):
+    async def obey(self, path, key, body, seen=0):
         """Does what a page asks for; returns status, kind and body of the answer."""
-        page = self.pages.get(key)
+        page, numbers = self.pages.get(key), [int(word) for word in body.split() if word.isdecimal()]
         if page:
             page.heard = asyncio.get_running_loop().time()
-        if path == "/stop":  # also of a page that is about to join again
-            self.tell(event("stop", None))
-            holders = {page.session.id: page.session for page in self.pages.values() if page.session}
-            faults = await stop_all(self.mirror, holders)
-            return 200, "application/json", json.dumps({"reply": "; ".join(faults) or "200 OK"})
-        if not page or path not in ("/command", "/alive"):
+        if path == "/stop" and not body:  # also of a page that is about to join again
+            faults = await self.stop_all()
+            whose = [fault.split(": ", 1) for fault in faults if ": " in fault]
+            return 200, JSON, json.dumps({"reply": "; ".join(faults) or "200 OK", "faults": whose})
+        if not page:
             return 404, TEXT, "no such page\n"
-        reply = await page.ask(body) if path == "/command" else "200 OK"
-        return 200, "application/json", json.dumps({"reply": reply, "session": page.session and page.session.id})
+        if path == "/command":
+            reply = await page.ask(body, seen)
+        elif path == "/function" and len(numbers) == 4:
+            reply = await page.switch(*numbers)
+        elif path == "/stop" and len(numbers) == 2:
+            reply = await page.stop(*numbers)
+        elif path == "/alive":
+            reply = "200 OK"
+        else:
+            return 404, TEXT, "no such page\n"
+        return 200, JSON, json.dumps({"reply": reply, "session": page.session and page.session.id})
 
-    def answer(self, writer, status, kind, body, cookies=()):
-        """Sends an answer; returns whether the connection goes on."""
-        head = HEAD | {"Content-Type": kind, "Content-Length": len(body.encode())}
-        lines = [f"HTTP/1.1 {status} {STATUS[status]}", *(f"{name}: {value}" for name, value in head.items())]
-        lines += ["Location: /"] * (status == 303)
-        lines += [f"Set-Cookie: {cookie}; Max-Age=31536000; Path=/; HttpOnly; SameSite=Strict" for cookie in cookies]
-        writer.write("\r\n".join([*lines, "", ""]).encode() + body.encode())
-        return status in (200, 303)
+    async def stop_all(self):
+        """Stops all locomotives; returns what could not be stopped. Pages are told as soon as the stop is counted."""
+        holders = {page.session.id: page.session for page in self.pages.values() if page.session}
+        stopping = asyncio.create_task(stop_all(self.mirror, holders))
+        await asyncio.sleep(0)
+        count = self.mirror.stops.count
+        self.tell(event("stop", {f"{bus} GL {address}": count(bus, address)
+                                 for bus, group, address, part in self.mirror.rows if (group, part) == ("GL", "does")}))
+        return await stopping
 
     async def events(self, reader, writer, browser):
         """Sends a page all rows and each change, until it is gone, silent, or too far behind."""
-        page, key, loop = Page(self.mirror, browser), secrets.token_hex(16), asyncio.get_running_loop()
+        page, key = Page(self.mirror, browser), secrets.token_hex(16)
         first = event("page", {"key": key, "names": self.names}) + event("here", self.mirror.here)
-        rows = [row_event(*item) for item in self.mirror.rows.items()]
+        rows = [row_event(self.mirror, *item) for item in self.mirror.rows.items()]
         writer.write("".join([EVENTS, first, *rows]).encode())
         self.pages[key], peer, why = page, writer.get_extra_info("peername")[0], "gone"
         for other in [other for other in self.pages.values() if browser and other.browser == browser][:-AT_ONCE]:
             other.tell(event("elsewhere", None))
         say(f"page {peer}: joined, {len(self.pages)} are open")
+        try:
+            why = await self.follow(page, reader, writer)
+        finally:
+            del self.pages[key]
+            say(f"page {peer}: {why}, {len(self.pages)} are open")
+            await page.close()
+        return False
+
+    async def follow(self, page, reader, writer):
+        """Sends a page each change until it goes; returns why it went."""
+        loop = asyncio.get_running_loop()
         gone, beat = asyncio.create_task(reader.read(1)), loop.time()
         try:
             while not gone.done() and len(page.events) <= BEHIND:
@@ -154,8 +187,7 @@ class Web:
                     page.tell(event("beat", None))  # which the page answers
                     beat = loop.time() + self.asked.silence / 3
                 if loop.time() > page.heard + self.asked.silence:
-                    why = "silent"
-                    break
+                    return "silent"
                 writer.write("".join(page.events).encode())
                 page.events.clear()
                 page.more.clear()
@@ -164,29 +196,29 @@ class Web:
                 more = asyncio.create_task(page.more.wait())
                 await asyncio.wait([more, gone], timeout=beat - loop.time(), return_when=asyncio.FIRST_COMPLETED)
                 more.cancel()
+            return "gone"
         finally:
             gone.cancel()
-            del self.pages[key]
-            say(f"page {peer}: {why}, {len(self.pages)} are open")
-            await page.close()
-        return False
 
     async def run(self):
-        async with await asyncio.start_server(self.serve, self.asked.bind, self.asked.web):
+        async with await listen(self.serve, self.asked.bind, self.asked.web, limit=LONGEST_HEAD):
             asks = f" and asks for the word {self.word}" if self.word and not self.asked.word else ""
-            say(f"the page is at http://{self.asked.bind}:{self.asked.web}/{asks}")
+            say(f"the page is at http://{to_type(self.asked.bind)}:{self.asked.web}/{asks}")
             await self.mirror.run()
+
+
+async def begin(asked):
+    await Web(asked).run()
 
 
 def main():
     words = arguments(__doc__)
-    words.add_argument("--web", type=int, default=8303, metavar="PORT", help="where browsers connect (%(default)s)")
-    words.add_argument("--bind", default="127.0.0.1", metavar="ADDRESS", help="this machine's address (%(default)s)")
+    add_arguments(words, "--web", 8303, "browsers")
     words.add_argument("--word", help="what a page is asked for; with --bind a random one if none is given")
     words.add_argument("--names", metavar="FILE", help="names of devices")
     words.add_argument("--silence", type=float, default=10.0, metavar="SECONDS",
                        help="of a page until it counts as gone (%(default)s)")
-    run(Web(words.parse_args()).run())
+    run(begin(words.parse_args()))
 
 
 if __name__ == "__main__":

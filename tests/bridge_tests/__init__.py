@@ -48,16 +48,28 @@ def cases_of(*kinds):
     return tuple(case_of(kind, method) for kind in kinds for method in names(kind))
 
 
-from .test_dcc_ex import DccEx  # noqa: E402
+from .test_broker import MqttBesideOthers, MqttWithLimits, MqttWithTls  # noqa: E402
+from .test_chromium import WebByTouch, WebInChromium, WebInGerman, WebWithBeats  # noqa: E402
+from .test_dcc_ex import DccEx, DccExWithHands, DccExWithLosses  # noqa: E402
+from .test_entrance import Entering, WebBesideManyConnections, WebInTheNetwork, WebWithAWord  # noqa: E402
+from .test_doctor import Doctor  # noqa: E402
 from .test_guard import Guard  # noqa: E402
 from .test_keep import Keep  # noqa: E402
+from .test_log import Log  # noqa: E402
 from .test_mqtt import (Mqtt, MqttForHomeAssistant, MqttWithAWrongBroker, MqttWithPersistence,  # noqa: E402
                         Payloads)
+from .test_orders import Orders, Stopping  # noqa: E402
+from .test_phone_stops import WiThrottleStops  # noqa: E402
 from .test_readme import Readme  # noqa: E402
 from .test_srcp import Following, Parsing  # noqa: E402
-from .test_web import Web, WebInChromium, WebThatSleeps, WebWithAWord, WebWithSilentPages  # noqa: E402
+from .test_srcpd import Srcpd  # noqa: E402
+from .test_web import Web, WebThatSleeps, WebWithSilentPages  # noqa: E402
 from .test_withrottle import WiThrottle  # noqa: E402
+from .test_z21 import Z21, Z21WithHands, Z21WithLosses  # noqa: E402
 
-BRIDGE_CASES = cases_of(Readme, Following, MqttWithAWrongBroker, Mqtt, MqttForHomeAssistant, MqttWithPersistence,
-                        Payloads, WebInChromium, Web, WebThatSleeps, WebWithAWord, WebWithSilentPages, WiThrottle,
-                        DccEx, Guard, Keep, Parsing)
+BRIDGE_CASES = cases_of(Readme, Following, MqttWithAWrongBroker, Stopping, Mqtt, MqttForHomeAssistant,
+                        MqttWithPersistence, MqttBesideOthers, MqttWithLimits, MqttWithTls, Orders, Payloads,
+                        WebInChromium, WebByTouch, WebInGerman, WebWithBeats, Web, WebThatSleeps, WebWithAWord,
+                        WebWithSilentPages, WebBesideManyConnections, WebInTheNetwork, Entering, WiThrottle,
+                        WiThrottleStops, Srcpd, DccEx, DccExWithLosses, DccExWithHands, Z21, Z21WithLosses,
+                        Z21WithHands, Doctor, Guard, Keep, Log, Parsing)

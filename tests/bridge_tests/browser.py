@@ -1,34 +1,41 @@
-"""Chromium without a window, over its pipe for debugging: messages are JSON with a NUL behind."""
+"""Chromium without a window, over its pipe for debugging: messages are JSON with a NUL behind. All tests share one."""
+import atexit
 import base64
 import json
 import os
-import select
+import queue
 import shutil
 import signal
 import subprocess
+import threading
+import time
 
 from .common import WAIT, new_folder
 
 CHROMIUM = shutil.which("chromium")
 WORDS = ["--headless=new", "--no-sandbox", "--disable-gpu", "--disable-dev-shm-usage", "--no-first-run",
-         "--hide-scrollbars", "--disable-background-networking", "--disable-component-update",
+         "--hide-scrollbars", "--disable-background-networking", "--disable-component-update", "--lang=en-GB",
+         "--disable-renderer-backgrounding", "--disable-backgrounding-occluded-windows",
          "--remote-debugging-pipe", "about:blank"]
+starting = threading.Lock()
+shared = None
 
 
-def started():
-    """A browser, or None if Chromium is not installed or does not start."""
-    browser = Browser() if CHROMIUM else None
-    try:
-        if browser:
-            browser.begin()
-        return browser
-    except OSError:
-        browser.end()
+def started(**settings):
+    """A page of its own in the browser that all tests share, or None if Chromium is not installed or does not start."""
+    global shared
+    if not CHROMIUM:
         return None
+    with starting:
+        try:
+            shared = shared or Chromium()
+            return Browser(shared, **settings)
+        except OSError:
+            return None
 
 
-class Browser:
-    """One page. `faults` has the faults that its console shows, `asked` each address that it asked for."""
+class Chromium:
+    """The process: it is ended as the tests end."""
 
     def __init__(self):
         (read, self.out), (self.read, write) = os.pipe(), os.pipe()
@@ -37,33 +44,67 @@ class Browser:
                                         pass_fds=(read, write), start_new_session=True, stdin=subprocess.DEVNULL,
                                         stdout=subprocess.DEVNULL, stderr=subprocess.DEVNULL)
         os.close(read), os.close(write)
-        self.count, self.begun, self.faults, self.asked, self.session = 0, b"", [], set(), None
+        self.count, self.writing, self.waiting, self.pages = 0, threading.Lock(), {}, {}
+        atexit.register(self.end)
+        threading.Thread(target=self.listen, daemon=True).start()
+        self.call("Browser.getVersion")
 
-    def begin(self):
-        target = self.call("Target.createTarget", url="about:blank")["targetId"]
-        self.session = self.call("Target.attachToTarget", targetId=target, flatten=True)["sessionId"]
+    def call(self, method, session=None, **params):
+        """Has the browser do something; returns the result."""
+        answer = queue.SimpleQueue()
+        with self.writing:
+            self.count += 1
+            number, self.waiting[self.count] = self.count, answer
+            message = {"id": number, "method": method, "params": params} | ({"sessionId": session} if session else {})
+            os.write(self.out, json.dumps(message).encode() + b"\0")
+        try:
+            done = answer.get(timeout=WAIT)
+        except queue.Empty:
+            raise OSError("the browser has ended, or does not answer") from None
+        if "error" in done:
+            raise RuntimeError(f"{method}: {done['error']}")
+        return done["result"]
+
+    def listen(self):
+        """Gives each answer to who waits for it, and each event to its page."""
+        begun = b""
+        while more := os.read(self.read, 1 << 20):
+            *messages, begun = (begun + more).split(b"\0")
+            for message in map(json.loads, messages):
+                if "id" in message:
+                    self.waiting.pop(message["id"]).put(message)
+                elif page := self.pages.get(message.get("sessionId")):
+                    page.take(message["method"], message["params"])
+
+    def end(self):
+        """Ends it, and all the processes that it has started."""
+        try:
+            os.killpg(self.process.pid, signal.SIGKILL)
+        except ProcessLookupError:
+            pass
+        self.process.wait(WAIT)
+
+
+class Browser:
+    """One page, of a user of its own, who speaks a language.
+
+    `faults` has the faults that its console shows, `asked` each address that it asked for.
+    """
+
+    def __init__(self, chromium, language="en-GB"):
+        self.chromium, self.faults, self.asked, self.session = chromium, [], set(), None
+        self.user = chromium.call("Target.createBrowserContext")["browserContextId"]
+        target = chromium.call("Target.createTarget", url="about:blank", browserContextId=self.user)["targetId"]
+        self.session = chromium.call("Target.attachToTarget", targetId=target, flatten=True)["sessionId"]
+        chromium.pages[self.session] = self
         for domain in ("Page", "Runtime", "Log", "Network"):
             self.call(domain + ".enable")
+        self.call("Emulation.setFocusEmulationEnabled", enabled=True)
+        agent = self.run("navigator.userAgent")
+        self.call("Emulation.setUserAgentOverride", userAgent=agent, acceptLanguage=language)
 
     def call(self, method, **params):
-        """Has the browser do something; returns the result."""
-        self.count += 1
-        message = {"id": self.count, "method": method, "params": params}
-        if self.session:
-            message["sessionId"] = self.session
-        os.write(self.out, json.dumps(message).encode() + b"\0")
-        while True:
-            while b"\0" not in self.begun:
-                if not select.select([self.read], [], [], WAIT)[0] or not (more := os.read(self.read, 1 << 20)):
-                    raise OSError("the browser has ended, or does not answer")
-                self.begun += more
-            text, _, self.begun = self.begun.partition(b"\0")
-            answer = json.loads(text)
-            if answer.get("id") == self.count:
-                if "error" in answer:
-                    raise RuntimeError(f"{method}: {answer['error']}")
-                return answer["result"]
-            self.take(answer.get("method"), answer.get("params", {}))
+        return self.chromium.call(method, self.session, **params)
 
     def take(self, event, words):
         if event == "Runtime.exceptionThrown":
@@ -87,10 +128,31 @@ class Browser:
         for kind in ("rawKeyDown", "keyUp"):
             self.call("Input.dispatchKeyEvent", type=kind, key=key, **more)
 
+    def place(self, element, across=0.5):
+        """The middle of an element, that part of its width from the left, as x and y, once it is in sight."""
+        return self.run(f"(e => {{ e.scrollIntoView({{ block: 'center' }}); const r = e.getBoundingClientRect(); "
+                        f"return [r.left + r.width * {across}, r.top + r.height / 2]; }})({element})")
+
+    def touches(self, *points, pause=0.02, meanwhile=lambda: None, taken_away=False):
+        """Has a finger come down at the first of these points, move through the others, and go, or be taken away."""
+        for kind, (x, y) in zip(["touchStart"] + ["touchMove"] * len(points), points):
+            self.call("Input.dispatchTouchEvent", type=kind, touchPoints=[{"x": x, "y": y}])
+            time.sleep(pause)
+        meanwhile()
+        self.call("Input.dispatchTouchEvent", type="touchCancel" if taken_away else "touchEnd", touchPoints=[])
+
+    def drags(self, *points):
+        """Has the mouse press at the first of these points, move through the others, and let go."""
+        for kind, (x, y) in zip(["mousePressed"] + ["mouseMoved"] * len(points), points):
+            self.call("Input.dispatchMouseEvent", type=kind, x=x, y=y, button="left", buttons=1, clickCount=1)
+        x, y = points[-1]
+        self.call("Input.dispatchMouseEvent", type="mouseReleased", x=x, y=y, button="left", clickCount=1)
+
     def shows(self, width, height, phone=False, dark=False):
         """Sets how large its window is, and which colours its user likes."""
         size = {"width": width, "height": height, "deviceScaleFactor": 2 if phone else 1, "mobile": phone}
         self.call("Emulation.setDeviceMetricsOverride", **size)
+        self.call("Emulation.setTouchEmulationEnabled", enabled=phone)
         features = [{"name": "prefers-color-scheme", "value": "dark" if dark else "light"}]
         self.call("Emulation.setEmulatedMedia", features=features)
 
@@ -100,11 +162,6 @@ class Browser:
             file.write(base64.b64decode(data))
 
     def end(self):
-        """Ends it, and all the processes that it has started."""
-        os.close(self.out)
-        try:
-            os.killpg(self.process.pid, signal.SIGKILL)
-        except ProcessLookupError:
-            pass
-        self.process.wait(WAIT)
-        os.close(self.read)
+        """Closes the page."""
+        self.chromium.pages.pop(self.session)
+        self.chromium.call("Target.disposeBrowserContext", browserContextId=self.user)

@@ -1,4 +1,5 @@
 """What the cases of bridges/ share: a server, the programs, a way between that can be cut, waiting for what comes."""
+import functools
 import itertools
 import os
 import signal
@@ -31,6 +32,7 @@ fb_ports = 16
 """
 WAIT = 30.0  # seconds that a busy machine may take
 folder = tempfile.TemporaryDirectory()  # gone at the end, with all that the tests write
+os.environ["XDG_RUNTIME_DIR"] = folder.name  # so there programs tell of themselves
 ports = itertools.count(10000 + os.getpid() % 60 * 350)  # below those that the system gives to connections
 choosing = threading.Lock()
 sys.path[:0] = [str(PROGRAMS)]
@@ -103,6 +105,7 @@ class Process:
         return self.process.wait(WAIT)
 
 
+@functools.cache
 def interpreter(name):
     """The python3 that runs a program: the one of these tests, or, if that has no paho, Debian's."""
     if name != "mqtt.py":
@@ -114,8 +117,8 @@ def interpreter(name):
     return None
 
 
-def program(name, *words):
-    return Process(interpreter(name), PROGRAMS / name, *words, "--again", "0.1")
+def program(name, *words, **more):
+    return Process(interpreter(name), PROGRAMS / name, *words, "--again", "0.1", **more)
 
 
 class Server:
@@ -180,8 +183,8 @@ def rows(port):
 
 def parsed(lines):
     """Rows by their keys, without stamps, and without sessions: of these the snapshot is one."""
-    import srcp
-    found = dict(srcp.parse("0 " + line) for line in lines)
+    from srcp_bridges.rows import parse
+    found = dict(parse("0 " + line) for line in lines)
     return {key: row for key, row in found.items() if key[1] != "SESSION"}
 
 
@@ -281,8 +284,8 @@ class Case(unittest.TestCase):
         self.throttle, self.way = Session(self.server.port), Way(self.server)
         self.addCleanup(self.way.end)
 
-    def starts(self, name, *words, port=None):
-        started = program(name, *words, "--port", port or self.server.port)
+    def starts(self, name, *words, port=None, **more):
+        started = program(name, *words, "--port", port or self.server.port, **more)
         self.addCleanup(started.end, signal.SIGKILL)
         return started
 

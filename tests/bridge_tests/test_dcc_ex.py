@@ -1,82 +1,88 @@
 """dcc_ex.py, with a simulated station on a pseudo-terminal that is strict about its grammar."""
 import os
+import re
 import signal
+import subprocess
+import sys
 import threading
 import time
 
-from .common import WAIT, Case, listener, new_folder, until
+from .common import PROGRAMS, WAIT, listener, new_folder, rows, until
+from .stations import QUIET, STANDS, Drives, Hands, Losses, StationCase
+
+PATIENT = "--patience", WAIT, "--silence", WAIT  # a busy machine may take long to join again
 
 
-class DccEx(Case):
-    program = "dcc_ex"
+class DccExCase(StationCase):
+    program, greeting = "dcc_ex", "iDCC"
 
-    def setUp(self):
-        from simulated_station import Station
-        super().setUp()
-        self.link = os.path.join(new_folder(), "ttyACM0")
-        self.station, self.babble = Station(self.link), False
-        self.start()
-        self.throttle.order("SET 1 POWER ON", "INIT 1 GL 3 N 1 28 5", "SET 1 GL 3 1 14 28 1 0 1")
-        self.track(lambda s: (s.power, s.cabs.get(3), self.functions()) == (1, (63, 1), {(3, 0), (3, 2)}), "it drives")
+    def opens(self):
+        from simulated_station import BANNER, Station
+        self.banner = BANNER
+        self.where = self.link = os.path.join(new_folder(), "ttyACM0")
+        return Station(self.link)
 
-    def tearDown(self):
-        self.assertEqual(self.station.faults, [])
-        self.station.unplug()
 
-    def start(self, station=None):
-        self.driver = self.starts("dcc_ex.py", "--station", station or self.link, "--patience", 0.5, "--silence", 1.5,
-                                  port=self.way.port)
-
-    def track(self, true, what, seconds=WAIT):
-        until(lambda: true(self.station), what, seconds)
-
-    def functions(self):
-        return {key for key, value in self.station.functions.copy().items() if value}
-
-    def whole(self, station):
-        return (station.power, station.cabs.get(3), self.functions(), station.turnouts) == (
-            1, (63, 1), {(3, 0), (3, 2)}, {5: 1})
-
+class DccEx(Drives, DccExCase):
     def test_speeds_and_functions(self):
-        for command, cab in [("SET 1 GL 3 0 28 28", (126, 0)), ("SET 1 GL 3 0 1 1000", (1, 0)),
-                             ("SET 1 GL 3 0 28 0", (126, 0)), ("SET 1 GL 3 2 0 28", (-1, 0)),
-                             ("SET 1 GL 3 1 0 28 0 0 0", (0, 1)), ("SET 1 GL 3 1 14 28", (63, 1))]:
-            self.throttle.order(command)
-            self.track(lambda s: s.cabs[3] == cab, command)
-        self.track(lambda s: self.functions() == set(), "functions off")
-        self.throttle.order("SET 1 POWER OFF")
-        self.track(lambda s: s.power == 0, "power off")
-        self.throttle.order("INIT 1 GL 10239 N 2 126 29", "SET 1 GL 10239 1 99 126 " + " ".join("1" * 29))
-        self.track(lambda s: s.cabs.get(10239) == (99, 1) and len(self.functions()) == 29, "29 functions")
-        self.throttle.order("INIT 1 GL 10239 N 2 126 2")
-        self.track(lambda s: s.cabs[10239] == (0, 1) and not self.functions(), "made anew with fewer: stands, all off")
-        self.throttle.order("SET 1 GL 10239 1 99 126 1")
-        self.track(lambda s: s.cabs[10239] == (99, 1), "drives")
-        self.throttle.order("TERM 1 GL 10239")
-        self.track(lambda s: s.cabs[10239] == (0, 1) and not self.functions(), "TERM: stands, functions off")
+        super().test_speeds_and_functions()
+        self.track(lambda s: s.known == {3}, "and is forgotten")
 
-    def test_decoders_that_do_not_speak_dcc_are_left_out(self):
-        self.throttle.order("INIT 1 GL 7 M 1 28 5", "SET 1 GL 7 1 14 28 1", "INIT 1 GL 8 P", "SET 1 GL 8 1 14 28")
+    def test_what_cannot_be_driven_is_told_of_and_stands(self):
+        """Once, by name, also if it is commanded again; its row goes back to 0, which every display shows."""
+        self.throttle.order("INIT 1 GL 7 M 1 28 5", "SET 1 GL 7 0 14 28 1", "INIT 1 GL 8 P", "SET 1 GL 8 1 14 28",
+                            "INIT 1 GA 9 S", "SET 1 GA 9 1 1 -1", "INIT 2 GA 5 N")
         self.track(lambda s: s.cabs.get(8) == (63, 1), "P is what the station speaks")
-        self.assertNotIn(7, self.station.cabs)
+        self.has("100 INFO 1 GL 7 0 0 28 1")
+        self.throttle.order("SET 1 GL 7 1 5 28")
+        self.has("100 INFO 1 GL 7 1 0 28 1")
+        told = "not driven: 1 GL 7 (protocol M), 1 GA 9 (protocol S), 2 GA 5 (not on bus 1)"
+        until(lambda: told in self.driver.told(), "it is told")
+        self.throttle.order("TERM 1 GL 7", "INIT 1 GL 7 M 1 28 5")
+        time.sleep(0.6)
+        self.assertEqual(self.driver.told().count("1 GL 7"), 1)
+        self.assertNotIn(7, self.station.known)
+        self.assertNotIn(9, self.station.turnouts)
 
-    def test_turnouts_and_sensors(self):
-        self.throttle.order("INIT 1 GA 5 N")
-        time.sleep(0.1)
+    def test_a_locomotive_has_a_slot_from_when_it_first_drives_until_it_is_removed(self):
+        """A station of 3 slots: who stands in the dark gives its own to the next. The fourth that drives is told of."""
+        self.station.slots = 3
+        for n in (11, 12, 13, 14):
+            self.throttle.order(f"INIT 1 GL {n} N 1 28 5")
+        time.sleep(1)  # the station is asked for its slots
+        self.assertEqual(self.station.known, {3})
+        self.throttle.order("SET 1 GL 11 1 14 28", "SET 1 GL 12 1 0 28 1")
+        self.track(lambda s: s.known == {3, 11, 12}, "three")
+        self.throttle.order("SET 1 GL 13 1 14 28")
+        self.has("100 INFO 1 GL 13 1 0 28")
+        until(lambda: "not driven: 1 GL 13 (the station has 3 slots)" in self.driver.told(), "it is told")
+        self.throttle.order("SET 1 GL 12 1 0 28 0")
+        self.track(lambda s: not s.functions[12, 0], "12 stands in the dark")
+        self.throttle.order("SET 1 GL 13 1 14 28")
+        self.track(lambda s: s.cabs.get(13) == (63, 1) and s.known == {3, 11, 13}, "13 has its slot")
+        self.throttle.order("TERM 1 GL 11", "SET 1 GL 14 1 14 28")
+        self.track(lambda s: s.cabs.get(14) == (63, 1) and s.known == {3, 13, 14}, "one that is removed gives it back")
+        self.assertEqual(self.station.cabs[11], (0, 1))
+
+    def test_turnouts_have_a_pace_and_are_behind_all_else(self):
+        """30 at once, 20 a second. A station that begins anew throws none, since they lie as they did."""
+        turnouts = range(1, 31)
+        self.throttle.order(*[f"INIT 1 GA {n} N" for n in turnouts], *[f"SET 1 GA {n} 1 1 20" for n in turnouts],
+                            "SET 1 GL 3 1 28 28")
+        self.track(lambda s: s.cabs[3] == (126, 1), "a locomotive is before them")
+        self.assertLess(len(self.station.turnouts), 15)
+        self.track(lambda s: len(s.turnouts) == 30, "all are thrown")
+        moments = [moment for moment, text in self.station.log if text.startswith("a ")]
+        self.assertGreater(moments[-1] - moments[0], 29 / 20 - 0.1)
+        self.station.restart()
+        self.rests("station was reset")
         self.assertEqual(self.station.turnouts, {})
-        for commands, lies in [(["SET 1 GA 5 1 1 30"], 1), (["SET 1 GA 5 0 1 30"], 0), (["SET 1 GA 5 1 1 -1"], 1),
-                               (["SET 1 GA 5 1 0 -1", "SET 1 GA 5 0 1 -1"], 0)]:
-            self.throttle.order(*commands)
-            self.track(lambda s: s.turnouts.get(5) == lies, commands)
-            time.sleep(0.08)
-        put = [text for _, text in self.station.log if text.startswith("a ")]
-        self.assertEqual(put, ["a 5 1", "a 5 0", "a 5 1", "a 5 0"])
-        self.station.sensor(99, 1)  # the bus has no such sensor
-        for value in (1, 0, 1):
-            self.station.sensor(7, value)
-            self.has(f"100 INFO 1 FB 7 {value}")
         self.restart()
-        self.has("100 INFO 1 FB 7 1")
+        self.throttle.order(*[f"INIT 1 GA {n} N" for n in turnouts], *[f"SET 1 GA {n} 1 1 20" for n in turnouts[1:]],
+                            "SET 1 GA 1 0 1 20")
+        self.track(lambda s: s.turnouts == {1: 0}, "after a restart of the server, the one that lies wrong")
+        time.sleep(QUIET)
+        self.assertEqual(self.station.turnouts, {1: 0})
 
     def test_a_slow_line_has_the_urgent_first(self):
         """20 commands a second are taken and 100 asked for; then functions that take 4 seconds, and a stop."""
@@ -89,91 +95,12 @@ class DccEx(Case):
                             *[f"SET 1 GL {n} 1 0 28 {on}" for n in (4, 5, 6)], "SET 1 GL 3 2 0 100")
         self.track(lambda s: s.cabs[3][0] == -1, "an emergency stop", 3)
 
-    def test_a_station_that_is_reset_unplugged_or_hangs(self):
-        self.throttle.order("INIT 1 GA 5 N", "SET 1 GA 5 1 1 -1")
-        self.track(self.whole, "the track")
-        self.station.restart()
-        self.track(self.whole, "after a reset")
-        self.station.unplug()
-        time.sleep(0.2)
-        self.station.boot = 0.5
-        self.station.open()
-        self.track(self.whole, "plugged in again, deaf at first")
-        opened = self.driver.told().count("is open")
-        self.station.stalled, self.station.boot = True, 0
-        until(lambda: self.driver.told().count("is open") > opened, "its line is opened anew")
-        self.station.reset()
-        self.station.stalled = False
-        self.track(self.whole, "a station that hung, and lost all")
-
-    def test_a_station_that_babbles(self):
-        """Rubbish, messages without an end, sensors that no bus has, as fast as the line takes them."""
-        rubbish = os.urandom(3000).replace(b"<iDCC", b"") + b"<Q 99999999999999><Q 0><q 4096><X><Q -1><H 1 2>>>"
-        for _ in range(30):
-            os.write(self.station.master, rubbish + b"<" * 3000)
-        os.write(self.station.master, b">")
-        self.station.sensor(7, 1)
-        self.has("100 INFO 1 FB 7 1")
-        self.throttle.order("SET 1 GL 3 1 28 28")
-        self.track(lambda s: s.cabs[3] == (126, 1), "it goes on")
-        begun, opened = len(self.station.log), self.driver.told().count("is open")
-        for _ in range(100):  # 70,000 bytes without an end: its line is opened anew
-            os.write(self.station.master, b"x" * 700)
-        until(lambda: self.driver.told().count("is open") > opened, "its line is opened anew")
-        self.track(lambda s: s.cabs[3] == (126, 1) and len(s.log) > begun + 2, "and it goes on")
-        self.assertIsNone(self.driver.process.poll())
-
-    def test_a_server_that_is_started_anew_or_away(self):
-        self.restart()
-        self.track(lambda s: s.power == 0 and s.cabs[3] == (0, 1) and not self.functions(), "as the registry says")
-        self.throttle.order("SET 1 POWER ON", "INIT 1 GL 3 N 1 28 5", "SET 1 GL 3 1 14 28")
-        self.track(lambda s: s.cabs[3] == (63, 1) and s.power == 1, "drives again")
-        self.server.stop()
-        time.sleep(0.2)
-        self.assertEqual(self.station.cabs[3], (63, 1))
-        self.track(lambda s: s.cabs[3] == (0, 1), "no server: it stands after a while")
-
-    def test_a_server_that_hangs(self):
-        """It is asked every 2 s and has 3 s to answer; then PATIENCE counts, of half a second here."""
-        self.server.process.send(signal.SIGSTOP)
-        begun = time.monotonic()
-        self.track(lambda s: s.cabs[3] == (0, 1), "it stands")
-        self.assertLess(time.monotonic() - begun, 10)  # on a busy machine
-        self.server.process.send(signal.SIGCONT)
-        self.track(lambda s: s.cabs[3] == (63, 1), "it drives on")
-
-    def test_an_overrun_stops_what_is_gone_and_nothing_else(self):
-        self.throttle.order("INIT 1 GL 4 N 1 28 5", "SET 1 GL 4 1 14 28")
-        self.track(lambda s: s.cabs.get(4) == (63, 1), "both drive")
-        begun = len(self.station.log)
-        self.way.cut()
-        self.throttle.order("TERM 1 GL 4", "SET 1 GL 3 1 28 28")
-        self.way.free()
-        self.track(lambda s: s.cabs[4] == (0, 1) and s.cabs[3] == (126, 1), "after the overrun")
-        self.assertEqual([text for _, text in self.station.log[begun:] if text.startswith("t 3")], ["t 3 126 1"])
-
-    def test_a_real_overrun(self):
-        self.throttle.order("INIT 1 GL 4 N 1 28 5", "SET 1 GL 4 1 14 28")
-        self.track(lambda s: s.cabs.get(4) == (63, 1), "both drive")
-        self.overruns(self.driver, "TERM 1 GL 4", "SET 1 GL 3 1 28 28")
-        self.track(lambda s: (s.cabs[4], s.cabs[3], s.cabs[9999]) == ((0, 1), (126, 1), (0, 1)), "after the overrun")
-
-    def test_killed_and_ended(self):
-        self.throttle.order("INIT 1 GL 9 N 1 28 5", "SET 1 GL 9 1 7 28")
-        self.track(lambda s: s.cabs.get(9) == (32, 1), "drives")
-        self.driver.end(signal.SIGKILL)
-        self.throttle.order("TERM 1 GL 9")
-        self.start()
-        self.track(lambda s: s.cabs[9] == (-1, 1) and s.cabs[3] == (63, 1), "who is gone stands, the other drives")
-        self.assertEqual(self.driver.end(), 0)
-        self.track(lambda s: s.cabs[3] == (-1, 1), "SIGTERM: all stand")
-
     def test_a_station_in_the_network(self):
         self.driver.end()
         door = listener()
         door.settimeout(WAIT)
         self.addCleanup(door.close)
-        self.start(f"127.0.0.1:{door.getsockname()[1]}")
+        self.driver = self.starts("dcc_ex.py", "--station", f"127.0.0.1:{door.getsockname()[1]}", *self.words)
         client, line = door.accept()[0], os.open(self.link, os.O_RDWR | os.O_NOCTTY)
 
         def passes(take, give):
@@ -185,6 +112,183 @@ class DccEx(Case):
 
         for ends in [(client.recv, lambda data: os.write(line, data)), (lambda n: os.read(line, n), client.sendall)]:
             threading.Thread(target=passes, args=ends, daemon=True).start()
-        self.track(lambda s: s.cabs[3] == (63, 1), "drives by TCP")
+        self.joins()
+        self.drives()
         self.assertEqual(self.driver.end(), 0)
-        self.track(lambda s: s.cabs[3] == (-1, 1), "SIGTERM: all stand")
+        self.track(lambda s: s.cabs[3] == (-1, 1) and s.power == 0, "SIGTERM: all stand")
+
+    def test_a_station_that_babbles(self):
+        """Rubbish, messages without an end, sensors that no bus has, as fast as the line takes them."""
+        self.restarts("--silence", 10 * WAIT)
+        rubbish = os.urandom(3000).replace(b"<iDCC", b"").replace(b"<l", b"").replace(b"<p", b"")
+        rubbish += b"<Q 99999999999999><Q 0><q 4096><X><Q -1><H 1 2>><l 3><l 3 0 999 1><l 99999 0 9 9><p2><# >>"
+        for _ in range(30):
+            os.write(self.station.master, rubbish + b"<" * 3000)
+        os.write(self.station.master, b">")
+        self.station.sensor(7, 1)
+        self.has("100 INFO 1 FB 7 1")
+        self.throttle.order("SET 1 GL 3 1 28 28")
+        self.track(lambda s: s.cabs[3] == (126, 1), "it goes on")
+        self.station.stalled, sent = True, 0  # so that no answer of it ends the message
+        while sent < 70000:  # the line may take fewer bytes than it is given
+            sent += os.write(self.station.master, b"x" * 700)
+        until(lambda: "a message without an end" in self.driver.told(), "its line is opened anew")
+        self.station.stalled = False
+        self.rests("")
+        self.drives()
+        self.assertIsNone(self.driver.process.poll())
+
+    def test_what_a_station_says_reaches_no_terminal_as_it_is(self):
+        self.station.say("<iDCC \x1b]2;title\x07\x9b31m>")
+        until(lambda: r"iDCC \x1b]2;title\x07" in self.driver.told(), "it is told")
+        self.assertFalse(set(self.driver.told()) & set("\x1b\x07\x9b"))
+        self.rests("station was reset")
+
+    def test_a_serial_line_is_taken_alone(self):
+        begun = len(self.station.log)
+        second = self.starts("dcc_ex.py", "--station", self.link, *self.words)
+        self.assertEqual(second.process.wait(WAIT), 1)
+        self.assertIn("another program has it", second.told())
+        self.assertEqual([text for _, text in self.station.log[begun:] if text != "#"], [])
+        self.assertEqual(self.station.cabs[3], (63, 1))
+        opens = f"import os\nos.getuid() or os.setuid(65534)\nos.open({os.path.realpath(self.link)!r}, os.O_RDWR)"
+        os.chmod(os.path.realpath(self.link), 0o666)
+        other = subprocess.run([sys.executable, "-c", opens], capture_output=True, text=True)
+        self.assertIn("Device or resource busy", other.stderr)
+
+    def test_wrong_words_end_it_with_status_2_and_one_line(self):
+        names = os.path.join(new_folder(), "names")
+        with open(names, "w") as file:
+            file.write("1 GL 3 = what\n")
+        for words in [["--station", "ttyACM0"], ["--station", "localhost:abc"], ["--station", "/etc/passwd"], [],
+                      ["--station", self.link, "--bus", "0"], ["--station", self.link, "--names", names],
+                      ["--station", "x:1", "--port", "99999"], ["--station", "/dev/null", "--bus", "77"]]:
+            command = [sys.executable, PROGRAMS / "dcc_ex.py", "--port", str(self.server.port), *words]
+            ran = subprocess.run(command, capture_output=True, text=True, timeout=WAIT)
+            told = [line for line in ran.stderr.splitlines() if not re.match("-- (server|station): ", line)]
+            self.assertEqual((ran.returncode, len(told)), (2, 1), (words, ran.stderr))
+
+
+class DccExWithLosses(Losses, DccExCase):
+    """Nothing starts by itself, and the registry says what the track does."""
+
+    def test_a_station_that_answers_twice_was_not_reset(self):
+        """It is asked again while it is silent. What has been switched on by the second answer stays on."""
+        self.driver.end()
+        self.station.stalled = True
+        self.driver = self.starts("dcc_ex.py", "--station", self.link, *self.words[:2], port=self.way.port)
+        until(lambda: "is open" in self.driver.told(), "the line is open")
+        time.sleep(1.5)  # it has been asked twice
+        self.station.stalled = False
+        self.joins()
+        self.drives()
+        begun = len(self.station.log)
+        self.station.say(self.banner)
+        self.track(lambda s: "t 3 63 1" in self.commands("t", begun), "it is told all anew")
+        self.has("100 INFO 1 POWER ON")
+        time.sleep(2)
+        self.station.restart()
+        self.rests("station was reset")
+
+    def test_a_station_that_never_answers(self):
+        """Its line is open, and nobody can drive: what is switched on goes off at once."""
+        self.driver.end()
+        self.station.stalled = True
+        self.driver = self.starts("dcc_ex.py", "--station", self.link, "--silence", 10 * WAIT, port=self.way.port)
+        until(lambda: re.search("server: joined", self.driver.told()), "the server is found")
+        self.has("100 INFO 1 POWER OFF no station")
+        self.throttle.order("SET 1 POWER ON", "SET 1 GL 3 1 14 28")
+        self.has("100 INFO 1 POWER OFF no station", STANDS)
+        self.station.stalled = False
+
+    def test_a_listing_that_takes_long(self):
+        """What it tells after the driver has joined is as old as what it told before."""
+        self.driver.end(signal.SIGKILL)
+        self.way.late = b" 100 INFO 1 GL 3 1 14"
+        self.driver = self.starts("dcc_ex.py", "--station", self.link, *self.words, port=self.way.port)
+        until(lambda: "100 INFO 1 POWER OFF server was away" in rows(self.server.port), "it has joined")
+        self.way.late = None
+        self.way.free()
+        self.rests("server was away")
+        self.assertEqual([text for text in self.commands("t 3") if text != "t 3 0 1"][1:], [])
+
+    def test_a_server_that_is_driven_before_the_driver_is_back(self):
+        """What others commanded before it had joined, nobody saw move: it rests."""
+        self.way.cut()
+        self.restart()
+        self.throttle.order("SET 1 POWER ON", "INIT 1 GL 3 N 1 28 5", "SET 1 GL 3 1 14 28")
+        self.way.free()
+        self.rests("server was away")
+        self.drives()
+
+    def test_a_server_that_hangs(self):
+        """It is asked every 2 s and has 3 s to answer; then PATIENCE counts, of half a second here. What was commanded
+        meanwhile is carried out as it goes on, and is put to rest."""
+        self.server.process.send(signal.SIGSTOP)
+        begun = time.monotonic()
+        print("SET 1 GL 3 1 28 28", file=self.throttle.stream, flush=True)
+        self.track(lambda s: s.cabs[3] == (0, 1), "it stands")
+        self.assertLess(time.monotonic() - begun, 10)  # on a busy machine
+        self.server.process.send(signal.SIGCONT)
+        self.throttle.stream.readline()
+        self.rests("server was away")
+        self.drives()
+
+    def test_killed_and_ended(self):
+        self.throttle.order("INIT 1 GL 9 N 1 28 5", "SET 1 GL 9 1 7 28", "INIT 1 GA 5 N")
+        self.track(lambda s: s.cabs.get(9) == (32, 1), "drives")
+        self.driver.end(signal.SIGKILL)
+        self.throttle.order("TERM 1 GL 9", "SET 1 GA 5 1 1 20")
+        self.start()
+        self.track(lambda s: s.turnouts == {5: 1}, "a turnout that was put meanwhile")
+        self.track(lambda s: s.cabs[9] == (-1, 1), "who is gone stands")
+        self.rests("", "server was away")  # as the one or the other is found first
+        self.drives()
+        self.assertEqual(self.driver.end(), 0)
+        self.track(lambda s: s.cabs[3] == (-1, 1) and s.power == 0, "SIGTERM: all stand")
+        self.has("100 INFO 1 POWER OFF no station", STANDS)
+
+    def test_an_overload(self):
+        begun = len(self.station.log)
+        super().test_an_overload()
+        self.assertIn("0", self.commands("", begun))
+
+    def test_an_overrun_stops_what_is_gone_and_nothing_else(self):
+        self.restarts(*PATIENT)
+        self.throttle.order("INIT 1 GL 4 N 1 28 5", "SET 1 GL 4 1 14 28")
+        self.track(lambda s: s.cabs.get(4) == (63, 1), "both drive")
+        begun = len(self.station.log)
+        self.way.cut()
+        self.throttle.order("TERM 1 GL 4", "SET 1 GL 3 1 28 28")
+        self.way.free()
+        self.track(lambda s: s.cabs[4] == (0, 1) and s.cabs[3] == (126, 1), "after the overrun")
+        self.assertEqual(self.commands("t 3", begun), ["t 3 126 1"])
+
+    def test_a_real_overrun(self):
+        self.restarts(*PATIENT)
+        self.throttle.order("INIT 1 GL 4 N 1 28 5", "SET 1 GL 4 1 14 28")
+        self.track(lambda s: s.cabs.get(4) == (63, 1), "both drive")
+        self.overruns(self.driver, "TERM 1 GL 4", "SET 1 GL 3 1 28 28")
+        self.track(lambda s: (s.cabs[4], s.cabs[3], s.cabs[9999]) == ((0, 1), (126, 1), (0, 1)), "after the overrun")
+
+
+class DccExWithHands(Hands, DccExCase):
+    """What a hand throttle at the station does comes into the registry, and an echo changes nothing."""
+
+    def test_an_echo_that_is_late_changes_nothing(self):
+        """A slider moves, and functions are switched, while the station reports half a second late."""
+        self.station.late = 0.5
+        begun = len(self.station.log)
+        commands = [f"SET 1 GL 3 {v % 2} {v} 126 {v % 2}" for v in range(60)]
+        for command in commands:
+            self.throttle.order(command)
+            time.sleep(0.01)
+        time.sleep(1)
+        self.has("100 INFO 1 GL 3 1 59 126 1 0 1")
+        told = self.commands("t", begun)
+        self.assertLessEqual(len(told), 60)
+        time.sleep(1)
+        self.assertEqual(self.commands("t", begun), told)
+        self.station.hand(3, speed=7)
+        self.has("100 INFO 1 GL 3 1 7 126 1 0 1")
+

@@ -6,11 +6,11 @@ import time
 from .common import Case, new_folder, rows, until
 
 MADE = ["INIT 1 GL 3 N 1 28 5", "SET 1 GL 3 0 14 28 1 0 1", "INIT 1 GL 10239 P", "INIT 1 GA 5 N", "SET 1 GA 5 0 1 20",
-        "INIT 1 GA 6 M", "INIT 2 GA 7 N", "SET 2 GA 7 3 1 -1", "SET 2 GA 7 1 1 20", "SET 1 GL 10239 2 0 28",
-        "SET 1 LOCK GL 3 0", "SET 1 POWER ON by hand"]
+        "INIT 1 GA 6 M", "INIT 2 GA 7 N", "SET 2 GA 7 1 1 20", "SET 2 GA 7 3 1 -1", "SET 1 GL 10239 0 9 28",
+        "SET 1 GL 10239 2 0 28", "SET 1 LOCK GL 3 0", "SET 1 POWER ON by hand"]
 KEPT = ["INIT 1 GL 3 N 1 28 5", "SET 1 GL 3 0 0 28 1 0 1 0 0", "INIT 1 GL 10239 P 1 28 5",
-        "SET 1 GL 10239 2 0 28 0 0 0 0 0", "INIT 1 GA 5 N", "SET 1 GA 5 0 0 -1", "INIT 1 GA 6 M", "INIT 2 GA 7 N",
-        "SET 2 GA 7 3 1 -1", "SET 2 GA 7 1 0 -1"]
+        "SET 1 GL 10239 0 0 28 0 0 0 0 0", "INIT 1 GA 5 N", "SET 1 GA 5 0 0 -1", "INIT 1 GA 6 M", "INIT 2 GA 7 N",
+        "SET 2 GA 7 1 0 -1", "SET 2 GA 7 3 1 -1"]
 
 
 class Keep(Case):
@@ -23,8 +23,13 @@ class Keep(Case):
     def start(self, *more):
         self.keep = self.starts("keep.py", self.path, "--rest", 0.1, *more, port=self.way.port)
 
-    def start_with_all(self):
+    def start_before_all(self):
+        """Starts the keeper, and waits until it is told what happens."""
         self.start()
+        until(lambda: "server: joined" in self.keep.told(), "it follows")
+
+    def start_with_all(self):
+        self.start_before_all()
         self.throttle.order(*MADE)
         self.kept(KEPT)
 
@@ -50,11 +55,20 @@ class Keep(Case):
         self.start_with_all()
         self.has("100 INFO 1 GA 5 0 0")
         before = [row.replace("GL 3 0 14 28", "GL 3 0 0 28") for row in self.devices()]
+        before = [row.replace("GL 10239 2 0", "GL 10239 0 0") for row in before]
         for _ in range(3):
             self.restart()
             until(lambda: self.devices() == before, "all are there again, and the locomotive stands")
             self.has("100 INFO 1 POWER OFF")
         self.stays_kept(KEPT)
+
+    def test_a_turnout_that_lies_as_an_older_pulse_does_not(self):
+        """The port that was set to 1 last comes last, also if another's pulse ended later: so it lies later on."""
+        self.start_before_all()
+        self.throttle.order("INIT 1 GA 5 N", "SET 1 GA 5 0 1 600", "SET 1 GA 5 1 1 100")
+        self.has("100 INFO 1 GA 5 0 1")
+        self.has("100 INFO 1 GA 5 0 0")
+        self.stays_kept(["INIT 1 GA 5 N", "SET 1 GA 5 0 0 -1", "SET 1 GA 5 1 0 -1"])
 
     def test_a_restart_within_the_wait_to_write(self):
         self.start_with_all()

@@ -5,13 +5,15 @@ import json
 import os
 import shutil
 import signal
+import subprocess
+import sys
 import threading
 import time
 import unittest
 from pathlib import Path
 
-from .common import (WAIT, Case, Process, Session, connects, free_port, interpreter, listener, new_folder, rows,
-                     until)
+from .common import (PROGRAMS, WAIT, Case, Process, Session, connects, free_port, interpreter, listener, new_folder,
+                     rows, until)
 
 try:
     import paho.mqtt.client as paho
@@ -70,9 +72,9 @@ class Client:
         self.client.loop_stop()
 
 
-def retained(port):
+def retained(port, *levels):
     """Returns what a new client is sent. A mark of its own says where that ends."""
-    client = Client(port)
+    client = Client(port, *levels)
     mark = f"srcp/mark/{id(client)}"
     client.say(mark, "x")
     until(lambda: mark in client.topics, "the mark")
@@ -114,42 +116,81 @@ def loaded(topics):
     return {topic: json.loads(payload) if payload.startswith("{") else payload for topic, payload in topics.items()}
 
 
+def new_bridge():
+    """Returns a bridge that has reached nothing yet."""
+    import mqtt
+    asked = argparse.Namespace(host="", port=0, again=1, prefix="srcp", names=None, home_assistant=None)
+    return mqtt.Bridge(asked)
+
+
 class Payloads(unittest.TestCase):
     program = "mqtt"
 
     def test_payloads(self):
-        import srcp
-        from topics import commands_for
-        table = {(1, "GL", 3, "is"): srcp.Locomotive(0, "N", 1, 28, 2),
-                 (1, "GL", 3, "does"): srcp.Drive(0, 0, 9, 0, (1, 0)), (1, "GA", 5, "is"): srcp.Accessory(0, "N"),
-                 (1, "GA", 5, 0): srcp.Port(1, 1), (1, "GA", 5, 1): srcp.Port(0, 0)}
+        from srcp_bridges import rows
+        from srcp_bridges.topics import commands_for
+        table = {(1, "GA", 5, "is"): rows.Accessory(0, "N"), (1, "GA", 5, 0): rows.Port(1, 1),
+                 (1, "GA", 5, 1): rows.Port(0, 0)}
         for place, text, commands in [
             ("1/POWER", "ON main line", ["SET 1 POWER ON main line"]), ("1/FB/7", "on", ["SET 1 FB 7 1"]),
-            ("1/GL/3", "12", ["SET 1 GL 3 0 12 28"]), ("1/GL/3", '{"mode": 1}', ["SET 1 GL 3 1 9 28"]),
-            ("1/GL/3", '{"functions": {"1": true}}', ["SET 1 GL 3 0 9 28 1 1"]),
-            ("1/GL/3", '{"functions": [0], "v": 0, "v_max": 5}', ["SET 1 GL 3 0 0 5 0"]),
             ("1/GL/4/is", "N 1 28 5", ["INIT 1 GL 4 N 1 28 5"]), ("1/GL/4/is", "", ["TERM 1 GL 4"]),
             ("1/GA/5/1", "OFF", ["SET 1 GA 5 1 0 -1"]), ("1/GA/5/1", "1 20", ["SET 1 GA 5 1 1 20"]),
             ("1/GA/5/position", "1", ["SET 1 GA 5 0 0 -1", "SET 1 GA 5 1 1 250"]),
         ]:
             self.assertEqual(commands_for(table, place, text), commands)
-        for place, text in [("0/SESSION/4/is", ""), ("1/GL/x", "1"), ("1/GL/3", "["), ("1/GL/3/lock", "1"),
-                            ("1/SM/3", "1"), ("x/POWER", "ON"), ("1", "1"), ("1/GL/3", '{"v": Infinity}'),
-                            ("1/GL/3", "[" * 5000)]:
+        for place, text in [("0/SESSION/4/is", ""), ("1/GL/x", "1"), ("1/GL/3/lock", "1"), ("1/SM/3", "1"),
+                            ("x/POWER", "ON"), ("1", "1"), ("1/GL/3", "1"), ("1/POWER/1", "ON"), ("1/GA/5", "1"),
+                            ("1/POWER/text", "x"), ("1/GA/5/x", "1"), ("1/GL/3/is/is", ""),
+                            ("1/FB/7/is", "")]:
             with self.assertRaises(Exception, msg=place):
                 commands_for(table, place, text)
 
+    def test_what_is_wanted_of_a_locomotive(self):
+        from srcp_bridges.topics import locomotive_of, wanted_of
+        for text, wanted in [
+            ("12", (None, 12, None, {})), ('{"mode": 1}', (1, None, None, {})),
+            ('{"functions": {"1": true}}', (None, None, None, {1: 1})),
+            ('{"functions": [0, 1], "v": 0, "v_max": 5}', (None, 0, 5, {0: 0, 1: 1})),
+        ]:
+            self.assertEqual(wanted_of(text), wanted)
+        for text in ("", "[", "[]", "{}", "null", "x", '{"v": Infinity}', '{"speed": 5}', '{"functions": []}',
+                     '{"functions": {"x": 1}}', '{"functions": 5}', '{"v": "9\nSET 1 POWER OFF"}', "[" * 5000):
+            with self.assertRaises(Exception, msg=text):
+                wanted_of(text)
+        places = ["1/GL/3", "1/GL/3/is", "1/GA/3/1", "1/FB/3", "1_GL_3", "stop", "x"]
+        self.assertEqual([locomotive_of(place) for place in places], [(1, 3)] + [None] * 6)
 
-    def bridge(self):
-        import mqtt
-        asked = argparse.Namespace(host="", port=0, again=1, prefix="srcp", names=None, home_assistant=None)
-        return mqtt.Bridge(asked)
+    def test_topics_of_our_form(self):
+        from srcp_bridges.topics import device_of
+        for place, device in [
+            ("1/POWER", (1, "POWER", 0, False)), ("1/POWER/text", (1, "POWER", 0, False)),
+            ("2/GL/3", (2, "GL", 3, False)), ("2/GL/3/is", (2, "GL", 3, False)), ("2/GL/3/lock", (2, "GL", 3, True)),
+            ("1/GA/5/7", (1, "GA", 5, False)), ("1/GA/5/position", (1, "GA", 5, False)),
+            ("1/FB/7", (1, "FB", 7, False)), ("0/SESSION/4", (0, "SESSION", 4, False)),
+            ("1_POWER_0", (1, "POWER", 0, False)),
+        ]:
+            self.assertEqual(device_of(place), device)
+        for place in ("", "1", "1/POWER/0", "1/POWER/", "1/GL", "1/GL/", "1/GL/3/", "1/GL/3/0", "1/GA/5", "1/GA/5/8",
+                      "1/FB/7/is", "01/GL/3", "1/GL/x", "-1/GL/3", "1/GL/٣", "1/gl/3", "1_GL", "1_SESSION_4", "1/SM/3",
+                      "1/GL/" + "9" * 5000, "1/GL/3\n"):
+            self.assertIsNone(device_of(place), place)
+
+    def test_without_paho(self):
+        """`--help` needs no paho; all else says with one line what has to be installed."""
+        folder = new_folder()
+        Path(folder, "paho.py").touch()  # a module that has nothing of what is looked for
+        for words, status, begin, lines in ((["--help"], 0, "usage:", 10), ([], 2, "-- mqtt.py needs paho-mqtt", 1)):
+            ran = subprocess.run([sys.executable, PROGRAMS / "mqtt.py", *words], capture_output=True, text=True,
+                                 env=os.environ | {"PYTHONPATH": folder}, timeout=WAIT)
+            told = ran.stdout + ran.stderr
+            self.assertEqual((ran.returncode, told[:len(begin)]), (status, begin), told)
+            self.assertTrue(lines == 1 == told.count("\n") or told.count("\n") > lines > 1, told)
 
     @unittest.skipUnless(paho, "python3-paho-mqtt is not installed")
     def test_a_broker_that_is_too_slow(self):
         """What cannot be queued is shown later, in its last state; paho has numbers for 65,535 messages."""
-        import broker
-        bridge, limit = self.bridge(), broker.QUEUED
+        from srcp_bridges import broker
+        bridge, limit = new_bridge(), broker.QUEUED
         bridge.client, bridge.following = paho.Client(client_id="slow"), True
         bridge.client.max_queued_messages_set(limit)
         queued = bridge.client._out_messages  # it is not connected, so that all of them wait
@@ -169,21 +210,6 @@ class Payloads(unittest.TestCase):
         asyncio.run(main())
         shown = {message.topic: message.payload.decode() for message in queued.values()}
         self.assertEqual(shown, {"srcp/1/FB/1": str(limit + 499), "srcp/1/FB/3": "1"})
-
-    @unittest.skipUnless(paho, "python3-paho-mqtt is not installed")
-    def test_power_and_stop_are_behind_nothing_else(self):
-        """Of what is sent while none is carried out, 1,000 commands wait, and these two in a line of their own."""
-        bridge = self.bridge()
-        for n in range(3000):
-            bridge.heard("srcp/1/FB/9/set", b"1", False)
-        bridge.heard("srcp/1/POWER/set", b"OFF", False), bridge.heard("srcp/stop/set", b"", False)
-        self.assertEqual((bridge.orders.qsize(), bridge.urgent.qsize()), (1000, 2))
-        bridge = self.bridge()
-        for bridge.following in (False, True):
-            bridge.heard("srcp/1/FB/9/set", b"1", True)  # retained: of a time that is over
-            for topic in ("x", "other/topic", "1/POWER/set", "homeassistant/switch/other/x/config"):
-                bridge.heard(topic, b"OFF", True), bridge.heard(topic, b"OFF", False)  # nobody asked for them
-        self.assertEqual((bridge.orders.qsize(), bridge.urgent.qsize(), bridge.there), (0, 0, {}))
 
 
 @IS_THERE
@@ -230,8 +256,19 @@ class Mqtt(MqttCase):
         self.throttle.order("TERM 1 GA 5")
         self.equal("changes and removals")
         until(lambda: "srcp/1/GA/5/position" not in self.client.topics, "no position")
+        self.throttle.order("SET 1 POWER OFF no station")
+        until(lambda: self.client.topics.get("srcp/1/POWER/text") == "no station", "the text of power")
+        self.assertEqual(self.client.topics["srcp/1/POWER"], "OFF")
         self.throttle.order(*["SET 1 FB 4 1"] * 10)
         until(lambda: self.client.came.get("srcp/1/FB/4", [])[-10:] == ["1"] * 10, "equal SETs are changes")
+
+    def test_a_turnout_lies_as_it_was_put_last(self):
+        """Also if an older pulse, of another port, ends later."""
+        self.throttle.order("SET 1 GA 5 0 1 600", "SET 1 GA 5 1 1 100")
+        until(lambda: self.client.topics.get("srcp/1/GA/5/0") == "1", "the pulse")
+        until(lambda: self.client.topics.get("srcp/1/GA/5/0") == "0", "its end")
+        time.sleep(0.1)
+        self.assertEqual(self.client.topics["srcp/1/GA/5/position"], "1")
 
     def test_commands(self):
         self.throttle.order("TERM 1 LOCK GL 3")
@@ -240,7 +277,7 @@ class Mqtt(MqttCase):
             ("1/GL/3", '{"mode": 0, "functions": {"1": 1}}', "100 INFO 1 GL 3 0 14 28 1 1"),
             ("1/POWER", "OFF", "100 INFO 1 POWER OFF"), ("1/FB/7", "ON", "100 INFO 1 FB 7 1"),
             ("1/GL/8/is", "N 1 28 5", "101 INFO 1 GL 8 N 1 28 5"), ("2/GA/7/3", "1", "100 INFO 2 GA 7 3 1"),
-            ("1/GA/5/position", "0", "100 INFO 1 GA 5 0 1"), ("stop", "now", "100 INFO 1 GL 3 2 0 28 1 1"),
+            ("1/GA/5/position", "0", "100 INFO 1 GA 5 0 1"), ("stop", "now", "100 INFO 1 GL 3 0 0 28 1 1"),
         ]:
             self.client.say(f"srcp/{topic}/set", payload)
             self.has(row)
@@ -281,7 +318,7 @@ class Mqtt(MqttCase):
         self.bridge.end(signal.SIGKILL)
         until(lambda: self.client.topics.get("srcp/online") == "offline", "the last will")
         self.change()
-        self.client.say("srcp/1/GL/77", "stale", retain=True), self.client.say("srcp/no/such", "stale", retain=True)
+        self.client.say("srcp/1/GL/77", "stale", retain=True)
         self.start()
         self.equal("a bridge again")
         self.assertEqual(self.bridge.end(), 0)

@@ -1,5 +1,4 @@
 """The commands of bridges/README.md, run as they stand there, and its units."""
-import os
 import re
 import shutil
 import unittest
@@ -28,19 +27,18 @@ def at_the_page(port, station):
     address = f"http://127.0.0.1:{port}/"
     if not (browser := started()):
         page = Events(port)
-        for count, line in enumerate(("INIT 1 GL 3 N 1 126 9", "SET 1 POWER ON", "SET 1 GL 3 1 60 126"), 1):
-            page.order(line)
-            printed(count)
+        page.order("INIT 1 GL 3 N 1 126 9", "SET 1 POWER ON")
+        printed(1)
+        page.order("SET 1 GL 3 1 60 126")
         return lambda: page.post("", "/stop")
     browser.opens(address)
     card = "document.querySelector('li.card[data-key=\"1 GL 3\"] input')"
     until(lambda: browser.run("document.querySelectorAll('#POWER button').length") == 2, "power of two buses")
     browser.run("Object.assign(document.querySelector('#addGL [name=address]'), { value: 3 }).form.requestSubmit()")
     until(lambda: browser.run(f"!!{card}"), "a throttle")
-    printed(1)
     browser.run("document.querySelector('#POWER button').click()")
     until(lambda: "on" in browser.run("document.querySelector('#POWER button').textContent.split(' ')"), "power")
-    printed(2)
+    printed(1)
     browser.run(f"(s => {{ s.value = 60; s.oninput(); }})({card})")
 
     def stops():
@@ -58,9 +56,10 @@ class Readme(unittest.TestCase):
     def reader(self):
         """One who has the repository with the program built, on a machine with other ports."""
         with pages.reader_of_a_page(common.SERVER) as reader:
-            reader.ports |= {named: free_port() for named in PORTS} | {"0.0.0.0": "localhost"}
+            reader.ports |= {named: free_port() for named in PORTS}
+            reader.ports |= {"0.0.0.0": "localhost", "192.168.1.20": "localhost"}
             shutil.copytree(PROGRAMS, reader.folder / "bridges", ignore=shutil.ignore_patterns("__pycache__"))
-            for file in (reader.folder / "bridges").glob("*.py"):
+            for file in (reader.folder / "bridges").rglob("*.py"):
                 file.write_text(reader.at_ports(file.read_text()))
             config = Path(new_folder())
             for name in ("mosquitto_sub", "mosquitto_pub"):
@@ -103,12 +102,16 @@ class Readme(unittest.TestCase):
         """The units start programs that are there, and are as shut in as that of the server. Links lead to files."""
         unit = (PROGRAMS / "units" / "srcp_bridge@.service").read_text()
         own = (common.TOP / "examples" / "srcp_server.service").read_text()
-        differ = {"RestrictAddressFamilies", "IPAddressAllow", "LimitNOFILE", "MemoryMax", "ExecStart"}
+        differ = {"RestrictAddressFamilies", "IPAddressAllow", "LimitNOFILE", "MemoryMax", "ExecStart", "ExecStartPre",
+                  "ExecReload"}
         hard = {line for line in own.partition("[Service]")[2].splitlines() if "=" in line and not line.startswith("#")}
         hard = {line for line in hard if line.partition("=")[0] not in differ}
         self.assertEqual(hard - set(unit.splitlines()), set())
         self.assertGreater(len(hard), 20)
         for path in re.findall(r"\]\((?!http)([^)#]+)", (common.TOP / PAGE).read_text()):
             self.assertTrue((PROGRAMS / path).exists(), path)
-        for name in re.findall(r"`srcp_bridge@(\w+)`|srcp_bridge_(\w+)`", (common.TOP / PAGE).read_text()):
-            self.assertTrue((PROGRAMS / f"{''.join(name)}.py").exists(), name)
+        for line in (common.TOP / PAGE).read_text().splitlines():
+            other = re.search(r"`BRIDGE=(\w+)`", line)
+            for names in re.findall(r"`srcp_bridge@(\w+)`|srcp_bridge_(\w+)`", line):
+                name = other[1] if other else "".join(names).removesuffix("_2")
+                self.assertTrue((PROGRAMS / f"{name}.py").exists(), name)

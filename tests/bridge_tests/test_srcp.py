@@ -13,24 +13,24 @@ class Parsing(unittest.TestCase):
     program = "srcp"
 
     def test_each_kind_of_row(self):
-        import srcp
+        from srcp_bridges import rows as kinds
         for line, key, row in [
-            ("1.5 101 INFO 0 SESSION 2 INFO", (0, "SESSION", 2, "is"), srcp.Peer(1.5, "INFO")),
-            ("0.000 100 INFO 1 POWER OFF", (1, "POWER", 0, "does"), srcp.Power(0, False, "")),
-            ("1.5 100 INFO 1 POWER ON 2 \xb2 lines", (1, "POWER", 0, "does"), srcp.Power(1.5, True, "2 \xb2 lines")),
-            ("1.5 101 INFO 1 GL 3 N 1 28 5", (1, "GL", 3, "is"), srcp.Locomotive(1.5, "N", 1, 28, 5)),
-            ("1.5 100 INFO 1 GL 3 1 12 28 1 0", (1, "GL", 3, "does"), srcp.Drive(1.5, 1, 12, 28, (1, 0))),
-            ("1.5 101 INFO 1 GA 5 N", (1, "GA", 5, "is"), srcp.Accessory(1.5, "N")),
-            ("1.5 100 INFO 1 GA 5 1 0", (1, "GA", 5, 1), srcp.Port(1.5, 0)),
-            ("0.000 100 INFO 1 FB 7 1", (1, "FB", 7, "does"), srcp.Sensor(0, 1)),
-            ("1.5 100 INFO 1 LOCK GL 3 0 4", (1, "GL", 3, "lock"), srcp.Lock(1.5, 0, 4)),
+            ("1.5 101 INFO 0 SESSION 2 INFO", (0, "SESSION", 2, "is"), kinds.Peer(1.5, "INFO")),
+            ("0.000 100 INFO 1 POWER OFF", (1, "POWER", 0, "does"), kinds.Power(0, False, "")),
+            ("1.5 100 INFO 1 POWER ON 2 \xb2 lines", (1, "POWER", 0, "does"), kinds.Power(1.5, True, "2 \xb2 lines")),
+            ("1.5 101 INFO 1 GL 3 N 1 28 5", (1, "GL", 3, "is"), kinds.Locomotive(1.5, "N", 1, 28, 5)),
+            ("1.5 100 INFO 1 GL 3 1 12 28 1 0", (1, "GL", 3, "does"), kinds.Drive(1.5, 1, 12, 28, (1, 0))),
+            ("1.5 101 INFO 1 GA 5 N", (1, "GA", 5, "is"), kinds.Accessory(1.5, "N")),
+            ("1.5 100 INFO 1 GA 5 1 0", (1, "GA", 5, 1), kinds.Port(1.5, 0)),
+            ("0.000 100 INFO 1 FB 7 1", (1, "FB", 7, "does"), kinds.Sensor(0, 1)),
+            ("1.5 100 INFO 1 LOCK GL 3 0 4", (1, "GL", 3, "lock"), kinds.Lock(1.5, 0, 4)),
             ("1.5 102 INFO 1 LOCK GL 3", (1, "GL", 3, "lock"), None),
             ("1.5 102 INFO 1 GL 3", (1, "GL", 3, "is"), None),
         ]:
-            self.assertEqual(srcp.parse(line), (key, row))
+            self.assertEqual(kinds.parse(line), (key, row))
 
     def test_how_an_accessory_lies(self):
-        from srcp import Accessory, Port, position
+        from srcp_bridges.rows import Accessory, Port, position
 
         def lies(*ports):
             table = {(1, "GA", 5, number): port for number, port in enumerate(ports)}
@@ -42,13 +42,39 @@ class Parsing(unittest.TestCase):
         self.assertEqual(lies(Port(6.0, 1), Port(7.0, 1)), 1)
         self.assertEqual(position({}, 1, 5), None)
 
+    def test_an_accessory_lies_as_the_port_that_was_last_set_to_1(self):
+        """Also if an older pulse ends later, and over a listing of what happened meanwhile."""
+        from srcp_bridges.rows import Accessory, Port, Rows, position
+        rows = Rows()
+
+        def comes(lies, *port, listed_again=False):
+            number, stamp, value = port
+            rows.enter((1, "GA", 5, number), Port(stamp, value), listed_again)
+            self.assertEqual(position(rows, 1, 5), lies)
+
+        rows.enter((1, "GA", 5, "is"), Accessory(1.0, "N"))
+        comes(None, 0, 1.0, 0), comes(None, 1, 1.0, 0)
+        comes(0, 0, 2.0, 1), comes(1, 1, 2.1, 1)
+        comes(1, 1, 2.35, 0), comes(1, 0, 3.5, 0)
+        comes(0, 0, 4.0, 1), comes(0, 1, 4.0, 0)  # a port that is set to 0 changes nothing
+        comes(0, 0, 4.5, 0, listed_again=True), comes(1, 1, 5.0, 0, listed_again=True)  # on and off again meanwhile
+        rows.remove((1, "GA", 5, "is"))
+        self.assertEqual((position(rows, 1, 5), rows.put), (None, {}))
+
+    def test_which_commands_have_a_locomotive_drive(self):
+        from srcp_bridges.stop import driven
+        for command, locomotive in [("set 01 gl 3 1 9 28 1", (1, 3)), ("SET 1 GL 3 0 1 0", (1, 3)),
+                                    ("SET 1 GL 3 1 0 28", None), ("SET 1 GL 3 2 9 28", None),
+                                    ("SET 1 GA 3 1 9 28", None), ("GET 1 GL 3", None), ("SET 1 GL x 1 9", None), ("", None)]:
+            self.assertEqual(driven(command), locomotive, command)
+
 
 class Following(Case):
     program = "srcp"
 
     def run_mirror(self, port, steps):
         """Runs a mirror, and the steps beside it in a thread, which may block."""
-        import srcp
+        from srcp_bridges import srcp
         srcp.say, self.changes, self.joins = lambda text: None, [], []
 
         async def main():
@@ -129,8 +155,128 @@ class Following(Case):
             self.assertNotIn((1, "GL", 4, "is"), self.mirror.rows)
         self.run_mirror(self.way.port, steps)
 
+    def run_program(self, steps):
+        """Runs steps beside a mirror, in its thread."""
+        from srcp_bridges import srcp
+        srcp.say = lambda text: None
+
+        async def main():
+            mirror = srcp.Mirror(argparse.Namespace(host="127.0.0.1", port=self.way.port, again=0.05))
+            runs = asyncio.create_task(mirror.run())
+            await self.comes(lambda: mirror.here)
+            await steps(mirror)
+            runs.cancel()
+
+        asyncio.run(main())
+
+    async def comes(self, true):
+        async with asyncio.timeout(WAIT):
+            while not true():
+                await asyncio.sleep(0.01)
+
+    def test_stops_are_counted_and_what_was_made_before_is_refused(self):
+        from srcp_bridges.srcp import Refused
+        from srcp_bridges.stop import send, stop_all, stop_one
+
+        async def steps(mirror):
+            stops, seen, locomotive = mirror.stops, mirror.stops.count(1, 3), (1, "GL", 3, "does")
+            self.throttle.order("INIT 1 GL 3 N 1 28 2", "SET 1 GL 3 0 9 28")
+            await self.comes(lambda: locomotive in mirror.rows and mirror.rows[locomotive].v)
+            self.throttle.order("SET 1 GL 3 2 0 28")  # another stops it, and a command of before is late
+            await self.comes(lambda: stops.count(1, 3) > seen)
+            with self.assertRaisesRegex(Refused, "meanwhile"):
+                await send(stops, mirror.session, "SET 1 GL 3 1 9 28", seen)
+            await send(stops, mirror.session, "SET 1 GL 3 0 0 28", seen)  # one that only stops is not refused
+            await send(stops, mirror.session, "SET 1 GL 3 0 9 28", stops.count(1, 3))
+            await self.comes(lambda: mirror.rows[locomotive].v)
+            for stop in (stop_all(mirror), stop_one(mirror, mirror.session.ask, 1, 3)):
+                before = stops.count(1, 3)
+                await stop
+                self.assertEqual(stops.count(1, 3), before + 1)
+                await self.comes(lambda: mirror.rows[locomotive][1:4] == (0, 0, 28) and not stops.due[1, 3])
+                self.assertEqual(stops.count(1, 3), before + 1)  # its row is not counted again
+                await send(stops, mirror.session, "SET 1 GL 3 0 9 28", before + 1)
+                await self.comes(lambda: mirror.rows[locomotive].v)
+            with self.assertRaises(Refused):
+                await send(stops, mirror.session, "SET 1 GL 3 0 9 28", before)
+        self.run_program(steps)
+
+    def test_stop_all_leaves_alone_what_stands_and_reaches_what_is_on_its_way(self):
+        from srcp_bridges.srcp import Refused, Session
+        from srcp_bridges.stop import send, stop_all
+
+        async def steps(mirror):
+            self.throttle.order(*[f"INIT 1 GL {n} N 1 28 2" for n in (3, 4, 5)], "SET 1 GL 3 0 9 28")
+            await self.comes(lambda: len([key for key in mirror.rows if key[1] == "GL"]) == 6)
+            before, other = mirror.rows[1, "GL", 5, "does"], await Session.begin(mirror.server)
+            under_way = asyncio.create_task(send(mirror.stops, other, "SET 1 GL 4 1 9 28", None))
+            await asyncio.sleep(0)
+            stop = asyncio.create_task(stop_all(mirror))
+            await asyncio.sleep(0)
+            with self.assertRaises(Refused):  # until all stand, nothing here drives
+                await send(mirror.stops, other, "SET 1 GL 5 0 9 28", mirror.stops.count(1, 5))
+            self.assertEqual((await stop, await under_way), ([], "OK"))
+            self.assertEqual((await mirror.get((1, "GL", 4, "does")))[1:3], (1, 0))
+            self.assertEqual(await mirror.get((1, "GL", 5, "does")), before)
+        self.run_program(steps)
+        self.has("100 INFO 1 GL 3 0 0 28")
+
+    def test_stop_all_stops_what_another_program_had_sent(self):
+        from srcp_bridges.stop import stop_all
+
+        async def steps(mirror):
+            self.throttle.order("INIT 1 GL 3 N 1 28 2", "SET 1 GL 3 0 9 28")
+            await self.comes(lambda: mirror.rows.get((1, "GL", 3, "does"), (0, 0, 0))[2])
+            stop = asyncio.create_task(stop_all(mirror))
+            await self.comes(lambda: not mirror.rows[1, "GL", 3, "does"].v)
+            self.throttle.order("SET 1 GL 3 0 9 28")
+            self.assertEqual(await stop, [])
+        self.run_program(steps)
+        self.has("100 INFO 1 GL 3 0 0 28")
+
+    def test_stop_all_takes_the_power_off_for_what_another_has_locked(self):
+        from srcp_bridges.stop import stop_all
+
+        async def steps(mirror):
+            self.throttle.order("SET 1 POWER ON", *[f"INIT 1 GL {n} N 1 28 2" for n in (3, 4)], "SET 1 GL 3 1 9 28",
+                                "SET 1 LOCK GL 3 0", "SET 1 GL 4 0 9 28")
+            await self.comes(lambda: mirror.rows.get((1, "GL", 4, "does"), (0, 0, 0))[2])
+            self.assertEqual(await stop_all(mirror), [])
+        self.run_program(steps)
+        self.has("100 INFO 1 GL 3 1 9 28", "100 INFO 1 GL 4 0 0 28", "100 INFO 1 POWER OFF stop all")
+
+    def test_an_emergency_stop_of_several_tries_each(self):
+        from srcp_bridges.stop import stop_several
+
+        async def steps(mirror):
+            self.throttle.order(*[f"INIT 1 GL {n} N 1 28 2" for n in (3, 4, 5)], "SET 1 LOCK GL 3 0",
+                                "SET 1 LOCK GL 4 0", "SET 1 GL 5 0 9 28")
+            await self.comes(lambda: mirror.rows.get((1, "GL", 5, "does"), (0, 0, 0))[2])
+            told = await stop_several(mirror, mirror.session.ask, [(1, n) for n in (3, 4, 5)])
+            self.assertEqual([text.partition(":")[0] for text in told], ["1 GL 3", "1 GL 4"])
+        self.run_program(steps)
+        self.has("100 INFO 1 GL 5 0 0 28")
+
+    def test_a_function_is_a_change_of_one_function(self):
+        """The server is asked first how it drives: another may have stopped it, and the panel may be late."""
+        from functools import partial
+        from srcp_bridges.driving import switch
+        from srcp_bridges.stop import send
+
+        async def steps(mirror):
+            self.throttle.order("INIT 1 GL 3 N 1 28 3", "SET 1 GL 3 0 9 28 0 1 1")
+            await self.comes(lambda: mirror.rows.get((1, "GL", 3, "does"), (0, 0, 0))[2])
+            self.way.cut()
+            self.throttle.order("SET 1 GL 3 0 0 28")
+            await switch(mirror, partial(send, mirror.stops, mirror.session), 1, 3, {0: None, 1: None, 2: 1})
+            self.has("100 INFO 1 GL 3 0 0 28 1 0 1")
+            self.throttle.order("SET 1 GL 3 2 0 28")
+            await switch(mirror, partial(send, mirror.stops, mirror.session), 1, 3, {0: 0})
+            self.has("100 INFO 1 GL 3 0 0 28 0 0 1")  # in its direction
+        self.run_program(steps)
+
     def test_sessions(self):
-        import srcp
+        from srcp_bridges import srcp
 
         async def main():
             session = await srcp.Session.begin(("127.0.0.1", self.server.port))
@@ -172,7 +318,7 @@ class Following(Case):
         until(lambda: "joined" in guard.told(), "joined")
         self.assertEqual(guard.end(signal.SIGINT), 0)
         self.assertEqual(program("guard.py", "--prot", "x").process.wait(20), 2)
-        for name in ("guard", "keep", "dcc_ex", "withrottle", "web", "mqtt"):
+        for name in ("guard", "keep", "dcc_ex", "z21", "withrottle", "web", "mqtt", "srcpd"):
             if python := interpreter(name + ".py"):
                 helped = subprocess.run([python, PROGRAMS / (name + ".py"), "--help"], capture_output=True, text=True)
                 self.assertTrue(helped.returncode == 0 and "--port" in helped.stdout, name)

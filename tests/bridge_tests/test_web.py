@@ -3,30 +3,31 @@ import argparse
 import asyncio
 import http.client
 import json
-import os
 import re
 import socket
 import threading
-import time
 from pathlib import Path
 
-from .browser import started
-from .common import LAYOUT, WAIT, Case, connects, free_port, new_folder, parsed, rows, until
+from .common import WAIT, Case, Session, connects, free_port, new_folder, parsed, rows, until
 
 
 class Events:
     """A page without a browser. One that does not `answer` leaves the beats of web.py without a reply."""
 
-    def __init__(self, port, answers=True, **headers):
+    def __init__(self, port, answers=True, own="127.0.0.1", **headers):
         self.rows, self.here, self.key, self.port, self.gone, self.events = {}, None, None, port, [], []
-        self.answers, self.headers = answers, headers
-        self.connection = http.client.HTTPConnection("127.0.0.1", port, timeout=WAIT)
+        self.stops, self.ways, self.lies = {}, {}, {}
+        self.answers, self.headers, self.own = answers, headers, own
+        self.connection = self.connect()
         self.connection.request("GET", "/events", headers=headers)
         self.socket, self.stream = self.connection.sock, self.connection.getresponse()
         self.status = self.stream.status
         if self.status == 200:
             threading.Thread(target=self.read, daemon=True).start()
             until(lambda: self.key and self.here is not None, "the page has its key")
+
+    def connect(self):
+        return http.client.HTTPConnection("127.0.0.1", self.port, timeout=WAIT, source_address=(self.own, 0))
 
     def read(self):
         event = None
@@ -42,15 +43,24 @@ class Events:
         self.events.append("END")
 
     def take(self, event, data):
+        self.note(event, data)
         self.events.append(event)
+
+    def note(self, event, data):
         if event == "page":
             self.key, self.rows = data["key"], {}
         elif event == "here":
             self.here = data
         elif event == "beat" and self.answers:
             threading.Thread(target=self.lives, daemon=True).start()
+        elif event == "stop":
+            self.stops |= {tuple(map(int, key.split(" GL "))): count for key, count in data.items()}
         elif event == "row" and data["row"]:
-            self.rows[tuple(data["key"])] = data["row"]
+            bus, group, address, part = key = tuple(data["key"])
+            self.rows[key] = data["row"]
+            for beside, kept in (("stops", self.stops), ("way", self.ways), ("lies", self.lies)):
+                if beside in data:
+                    kept[bus, address] = data[beside]
         elif event == "row":
             self.gone.append(tuple(data["key"]))
             self.rows.pop(tuple(data["key"]), None)
@@ -61,11 +71,18 @@ class Events:
         except OSError:
             pass  # web.py has gone meanwhile
 
+    def seen(self, command):
+        """The stops of a locomotive that this page has been told of, as it goes with a command."""
+        words = command.upper().split()
+        if words[:1] + words[2:3] != ["SET", "GL"]:
+            return {}
+        return {"X-Stops": str(self.stops.get((int(words[1]), int(words[3])), 0))}
+
     def post(self, body, path="/command", **headers):
         """The reply of web.py, or the status if that is not 200."""
-        connection = http.client.HTTPConnection("127.0.0.1", self.port, timeout=WAIT)
+        connection = self.connect()
         try:
-            headers = {"X-Page": self.key, **self.headers, **headers}
+            headers = {"X-Page": self.key, **self.headers, **self.seen(body), **headers}
             headers = {name: value for name, value in headers.items() if value is not None}
             connection.request("POST", path, body, headers)
             answer = connection.getresponse()
@@ -93,8 +110,9 @@ class WebCase(Case):
         self.web = self.starts("web.py", "--web", self.port, *self.words, port=self.way.port)
         until(lambda: connects(self.port) and "server: joined" in self.web.told(), "the page is served")
 
-    def get(self, path="/", **headers):
-        connection = http.client.HTTPConnection("127.0.0.1", self.port, timeout=WAIT)
+    def get(self, path="/", own="127.0.0.1", **headers):
+        """The answer to a browser whose own address that is, and its text."""
+        connection = http.client.HTTPConnection("127.0.0.1", self.port, timeout=WAIT, source_address=(own, 0))
         connection.request("GET", path, headers=headers)
         answer = connection.getresponse()
         text = answer.read().decode()
@@ -110,10 +128,22 @@ class WebCase(Case):
 
 class Web(WebCase):
     def test_page(self):
+        """It takes nothing from elsewhere: what it is made of has paths, and each of them is there."""
         answer, text = self.get()
         self.assertTrue(answer.status == 200 and text.startswith("<!doctype html>") and "</html>" in text)
-        self.assertIsNone(re.search(r"src=|https?://|@import|url\(", text))  # it takes nothing from elsewhere
-        for words in ("default-src 'none'", "connect-src 'self'", "frame-ancestors 'none'"):
+        asked, texts = ["/"], {"/": text}
+        while asked:
+            path = asked.pop()
+            for more in re.findall(r'(?:src|href)="(/[^"]+)"|from "\.(/[^"]+)"|import "\.(/[^"]+)"', texts[path]):
+                if (more := "".join(more)) not in texts:
+                    part, texts[more] = self.get(more)
+                    self.assertEqual((part.status, part.headers["Content-Security-Policy"]),
+                                     (200, answer.headers["Content-Security-Policy"]), more)
+                    asked.append(more)
+        self.assertLess({"/", "/web.css", "/web.js", "/texts.js"}, set(texts))
+        for path, text in texts.items():
+            self.assertIsNone(re.search(r"""https?://|["'(]//|@import|url\(|style=|onclick=|<script>""", text), path)
+        for words in ("default-src 'none'", "connect-src 'self'", "frame-ancestors 'none'", "script-src 'self';"):
             self.assertIn(words, answer.headers["Content-Security-Policy"])
 
     def test_rows_changes_and_locks(self):
@@ -153,8 +183,8 @@ class Web(WebCase):
         two.order("SET 1 LOCK GL 2 0")
         until(lambda: self.same(one), "all rows")
         self.assertEqual(one.post("", "/stop", **{"X-Page": "of before"}), "200 OK")
-        stand = [row for row in rows(self.server.port) if re.match(r"100 INFO 1 GL \d+ 2 0 28", row)]
-        self.assertEqual(len(stand), 60)
+        stand = [f"100 INFO 1 GL {address} {address % 2} 0 28" for address in range(1, 61)]
+        self.has(*stand)  # each in its direction
         self.has("100 INFO 1 POWER ON")
         until(lambda: "stop" in one.events and "stop" in two.events, "all pages are told")
         self.throttle.order("SET 1 LOCK GL 3 0", "SET 1 GL 3 1 9 28")
@@ -166,7 +196,7 @@ class Web(WebCase):
         self.way.cut()
         until(lambda: one.here is False, "the panel is closed")
         self.assertEqual(one.post("", "/stop"), "200 OK")  # also before it has joined again
-        self.has("100 INFO 1 GL 4 2 0 28")
+        self.has("100 INFO 1 GL 4 1 0 28")
         self.way.free()
         until(lambda: one.here, "it has joined again")
         self.server.stop()
@@ -175,9 +205,8 @@ class Web(WebCase):
 
     def test_stop_all_and_power_are_behind_nothing_else(self):
         """While a command of the page waits for ever, these two are carried out."""
-        import page
-        import srcp
         import web
+        from srcp_bridges import page
 
         async def main():
             asked = argparse.Namespace(host="127.0.0.1", port=self.server.port, again=0.1, names=None,
@@ -199,7 +228,82 @@ class Web(WebCase):
             waiting.cancel(), following.cancel()
 
         asyncio.run(main())
-        self.has("100 INFO 1 POWER ON", "100 INFO 1 GL 3 2 0 28")
+        self.has("100 INFO 1 POWER ON", "100 INFO 1 GL 3 1 0 28")
+
+    def test_what_was_made_before_a_stop_is_refused(self):
+        """Before a STOP ALL of another page, an emergency stop, and a stop of another program. V 0 is not refused."""
+        one, two = Events(self.port), Events(self.port)
+        one.order("INIT 1 GL 3 N 1 28 5", "SET 1 GL 3 0 9 28")
+        stops = [lambda: self.assertEqual(one.post("", "/stop"), "200 OK"),
+                 lambda: self.assertEqual(one.post("1 3", "/stop"), "200 OK"),
+                 lambda: self.throttle.order("SET 1 GL 3 2 0 28")]
+        for stop in stops:
+            until(lambda: two.rows.get((1, "GL", 3, "does"), {}).get("v") == 9, "it drives")
+            seen = two.seen("SET 1 GL 3")
+            stop()
+            until(lambda: two.seen("SET 1 GL 3") != seen, "the page is told of the stop")
+            for words in ("0 9 28", "1 9 28", "1 1 28 1"):
+                self.assertEqual(two.post(f"SET 1 GL 3 {words}", **seen), "it was stopped meanwhile")
+            self.assertEqual(two.post("SET 1 GL 3 1 9 28", **{"X-Stops": None}), "it was stopped meanwhile")
+            self.assertEqual(two.post("SET 1 GL 3 0 0 28", **seen), "200 OK")
+            self.has("100 INFO 1 GL 3 0 0 28")
+            two.order("SET 1 GL 3 0 9 28")  # it has seen the stop
+
+    def test_a_stop_keeps_the_direction(self):
+        page = Events(self.port)
+        page.order("INIT 1 GL 3 N 1 28 5", "SET 1 GL 3 0 9 28")
+        until(lambda: page.rows.get((1, "GL", 3, "does"), {}).get("v") == 9, "its row")
+        self.assertEqual(page.post("1 3", "/stop"), "200 OK")
+        self.has("100 INFO 1 GL 3 0 0 28")
+        self.throttle.order("SET 1 GL 3 0 9 28", "SET 1 GL 3 2 0 28")  # by a program that then tells no direction
+        until(lambda: page.rows.get((1, "GL", 3, "does"), {}).get("mode") == 2, "it is stopped")
+        self.assertEqual((page.ways[1, 3], Events(self.port).ways[1, 3]), (0, 0))
+
+    def test_a_stop_keeps_a_direction_that_is_on_its_way(self):
+        page, self.way.late = Events(self.port), b"100 INFO 1 GL 3 0 9"
+        page.order("INIT 1 GL 3 N 1 28 5", "SET 1 GL 3 0 9 28")
+        threading.Timer(0.1, self.way.free).start()
+        self.assertEqual(page.post("1 3", "/stop"), "200 OK")
+        self.has("100 INFO 1 GL 3 0 0 ")
+
+    def test_a_function_is_a_change_of_one_function(self):
+        """A page that does not know how a locomotive drives, or that it was stopped, changes neither."""
+        page = Events(self.port)
+        self.throttle.order("INIT 1 GL 3 N 1 28 4", "SET 1 GL 3 0 9 28 0 0 1")
+        self.assertEqual(page.post("1 3 1 1", "/function"), "200 OK")
+        self.has("100 INFO 1 GL 3 0 9 28 0 1 1 0")
+        until(lambda: page.rows[1, "GL", 3, "does"]["v"] == 9, "its row")
+        self.throttle.order("SET 1 GL 3 2 0 28")
+        self.assertEqual(page.post("1 3 2 0", "/function"), "200 OK")
+        self.has("100 INFO 1 GL 3 0 0 28 0 1 0 0")
+        self.throttle.order("SET 1 GL 3 1 5 28")
+        self.assertEqual(page.post("1 3 0 1", "/function"), "200 OK")
+        page.leaves()
+        until(lambda: "127.0.0.1: gone" in self.web.told(), "the page is gone")
+        self.has("100 INFO 1 GL 3 1 5 28 1 1 0 0")  # another drives it
+        self.assertEqual([Events(self.port).post(words, "/function") for words in ("1 3 0", "1 3 0 x", "1 9 0 1")],
+                         ["404", "404", "416 ERROR no data"])
+
+    def test_how_a_turnout_lies(self):
+        """As it was commanded last, also if an older pulse ends later."""
+        page = Events(self.port)
+        self.throttle.order("INIT 1 GA 5 N", "SET 1 GA 5 0 1 700", "SET 1 GA 5 1 1 100")
+
+        def ended():
+            made, *ports = [page.rows.get((1, "GA", 5, part), {"stamp": 0, "value": 1}) for part in ("is", 1, 0)]
+            return made["stamp"] < ports[0]["stamp"] < ports[1]["stamp"] and not any(port["value"] for port in ports)
+
+        until(ended, "both pulses have ended, that of port 0 last")
+        self.assertEqual((page.lies[1, 5], Events(self.port).lies[1, 5]), (1, 1))
+
+    def test_what_it_cannot_use(self):
+        """Words that are wrong end it with status 2 and one line."""
+        broken = Path(new_folder(), "names.toml")
+        broken.write_text("1 GL 3 = V 100")
+        for words in (("--web", 99999), ("--bind", "300.1.1.1"), ("--names", broken), ("--names", "/nowhere/names")):
+            started = self.starts("web.py", *words)
+            self.assertEqual(started.process.wait(WAIT), 2, words)
+            self.assertRegex(started.told(), rf"\A-- .*{words[0]}.*\n\Z")
 
     def test_who_is_turned_away(self):
         page = Events(self.port)
@@ -209,7 +313,8 @@ class Web(WebCase):
             ("403", {"Origin": "http://evil.example"}), ("403", {"Origin": "null"}),
             ("403", {"Origin": f"https://{own}"}), ("404", {"X-Page": "0"}), ("404", {"X-Page": None}),
             ("200 OK", {"Origin": f"http://{own}"}), ("200 OK", {"Host": "localhost:1"}),
-            ("200 OK", {"Host": "[::1]:80"}),
+            ("200 OK", {"Host": "[::1]:80"}), ("200 OK", {"Host": socket.gethostname().upper() + ":80"}),
+            ("403", {"Host": socket.gethostname() + ".evil.example"}),
         ]:
             self.assertEqual(page.post("SET 1 POWER ON", **headers), want, headers)
         self.throttle.order("SET 1 POWER OFF")
@@ -217,6 +322,9 @@ class Web(WebCase):
             self.assertIn(page.post("", "/stop", **headers), ("403", "404"))
         for path in ("/", "/events"):
             self.assertEqual(self.get(path, Host="evil.example")[0].status, 403)
+        for site in ("cross-site", "same-site"):  # what a browser sends with a link, or with a picture of another page
+            asked = [self.get(path, **{"Sec-Fetch-Site": site})[0].status for path in ("/", "/events")]
+            self.assertEqual(asked, [200, 403])
         self.assertEqual(self.get("/events", Origin="http://evil.example")[0].status, 403)
         self.assertEqual(self.get("/../srcp.py")[0].status, 404)
         self.assertEqual(page.post("SET 1 POWER OFF\nSET 1 POWER ON"), "more than one line")
@@ -261,9 +369,17 @@ class Web(WebCase):
         self.assertEqual(page.post("SET 1 POWER ON"), "the server is away")
 
     def test_more_pages_than_the_server_has_places(self):
-        pages = [Events(self.port) for _ in range(80)]
+        pages = [Events(self.port, own=f"127.0.0.{2 + number % 4}") for number in range(80)]
         self.assertEqual({page.post("SET 1 FB 4 1") for page in pages}, {"200 OK"})
         until(lambda: self.same(*pages), "all have all")
+
+    def test_a_server_that_is_full(self):
+        page = Events(self.port)
+        page.order("INIT 1 GL 3 N 1 28 5")
+        others = [Session(self.server.port) for _ in range(61)]  # beside the throttle, and two of web.py
+        self.assertEqual(page.post("SET 1 LOCK GL 3 0"), "the server is full")
+        others[0].close()
+        until(lambda: page.post("SET 1 LOCK GL 3 0") == "200 OK", "there is a place again")
 
     def test_more_pages_than_a_browser_has_connections(self):
         pages = [Events(self.port, Cookie="srcp_browser=one") for _ in range(4)]
@@ -278,6 +394,7 @@ class Web(WebCase):
                    "SET 1 GL 8 1 20 28")
         self.assertEqual(self.web.end(), 0)
         self.has("100 INFO 1 GL 8 1 0 28", "100 INFO 1 GL 9 1 0 28")
+        self.assertNotIn("Traceback", self.web.told())
 
 
 class WebWithSilentPages(WebCase):
@@ -303,182 +420,3 @@ class WebThatSleeps(WebCase):
         page = Events(self.port) if "END" in page.events else page
         until(lambda: self.same(page), "after the overrun")
         self.assertEqual(page.post("SET 1 POWER ON"), "200 OK")
-
-
-class WebWithAWord(WebCase):
-    words = ("--bind", "localhost")  # a name, which may be that of any address
-
-    def enters(self, word):
-        connection = http.client.HTTPConnection("127.0.0.1", self.port, timeout=WAIT)
-        connection.request("POST", "/word", f"word={word}", {"Content-Type": "application/x-www-form-urlencoded"})
-        answer = connection.getresponse()
-        text = answer.read().decode()
-        return answer.status, answer.headers.get("Set-Cookie", ""), text
-
-    def test_who_does_not_know_the_word(self):
-        word = re.search(r"asks for the word (\w{8,})", self.web.told())[1]
-        for path in ("/", "/events", "/what"):
-            answer, text = self.get(path)
-            self.assertEqual((answer.status, "EventSource" in text), (401, False))
-        page = Events(self.port)
-        self.assertEqual(page.status, 401)
-        page.key = "none"
-        for path in ("/command", "/stop", "/alive"):
-            self.assertEqual(page.post("SET 1 POWER ON", path), "401")
-        self.assertEqual(self.get("/events", Cookie="srcp_word=x\xe4")[0].status, 401)
-        begun = time.monotonic()
-        trials = [threading.Thread(target=self.enters, args=(wrong,)) for wrong in ("", "x", word.upper() + "x")]
-        for trial in trials:
-            trial.start()
-        for trial in trials:
-            trial.join()
-        self.assertGreater(time.monotonic() - begun, 2.9)  # one a second, however many try
-        trial = threading.Thread(target=self.enters, args=("x",))
-        trial.start()
-        until(lambda: self.web.told().count("a wrong word") == 4, "a wrong one is looked at")
-        begun = time.monotonic()
-        status, cookie, _ = self.enters(word)
-        self.assertGreater(time.monotonic() - begun, 0.5)  # the right one has to wait too: its answer would tell it
-        trial.join()
-        self.assertEqual(status, 303)
-        self.assertTrue("HttpOnly" in cookie and "SameSite=Strict" in cookie and word not in cookie)
-        page = Events(self.port, Cookie=cookie.partition(";")[0])
-        self.assertEqual(page.post("SET 1 POWER ON"), "200 OK")
-        self.assertEqual(page.post("SET 1 POWER OFF", Cookie=""), "401")
-        self.has("100 INFO 1 POWER ON")
-
-
-class WebInChromium(WebCase):
-    """With SRCP_PICTURES=FOLDER pictures of the page are put there; `panel.png` of them is the one in docs/."""
-    layout = LAYOUT.replace("fb_ports = 32", "fb_ports = 500")
-    pictures = os.environ.get("SRCP_PICTURES")
-
-    def setUp(self):
-        names = Path(new_folder(), "names.toml")
-        names.write_text('"1 GL 3" = "V 100"\n"1 GL 7" = "ICE 3"\n"1 GA 1" = "Yard west"\n'
-                         '"1 GA 2" = "Yard <b>east</b>"\n')
-        self.words = ("--silence", 5, "--names", names)
-        self.browser = started() or self.skipTest("chromium is not installed, or does not start")
-        self.addCleanup(self.browser.end)
-        super().setUp()
-
-    def picture(self, name, width, height, phone=False, dark=False):
-        self.browser.shows(width, height, phone, dark)
-        if self.pictures:
-            time.sleep(0.5)
-            self.browser.picture(f"{self.pictures}/{name}.png")
-
-    def js(self, script):
-        return self.browser.run(script)
-
-    def card(self, key):
-        return f"document.querySelector('li.card[data-key=\"{key}\"]')"
-
-    def has_card(self, key):
-        return self.js(f"!!{self.card(key)}")
-
-    def press(self, key, text):
-        self.js(f"[...{self.card(key)}.querySelectorAll('button')].find(b => b.textContent === '{text}').click()")
-
-    def test_in_chromium(self):
-        self.browser.opens(f"http://127.0.0.1:{self.port}/")
-        self.throttle.order("INIT 1 GL 3 N 1 28 5", "SET 1 GL 3 0 14 28 1", "INIT 1 GA 5 N", "INIT 2 GA 7 N")
-        until(lambda: self.has_card("1 GL 3") and self.has_card("1 GA 5") and self.has_card("2 GA 7")
-              and "14" in self.js(f"{self.card('1 GL 3')}.textContent"), "cards")
-        self.press("1 GL 3", "F1"), self.has("100 INFO 1 GL 3 0 14 28 1 1 0 0 0")
-        self.press("1 GL 3", "Take for this page alone"), self.has("100 INFO 1 LOCK GL 3")
-        until(lambda: "Give back" in self.js(f"{self.card('1 GL 3')}.textContent"), "it is taken")
-        self.press("1 GL 3", "Stop"), self.has("100 INFO 1 GL 3 2 0 28")
-        self.js(f"(s => {{ s.value = 21; s.oninput(); }})({self.card('1 GL 3')}.querySelector('input'))")
-        self.has("100 INFO 1 GL 3 0 21 28 1 1 0 0 0")
-        self.press("1 GL 3", "▶"), self.has("100 INFO 1 GL 3 1 0 28 1 1")
-        self.press("1 GA 5", "branch"), self.has("100 INFO 1 GA 5 1 1"), self.has("100 INFO 1 GA 5 1 0")
-        pressed = "button[aria-pressed=true]"
-        lies = f"{self.card('1 GA 5')}.querySelector('{pressed}')?.textContent"
-        until(lambda: self.js(lies) == "branch", "it lies to the branch")
-        self.press("2 GA 7", "2"), self.has("100 INFO 2 GA 7 2 1")
-        self.js("document.querySelector('#POWER button').click()"), self.has("100 INFO 1 POWER ON")
-        self.throttle.order("SET 1 FB 4 1", "TERM 1 GA 5")
-        lamp = "document.querySelector('#FB li[data-key=\"1 FB 4\"]')"
-        until(lambda: self.js(f"{lamp}.className + {lamp}.ariaLabel") == "onSensor 4 of bus 1: occupied", "a lamp")
-        until(lambda: not self.has_card("1 GA 5"), "a card goes")
-        self.js("Object.assign(document.querySelector('#addGL [name=address]'), { value: 200 }).form.requestSubmit()")
-        self.has("101 INFO 1 GL 200 N 2 126 9")
-        until(lambda: self.has_card("1 GL 200"), "a locomotive that was added in the browser")
-        self.js(f"(s => {{ s.value = 60; s.oninput(); }})({self.card('1 GL 200')}.querySelector('input'))")
-        self.has("100 INFO 1 GL 200 1 60 126")
-        time.sleep(6)  # it answers the beats, so it is not silent
-        self.has("100 INFO 1 GL 200 1 60 126")
-        self.browser.presses("Escape", windowsVirtualKeyCode=27)
-        self.has("100 INFO 1 GL 200 2 0 126")
-        self.restart()
-        until(lambda: not self.has_card("1 GL 3") and self.js(f"{lamp}?.className") == "", "a restart")
-        self.assertEqual(self.browser.faults, [])
-        own = f"http://127.0.0.1:{self.port}/"
-        self.assertEqual([asked for asked in self.browser.asked if not asked.startswith((own, "data:"))], [])
-
-    def fill(self):
-        """A large layout: 60 locomotives, 200 turnouts, and the sensors of the bus."""
-        self.throttle.flood([f"INIT 1 GL {n} N 1 126 {5 + n % 3 * 12}" for n in range(1, 61)])
-        self.throttle.flood([f"INIT 1 GA {n} N" for n in range(1, 201)])
-        self.throttle.flood([f"SET 1 GA {n} {n % 2} 1 -1" for n in range(1, 201)])
-        self.throttle.flood([f"SET 1 FB {n} {int(n % 7 < 2)}" for n in range(1, 501)])
-        self.throttle.order("SET 1 POWER ON", "SET 1 GL 3 1 40 126 1 0 1", "SET 1 GL 7 0 22 126 1",
-                            "SET 1 GL 12 2 0 126", "SET 1 LOCK GL 7 0")
-
-    def test_in_chromium_names(self):
-        self.throttle.order("SET 1 POWER ON", "INIT 1 GL 3 N 1 126 9", "SET 1 GL 3 1 40 126 1", "INIT 1 GL 7 N 1 126 5",
-                            "SET 1 GL 7 0 88 126 1 0 1", *[f"INIT 1 GA {n} N" for n in range(1, 5)],
-                            "SET 1 GA 1 1 1 -1", "SET 1 GA 2 0 1 -1", "SET 1 FB 3 1", "SET 1 FB 4 1")
-        self.browser.opens(f"http://127.0.0.1:{self.port}/")
-        until(lambda: self.has_card("1 GL 7") and self.has_card("1 GA 2"), "cards")
-        self.assertTrue(self.js(f"{self.card('1 GL 3')}.textContent").startswith("V 100 1 GL 3"))
-        self.assertTrue(self.js(f"{self.card('1 GA 2')}.textContent").startswith("Yard <b>east</b> 1 GA 2"))
-        self.picture("panel", 800, 600)
-        self.js("Object.assign(document.getElementById('find'), { value: 'ice' }).oninput()")
-        until(lambda: self.js(f"{self.card('1 GL 3')}.hidden && {self.card('1 GA 2')}.hidden"), "others are hidden")
-        self.assertFalse(self.js(f"{self.card('1 GL 7')}.hidden"))
-
-    def test_in_chromium_a_large_layout(self):
-        """Each control of a large layout has a name for a screen reader, is reached by Tab, and is seen well."""
-        self.fill()
-        self.browser.opens(f"http://127.0.0.1:{self.port}/")
-        until(lambda: self.js("document.querySelectorAll('#roster button').length") == 60, "60 locomotives")
-        self.js("['3', '7'].forEach(n => document.querySelector(`#roster li[data-key=\"1 GL ${n}\"] button`).click())")
-        until(lambda: self.has_card("1 GL 7") and not self.js(f"{self.card('1 GL 7')}.hidden"), "throttles")
-        tree = self.browser.call("Accessibility.getFullAXTree")["nodes"]
-        kinds = ("button", "slider", "textbox", "searchbox", "spinbutton", "link")
-        controls = [node for node in tree if node.get("role", {}).get("value") in kinds]
-        self.assertGreater(len(controls), 400)
-        self.assertEqual([node for node in controls if not node.get("name", {}).get("value")], [])
-        self.browser.presses("Tab", windowsVirtualKeyCode=9)
-        outline = "getComputedStyle(document.activeElement).outlineStyle + ' ' + document.activeElement.id"
-        self.assertEqual(self.js(outline), "solid stop")  # STOP ALL comes first
-        for dark in (False, True):
-            self.browser.shows(1280, 800, dark=dark)
-            self.assertEqual(self.js(CONTRAST), [])
-        for words in [("wide", 1280, 800), ("phone", 390, 844, True), ("dark", 1280, 800, False, True),
-                      ("phone_dark", 390, 844, True, True)]:
-            self.picture(*words)
-            self.assertLessEqual(self.js("document.documentElement.scrollWidth - innerWidth"), 0, words)
-        self.assertEqual(self.browser.faults, [])
-
-
-CONTRAST = """(() => {
-  const numbers = colour => colour.match(/[\\d.]+/g).map(Number);
-  const light = colour => numbers(colour).slice(0, 3)
-    .map(c => (c /= 255) <= .03928 ? c / 12.92 : ((c + .055) / 1.055) ** 2.4)
-    .reduce((sum, c, n) => sum + c * [.2126, .7152, .0722][n], 0);
-  const behind = element => {
-    for (; element; element = element.parentElement) {
-      const colour = getComputedStyle(element).backgroundColor;
-      if ((numbers(colour)[3] ?? 1) > 0) return colour;
-    }
-    return 'rgb(255, 255, 255)';
-  };
-  const seen = [...document.querySelectorAll('button:enabled, h1, h2, h3, small, li, a, label, summary')]
-    .filter(e => e.offsetParent);
-  return [...new Set(seen.map(e => [light(getComputedStyle(e).color), light(behind(e)), e])
-    .map(([a, b, e]) => [(Math.max(a, b) + .05) / (Math.min(a, b) + .05), e])
-    .filter(([ratio]) => ratio < 4.5).map(([ratio, e]) => `${e.tagName} ${e.className} ${ratio.toFixed(1)}`))];
-})()"""

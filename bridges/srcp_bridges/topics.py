@@ -1,10 +1,19 @@
 """Topics of MQTT: at which of them rows are shown and how, and which commands their payloads stand for."""
 import json
+import re
+from collections import namedtuple
 
-from srcp import Drive, position
+from srcp_bridges.rows import position
 
+NUMBER = "(0|[1-9][0-9]{0,8})"
+FORMS = [re.compile(form) for form in (
+    f"{NUMBER}/(POWER)(?:/text)?()()", f"{NUMBER}/(GL|FB|SESSION)/{NUMBER}()", f"{NUMBER}/(GL|GA)/{NUMBER}/(is|lock)",
+    f"{NUMBER}/(GA)/{NUMBER}/([0-7]|position)", f"{NUMBER}_(POWER|GL|GA|FB)_{NUMBER}()")]
+COMMAND = re.compile(f"{NUMBER}/(POWER|FB/{NUMBER}|(GL|GA)/{NUMBER}/is|GA/{NUMBER}/([0-7]|position))")
 PULSE = 250  # milliseconds for which the port of a turnout is on
 BITS = {"ON": "1", "OFF": "0", "TRUE": "1", "FALSE": "0"}
+
+Wanted = namedtuple("Wanted", "mode v v_max functions", defaults=(None, None, None, {}))  # None: as it is
 
 
 def shown(rows, key):
@@ -57,39 +66,47 @@ def announced(rows, key, prefix, names):
 
 
 def device_of(place):
-    """Returns the device that a topic (1/GL/3/is) is of; None if it is of none."""
-    try:
-        bus, group, *more = place.split("/")
-        return int(bus), group, int(more[0]) if group != "POWER" else 0, more[-1:] == ["lock"]
-    except (ValueError, IndexError):
-        return None
+    """Returns the device that a topic of our form (1/GL/3/is; 1_GL_3 of an announcement) is of, or None."""
+    for form in FORMS:
+        if match := form.fullmatch(place):
+            bus, group, address, part = match.groups()
+            return int(bus), group, int(address or 0), part == "lock"
+    return None
+
+
+def locomotive_of(place):
+    """Returns bus and address, if this is the topic at which a locomotive is driven; else None."""
+    bus, group, address, _ = device_of(place) or (0, None, 0, None)
+    return (bus, address) if place == f"{bus}/GL/{address}" else None
+
+
+def wanted_of(text):
+    """Returns what a payload wants of a locomotive: it has a speed, or members of the row as JSON."""
+    given = json.loads(text)
+    given = given if isinstance(given, dict) else {"v": given}
+    if unknown := given.keys() - set(Wanted._fields):
+        raise ValueError(f"no such member: {', '.join(unknown)}")
+    if not (functions := given.pop("functions", {})) and not given:
+        raise ValueError("nothing is wanted")
+    numbered = functions.items() if isinstance(functions, dict) else enumerate(functions)
+    words = {name: int(value) for name, value in given.items()}
+    return Wanted(**words, functions={int(number): int(value) for number, value in numbered})
 
 
 def commands_for(rows, place, text):
     """Returns the commands of SRCP that a payload stands for; `place` is the topic without the prefix and /set."""
-    bus, group, *more = place.split("/")
-    bus, bit = int(bus), BITS.get(text.upper(), text)
-    if group == "POWER" and not more:
-        return [f"SET {bus} POWER {text}"]
-    address, part = int(more[0]), more[1] if len(more) > 1 else "does"
-    if (group, part) == ("FB", "does"):
-        return [f"SET {bus} FB {address} {bit}"]
-    if group in ("GL", "GA") and part == "is":
-        return [f"INIT {bus} {group} {address} {text}" if text else f"TERM {bus} {group} {address}"]
-    if (group, part) == ("GA", "position"):
-        ports = {port: rows.get((bus, "GA", address, port)) for port in range(8) if port != int(text)}
-        off = [f"SET {bus} GA {address} {port} 0 -1" for port, row in ports.items() if row and row.value]
-        return [*off, f"SET {bus} GA {address} {int(text)} 1 {PULSE}"]
-    if group == "GA":
-        return [f"SET {bus} GA {address} {int(part)} {bit}" + " -1" * (len(bit.split()) == 1)]
-    if (group, part) != ("GL", "does"):
+    if not COMMAND.fullmatch(place):
         raise ValueError("no such topic")
-    wanted = json.loads(text)
-    wanted = wanted if isinstance(wanted, dict) else {"v": wanted}
-    now = rows.get((bus, "GL", address, "does")) or Drive(0, 1, 0, 0, ())
-    steps = now.v_max or getattr(rows.get((bus, "GL", address, "is")), "steps", 0)
-    functions = wanted.get("functions", [])
-    if isinstance(functions, dict):
-        functions = [functions.get(str(number), value) for number, value in enumerate(now.functions)]
-    words = [wanted.get("mode", now.mode), wanted.get("v", now.v), wanted.get("v_max", steps), *functions]
-    return [f"SET {bus} GL {address} {' '.join(str(int(word)) for word in words)}"]
+    bus, group, address, part = [*place.split("/"), "", ""][:4]
+    device, bit = f"{bus} {group} {address}", BITS.get(text.upper(), text)
+    if group == "POWER":
+        return [f"SET {bus} POWER {text}"]
+    if group == "FB":
+        return [f"SET {device} {bit}"]
+    if part == "is":
+        return [f"INIT {device} {text}" if text else f"TERM {device}"]
+    if part == "position":
+        ports = {port: rows.get((int(bus), "GA", int(address), port)) for port in range(8) if port != int(text)}
+        off = [f"SET {device} {port} 0 -1" for port, row in ports.items() if row and row.value]
+        return [*off, f"SET {device} {int(text)} 1 {PULSE}"]
+    return [f"SET {device} {part} {bit}" + " -1" * (len(bit.split()) == 1)]

@@ -1,96 +1,47 @@
 """Sessions at an srcp_server, and a mirror of its registry, for programs that are one thread of asyncio."""
 import asyncio
 import socket
-from collections import deque, namedtuple
+from collections import deque
 
-from program import say
+from srcp_bridges.program import Wrong, say
+from srcp_bridges.rows import EMERGENCY_STOP, FORWARD, NOT_SRCP, Change, Refused, Rows, devices, keys_of, parse
+from srcp_bridges.state import SELF
+from srcp_bridges.stop import Stops
 
 ANSWER = 3.0  # seconds within which the server answers; later it counts as gone
 BEAT = 2.0  # seconds between two questions that show whether it is there
 MOMENT = 0.3  # seconds until it is asked for the rows of before that were not listed again
 LONGEST = 4096  # bytes without an end of line; the server sends 126 at most
 
-Peer = namedtuple("Peer", "stamp mode")
-Power = namedtuple("Power", "stamp on text")
-Locomotive = namedtuple("Locomotive", "stamp protocol version steps functions")
-Drive = namedtuple("Drive", "stamp mode v v_max functions")
-Accessory = namedtuple("Accessory", "stamp protocol")
-Port = Sensor = namedtuple("Port", "stamp value")
-Lock = namedtuple("Lock", "stamp seconds session")
-Change = namedtuple("Change", "stamp key row before")  # row None: it is gone; stamp None: at a moment that nobody told
-KINDS = {("SESSION", "is"): Peer, ("GL", "is"): Locomotive, ("GA", "is"): Accessory, ("FB", "does"): Sensor}
-BACKWARD, FORWARD, EMERGENCY_STOP = 0, 1, 2
-NOT_SRCP = (ValueError, KeyError, IndexError, TypeError)  # what reading a line raises that the server does not send
 
-
-class Refused(Exception):
-    """The server's reply is an error, such as `414 ERROR device locked`."""
-
-
-def parse(line):
-    """Returns the key (bus, group, address, part) and the row of an information line; None for the row of what is gone.
-
-    The part is `is`, `does`, `lock`, or the number of an accessory's port.
-    """
-    stamp, code, _, bus, group, *words = line.split(" ")
-    stamp, part = float(stamp), "does" if code == "100" else "is"
-    if group == "LOCK":
-        group, part = words.pop(0), "lock"
-    address = 0 if group == "POWER" else int(words.pop(0))
-    if code == "102":
-        row = None
-    elif group == "POWER":
-        row = Power(stamp, words[0] == "ON", " ".join(words[1:]))
-    elif part == "lock":
-        row = Lock(stamp, *map(int, words))
-    elif group == "GL" and part == "does":
-        mode, v, v_max, *functions = map(int, words)
-        row = Drive(stamp, mode, v, v_max, tuple(functions))
-    elif group == "GA" and part == "does":
-        part, row = int(words[0]), Port(stamp, int(words[1]))
-    else:
-        row = KINDS[group, part](stamp, *(int(word) if word.isdecimal() else word for word in words))
-    return (int(bus), group, address, part), row
-
-
-def position(rows, bus, address):
-    """Returns the port that an accessory was put to last: that which is 1, else that which changed last, else None."""
-    made = rows.get((bus, "GA", address, "is"))
-    ports = {port: row for port in range(8) if made and (row := rows.get((bus, "GA", address, port)))}
-    on = [port for port in ports if ports[port].value]
-    moved = on if len(on) == 1 else [port for port in ports if ports[port].stamp > made.stamp]
-    return max(moved, key=lambda port: ports[port].stamp, default=None)
-
-
-def devices(keys):
-    """Returns what can go as one, of these keys: (bus, group, address, whether it is a lock)."""
-    return list(dict.fromkeys((*key[:3], key[3] == "lock") for key in keys))
-
-
-def keys_of(device):
-    """Returns the keys that the rows of a device can have."""
-    return [(*device[:3], part) for part in (["lock"] if device[3] else ["is", "does", *range(8)])]
+class ServerIsFull(ConnectionError):
+    """The server closed a connection before it said anything, as it does with one more than it takes."""
 
 
 class Session(asyncio.Protocol):
     """A session at the server. `ended` is done once its connection is closed."""
 
-    def __init__(self, take):
+    def __init__(self, take, port):
         loop = asyncio.get_running_loop()
-        self.take, self.begun, self.id, self.ended = take, b"", None, loop.create_future()
+        self.take, self.port, self.begun, self.id, self.ended = take, port, b"", None, loop.create_future()
         self.waiting = deque([loop.create_future()])  # for the welcome line
 
     @classmethod
-    async def begin(cls, server, take=None):
-        """Begins a command session; or that of a panel, if there is a function to `take` its lines."""
+    async def begin(cls, server, take=None, whose=""):
+        """Begins a command session; or that of a panel, if there is a function to `take` its lines. `whose` names whom
+        the session is for, if that is not this program."""
         async with asyncio.timeout(ANSWER):
-            _, session = await asyncio.get_running_loop().create_connection(lambda: cls(take), *server)
+            _, session = await asyncio.get_running_loop().create_connection(lambda: cls(take, server[1]), *server)
+        welcome = session.waiting[0]
         try:
             await session.ask(f"SET CONNECTIONMODE SRCP {'INFO' if take else 'COMMAND'}")
             session.id = int((await session.ask("GO")).removeprefix("OK GO "))
+            SELF.begins(session.port, session.id, whose)
             return session
         except BaseException as fault:
             session.transport.abort()
+            if session.ended.done() and welcome.result() is None and not session.begun:
+                raise ServerIsFull("the server is full") from None
             raise ConnectionError("does not speak SRCP") if isinstance(fault, ValueError) else fault
 
     def connection_made(self, transport):
@@ -109,6 +60,7 @@ class Session(asyncio.Protocol):
             self.transport.abort()
 
     def connection_lost(self, fault):
+        SELF.ends(self.port, self.id)
         for future in [self.ended, *self.waiting]:
             if not future.done():
                 future.set_result(None)
@@ -141,12 +93,15 @@ class Mirror:
 
     `told` is called with each Change, `joined` with whether the server was started anew, `left` when it is gone. After
     a restart all rows of before go; after an overrun those that the server has not. Rows listed as before are not told.
+    `here`: its panel is open. `anew`: the server that it lists was started anew. `ways` has the direction that each
+    locomotive was told last, by (bus, address), and `stops` how often it was stopped.
     """
 
     def __init__(self, asked, told=lambda change: None, joined=lambda anew: None, left=lambda: None):
-        self.server, self.again, self.here = (asked.host, asked.port), asked.again, False
+        self.server, self.again, self.here, self.anew = (asked.host, asked.port), asked.again, False, True
         self.told, self.joined, self.left = told, joined, left
-        self.rows, self.session, self.stale = {}, None, {}
+        self.rows, self.ways, self.stops, self.stale = Rows(), {}, Stops(), {}
+        self.session: Session | None = None
 
     async def run(self):
         """Follows the server for ever."""
@@ -160,40 +115,65 @@ class Mirror:
                 self.left()
             await asyncio.sleep(self.again)
 
+    async def join(self):
+        """Returns the session at the server that is there. If it was started anew, all rows of before go."""
+        try:
+            if self.session and await self.session.ask(f"GET 0 SESSION {self.session.id}"):
+                self.anew = False
+                return self.session
+        except ConnectionError:
+            pass  # that server is gone
+        self.anew, session = True, await Session.begin(self.server)
+        for device in reversed(devices(self.rows)):  # so sessions go last, as at the server
+            self.drop(device)
+        self.session = session
+        return session
+
     async def follow(self):
         """Joins, and follows until the panel is closed or the server does not answer."""
-        try:
-            anew = not (self.session and await self.session.ask(f"GET 0 SESSION {self.session.id}"))
-        except ConnectionError:
-            anew = True
-        if anew:
-            session = await Session.begin(self.server)
-            for device in reversed(devices(self.rows)):  # so sessions go last, as at the server
-                self.drop(device)
-            self.session = session
+        session = await self.join()
         self.stale = dict.fromkeys(self.rows)
         panel = await Session.begin(self.server, self.take)
         try:
-            await self.session.ask(f"GET 0 SESSION {panel.id}")  # so both are of one server
-            say(f"server: joined, {'started anew' if anew else 'as before'}")
+            await session.ask(f"GET 0 SESSION {panel.id}")  # so both are of one server
+            say(f"server: joined, {'started anew' if self.anew else 'as before'}")
             self.here = True
-            self.joined(anew)
+            self.stops.due.clear()
+            self.joined(self.anew)
             while not panel.ended.done():
                 await asyncio.wait([panel.ended], timeout=MOMENT if self.stale else BEAT)
                 for device in reversed(devices(self.stale)):
                     if not await self.has(device) and any(key in self.stale for key in keys_of(device)):
                         self.drop(device)
-                await self.session.ask(f"GET 0 SESSION {self.session.id}")
+                await session.ask(f"GET 0 SESSION {session.id}")
             raise ConnectionError("closed the panel")
         finally:
             panel.transport.abort()
+
+    async def ask(self, command):
+        """Carries out a command by the session beside the panel."""
+        if not self.session:
+            raise ConnectionError("the server is away")
+        return await self.session.ask(command)
+
+    async def look_for_bus(self, number):
+        """Raises Wrong if the server has no bus of that number: it is one of this program's words."""
+        try:
+            await self.ask(f"GET {number} POWER")
+        except Refused as reply:
+            if str(reply).startswith("412"):
+                raise Wrong(f"--bus {number}: the server has no such bus") from None
+
+    def way(self, bus, address):
+        """Returns the direction of a locomotive: the one that its rows told last. An emergency stop tells none."""
+        return self.ways.get((bus, address), FORWARD)
 
     async def get(self, key):
         """Returns the row that the server has at this moment, or None. It tells no row whose part is `is`."""
         bus, group, address, part = key
         words = f"LOCK {group} {address}" if part == "lock" else "POWER" if group == "POWER" else f"{group} {address}"
         try:
-            return await self.session.ask(f"GET {bus} {words}" + f" {part}" * (group == "GA" and part != "lock"))
+            return await self.ask(f"GET {bus} {words}" + f" {part}" * (group == "GA" and part != "lock"))
         except Refused:
             return None
 
@@ -215,17 +195,25 @@ class Mirror:
             key, row = parse(line)
         except NOT_SRCP:
             return say(f"server: a line that is not understood: {line[:100]}")
-        if row:
-            before, self.rows[key] = self.rows.get(key), row
-            if key not in self.stale or before != row:  # one that is listed again as it was is no change
-                self.told(Change(row.stamp, key, row, before))
-            self.stale.pop(key, None)
+        if not row:
+            return self.drop((*key[:3], key[3] == "lock"), float(line.split(" ")[0]))
+        before = self.rows.enter(key, row, key in self.stale)
+        if key not in self.stale or before != row:  # one that is listed again as it was is no change
+            if key[1::2] == ("GL", "does"):
+                self.drives(key[0], key[2], row)
+            self.told(Change(row.stamp, key, row, before))
+        self.stale.pop(key, None)
+
+    def drives(self, bus, address, row):
+        """Notes the direction of a locomotive, or that it was stopped."""
+        if row.mode == EMERGENCY_STOP:
+            self.stops.stopped(bus, address)
         else:
-            self.drop((*key[:3], key[3] == "lock"), float(line.split(" ")[0]))
+            self.ways[bus, address] = row.mode
 
     def drop(self, device, stamp=None):
         """Takes out all rows of a device."""
         for key in keys_of(device):
             self.stale.pop(key, None)
-            if before := self.rows.pop(key, None):
+            if before := self.rows.remove(key):
                 self.told(Change(stamp, key, None, before))

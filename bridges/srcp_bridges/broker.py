@@ -1,14 +1,31 @@
 """A connection to an MQTT broker by paho-mqtt. It has a thread of its own, and hands what comes to that of asyncio."""
 import os
-import sys
+import ssl
 import threading
 
 try:
-    import paho.mqtt.client as paho
+    import paho.mqtt.client as paho  # type: ignore[import]
 except ImportError:
-    sys.exit("-- mqtt.py needs paho-mqtt: apt install python3-paho-mqtt")
+    paho = None
+
+from srcp_bridges.program import Wrong
 
 QUEUED = 20000  # messages that may wait for the broker; paho tells them apart by 65,535 numbers
+
+
+def check(asked):
+    """Refuses words with which no broker can be reached."""
+    if not paho:
+        raise Wrong("mqtt.py needs paho-mqtt: apt install python3-paho-mqtt")
+    try:
+        trusted(asked)
+    except OSError as fault:
+        raise Wrong(f"--cafile {asked.cafile}: {fault}") from None
+
+
+def trusted(asked):
+    """Returns what a broker's certificate is checked by; None if the connection is not encrypted."""
+    return ssl.create_default_context(cafile=asked.cafile) if asked.tls or asked.cafile else None
 
 
 def connect(asked, name, will, heard, joined, lost, loop):
@@ -26,8 +43,8 @@ def connect(asked, name, will, heard, joined, lost, loop):
     client.will_set(will, "offline", qos=1, retain=True)
     if asked.user:
         client.username_pw_set(asked.user, os.environ.get("MQTT_PASSWORD"))
-    if asked.tls:
-        client.tls_set()
+    if context := trusted(asked):
+        client.tls_set_context(context)
     client.max_queued_messages_set(QUEUED)
     client.on_message = came
     client.on_connect = lambda _, __, ___, code: loop.call_soon_threadsafe(lost.set if code else joined.set)

@@ -1,0 +1,269 @@
+#!/usr/bin/env python3
+"""A Z21 without hardware, at a UDP port of this machine, to try z21.py with.
+
+It loses one datagram in ten. It prints each command that changes the track, as DCC-EX would be told it, and refuses
+what is not in its protocol. A number that is typed turns the sensor of that number.
+"""
+import argparse
+import random
+import signal
+import socket
+import sys
+import threading
+import time
+
+if sys.version_info < (3, 11):
+    sys.exit("-- this takes Python 3.11 or later")
+STEPS = {0: (14, 0), 2: (28, 2), 3: (126, 4)}  # by the format of a command: how many, and the format of its reports
+STOPS_ALL, NO_POWER, SHORT, PROGRAMMING = 1, 2, 4, 32
+TO_ALL, TO_PANELS, TO_HANDS = 1, 2, 0x10000  # flags of who is told of power and turnouts, sensors, locomotives
+LONG_ON = 30.0  # seconds after which a turnout's coil burns
+SPEEDS = {28: [0, -1, *(2 * code - 3 for code in range(2, 16)), 0, -1, *(2 * code - 2 for code in range(2, 16))]}
+
+
+class Z21:
+    """What a Z21 knows, and its port. `faults` has what it refused, `log` what has changed the track, with the moments.
+
+    `commanded` is when the last command came that was no question. `hand`, `switch`, `stop`, `program` and `overload`
+    are what happens at the station itself. It keeps speeds while its power is off, and while it stops all. Who says
+    nothing for `patience` seconds is told nothing more. While it is `deaf` it hears questions alone.
+    """
+
+    def __init__(self, port, show=lambda text: None, loses=0.1):
+        self.port, self.show, self.loses, self.patience, self.chance = port, show, loses, 60.0, random.Random(port)
+        self.stalled, self.deaf, self.faults, self.sensors, self.log = False, False, [], set(), []
+        self.open()
+
+    def open(self):
+        self.socket = socket.socket(socket.AF_INET, socket.SOCK_DGRAM)
+        self.socket.bind(("127.0.0.1", self.port))
+        self.socket.settimeout(0.05)
+        self.reset()
+        self.running = True
+        self.thread = threading.Thread(target=self.run, daemon=True)
+        self.thread.start()
+
+    def reset(self):
+        """Knows what it knows when its power comes. The track's is on."""
+        self.status, self.cabs, self.functions, self.turnouts, self.log = 0, {}, {}, {}, []
+        self.commanded = 0.0
+        self.steps, self.clients, self.heard, self.outputs, self.pulses, self.last = {}, {}, {}, {}, {}, {}
+
+    restart = reset
+
+    def unplug(self):
+        self.running = False
+        self.thread.join()
+        self.socket.close()
+
+    @property
+    def power(self):
+        return int(not self.status)
+
+    def run(self):
+        while self.running:
+            for output in [output for output, since in self.outputs.items() if since < time.monotonic() - LONG_ON]:
+                self.fault(f"output {output} is left on")
+                del self.outputs[output]
+            try:
+                datagram, self.client = self.socket.recvfrom(2000)
+            except TimeoutError:
+                continue
+            except ConnectionError:  # who was told something is gone
+                continue
+            if not self.stalled and self.chance.random() >= self.loses:
+                self.heard[self.client] = time.monotonic()
+                while datagram:
+                    length = int.from_bytes(datagram[:2], "little")
+                    if not 4 <= length <= len(datagram):
+                        self.fault(datagram.hex())
+                        break
+                    if not self.take(int.from_bytes(datagram[2:4], "little"), datagram[4:length]):
+                        self.fault(datagram[:length].hex())
+                    datagram = datagram[length:]
+
+    # ---- what it says
+
+    def say(self, client, header, data):
+        if self.chance.random() >= self.loses:
+            begin = (len(data) + 4).to_bytes(2, "little") + header.to_bytes(2, "little")
+            self.socket.sendto(begin + bytes(data), client)
+
+    def say_bus(self, client, *data):
+        check = 0
+        for byte in data:
+            check ^= byte
+        self.say(client, 0x40, [*data, check])
+
+    def tell(self, flag, *data):
+        """Tells those who have asked for it, and have said something since."""
+        for client, flags in self.clients.copy().items():
+            if time.monotonic() > self.heard.get(client, 0) + self.patience:
+                del self.clients[client]
+            elif flags & flag:
+                self.say_bus(client, *data)
+
+    def cab(self, cab):
+        """Returns how a locomotive is, as it is told of."""
+        speed, way = self.cabs.get(cab, (0, 1))
+        count, form = STEPS[self.steps.get(cab, 3)]
+        step = speed * count // 126 if speed > 0 else speed
+        code = SPEEDS[28].index(step) if count == 28 else step + 1 if step > 0 else -step
+        on = sum(1 << number for (address, number), value in self.functions.copy().items() if address == cab and value)
+        return (0xEF, cab >> 8 | (0xC0 if cab > 127 else 0), cab & 255, form, way << 7 | code,
+                (on & 1) << 4 | on >> 1 & 15, on >> 5 & 255, on >> 13 & 255, on >> 21 & 255)
+
+    def sense(self, client, group):
+        bits = sum(1 << number - group * 80 - 1 for number in self.sensors if group * 80 < number <= group * 80 + 80)
+        self.say(client, 0x80, [group, *bits.to_bytes(10, "little")])
+
+    # ---- what happens at the station itself
+
+    def sensor(self, number, on):
+        (self.sensors.add if on else self.sensors.discard)(number)
+        for client, flags in self.clients.copy().items():
+            if flags & TO_PANELS:
+                self.sense(client, (number - 1) // 80)
+
+    def hand(self, cab, speed=None, way=1, **functions):
+        """A throttle at the station drives a locomotive, or switches functions: f0=1."""
+        if speed is not None:
+            self.cabs[cab] = speed, way
+            self.last.pop(("cab", cab), None)
+        for name, on in functions.items():
+            self.functions[cab, int(name[1:])] = on
+        self.tell(TO_HANDS, *self.cab(cab))
+
+    def switch(self, on):
+        self.status = 0 if on else NO_POWER
+        self.last.pop("power", None)
+        self.tell(TO_ALL, 0x61, on)
+
+    def stop(self):
+        self.status |= STOPS_ALL
+        self.tell(TO_ALL, 0x81, 0)
+
+    def program(self):
+        self.status = PROGRAMMING
+        self.tell(TO_ALL, 0x61, 2)
+
+    def programs(self):
+        return self.status == PROGRAMMING
+
+    def overload(self):
+        self.status = SHORT | NO_POWER
+        self.tell(TO_ALL, 0x61, 8)
+
+    def rubbish(self):
+        """It sends what is not in its protocol: what is cut, too long, of no kind, and with a wrong check byte."""
+        whole = bytes([7, 0, 0x40, 0, 0x61, 0, 0x61])
+        for data in (b"", b"\0" * 9, whole[:5], whole[:6] + b"\0", bytes([4, 0, 0x40, 0]), bytes([255, 255]) + whole[2:],
+                     bytes([6, 0, 0x40, 0, 0xEF, 0xEF]), bytes([15, 0, 0x80, 0, 9]) + b"\xff" * 10):
+            for client in self.clients:
+                self.socket.sendto(data, client)
+
+    # ---- what it is told
+
+    def fault(self, text):
+        self.faults.append(text)
+
+    def changes(self, part, text):
+        """Notes a command that changes a part of the track."""
+        if self.last.get(part) != text:
+            self.log.append((time.monotonic(), text))
+            self.show(f"<{text}>")
+        self.last[part] = text
+
+    def take(self, header, data):
+        """Carries out a dataset; returns whether it is one of the protocol."""
+        match header, *data:
+            case 0x10, :
+                self.say(self.client, 0x10, (123456).to_bytes(4, "little"))
+            case 0x30, :
+                self.clients.pop(self.client, None)
+            case 0x50, _, _, _, _:
+                self.clients[self.client] = int.from_bytes(data, "little")
+            case 0x51, :
+                self.say(self.client, 0x51, self.clients.get(self.client, 0).to_bytes(4, "little"))
+            case 0x81, 0 | 1 as group:
+                self.sense(self.client, group)
+            case 0x40, _, _, *_:
+                check = 0
+                for byte in data:
+                    check ^= byte
+                return check == 0 and self.take_bus(*data[:-1])
+            case _:
+                return False
+        return True
+
+    def take_bus(self, *data):
+        if data[0] in (0x80, 0x53, 0xE4) or data[:2] in ((0x21, 0x80), (0x21, 0x81)):
+            self.commanded = time.monotonic()
+            if self.deaf:
+                return True
+        match data:
+            case 0x21, 0x24:
+                self.say_bus(self.client, 0x62, 0x22, self.status)
+            case 0x21, (0x80 | 0x81) as word:
+                self.changes("power", f"{word & 1}")
+                self.status = NO_POWER * (1 - (word & 1))
+                self.tell(TO_ALL, 0x61, word & 1)
+            case 0x80, :
+                self.last.clear()  # what drives on is told so
+                self.changes("power", "!")
+                self.stop()
+            case 0x53, high, low, bits if bits & 0xF6 == 0xA0 and high * 256 + low < 2044:
+                self.take_output(high * 256 + low + 1, bits & 1, bits & 8)
+            case 0x43, high, low:
+                self.say_bus(self.client, 0x43, high, low, self.turnouts.get(high * 256 + low + 1, -1) + 1)
+            case 0xE3, 0xF0, high, low:
+                self.say_bus(self.client, *self.cab((high & 63) << 8 | low))
+            case 0xE4, 0x10 | 0x12 | 0x13 as form, high, low, code if high > 191 or high == 0 and low < 128:
+                self.take_speed((high & 63) << 8 | low, form & 3, code & 127, code >> 7)
+            case 0xE4, 0xF8, high, low, bits if bits & 63 <= 28 and bits < 128:
+                self.take_function((high & 63) << 8 | low, bits & 63, bits >> 6)
+            case _:
+                return False
+        return True
+
+    def take_output(self, address, port, on):
+        if on:
+            self.changes(("turnout", address), f"a {address} {port}")
+            self.turnouts[address] = port
+            self.outputs.setdefault((address, port), time.monotonic())
+        elif since := self.outputs.pop((address, port), None):
+            self.pulses[address, port] = time.monotonic() - since
+        self.tell(TO_ALL, 0x43, *divmod(address - 1, 256), self.turnouts.get(address, -1) + 1)
+
+    def take_speed(self, cab, form, code, way):
+        count, _ = STEPS[form]
+        if not 1 <= cab <= 9999 + 240 or code > (count + 1 if count != 28 else 31):
+            return self.fault(f"cab {cab} {code} of {count}")
+        step = SPEEDS[28][code] if count == 28 else code - 1 if code > 1 else -code
+        drives = (-(-step * 126 // count) if step > 0 else step), way
+        self.changes(("cab", cab), f"t {cab} {drives[0]} {way}")
+        self.cabs[cab], self.steps[cab] = drives, form
+        self.tell(TO_HANDS, *self.cab(cab))
+
+    def take_function(self, cab, number, on):
+        self.changes(("function", cab, number), f"F {cab} {number} {on}")
+        self.functions[cab, number] = on
+        self.tell(TO_HANDS, *self.cab(cab))
+
+
+def main():
+    words = argparse.ArgumentParser(description=__doc__, formatter_class=argparse.RawDescriptionHelpFormatter)
+    words.add_argument("port", metavar="PORT", type=int)
+    signal.signal(signal.SIGTERM, signal.default_int_handler)
+    station = Z21(words.parse_args().port, lambda text: print(text, flush=True))
+    try:
+        for line in sys.stdin:
+            if line.strip().isdecimal():
+                station.sensor(int(line), int(line) not in station.sensors)
+        threading.Event().wait()  # no keyboard: until it is ended
+    except KeyboardInterrupt:
+        station.unplug()
+
+
+if __name__ == "__main__":
+    main()

@@ -1,0 +1,76 @@
+// Turnouts and signals, sensors, and power.
+import { $, button, isNamed, make, name, paint, place } from "./layout.js";
+import { lockClass } from "./locomotives.js";
+import { ask, order, session } from "./server.js";
+import { text } from "./texts.js";
+
+const PULSE = 250;                              // milliseconds of a turnout's coil
+
+// ---- a turnout, or a signal: an accessory of more than two ports
+
+async function put(key, ports, port) {
+  const [bus, , address] = key.split(" ");
+  for (const other of Object.keys(ports)) if (other !== port && ports[other].value) {
+    await ask(key, "/command", `SET ${bus} GA ${address} ${other} 0 -1`);
+  }
+  await ask(key, "/command", `SET ${bus} GA ${address} ${port} 1 ${Object.keys(ports).length > 2 ? -1 : PULSE}`);
+}
+function makeAccessory(key, accessory) {
+  const ports = Object.keys(accessory.ports), isSignal = ports.length > 2;
+  const words = { className: "card", role: "group", ariaLabel: name(key) };
+  accessory.card?.remove();
+  accessory.buttons = new Map(ports.map(port => [port, button(
+    isSignal ? port : text(port === "0" ? "straight" : "branch"), isSignal ? text("portOf", { port }) : "",
+    () => put(key, accessory.ports, port))]));
+  accessory.card = make("li", words,
+    make("div", { className: "name" }, name(key) + " ", make("small", { textContent: key })),
+    make("div", { className: "row" }, ...accessory.buttons.values()));
+  place($("GA"), accessory.card, key);
+}
+paint.GA = (key, accessory) => {
+  const ports = Object.keys(accessory.ports ?? {});
+  if (!accessory.is || !ports.length) return;
+  if (!accessory.card || accessory.buttons.size !== ports.length) makeAccessory(key, accessory);
+  for (const [port, each] of accessory.buttons) {
+    each.ariaPressed = +port === accessory.lies;
+    each.disabled = !!accessory.lock && accessory.lock.session !== session;
+  }
+  accessory.card.className = "card" + lockClass(accessory);
+};
+
+// ---- a sensor
+
+paint.FB = (key, sensor) => {
+  const [bus, , address] = key.split(" "), is = text(sensor.does.value ? "occupied" : "free");
+  if (!sensor.card) {
+    const number = bus === "1" ? address : bus + ":" + address;
+    sensor.card = isNamed(key) ? make("li", {}, name(key) + " ", make("small", { textContent: number }))
+      : make("li", { textContent: number });
+    sensor.card.role = "listitem";
+    place($("FB"), sensor.card, key);
+  }
+  sensor.card.title = sensor.card.ariaLabel = text("sensorIs", { name: name(key), bus, is });
+  sensor.card.className = sensor.does.value ? "on" : "";
+};
+
+// ---- power, and what the track does
+
+const WHY = {                                   // texts of POWER, and how this page says them
+  "no station": "noStation", "station was reset": "stationReset", "station says off": "stationOff",
+  "server was away": "serverWasAway", overload: "overload", "stop all": "cutByStop",
+};
+
+paint.POWER = (key, power) => {
+  const [bus] = key.split(" "), { on, text: why } = power.does;
+  if (!power.card) {
+    power.card = button("", "", () => order(key, "/command", `SET ${bus} POWER ${power.does.on ? "OFF" : "ON"}`));
+    power.entry = make("li");
+    place($("POWER"), power.card, key);
+    place($("track"), power.entry, key);
+  }
+  power.card.textContent = text(on ? "powerOn" : "powerOff", { name: name(key) });
+  power.card.ariaPressed = on;
+  const words = why in WHY ? text(WHY[why]) : why;
+  power.entry.textContent = text(on ? "trackSays" : "trackIsOff", { name: name(key), why: words });
+  power.entry.hidden = !why;
+};

@@ -1,0 +1,142 @@
+"""A session that drives locomotives for somebody: what is taken is locked, and stands when it is given back."""
+import asyncio
+import contextlib
+
+from srcp_bridges.rows import EMERGENCY_STOP, Refused
+from srcp_bridges.srcp import ServerIsFull, Session
+from srcp_bridges.stop import send, stop_several
+
+TOP = 126  # the steps of a locomotive that is made here
+FUNCTIONS = 29  # of such a locomotive
+
+
+async def switch(mirror, ask, bus, address, changes):
+    """Changes functions of a locomotive, and nothing else: the server is asked first how it drives.
+
+    `changes` has by number the new value, or None for the other one than it has. `ask` carries out a command, and is
+    told how many stops were counted by then: one that comes meanwhile is not undone.
+    """
+    seen = mirror.stops.count(bus, address)
+    now = await ask(f"GET {bus} GL {address}", seen)
+    functions = [old if number not in changes else 1 - old if changes[number] is None else changes[number]
+                 for number, old in enumerate(now.functions)]
+    mode = mirror.way(bus, address) if now.mode == EMERGENCY_STOP else now.mode
+    words = [mode, now.v, now.v_max, *functions]
+    await ask(f"SET {bus} GL {address} {' '.join(map(str, words))}", seen)
+
+
+def used(command):
+    """Returns the address of the locomotive that a command has drive, or whose functions it switches, or 0."""
+    words = command.split()
+    is_used = words[:1] + words[2:3] == ["SET", "GL"] and (words[5] != "0" or len(words) > 7)
+    return int(words[3]) if is_used else 0
+
+
+class Driver:
+    """Begins its session when it is first needed. `taken` has addresses by the names under which they were taken, and
+    `unused` has those of locomotives that were made here and that nobody has driven. `name` is that of whoever drives.
+    """
+
+    def __init__(self, mirror, bus):
+        self.mirror, self.bus, self.taken, self.name, self.beginning = mirror, bus, {}, "", asyncio.Lock()
+        self.session: Session | None = None
+        self.unused: set[int] = set()
+
+    async def ask(self, command, seen=None):
+        """Carries out a command, as `send`."""
+        for last in (False, True):
+            session = None
+            try:
+                session = await self.joined()
+                if locomotive := used(command):
+                    self.unused.discard(locomotive)
+                return await send(self.mirror.stops, session, command, seen)
+            except Refused as reply:
+                raise Refused(f"{command}: {reply}") from None
+            except OSError as fault:
+                if self.session is session:
+                    self.session = None
+                    self.unused.clear()  # another may have made them at a server that began anew
+                if last:
+                    raise Refused(str(fault) if isinstance(fault, ServerIsFull) else "the server is away") from None
+
+    async def joined(self):
+        """Returns the session. One that begins anew first takes what was taken."""
+        async with self.beginning:
+            if not self.session:
+                session = await Session.begin(self.mirror.server, whose=self.name)
+                for address in set(self.taken.values()):
+                    with contextlib.suppress(Refused):
+                        await self.lock(session.ask, address)
+                self.session = session
+            return self.session
+
+    async def make(self, ask, device, asks, makes):
+        """Makes a device if it is not there; returns whether it was made. `ask` carries out a command."""
+        try:
+            await ask(f"GET {self.bus} {device} {asks}")
+            return False
+        except Refused:
+            await ask(f"INIT {self.bus} {device} {makes}")
+            return True
+
+    async def lock(self, ask, address, version=1):
+        """Locks a locomotive, and makes it if it is not there. `ask` carries out a command."""
+        is_made = await self.make(ask, f"GL {address}", "", f"N {version} {TOP} {FUNCTIONS}")
+        await ask(f"SET {self.bus} LOCK GL {address} 0")
+        if is_made:
+            self.unused.add(address)
+
+    async def take(self, name, address, version):
+        """Takes a locomotive; returns how it drives."""
+        await self.lock(self.ask, address, version)
+        self.taken[name] = address
+        return await self.ask(f"GET {self.bus} GL {address}")
+
+    async def drive(self, address, mode=None, v=None, seen=None):
+        """Changes direction or speed of a locomotive. `seen`: the stops that were counted as this was asked for."""
+        seen = self.mirror.stops.count(self.bus, address) if seen is None else seen
+        now = await self.ask(f"GET {self.bus} GL {address}")
+        way = self.mirror.way(self.bus, address) if now.mode == EMERGENCY_STOP else now.mode
+        speed, most = (now.v, now.v_max) if v is None else (v, TOP)
+        await self.ask(f"SET {self.bus} GL {address} {way if mode is None else mode} {speed} {most}", seen)
+
+    async def switch(self, address, changes):
+        """Changes functions of a locomotive, and nothing else."""
+        await switch(self.mirror, self.ask, self.bus, address, changes)
+
+    async def give_back(self, name):
+        """Has a locomotive stand, unless it is taken under another name too, and unlocks it; an unused one goes."""
+        address = self.taken.pop(name)
+        if address in self.taken.values():
+            return
+        if address in self.unused and self.session:
+            self.unused.discard(address)
+            with contextlib.suppress(OSError):  # by this session alone: for another it may be somebody else's
+                await self.session.ask(f"TERM {self.bus} GL {address}")
+        else:
+            await self.drive(address, v=0)
+            await self.ask(f"TERM {self.bus} LOCK GL {address}")
+
+    async def yield_to(self, other, address):
+        """Unlocks a locomotive that another driver is about to take. It drives on as it does."""
+        for name in [name for name, taken in self.taken.items() if taken == address]:
+            del self.taken[name]
+        if address in self.unused:
+            self.unused.discard(address)
+            other.unused.add(address)
+        with contextlib.suppress(Refused):  # it has none any more
+            await self.ask(f"TERM {self.bus} LOCK GL {address}")
+
+    async def stop(self, addresses=None):
+        """Has these, or all that is taken, make an emergency stop; returns all refusals."""
+        addresses = set(self.taken.values()) if addresses is None else addresses
+        return await stop_several(self.mirror, self.ask, [(self.bus, address) for address in addresses])
+
+    async def end(self):
+        """Has all that is taken stand, and ends the session."""
+        for name in list(self.taken):
+            with contextlib.suppress(Refused):
+                await self.give_back(name)
+        if self.session:
+            self.session.transport.close()

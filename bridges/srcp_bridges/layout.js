@@ -1,0 +1,70 @@
+// What the page knows of the layout, the elements that show it, and when they are drawn.
+import { text } from "./texts.js";
+
+export const $ = id => document.getElementById(id);
+export const devices = new Map();               // "1 GL 3" -> { is, does, lock: rows, ports: { number: row }, card }
+export const paint = {};                        // the function that draws a device, by its group
+const waiting = new Set();
+let names = {}, drawn = [];
+
+export function make(tag, words = {}, ...inner) {
+  const element = Object.assign(document.createElement(tag), words);
+  element.append(...inner);
+  return element;
+}
+export function button(text, label, onclick) {
+  const element = make("button", { type: "button", textContent: text, onclick });
+  if (label) element.ariaLabel = element.title = label;
+  return element;
+}
+
+export const called = given => names = given;
+export const isNamed = key => key in names;
+export function name(key) {
+  const [, group, address] = key.split(" ");
+  const ports = Object.keys(devices.get(key)?.ports ?? {}).length;
+  const kind = { GL: "locomotive", GA: ports > 2 ? "signal" : "turnout", FB: "sensor" }[group];
+  return names[key] ?? (kind ? `${text(kind)} ${address}` : `${text("power")} ${key.split(" ")[0]}`);
+}
+
+// Puts a card where its address has it.
+export function place(container, card, key) {
+  const [bus, , address] = key.split(" ").map(Number);
+  card.dataset.key = key;
+  card.rank = bus * 100000 + (address || 0);
+  let next = container.lastElementChild;
+  while (next && next.rank > card.rank) next = next.previousElementSibling;
+  next ? next.after(card) : container.prepend(card);
+}
+
+export function forget(key) {
+  const device = devices.get(key);
+  device?.card?.remove();
+  device?.entry?.remove();
+  devices.delete(key);
+  redraw([...devices.keys()].filter(other => other.includes(" GL ")));
+}
+
+// Draws these once a frame, however many lines came.
+export function redraw(keys = [...devices.keys()]) {
+  if (!waiting.size) requestAnimationFrame(draw);
+  waiting.add("");
+  keys.forEach(key => waiting.add(key));
+}
+export const whenDrawn = then => drawn.push(then);
+function draw() {
+  const keys = [...waiting].filter(key => devices.has(key));
+  waiting.clear();
+  for (const key of keys) paint[key.split(" ")[1]](key, devices.get(key));
+  for (const then of drawn) then(keys);
+}
+
+// Makes all cards anew: in another language, say.
+export function remake() {
+  for (const device of devices.values()) {
+    device.card?.remove();
+    device.entry?.remove();
+    device.card = device.entry = undefined;
+  }
+  redraw();
+}

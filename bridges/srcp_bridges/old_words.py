@@ -1,0 +1,169 @@
+"""What SRCP 0.8.4 has and the server leaves out: descriptions, waiting for a sensor, the time, messages."""
+import asyncio
+import re
+import time
+from collections.abc import Callable
+
+from srcp_bridges.rows import Refused
+from srcp_bridges.srcp import Mirror
+
+NUMBER = re.compile("[0-9]{1,9}")
+GROUPS = {"POWER": "POWER", "GL": "GL 1", "GA": "GA 1 0", "FB": "FB 1"}  # and a question for each
+SHORT, LONG, WRONG = "419 ERROR list too short", "418 ERROR list too long", "412 ERROR wrong value"
+NO_DATA, LATE, FORBIDDEN = "416 ERROR no data", "417 ERROR timeout", "415 ERROR forbidden"
+UNSUPPORTED = "423 ERROR unsupported operation"
+LISTED = 1.0  # seconds until what was made is told of
+DAY = 99999, 23, 59, 59  # the most that the words of a time may be
+POLL = 0.2  # seconds until a WAIT looks at the clock again: somebody may have turned it
+
+
+def fault(words: list[str], *most: int) -> str | None:
+    """Returns what is wrong with words that have to be numbers, each up to its limit."""
+    if len(words) != len(most):
+        return SHORT if len(words) < len(most) else LONG
+    is_right = all(NUMBER.fullmatch(word) and int(word) <= top for word, top in zip(words, most))
+    return None if is_right else WRONG
+
+
+def seconds(words: list[str]) -> int:
+    """Returns the time that is told as day, hour, minute and second."""
+    day, hour, minute, second = map(int, words)
+    return ((day * 24 + hour) * 60 + minute) * 60 + second
+
+
+class Clock:
+    """The time of the layout, in seconds. It stands until it is told how fast it goes."""
+
+    def __init__(self):
+        self.at, self.since, self.speed, self.is_set, self.turned = 0.0, 0.0, 0.0, False, asyncio.Event()
+
+    def now(self) -> float:
+        return self.at + (time.monotonic() - self.since) * self.speed
+
+    def turn(self, at: float, speed: float, is_set: bool = True):
+        self.at, self.since, self.speed, self.is_set = at, time.monotonic(), speed, is_set
+        self.turned.set()
+
+    def row(self, at: float | None = None) -> str:
+        minutes, second = divmod(int(self.now() if at is None else at), 60)
+        return f"100 INFO 0 TIME {minutes // 1440} {minutes // 60 % 24} {minutes % 60} {second}"
+
+
+class Answers:
+    """Answers for all clients. An answer is a line without its stamp. `tell` is called with a line for the information
+    sessions that asked for the time."""
+
+    def __init__(self, asked, tell: Callable[[str], None]):
+        self.mirror, self.tell, self.clock = Mirror(asked, self.told), tell, Clock()
+        self.waits: set[asyncio.Queue] = set()  # the changes that come to each WAIT
+
+    def told(self, change):
+        for changes in self.waits:
+            changes.put_nowait(change)
+
+    async def ask(self, command: str) -> str:
+        """Returns the server's reply: an error, or 200."""
+        if not self.mirror.session:
+            raise ConnectionError("the server is away")
+        try:
+            await self.mirror.session.ask(command)
+            return "200"
+        except Refused as reply:
+            return str(reply)
+
+    async def describe(self, bus: int, words: list[str]) -> str:
+        """Answers GET b DESCRIPTION; with GL or GA and an address also what that is."""
+        if words:
+            return fault(words[1:], 99999) or await self.describe_device(bus, words[0].upper(), int(words[1]))
+        if bus == 0:
+            return "100 INFO 0 DESCRIPTION SESSION SERVER TIME GM DESCRIPTION"
+        replies = {group: await self.ask(f"GET {bus} {question}") for group, question in GROUPS.items()}
+        if replies["POWER"] == WRONG:
+            return WRONG
+        groups = [group for group, reply in replies.items() if not reply.startswith("422")]
+        groups += ["LOCK"] * ("GL" in groups or "GA" in groups)
+        return " ".join([f"100 INFO {bus} DESCRIPTION", *groups, "DESCRIPTION"])
+
+    async def describe_device(self, bus: int, group: str, address: int) -> str:
+        """Tells what a locomotive or an accessory is. Its row may come after the reply to the command that made it."""
+        if group not in ("GL", "GA"):
+            return NO_DATA
+        reply = await self.ask(f"GET {bus} {group} {address}" + " 0" * (group == "GA"))
+        end = time.monotonic() + LISTED
+        while reply == "200" and time.monotonic() < end:
+            if row := self.mirror.rows.get((bus, group, address, "is")):
+                return f"101 INFO {bus} {group} {address} {' '.join(map(str, row[1:]))}"
+            await asyncio.sleep(0.01)
+        return NO_DATA if reply == "200" else reply
+
+    async def wait_sensor(self, bus: int, words: list[str]) -> str:
+        """Answers WAIT b FB a value seconds."""
+        if wrong := fault(words, 99999, 9, 86400):
+            return wrong
+        address, value, most = map(int, words)
+        if (reply := await self.ask(f"CHECK {bus} FB {address} {value}")) != "200":
+            return reply
+        key = bus, "FB", address, "does"
+        changes: asyncio.Queue = asyncio.Queue()
+        self.waits.add(changes)
+        try:
+            row = begun = await self.mirror.get(key)
+            async with asyncio.timeout(most):
+                while row.value != value:
+                    change = await changes.get()
+                    if change.key == key and change.row and change.row.stamp > begun.stamp:
+                        row = change.row
+            return f"100 INFO {bus} FB {address} {value}"
+        except TimeoutError:
+            return LATE
+        finally:
+            self.waits.discard(changes)
+
+    async def wait_time(self, words: list[str]) -> str:
+        """Answers WAIT 0 TIME day hour minute second."""
+        if wrong := fault(words, *DAY):
+            return wrong
+        while (left := seconds(words) - self.clock.now()) > 0:
+            if not self.clock.speed:
+                return NO_DATA
+            await asyncio.sleep(min(left / self.clock.speed, POLL))
+        return self.clock.row()
+
+    def time(self, command: str, words: list[str]) -> str:
+        """Answers INIT, SET, GET and TERM 0 TIME."""
+        clock = self.clock
+        if command not in ("INIT", "SET", "GET", "TERM"):
+            return UNSUPPORTED
+        if wrong := fault(words, *{"INIT": (1000, 1000), "SET": DAY}.get(command, ())):
+            return wrong
+        if command in ("GET", "TERM") and not clock.is_set:
+            return NO_DATA
+        if command == "GET":
+            return clock.row()
+        if command == "INIT":
+            if not int(words[1]):
+                return WRONG
+            clock.turn(clock.now(), int(words[0]) / int(words[1]))
+            self.tell(f"101 INFO 0 TIME {int(words[0])} {int(words[1])}")
+        elif command == "SET":
+            clock.turn(seconds(words), clock.speed)
+            self.tell(clock.row())
+        else:
+            clock.turn(0.0, 0.0, False)
+            self.tell("102 INFO 0 TIME")
+        return "200 OK"
+
+    async def tell_minutes(self):
+        """Tells each minute of the clock as it begins."""
+        clock = self.clock
+        while True:
+            clock.turned.clear()
+            minute = clock.now() // 60
+            while not clock.turned.is_set():
+                minute += 1
+                try:
+                    left = (60 * minute - clock.now()) / clock.speed if clock.speed else None
+                    async with asyncio.timeout(left):
+                        await clock.turned.wait()
+                except TimeoutError:
+                    self.tell(clock.row(60 * minute))

@@ -1,0 +1,134 @@
+"""A page that is open in a browser: what it is sent, what it commands, and what stands as it goes."""
+import asyncio
+import collections
+import json
+
+from srcp_bridges.driving import switch
+from srcp_bridges.rows import Refused, position
+from srcp_bridges.srcp import Session
+from srcp_bridges.stop import send, stop_one
+
+BEHIND = 20000  # events that may wait for a page; one that is further behind is closed, and joins again
+
+
+def event(name, data):
+    """Returns the text by which a page is sent an event."""
+    return f"event: {name}\ndata: {json.dumps(data)}\n\n"
+
+
+def row_event(mirror, key, row):
+    """Returns the event of a row, and of what the rows before it tell: a locomotive's direction and how often it was
+    stopped, and how an accessory lies."""
+    bus, group, address, part = key
+    beside = {}
+    if row and (group, part) == ("GL", "does"):
+        beside = {"way": mirror.way(bus, address), "stops": mirror.stops.count(bus, address)}
+    elif row and group == "GA" and isinstance(part, int):
+        beside = {"lies": position(mirror.rows, bus, address)}
+    return event("row", {"key": key, "row": row and row._asdict(), **beside})
+
+
+class Page:
+    """The events that wait for a page, and its session, once it has taken something.
+
+    `taken` has the locomotives that it has locked. `drives` has, by locomotive, how it told it to drive.
+    """
+
+    def __init__(self, mirror, browser):
+        self.mirror, self.browser, self.session, self.taken, self.drives = mirror, browser, None, set(), {}
+        self.events: collections.deque[str] = collections.deque()
+        self.more, self.turn, self.open = asyncio.Event(), asyncio.Lock(), True
+        self.heard = asyncio.get_running_loop().time()
+
+    def tell(self, text):
+        if len(self.events) <= BEHIND:
+            self.events.append(text)
+        self.more.set()
+
+    def commander(self):
+        """Returns the session that commands for this page: its own, if it has one, else that of all pages."""
+        return self.session if self.session and not self.session.ended.done() else self.mirror.session
+
+    async def reply(self, carry_out, *words):
+        """Returns the reply, in words, to what a function carries out."""
+        if not self.mirror.session or self.mirror.session.ended.done():
+            return "the server is away"
+        try:
+            await carry_out(*words)
+            return "200 OK"
+        except (Refused, OSError) as fault:
+            return str(fault)
+
+    async def ask(self, command, seen=0):
+        """Carries out a command, one at a time; returns the reply. `seen`: the stops that the page had been told of."""
+        words = command.upper().split()
+        if words[2:3] == ["SESSION"]:
+            return "415 ERROR forbidden"  # that session is the one of all pages
+        if words[2:3] == ["POWER"]:  # behind nothing else
+            return await self.reply(lambda: self.mirror.session.ask(command))
+        return await self.reply(self.carry_out, command, words, seen)
+
+    async def switch(self, bus, address, function, value):
+        """Changes one function of a locomotive; returns the reply."""
+        async def ask(command, seen):
+            return await send(self.mirror.stops, self.commander(), command, seen)
+
+        async def in_turn():
+            async with self.turn:
+                await switch(self.mirror, ask, bus, address, {function: value})
+
+        return await self.reply(in_turn)
+
+    async def stop(self, bus, address):
+        """Has a locomotive make an emergency stop, behind nothing else; returns the reply."""
+        return await self.reply(lambda: stop_one(self.mirror, self.commander().ask, bus, address))
+
+    async def carry_out(self, command, words, seen):
+        """Notes what the page drives before the command is sent: it may be closed before the reply has come."""
+        async with self.turn:
+            if not self.open:
+                raise Refused("this page is closed")
+            if self.session and self.session.ended.done():
+                self.session, self.taken = None, set()
+            if not self.session and words[2:3] == ["LOCK"]:
+                self.session = await Session.begin(self.mirror.server, whose="a page")
+            drives = [int(word) if word.isdecimal() else None for word in words[1:2] + words[3:7]]
+            if words[:1] + words[2:3] == ["SET", "GL"] and len(drives) == 5 and None not in drives:
+                return await self.drive(command, tuple(drives[:2]), tuple(drives[2:]), seen)
+            await self.commander().ask(command)
+            if words[:1] + words[2:4] == ["SET", "LOCK", "GL"]:
+                self.taken.add(tuple(map(int, words[1:2] + words[4:5])))
+
+    async def drive(self, command, locomotive, told, seen):
+        """Carries out a command that has a locomotive drive as it is told: mode, V and Vmax."""
+        bus, address = locomotive
+        row, before = self.mirror.rows.get((bus, "GL", address, "does")), self.drives.get(locomotive)
+        if before or not row or row[1:4] != told:  # if not, this switches functions alone, and another drives
+            self.drives[locomotive] = told
+        try:
+            await send(self.mirror.stops, self.commander(), command, seen)
+        except Refused:
+            self.drives[locomotive] = before
+            raise
+
+    async def close(self):
+        """Has the locomotives stand that it has taken, and those that drive as it told last; ends its session."""
+        async with self.turn:
+            self.open = False
+            for bus, address in self.taken | self.drives.keys():
+                try:
+                    await self.leave(bus, address)
+                except (Refused, OSError):
+                    pass  # it is gone, or another has it, or the server is away
+        if self.session:
+            self.session.transport.close()
+
+    async def leave(self, bus, address):
+        """The server knows best how it drives and who has it; a row of the mirror may be on its way."""
+        session = self.commander()
+        drive = await session.ask(f"GET {bus} GL {address}")
+        is_own = drive[1:4] == self.drives.get((bus, address))
+        if not is_own and (bus, address) in self.taken:
+            is_own = (await session.ask(f"GET {bus} LOCK GL {address}")).session == session.id
+        if is_own and drive.v:
+            await session.ask(f"SET {bus} GL {address} {drive.mode} 0 {drive.v_max}")

@@ -1,0 +1,125 @@
+"""A phone that is connected: its lines come in, wait, and are carried out."""
+import asyncio
+import socket
+
+from srcp_bridges.driving import Driver
+from srcp_bridges.phone_layout import STAND_EVERY, Layout
+from srcp_bridges.phone_view import View
+from srcp_bridges.phone_words import USUAL, Line, Words
+from srcp_bridges.places import Full
+from srcp_bridges.program import say
+
+NAMELESS = 5.0  # seconds for which a phone may be silent, or slow, until it has told its name
+NAME = 40  # letters of a name that are kept
+WAITING = 1000  # lines that may wait
+AT_ONCE = 32  # lines that are read at once from a phone that has sent too many
+UNREAD = 1 << 20  # bytes that wait for a phone; one that is further behind is gone
+VANISHED = {socket.TCP_KEEPIDLE: 5, socket.TCP_KEEPINTVL: 2, socket.TCP_KEEPCNT: 3,
+            socket.TCP_USER_TIMEOUT: 11000}  # type: ignore[attr-defined]
+STOP_EVERY, END = "M*A*<;>X", "Q"
+
+
+class Phone:
+    """The connection of a phone. `waiting` has its lines in the order in which they are carried out."""
+
+    def __init__(self, layout: Layout, reader: asyncio.StreamReader, writer: asyncio.StreamWriter):
+        self.layout, self.reader, self.writer = layout, reader, writer
+        self.driver, self.watched = Driver(layout.mirror, layout.bus), False
+        self.view = View(layout, self.driver.taken, self.say)
+        self.words = Words(layout, self.driver, self.view, self.say)
+        self.waiting: asyncio.PriorityQueue[Line] = asyncio.PriorityQueue()
+
+    def say(self, text):
+        if self.writer.transport.get_write_buffer_size() > UNREAD:
+            self.writer.transport.abort()
+        elif not self.writer.is_closing():
+            self.writer.write(text.encode() + b"\r\n")
+
+    def take(self, text):
+        """Takes in a line."""
+        if text in ("*+", "*-"):
+            self.watched = text == "*+"
+        elif text.startswith("N"):
+            self.driver.name = "phone " + "".join(letter for letter in text[1:NAME] if letter.isprintable())
+            self.say(self.layout.beat())
+        elif text != END:
+            line = self.words.line(text)
+            if self.waiting.qsize() < (WAITING if line.turn == USUAL else 2 * WAITING):
+                self.waiting.put_nowait(line)
+            else:
+                self.say("HMtoo many lines wait")
+
+    async def next_line(self):
+        """Returns the next line. A phone that is silent is stopped, and after a while it counts as gone."""
+        if self.waiting.qsize() >= WAITING and self.words.lines % AT_ONCE == 0:
+            await asyncio.sleep(0)  # other phones have their turn
+        for seconds in (self.layout.asked.heartbeat if self.watched else None, self.layout.asked.patience):
+            try:
+                async with asyncio.timeout(seconds):
+                    return (await self.reader.readuntil(b"\n")).decode("utf-8", "replace").strip()
+            except TimeoutError:
+                self.take(STOP_EVERY)
+        raise ConnectionError("silent for too long")
+
+    async def read(self):
+        """Takes in the lines of a phone until it has gone; returns why."""
+        text = ""
+        try:
+            async with asyncio.timeout(NAMELESS):
+                while text != END and not text.startswith("N"):
+                    self.take(text := await self.next_line())
+        except TimeoutError:
+            return "told no name"
+        while text != END:
+            self.take(text := await self.next_line())
+        return "said good-bye"
+
+    async def read_all(self):
+        """Takes in all lines. At the end all stands at once that the phone has taken, and then what waits is done."""
+        why = "this program is ended"
+        try:
+            why = await self.read()
+        except EOFError:
+            why = "closed the connection"
+        except (OSError, asyncio.LimitOverrunError) as fault:
+            why = str(fault)
+        finally:
+            say(f"phone {self.peer}: {why}")
+            self.take(STAND_EVERY)
+            self.waiting.put_nowait(self.words.line(END))
+
+    async def carry_out(self):
+        """Carries out the lines that wait, until the last."""
+        while (line := await self.waiting.get()).text != END:
+            await self.words.carry_out(line)
+
+    async def serve(self):
+        self.peer = self.writer.get_extra_info("peername")[0]
+        try:
+            with self.layout.places.place(self.peer):
+                await self.drive()
+        except Full as full:
+            say(f"phone {self.peer}: turned away, {full}")
+            self.say(f"HMno place for this phone: {full}")
+        finally:
+            self.writer.close()
+
+    async def drive(self):
+        """Has a phone drive until it has gone; then what it had taken stands."""
+        say(f"phone {self.peer}: joined")
+        connection = self.writer.get_extra_info("socket")
+        connection.setsockopt(socket.SOL_SOCKET, socket.SO_KEEPALIVE, 1)
+        for option, value in VANISHED.items():
+            connection.setsockopt(socket.IPPROTO_TCP, option, value)
+        self.view.begin()
+        self.layout.phones.add(self)
+        reading = asyncio.create_task(self.read_all())
+        try:
+            await self.carry_out()
+            await reading
+        except asyncio.CancelledError:
+            pass  # this program is ended: what the phone had taken stands, as ever
+        finally:
+            self.layout.phones.discard(self)
+            reading.cancel()
+            await self.driver.end()

@@ -1,0 +1,118 @@
+"""The layout as phones are told of it, in the texts of WiThrottle."""
+from __future__ import annotations
+
+import asyncio
+import contextlib
+import re
+from typing import TYPE_CHECKING
+
+from srcp_bridges.places import Places
+from srcp_bridges.program import names
+from srcp_bridges.rows import position
+from srcp_bridges.srcp import Mirror
+
+if TYPE_CHECKING:
+    from srcp_bridges.phone import Phone
+
+PHONES, OF_ONE = 40, 8  # phones that are served: in all, and of one address
+MOMENT = 0.3  # seconds for which changes of a list are gathered
+STAND_EVERY = "M*A*<;>V0"  # as a phone says that all stands that it has taken
+UNKNOWN, CLOSED, THROWN = "1", "2", "4"
+KINDS = "PTT]\\[Turnouts}|{Turnout]\\[Closed}|{2]\\[Thrown}|{4]\\[Unknown}|{1"
+
+
+class Layout:
+    """The rows of the bus, and the phones that follow them."""
+
+    def __init__(self, asked):
+        self.asked, self.bus, self.names, self.places = asked, asked.bus, names(asked.names), Places(PHONES, OF_ONE)
+        self.phones: set[Phone] = set()
+        self.due: set[str] = set()  # the groups whose lists are about to be told anew
+        self.joined = asyncio.Event()
+        self.mirror = Mirror(asked, self.told, lambda anew: self.joined.set())
+
+    def told(self, change):
+        bus, group, address, part = change.key
+        if bus != self.bus or part == "lock":
+            return
+        if part == "is" and not (change.row and change.before):
+            self.list_anew(group)
+        elif change.row:
+            if group == "POWER" and change.before and change.before.on and not change.row.on:
+                self.power_went_off(change.row.text)
+            for phone in self.phones:
+                phone.view.changed(group, address)
+
+    def power_went_off(self, why: str):
+        """Refuses what phones sent before. If there is a reason, it was a loss, or a STOP ALL that could not stop what
+        phones have locked: all of that is put to rest, so that nothing drives as the power comes back."""
+        self.mirror.stops.all += 1
+        if why:
+            for phone in self.phones:
+                phone.take(STAND_EVERY)
+
+    async def look_for_bus(self):
+        """Looks at each server that is joined whether it has the bus."""
+        while True:
+            await self.joined.wait()
+            self.joined.clear()
+            with contextlib.suppress(OSError):  # it has gone again
+                await self.mirror.look_for_bus(self.bus)
+
+    def list_anew(self, group: str):
+        """Tells phones a list within a moment, once for all that changes until then."""
+        if group not in self.due:
+            self.due.add(group)
+            asyncio.get_running_loop().call_later(MOMENT, self.tell_list, group)
+
+    def tell_list(self, group: str):
+        self.due.discard(group)
+        text = self.roster() if group == "GL" else self.turnouts()
+        for phone in self.phones:
+            phone.say(text)
+
+    def row(self, group, address, part):
+        return self.mirror.rows.get((self.bus, group, address, part))
+
+    def name(self, group: str, address: int) -> str:
+        name = self.names.get(f"{self.bus} {group} {address}", str(address))
+        return re.sub(r"[\]\[{}|\\<>;]", " ", name)  # which the protocol puts between names
+
+    def addresses(self, group: str) -> list[int]:
+        return sorted(key[2] for key in self.mirror.rows if (key[0], key[1], key[3]) == (self.bus, group, "is"))
+
+    def address(self, key: str, entry: str = "") -> int | None:
+        """Returns the address that a key (S3, L341) is of; that of a name in the roster, if the key has none."""
+        if number := re.fullmatch("[SL]([0-9]{1,5})", key):
+            return int(number[1])
+        named = (address for address in self.addresses("GL") if self.name("GL", address) == entry)
+        return next(named, None)
+
+    def lies(self, address: int) -> str:
+        port = position(self.mirror.rows, self.bus, address)
+        return UNKNOWN if port is None else THROWN if port else CLOSED
+
+    def power(self) -> tuple[str, str]:
+        """Returns what phones are told of the power, and why it is off, if that is known."""
+        power = self.row("POWER", 0, "does")
+        return ("PPA1", "") if power and power.on else ("PPA0", power.text if power else "")
+
+    def roster(self) -> str:
+        entries = [f"{self.name('GL', address)}}}|{{{address}}}|{{{'S' if address < 128 else 'L'}"
+                   for address in self.addresses("GL")]
+        return "]\\[".join([f"RL{len(entries)}", *entries])
+
+    def turnouts(self) -> str:
+        entries = [f"{address}}}|{{{self.name('GA', address)}}}|{{{self.lies(address)}"
+                   for address in self.addresses("GA")]
+        return "]\\[".join(["PTL", *entries])
+
+    def beat(self) -> str:
+        return f"*{self.asked.heartbeat:g}"
+
+    def greeting(self) -> list[str]:
+        return ["VN2.0", "HTsrcp", self.roster(), self.power()[0], KINDS, self.turnouts(), self.beat()]
+
+    def holder(self, address: int) -> Phone | None:
+        """Returns the phone that has taken a locomotive."""
+        return next((phone for phone in self.phones if address in phone.driver.taken.values()), None)

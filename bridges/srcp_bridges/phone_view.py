@@ -1,0 +1,66 @@
+"""What a phone shows of the layout."""
+from srcp_bridges.driving import TOP
+from srcp_bridges.rows import EMERGENCY_STOP
+
+
+class View:
+    """Tells a phone what it does not show yet. `shown` has what it was told, by the parts of its screen.
+
+    A locomotive on the screen is named by its throttle and key: ("0", "S3").
+    """
+
+    def __init__(self, layout, taken, say):
+        self.layout, self.taken, self.say, self.shown = layout, taken, say, {}
+
+    def begin(self):
+        """Tells a phone that has come what there is."""
+        for text in self.layout.greeting():
+            self.say(text)
+        self.shown["power"] = self.layout.power()[0]
+        self.power()
+
+    def changed(self, group, address):
+        if group == "POWER":
+            self.power()
+        elif group == "GA":
+            self.show(("GA", address), f"PTA{self.layout.lies(address)}{address}")
+        elif group == "GL" and (drive := self.layout.row("GL", address, "does")):
+            for which in [which for which, taken in self.taken.items() if taken == address]:
+                self.drive(which, drive)
+
+    def show(self, part, text):
+        if self.shown.get(part) != text:
+            self.shown[part] = text
+            self.say(text)
+
+    def power(self):
+        text, why = self.layout.power()
+        self.show("power", text)
+        if why != self.shown.get("why", ""):
+            self.shown["why"] = why
+            if why:
+                self.say(f"HMpower off: {why}")
+
+    def drive(self, which, drive):
+        begin = f"M{which[0]}A{which[1]}<;>"
+        for number, value in enumerate(drive.functions):
+            self.show((which, number), f"{begin}F{value}{number}")
+        if drive.mode != EMERGENCY_STOP:
+            self.show((which, "R"), f"{begin}R{drive.mode}")
+        self.show((which, "V"), f"{begin}V{-(-drive.v * TOP // (drive.v_max or TOP))}")
+
+    def forget(self, which, *parts):
+        """Forgets what the phone was told of a locomotive, or a part of that."""
+        for part in [part for part in self.shown if part[0] == which and (not parts or part[1] in parts)]:
+            del self.shown[part]
+
+    def anew(self, which, *parts):
+        """Tells a locomotive, or a part of it, though it may be shown already."""
+        self.forget(which, *parts)
+        if which in self.taken:
+            self.changed("GL", self.taken[which])
+
+    def again(self, part, group, address):
+        """Tells another part of the screen though it may be shown already: the phone may show what it wished for."""
+        self.shown.pop(part, None)
+        self.changed(group, address)

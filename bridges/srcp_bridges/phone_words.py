@@ -1,0 +1,213 @@
+"""What the lines of a phone say, and what is done for it."""
+from __future__ import annotations
+
+import re
+from collections import Counter
+from typing import Callable, NamedTuple
+
+from srcp_bridges.driving import TOP, Driver
+from srcp_bridges.phone_layout import CLOSED, Layout
+from srcp_bridges.phone_view import View
+from srcp_bridges.rows import Refused
+from srcp_bridges.stop import stop_one
+
+HORN = 2  # the function that is on for as long as it is pressed, if a phone says nothing else; others toggle
+STEPS = "s1"  # the protocol's name for 126 steps, and a stop
+PULSE = 250  # milliseconds for which the port of a turnout is on
+URGENT, USUAL = 0, 1  # what stops goes before what waits
+STOPS = re.compile(r"M(.)A([^<]*)<;>(?:X|I|Q|V-[0-9]{1,5}|V0{1,5})")
+EVERY = "*"  # throttle, or key
+POWER = ("", "power")
+
+Which = tuple[str, str]  # a locomotive of a phone, by its throttle and its key: ("0", "S3")
+
+
+class Line(NamedTuple):
+    """A line of a phone. Lines are carried out as they are sorted. `stops` gives how often others had stopped the
+    locomotive of an address as the line came in."""
+    turn: int
+    number: int
+    text: str
+    stops: Callable[[int], int]
+
+
+class Words:
+    """Carries out what the lines of a phone say. `stopped` has the number of the last line that stopped something: by
+    throttle and key, and by address."""
+
+    def __init__(self, layout: Layout, driver: Driver, view: View, say: Callable[[str], None]):
+        self.layout, self.bus, self.driver, self.view, self.say = layout, layout.bus, driver, view, say
+        self.lines = 0
+        self.stopped: dict[Which | int, int] = {}
+        self.own: Counter[int] = Counter()  # stops that this phone ordered, by address
+        self.momentary: dict[Which, set[int]] = {}  # functions, by locomotive
+        self.told: dict[Which, int] = {}  # the stops that the phone was told of, by locomotive
+
+    def line(self, text: str) -> Line:
+        """Takes note of a line as it comes in. If it stops something, what waits does not start that again."""
+        self.lines += 1
+        turn = URGENT if (found := STOPS.fullmatch(text)) or text == "PPA0" else USUAL
+        if turn == URGENT:
+            self.stopped[(found[1], found[2]) if found else POWER] = self.lines
+        counted, own = self.layout.mirror.stops.now(), self.own.copy()
+        return Line(turn, self.lines, text, lambda address: counted(self.bus, address) - own[address])
+
+    def is_late(self, line: Line, *names: Which | int) -> bool:
+        """Returns whether the phone itself stopped one of these after it sent the line."""
+        return any(self.stopped.get(name, 0) > line.number for name in names)
+
+    async def carry_out(self, line: Line):
+        """Carries out a line; tells the phone what is refused."""
+        try:
+            if found := re.fullmatch(r"M(.)([-+AS])([^<]*)<;>(.*)", line.text):
+                await self.multi(line, *found.groups())
+            elif line.text in ("PPA0", "PPA1"):
+                await self.power(line)
+            elif found := re.fullmatch(r"PTA([TC2])(.*)", line.text):
+                await self.turnout(*found.groups())
+            elif line.text.startswith("PRA"):
+                raise Refused("this layout has no routes")
+        except Refused as reply:
+            self.say(f"HM{reply}")
+
+    async def multi(self, line: Line, throttle: str, act: str, key: str, words: str):
+        """M<throttle><act><key><;><words>: for one locomotive, or with the key * for all of the throttle."""
+        if act == "+":
+            await self.add((throttle, key), words)
+        elif act == "S":
+            await self.steal((throttle, key))
+        else:
+            await self.each(throttle, key, lambda which: self.give_back(which) if act == "-" else
+                            self.action(which, words, line))
+
+    async def each(self, throttle: str, key: str, act):
+        """Does the same for each locomotive that a line names. Once each was tried, Refused has all refusals."""
+        refusals = []
+        for which in list(self.driver.taken):
+            is_named = throttle in (EVERY, which[0]) and key in (EVERY, which[1])
+            try:
+                if is_named and which in self.driver.taken:  # meanwhile another phone may have taken it over
+                    await act(which)
+            except Refused as reply:
+                refusals.append(str(reply))
+                self.view.anew(which)
+        if refusals:
+            raise Refused("; ".join(dict.fromkeys(refusals)))
+
+    async def add(self, which: Which, words: str):
+        """Takes a locomotive, by the address in its key. One that another phone has is offered instead."""
+        throttle, key = which
+        if not (address := self.layout.address(key, words[1:] if words[:1] == "E" else "")):
+            raise Refused(f"no locomotive {words or key}")
+        try:
+            drive = await self.driver.take(which, address, 1 + (key[:1] == "L"))
+        except Refused as reply:
+            if "414 ERROR" in str(reply) and self.layout.holder(address):
+                return self.say(f"M{throttle}S{key}<;>{key}")  # the phone asks its user, and says the same
+            raise
+        self.momentary[which] = {HORN}
+        self.say(f"M{throttle}+{key}<;>")
+        self.say(f"M{throttle}L{key}<;>]\\[" + "]\\[".join(f"F{number}" for number in range(len(drive.functions))))
+        self.view.forget(which)
+        self.view.drive(which, drive)
+        self.say(self.about(which, STEPS))
+
+    async def steal(self, which: Which):
+        """Takes a locomotive that another phone has. It drives on as it does."""
+        address = self.layout.address(which[1])
+        if address and (holder := self.layout.holder(address)):
+            await holder.words.yield_to(self.driver, address)
+        await self.add(which, which[1])
+
+    async def yield_to(self, other: Driver, address: int):
+        """Lets another phone have a locomotive, and tells this one."""
+        for which in [which for which, taken in self.driver.taken.items() if taken == address]:
+            self.say(f"M{which[0]}-{which[1]}<;>")
+        await self.driver.yield_to(other, address)
+
+    async def give_back(self, which: Which):
+        await self.driver.give_back(which)
+        self.say(f"M{which[0]}-{which[1]}<;>")
+
+    def about(self, which: Which, words: str) -> str:
+        return f"M{which[0]}A{which[1]}<;>{words}"
+
+    async def action(self, which: Which, words: str, line: Line):
+        """Has a locomotive do what a line says."""
+        address = self.driver.taken[which]
+        if line.turn == URGENT:
+            await self.stop(address, line, words)
+        elif found := re.fullmatch(r"V([0-9]{1,5})|R([01])", words):
+            v, mode = (int(word) if word else None for word in found.groups())
+            await self.move(which, line, mode, None if v is None else min(v, TOP))
+        elif found := re.fullmatch(r"([FfmM])([01])([0-9]{1,2})", words):
+            await self.function(which, found[1], int(found[3]), int(found[2]))
+        else:
+            self.answer(which, address, words)
+
+    async def stop(self, address: int, line: Line, words: str):
+        """Has a locomotive stand (V0, I, Q), or make an emergency stop."""
+        self.stopped[address] = line.number
+        if words[0] in "IQ" or words[:2] == "V0":
+            return await self.driver.drive(address, v=0)
+        self.own[address] += 1
+        await stop_one(self.layout.mirror, self.driver.ask, self.bus, address)
+
+    async def move(self, which: Which, line: Line, mode: int | None, v: int | None):
+        """Changes speed or direction, unless the locomotive was stopped after the line had come in. If another did
+        that, the phone is told once."""
+        address = self.driver.taken[which]
+        if self.is_late(line, address, which, (which[0], EVERY), (EVERY, EVERY)):
+            return
+        seen, count = line.stops(address) + self.own[address], self.layout.mirror.stops.count(self.bus, address)
+        if count == seen:
+            await self.driver.drive(address, mode, v, seen)
+        elif self.told.get(which) != count:
+            self.told[which] = count
+            raise Refused(f"{address}: it was stopped meanwhile")
+
+    async def function(self, which: Which, act: str, number: int, on: int):
+        """F is the button of a function, pressed or let go; f sets the function; m says which buttons do not toggle."""
+        momentary, address = self.momentary[which], self.driver.taken[which]
+        if act == "m":
+            (momentary.add if on else momentary.discard)(number)
+            self.say(self.about(which, f"m{on}{number}"))
+        elif act == "f" or number in momentary:
+            await self.driver.switch(address, {number: on})
+        elif on:
+            await self.driver.switch(address, {number: None})
+
+    def answer(self, which: Which, address: int, words: str):
+        """Tells what a phone asks for. It cannot choose the steps (s): V goes to 126 for every locomotive."""
+        if words in ("qV", "qR"):
+            self.view.anew(which, words[1])
+        elif words == "qs" or re.fullmatch("s[0-9]{1,2}", words):
+            self.say(self.about(which, STEPS))
+        elif words == "qm":
+            drive = self.layout.row("GL", address, "does")
+            for number in range(len(drive.functions) if drive else 0):
+                self.say(self.about(which, f"m{int(number in self.momentary[which])}{number}"))
+
+    async def power(self, line: Line):
+        if line.text == "PPA1" and self.is_late(line, POWER):
+            return
+        try:
+            await self.driver.ask(f"SET {self.bus} POWER {'ON' if line.text == 'PPA1' else 'OFF'}")
+        except Refused:
+            self.view.again("power", "POWER", 0)
+            raise
+
+    async def turnout(self, what: str, name: str):
+        """T throws, C closes, 2 does the other. A name is a number, or one of JMRI's, as LT5."""
+        if not (found := re.fullmatch("(?:[A-Z]T)?([0-9]{1,4})", name)):
+            raise Refused(f"turnouts are numbers here, not {name}")
+        address = int(found[1])
+        try:
+            await self.driver.make(self.driver.ask, f"GA {address}", "0", "N")
+            thrown = int(what == "T" or what == "2" and self.layout.lies(address) == CLOSED)
+            await self.driver.ask(f"SET {self.bus} GA {address} {1 - thrown} 0 -1")
+            await self.driver.ask(f"SET {self.bus} GA {address} {thrown} 1 {PULSE}")
+        except Refused:
+            if self.layout.row("GA", address, "is"):
+                self.view.again(("GA", address), "GA", address)
+            raise

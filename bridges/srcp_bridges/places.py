@@ -1,0 +1,48 @@
+"""How many connections a program serves at once: of one address, so that no machine takes all places, and in all."""
+import asyncio
+import collections
+import contextlib
+import socket
+from collections.abc import Iterator
+
+from srcp_bridges.program import PORT, Wrong
+
+
+class Full(Exception):
+    """There is no place for one more connection."""
+
+
+class Places:
+    """Counts the connections that are open, by address."""
+
+    def __init__(self, most: int, most_of_one: int):
+        self.most, self.most_of_one = most, most_of_one
+        self.open: collections.Counter[str] = collections.Counter()
+
+    @contextlib.contextmanager
+    def place(self, address: str) -> Iterator[None]:
+        """Keeps a place for a connection from this address; raises Full if there is none."""
+        if self.open[address] >= self.most_of_one:
+            raise Full(f"{self.most_of_one} connections of {address} are open")
+        if self.open.total() >= self.most:
+            raise Full(f"{self.most} connections are open")
+        self.open[address] += 1
+        try:
+            yield
+        finally:
+            self.open[address] -= 1
+            self.open += collections.Counter()  # drops the addresses that have none
+
+
+def add_arguments(words, option: str, default: int, whom: str):
+    """Adds the arguments that say where a program serves others."""
+    words.add_argument(option, type=PORT, default=default, metavar="PORT", help=f"where {whom} connect (%(default)s)")
+    words.add_argument("--bind", default="127.0.0.1", metavar="ADDRESS", help="this machine's address (%(default)s)")
+
+
+async def listen(serve, bind: str, port: int, **more) -> asyncio.Server:
+    """Begins to serve connections at an address of this machine."""
+    try:
+        return await asyncio.start_server(serve, bind, port, **more)
+    except socket.gaierror as fault:
+        raise Wrong(f"--bind {bind}: {fault}") from None

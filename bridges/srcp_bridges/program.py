@@ -1,0 +1,92 @@
+"""How a program of this folder begins and ends, and what it says meanwhile."""
+import argparse
+import asyncio
+import signal
+import sys
+
+try:
+    import tomllib
+except ImportError:
+    sys.exit("-- this takes Python 3.11 or later")
+
+said: dict[str, str] = {}
+
+
+class Wrong(Exception):
+    """The words of a program are wrong, or a file that they name: `run` tells so, and ends the program."""
+
+
+class CannotGoOn(Exception):
+    """What a program needs is another's: `run` tells so, and ends the program."""
+
+
+def say(text):
+    """Prints a message on standard error; what a connection that is tried again and again says, only once."""
+    about = text.partition(":")[0]
+    if about not in ("server", "station", "broker") or said.get(about) != text:
+        said[about] = text
+        print(f"-- {printable(text)}", file=sys.stderr, flush=True)
+
+
+def printable(text):
+    """Returns a text without what a terminal would obey: that may come from anywhere."""
+    return "".join(letter if letter.isprintable() else f"\\x{ord(letter):02x}" for letter in text)
+
+
+def names(path):
+    """Returns the names of devices in a file with lines such as "1 GL 3" = "V 100"."""
+    if not path:
+        return {}
+    try:
+        with open(path, "rb") as file:
+            return {device: " ".join(str(name).split()) for device, name in tomllib.load(file).items()}
+    except (OSError, ValueError) as fault:
+        raise Wrong(f"--names {path}: {fault}") from None
+
+
+def number(least, most):
+    """Returns the type of an argument that is a whole number within limits."""
+    def of(text):
+        if not (text.isdecimal() and least <= int(text) <= most):
+            raise argparse.ArgumentTypeError(f"{text} is no number from {least} to {most}")
+        return int(text)
+    return of
+
+
+PORT, BUS = number(1, 65535), number(1, 250)
+
+
+class Arguments(argparse.ArgumentParser):
+    def error(self, message):
+        """Ends the program with status 2, and one line."""
+        self.exit(2, f"-- {printable(message)}\n")
+
+
+def arguments(about):
+    """Returns a parser of what every program can be told; it adds its own."""
+    words = Arguments(description=about, formatter_class=argparse.RawDescriptionHelpFormatter)
+    words.add_argument("--host", default="127.0.0.1", help="where the server is (%(default)s)")
+    words.add_argument("--port", type=PORT, default=4303, help="its port (%(default)s)")
+    words.add_argument("--again", type=float, default=1.0, metavar="SECONDS",
+                       help="until a lost connection is tried again (%(default)s)")
+    return words
+
+
+def run(program):
+    """Runs a program. Exit status 0: it was ended by SIGTERM or Ctrl-C; 1: it cannot go on; 2: its words are wrong."""
+    async def until_told():
+        task = asyncio.current_task()
+        assert task
+        for number in (signal.SIGTERM, signal.SIGINT):
+            asyncio.get_running_loop().add_signal_handler(number, task.cancel)
+        await program
+
+    try:
+        asyncio.run(until_told())
+    except asyncio.CancelledError:
+        say("ended")
+    except Wrong as fault:
+        print(f"-- {printable(str(fault))}", file=sys.stderr)
+        sys.exit(2)
+    except (OSError, ValueError, CannotGoOn) as fault:
+        sys.exit(f"-- {fault}")

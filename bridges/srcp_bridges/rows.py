@@ -1,0 +1,150 @@
+"""The rows of a registry: how a line tells them, and how an accessory lies."""
+from collections.abc import Callable
+from typing import NamedTuple
+
+Key = tuple[int, str, int, str | int]  # bus, group, address, part
+
+
+class Peer(NamedTuple):
+    stamp: float
+    mode: str
+
+
+class Power(NamedTuple):
+    stamp: float
+    on: bool
+    text: str
+
+
+class Locomotive(NamedTuple):
+    stamp: float
+    protocol: str
+    version: int
+    steps: int
+    functions: int
+
+
+class Drive(NamedTuple):
+    stamp: float
+    mode: int
+    v: int
+    v_max: int
+    functions: tuple[int, ...]
+
+
+class Accessory(NamedTuple):
+    stamp: float
+    protocol: str
+
+
+class Port(NamedTuple):
+    stamp: float
+    value: int
+
+
+class Lock(NamedTuple):
+    stamp: float
+    seconds: int
+    session: int
+
+
+Sensor = Port
+Row = Peer | Power | Locomotive | Drive | Accessory | Port | Lock
+
+
+class Change(NamedTuple):
+    """`row` None: it is gone. `stamp` None: at a moment that nobody told."""
+    stamp: float | None
+    key: Key
+    row: Row | None
+    before: Row | None
+
+
+KINDS: dict[tuple[str, str | int], Callable[..., Row]] = {
+    ("SESSION", "is"): Peer, ("GL", "is"): Locomotive, ("GA", "is"): Accessory, ("FB", "does"): Sensor}
+BACKWARD, FORWARD, EMERGENCY_STOP = 0, 1, 2
+NOT_SRCP = (ValueError, KeyError, IndexError, TypeError)  # what reading a line raises that the server does not send
+
+
+class Refused(Exception):
+    """The server's reply is an error, such as `414 ERROR device locked`."""
+
+
+def parse(line: str) -> tuple[Key, Row | None]:
+    """Returns the key (bus, group, address, part) and the row of an information line; None for the row of what is gone.
+
+    The part is `is`, `does`, `lock`, or the number of an accessory's port.
+    """
+    moment, code, _, bus, group, *words = line.split(" ")
+    stamp, row = float(moment), None
+    part: str | int = "does" if code == "100" else "is"
+    if group == "LOCK":
+        group, part = words.pop(0), "lock"
+    address = 0 if group == "POWER" else int(words.pop(0))
+    if code != "102":
+        if group == "GA" and part == "does":
+            part, *words = int(words[0]), *words[1:]
+        row = row_of(group, part, stamp, words)
+    return (int(bus), group, address, part), row
+
+
+def row_of(group: str, part: str | int, stamp: float, words: list[str]) -> Row:
+    """Returns the row that the rest of a line tells."""
+    if group == "POWER":
+        return Power(stamp, words[0] == "ON", " ".join(words[1:]))
+    if part == "lock":
+        return Lock(stamp, int(words[0]), int(words[1]))
+    if group == "GL" and part == "does":
+        mode, v, v_max, *functions = map(int, words)
+        return Drive(stamp, mode, v, v_max, tuple(functions))
+    if isinstance(part, int):
+        return Port(stamp, int(words[0]))
+    return KINDS[group, part](stamp, *(int(word) if word.isdecimal() else word for word in words))
+
+
+class Rows(dict):
+    """Rows by their keys. `put` has, by (bus, address), when a port of that accessory was last set to 1, and which."""
+
+    def __init__(self):
+        super().__init__()
+        self.put = {}
+
+    def enter(self, key, row, listed_again=False):
+        """Puts a row in; returns the one that was there."""
+        before, self[key] = self.get(key), row
+        bus, group, address, part = key
+        if group == "GA" and isinstance(part, int):
+            unseen = listed_again and before and not before.value and before.stamp < row.stamp  # on and off again
+            if (row.value or unseen) and row.stamp >= self.put.get((bus, address), (0.0,))[0]:
+                self.put[bus, address] = row.stamp, part
+        return before
+
+    def remove(self, key):
+        """Takes a row out; returns it."""
+        if key[1::2] == ("GA", "is"):
+            self.put.pop((key[0], key[2]), None)
+        return self.pop(key, None)
+
+
+def position(rows, bus, address):
+    """Returns the port that an accessory was put to last: the one that was last set to 1.
+
+    Who was not there when it was set takes the port that is 1, else the one that changed last, else None.
+    """
+    if put := getattr(rows, "put", {}).get((bus, address)):
+        return put[1]
+    made = rows.get((bus, "GA", address, "is"))
+    ports = {port: row for port in range(8) if made and (row := rows.get((bus, "GA", address, port)))}
+    on = [port for port in ports if ports[port].value]
+    moved = on if len(on) == 1 else [port for port in ports if ports[port].stamp > made.stamp]
+    return max(moved, key=lambda port: ports[port].stamp, default=None)
+
+
+def devices(keys):
+    """Returns what can go as one, of these keys: (bus, group, address, whether it is a lock)."""
+    return list(dict.fromkeys((*key[:3], key[3] == "lock") for key in keys))
+
+
+def keys_of(device):
+    """Returns the keys that the rows of a device can have."""
+    return [(*device[:3], part) for part in (["lock"] if device[3] else ["is", "does", *range(8)])]

@@ -1,0 +1,58 @@
+// What this page asks of web.py, and what it says of a refusal.
+import { done, stopSent, tell } from "./bar.js";
+import { devices, name, redraw } from "./layout.js";
+import { sentence, text } from "./texts.js";
+
+export let session = null;                      // of this page alone, once it has taken something
+let page = "none", line = Promise.resolve(), stops = 0;
+
+export function joined(key) { [page, session] = [key, null]; }
+
+export async function post(path, body = "", headers = {}) {
+  try {
+    const priority = path === "/stop" ? "high" : "auto";
+    const answer = await fetch(path, { method: "POST", headers: { "X-Page": page, ...headers }, body, priority });
+    if (answer.ok) return await answer.json();
+    if (answer.status === 503) return { reply: "too many connections" };
+  } catch (fault) { /* told as no answer */ }
+  return { reply: "no answer" };
+}
+
+// Carries out a request for a device at once; returns its reply, and says what is refused, but for `quiet` replies.
+export async function order(key, path, body, { seen, quiet = [] } = {}) {
+  const before = stops;
+  const given = await post(path, body, seen === undefined ? {} : { "X-Stops": seen });
+  if (given.session !== undefined && given.session !== session) {
+    session = given.session;
+    redraw();
+  }
+  const isQuiet = quiet.includes(given.reply.slice(0, 3)) || before !== stops;
+  if (given.reply === "200 OK") done(key);
+  else if (!isQuiet) tell(sentence(given.reply, name(key)), { of: key });
+  return given.reply;
+}
+
+// The same, one after the other, so that a connection is free for STOP ALL; which drops those that wait.
+export function ask(...words) {
+  const before = stops, reply = line.then(() => before === stops ? order(...words) : "dropped");
+  line = reply;
+  return reply;
+}
+
+// Whatever this page still wanted is not wanted any more.
+export function drop() {
+  stops += 1;
+  line = Promise.resolve();
+  for (const device of devices.values()) device.halt?.();
+}
+
+export async function stopAll() {
+  drop();
+  for (let tries = 3; tries; tries--) {
+    const { reply, faults = [] } = await post("/stop");
+    if (reply === "200 OK") return stopSent();
+    const why = faults.map(([key, reply]) => sentence(reply, name(key))).join(" ") || sentence(reply, text("layout"));
+    tell(text("stopFailed", { why }), { seconds: 60 });
+    await new Promise(then => setTimeout(then, 500));
+  }
+}

@@ -1,0 +1,62 @@
+"""What a program tells of itself to examples/status.py and doctor.py: whose its sessions are, and how its station is.
+
+It stands in a file: in the folder that systemd gives to a unit, or in one of the user. No program depends on that file.
+"""
+import atexit
+import json
+import os
+import sys
+from pathlib import Path
+
+
+def folder() -> Path:
+    """Returns the folder of such files: that of the unit, of the user's log-in, or of the user."""
+    if unit := os.environ.get("RUNTIME_DIRECTORY"):
+        return Path(unit)
+    return Path(os.environ.get("XDG_RUNTIME_DIR") or Path.home() / ".local" / "state", "srcp_bridges")
+
+
+class State:
+    """`sessions` has whose each session is, by the server's port and its id; `station` what a driver tells of itself."""
+
+    def __init__(self) -> None:
+        self.sessions: dict[int, dict[int, str]] = {}
+        self.station: dict[str, object] = {}
+        self.path = folder() / f"{os.getpid()}.json"
+        atexit.register(self.remove)
+
+    def begins(self, port: int, session: int, whose: str) -> None:
+        """Tells that a session is this program's. `whose` names whom it is for, if that is somebody else."""
+        name = Path(sys.argv[0]).name
+        self.sessions.setdefault(port, {})[session] = f"{name}: {whose}" if whose else name
+        self.write()
+
+    def ends(self, port: int, session: int | None) -> None:
+        if session and self.sessions.get(port, {}).pop(session, None):
+            self.write()
+
+    def tell_station(self, **station: object) -> None:
+        """Tells how a driver's station is, if that differs from what was told last."""
+        if self.station != station:
+            self.station = station
+            self.write()
+
+    def write(self) -> None:
+        """Writes the file anew: all of it, or, if it cannot be written, nothing."""
+        try:
+            self.path.parent.mkdir(parents=True, exist_ok=True)
+            new = self.path.with_suffix(".new")
+            new.write_text(json.dumps({"sessions": self.sessions, "station": self.station}))
+            new.chmod(0o644)
+            new.replace(self.path)
+        except OSError:
+            pass
+
+    def remove(self) -> None:
+        try:
+            self.path.unlink(missing_ok=True)
+        except OSError:
+            pass
+
+
+SELF = State()

@@ -1,0 +1,44 @@
+"""Datagrams to and from a command station, by UDP."""
+import asyncio
+
+UNREAD = 1000  # datagrams that wait to be read; further ones are lost, as any datagram may be
+
+
+class Datagrams(asyncio.DatagramProtocol):
+    """What a Line is to bytes, for datagrams: `write` and `drain`, `read`, which returns one of them, and `close`."""
+
+    def __init__(self):
+        self.unread: asyncio.Queue[bytes | Exception] = asyncio.Queue(UNREAD)
+        self.transport: asyncio.DatagramTransport
+
+    @classmethod
+    async def open(cls, where):
+        """Opens the way to a host and port."""
+        return (await asyncio.get_running_loop().create_datagram_endpoint(cls, remote_addr=where))[1]
+
+    def connection_made(self, transport):
+        self.transport = transport
+
+    def datagram_received(self, data, _):
+        if not self.unread.full():
+            self.unread.put_nowait(data)
+
+    def error_received(self, fault):
+        """Nobody listens there, or the network is gone."""
+        self.datagram_received(fault, None)
+
+    def write(self, data):
+        if data and not self.transport.is_closing():
+            self.transport.sendto(data)
+
+    async def drain(self):
+        """Datagrams wait for nothing."""
+
+    async def read(self, _):
+        """Returns what comes next. Each is whole: they need no end."""
+        if isinstance(data := await self.unread.get(), Exception):
+            raise data
+        return data
+
+    def close(self):
+        self.transport.close()

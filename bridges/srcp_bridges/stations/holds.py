@@ -1,0 +1,109 @@
+"""After a loss nothing starts by itself: what rests, and until when."""
+from functools import partial
+
+from srcp_bridges.stations.registry import POWER
+
+
+class Holds:
+    """`held` has the parts of the track that rest until somebody commands them anew: their rows are set to rest.
+
+    `refused` has the rows that stayed as they were, since another session has the locomotive locked.
+    """
+
+    NO_STATION, AWAY, RESET = "no station", "server was away", "station was reset"
+
+    def __init__(self, bus, mirror, orders):
+        self.bus, self.mirror, self.orders = bus, mirror, orders
+        self.held: set[tuple] = set()
+        self.refused: dict = {}
+        self.why = self.AWAY
+        self.station, self.lost = False, False  # the station is there; the server was away for too long
+
+    def rows(self):
+        """Yields the parts of this bus that can be held, and their rows."""
+        for (bus, group, address, part), row in self.mirror.rows.items():
+            if bus == self.bus and part == "does" and group in ("POWER", "GL"):
+                yield (POWER if group == "POWER" else ("cab", address)), row
+
+    def take(self, part, row, listed):
+        """Takes in a new row; `listed`: it came with a listing, so it may be of before a loss of the server."""
+        if not moves(row):
+            self.held.discard(part)
+            self.clear_text(part, row)
+        elif not self.station or listed and (self.lost or self.mirror.anew):
+            self.hold(part, row, self.AWAY)
+        elif self.is_commanded(part, row):
+            self.held.discard(part)
+
+    def is_commanded(self, part, row):
+        """Returns whether a row is a new command of who has the locomotive locked: one for functions alone is none."""
+        old = self.refused.get(part)
+        if old is None or old == row:
+            return False
+        self.refused[part] = row
+        return row[1:4] != old[1:4] or row.functions == old.functions
+
+    def lose(self, why):
+        """Holds all that is on or drives: something was lost."""
+        for part, row in self.rows():
+            if moves(row):
+                self.hold(part, row, why)
+            elif part == POWER and not self.station and row.text != self.NO_STATION:
+                self.set_power(self.NO_STATION)
+
+    def hold(self, part, row, why):
+        """Holds a part, and has its row say so. Of power the first reason stays, or that there is no station."""
+        if part == POWER and part not in self.held:
+            self.why = why
+        self.held.add(part)
+        self.refused.pop(part, None)
+        if not self.mirror.here:
+            return  # it is ordered when the server is back
+        if part == POWER:
+            self.set_power(self.why if self.station else self.NO_STATION)
+        else:
+            rest = f"SET {self.bus} GL {part[1]} {self.mirror.way(self.bus, part[1])} 0 {row.v_max}"
+            self.orders.command(part, rest, partial(self.keep, part))
+
+    def keep(self, part):
+        """Holds a locomotive whose row may not be changed: until a new command of who has it locked."""
+        self.held.add(part)
+        self.refused[part] = self.mirror.rows.get((self.bus, "GL", part[1], "does"))
+
+    def set_power(self, why):
+        self.orders.command(POWER, f"SET {self.bus} POWER OFF {why}".rstrip())
+
+    def station_comes(self):
+        """The station has begun, or began anew."""
+        self.station = True
+        self.lose(self.RESET)
+        for part, row in self.rows():
+            self.clear_text(part, row)
+
+    def clear_text(self, part, row):
+        """The row of power says no more that there is no station."""
+        if part == POWER and self.station and not row.on and row.text == self.NO_STATION:
+            self.set_power("")
+
+    def station_goes(self):
+        self.station = False
+        self.lose(self.NO_STATION)
+
+    def server_comes(self):
+        """The server is there: after a loss all is held that it has, and will list, as on or driving."""
+        if self.lost or self.mirror.anew:
+            self.lose(self.AWAY)
+
+    def server_leaves(self):
+        """The server is away, perhaps for a moment."""
+        self.lost = False
+
+    def server_goes(self):
+        """The server has been away for too long."""
+        self.lost = True
+        self.lose(self.AWAY)
+
+
+def moves(row):
+    """Returns whether a row of power is on, or one of a locomotive drives."""
+    return row.on if hasattr(row, "on") else row.v > 0

@@ -1,0 +1,44 @@
+"""What the registry is told of the track: what was put to rest, and what the station reports."""
+import asyncio
+from collections.abc import Awaitable, Callable
+
+from srcp_bridges.program import say
+from srcp_bridges.rows import Refused
+
+Act = Callable[[], Awaitable]
+POWER = ("power",)  # a part of the track; the others are ("cab", 3), ("function", 3, 0), ("turnout", 5)
+
+
+class Orders:
+    """Carries out what the registry is to be told: of each part the newest, power first."""
+
+    def __init__(self, mirror):
+        self.mirror, self.more = mirror, asyncio.Event()
+        self.due: dict[tuple, tuple[Act, Callable[[], None] | None]] = {}
+
+    def put(self, part, act, refused=None):
+        """Has `act` carried out, which sends commands by the mirror's session. `refused` is called if one is refused."""
+        self.due[part] = act, refused
+        self.more.set()
+
+    def command(self, part, command, refused=None):
+        self.put(part, lambda: self.mirror.ask(command), refused)
+
+    async def run(self):
+        while True:
+            await self.more.wait()
+            self.more.clear()
+            await self.carry_out()
+
+    async def carry_out(self):
+        while self.due and self.mirror.session:
+            part = POWER if POWER in self.due else next(iter(self.due))
+            act, refused = self.due.pop(part)
+            try:
+                await act()
+            except Refused as reply:
+                say(f"server: {' '.join(map(str, part))}: {reply}")
+                if refused:
+                    refused()
+            except ConnectionError:
+                pass  # what is held is ordered again when the server is back

@@ -1,0 +1,183 @@
+"""What a bus of the server wants of a track, what its command station was told, and what differs.
+
+The parts of a track are POWER, cabs (speed and direction of locomotives), functions and turnouts. What differs is
+marked as it changes. The most urgent is told first; of a part that changes faster than the station takes it, the last
+value is told alone.
+"""
+import asyncio
+from collections.abc import Callable
+
+from srcp_bridges.rows import EMERGENCY_STOP, FORWARD, Drive, position
+from srcp_bridges.stations.registry import POWER
+
+URGENT, STOPPING, DRIVING, LATER, TURNOUTS = range(5)
+TOPS = 126,  # the numbers of steps in which a station is told speeds
+FUNCTIONS = 29  # of a locomotive, at most
+MANY = 3  # more emergency stops at one moment, and the station is told first to stop all
+HALTED = 0.3  # seconds after that, until what was not to stop is told its speed again
+NOBODY = None, Drive(0, FORWARD, 0, 0, ())
+
+
+class Track:
+    """`told` has what the station was told, by part. `waiting` has what is to be told, by urgency and part.
+
+    `known` has the locomotives that have a slot at the station; `full` is called with one for which there is none left.
+    """
+
+    def __init__(self, bus, mirror, holds, turnout_pace, full):
+        self.bus, self.mirror, self.holds, self.turnout_pace, self.full = bus, mirror, holds, turnout_pace, full
+        self.told: dict = {}
+        self.waiting: list[dict] = [{} for _ in range(5)]
+        self.not_before = [0.0] * 5
+        self.stops: set[int] = set()  # locomotives of whose emergency stop the station is still to be told
+        self.known: set[int] = set()
+        self.slots, self.changed = None, asyncio.Event()
+        self.tops: tuple[int, ...] = TOPS
+        self.at_first: tuple | None = None  # what a locomotive of which it was told nothing does, if it may drive
+        self.awaits: Callable[[tuple], bool] = lambda part: False  # whether a part is told nothing else meanwhile
+
+    # ---- what is wanted: how urgent a part is, and its value, or None if any will do
+
+    def wanted(self, part):
+        kind, *numbers = part
+        return getattr(self, kind)(*numbers)
+
+    def power(self):
+        row = self.mirror.rows.get((self.bus, "POWER", 0, "does"))
+        return (STOPPING, 1) if row and row.on and POWER not in self.holds.held else (URGENT, 0)
+
+    def cab(self, address):
+        """A locomotive's speed, -1 for an emergency stop, and direction. One that has not driven yet is not told."""
+        made, drive = self.locomotive(address)
+        told, way = self.told.get(("cab", address), made and self.at_first), self.mirror.way(self.bus, address)
+        if address in self.stops or drive.mode == EMERGENCY_STOP:
+            return URGENT, told and (-1, way)
+        if not drive.v or ("cab", address) in self.holds.held:
+            return STOPPING, told and (0, way)
+        top = self.top(made)
+        return DRIVING, (min(top, -(-drive.v * top // (drive.v_max or made.steps))), way)  # Vmax 0: V is a step
+
+    def function(self, address, number):
+        """A station begins with all functions off."""
+        functions = self.locomotive(address)[1].functions
+        value = functions[number] if number < len(functions) else 0
+        return LATER, value if value or ("function", address, number) in self.told else None
+
+    def turnout(self, address):
+        made = self.mirror.rows.get((self.bus, "GA", address, "is"))
+        port = position(self.mirror.rows, self.bus, address) if made and made.protocol in "NP" else None
+        return TURNOUTS, None if port is None else int(port > 0)
+
+    def forget(self, address):
+        """A locomotive that is gone gives its slot back, after all else."""
+        return LATER, 1 if address in self.known and not self.locomotive(address)[0] else None
+
+    def locomotive(self, address):
+        """Returns what a locomotive is and does; NOBODY if it is gone or cannot be driven."""
+        made, drive = (self.mirror.rows.get((self.bus, "GL", address, part)) for part in ("is", "does"))
+        return (made, drive) if made and drive and made.protocol in "NP" else NOBODY
+
+    def top(self, made):
+        """Returns the fastest step of a locomotive at the station."""
+        return next((top for top in self.tops if made and made.steps <= top), self.tops[-1])
+
+    # ---- what differs
+
+    def mark(self, part):
+        """Notes whether a part is to be told, and how urgently. One that waits already keeps its place."""
+        urgency, value = self.wanted(part)
+        differs = value is not None and value != self.told.get(part)
+        if part[0] == "cab" and urgency == URGENT and not differs:
+            self.stops.discard(part[1])  # it has made that stop
+        for level, waiting in enumerate(self.waiting):
+            if part in waiting and not (differs and level == urgency):
+                del waiting[part]
+        if differs:
+            self.waiting[urgency][part] = value
+            self.changed.set()
+
+    def mark_locomotive(self, address):
+        functions = [("function", address, number) for number in range(FUNCTIONS)]
+        for part in [("cab", address), *functions, ("forget", address)]:
+            self.mark(part)
+
+    def mark_all(self):
+        ours = [key for key in self.mirror.rows if key[0] == self.bus]
+        self.mark(POWER)
+        for address in {key[2] for key in ours if key[1] == "GL"} | self.known:
+            self.mark_locomotive(address)
+        for address in [key[2] for key in ours if key[1] == "GA" and key[3] == "is"]:
+            self.mark(("turnout", address))
+
+    def begin_anew(self):
+        """The station has forgotten all. How turnouts lie has not changed."""
+        self.told = {part: value for part, value in self.told.items() if part[0] == "turnout"}
+        self.known.clear()
+        self.stops.clear()
+        self.mark_all()
+
+    def next(self):
+        """Returns the most urgent part that is to be told at this moment, and its value, or None."""
+        now = asyncio.get_running_loop().time()
+        for waiting, begin in zip(self.waiting, self.not_before):
+            while now >= begin and (part := next((part for part in waiting if not self.awaits(part)), None)):
+                if self.has_slot(part):
+                    return part, waiting.pop(part)
+                if idle := next((address for address in self.known if not self.is_busy(address)), None):
+                    return ("forget", idle), 1
+                del waiting[part]
+                self.full(part[1])
+        return None
+
+    def has_slot(self, part):
+        """Returns whether the station has a slot for a part, or needs none."""
+        return (part[0] not in ("cab", "function") or part[1] in self.known or self.slots is None
+                or len(self.known) < self.slots)
+
+    def is_busy(self, address):
+        """Returns whether a locomotive drives, has a function on, or is about to: it needs its slot."""
+        functions = [("function", address, number) for number in range(FUNCTIONS)]
+        about_to = any(part in waiting for waiting in self.waiting for part in [("cab", address), *functions])
+        return about_to or self.speed(address) > 0 or any(self.told.get(part) for part in functions)
+
+    def speed(self, address):
+        """Returns the speed that the station was told last."""
+        return (self.told.get(("cab", address)) or (0,))[0]
+
+    def tell(self, part, value):
+        """Notes that the station is told of a part."""
+        kind, *numbers = part
+        if kind == "forget":
+            self.known.discard(numbers[0])
+            for old in [old for old in self.told if old[0] in ("cab", "function") and old[1] == numbers[0]]:
+                del self.told[old]
+            return
+        self.told[part] = value
+        if kind in ("cab", "function"):
+            self.known.add(numbers[0])
+        if kind == "cab" and value[0] < 0:
+            self.stops.discard(numbers[0])
+            self.mark(part)  # it may have been told to stand since
+        elif kind == "turnout":
+            self.pause(TURNOUTS, 1 / self.turnout_pace)
+
+    def pause(self, urgency, seconds):
+        """Has what is as urgent as that wait for a while."""
+        loop = asyncio.get_running_loop()
+        self.not_before[urgency] = loop.time() + seconds
+        loop.call_later(seconds + 0.001, self.changed.set)
+
+    def many_stop(self):
+        """Returns whether so many make an emergency stop that the station is to stop all first."""
+        return sum(self.speed(address) > 0 for address in self.stops) > MANY
+
+    def all_stop(self):
+        """The station was told to stop all: what stops is told so too, and what does not its speed, after a moment."""
+        self.pause(DRIVING, HALTED)
+        for part in [part for part in self.told if part[0] == "cab" and self.told[part][0] > 0]:
+            self.forgets(part)
+
+    def forgets(self, part):
+        """The station may do something else than it was told of a part: it is told again."""
+        self.told[part] = (-1, None) if part[0] == "cab" else None  # (-1, None): in whatever direction
+        self.mark(part)

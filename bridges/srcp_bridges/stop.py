@@ -1,0 +1,167 @@
+"""Stopping: what counts as a stop, what is refused after it, and STOP ALL, for every program that has such a button."""
+import asyncio
+import contextlib
+from collections import Counter
+
+from srcp_bridges.rows import EMERGENCY_STOP, Drive, Refused
+
+SOON = 0.01  # seconds until it is looked again whether a command is still on its way
+SETTLED = 0.1  # seconds after a STOP ALL until what drives by a command that other programs had sent is stopped too
+
+
+class Stops:
+    """How often each locomotive was stopped, as far as this program knows. Counts rise, and never fall.
+
+    `due` has the rows to come of stops that are counted already. `under_way` has the commands to drive that wait for
+    their reply. Both are by (bus, address).
+    """
+
+    def __init__(self):
+        self.all, self.running = 0, 0
+        self.each: Counter = Counter()
+        self.due: Counter = Counter()
+        self.under_way: Counter = Counter()
+
+    def count(self, bus, address):
+        """Returns how often a locomotive was stopped, each STOP ALL included."""
+        return self.all + self.each[bus, address]
+
+    def now(self):
+        """Returns a function that counts as `count` does at this moment."""
+        every, each = self.all, self.each.copy()
+        return lambda bus, address: every + each[bus, address]
+
+    def refuse(self, bus, address, seen):
+        """Refuses a command that was made as `seen` stops were counted, if there were more since."""
+        if self.running or self.count(bus, address) > seen:
+            raise Refused("it was stopped meanwhile")
+
+    def order_one(self, bus, address):
+        """Counts a stop that is ordered here: its row, which comes later, is not counted again."""
+        self.each[bus, address] += 1
+        self.due[bus, address] += 1
+
+    def stopped(self, bus, address):
+        """Counts a stop that a row tells."""
+        if self.due[bus, address]:
+            self.due[bus, address] -= 1
+        else:
+            self.each[bus, address] += 1
+
+    @contextlib.contextmanager
+    def driving(self, bus, address, seen):
+        """Refuses as `refuse`, and counts the command as on its way until its reply has come."""
+        self.refuse(bus, address, seen)
+        self.under_way[bus, address] += 1
+        try:
+            yield
+        finally:
+            self.under_way[bus, address] -= 1
+
+    @contextlib.contextmanager
+    def stopping_all(self):
+        """Counts a STOP ALL. Until it is done, nothing here drives a locomotive."""
+        self.all += 1
+        self.running += 1
+        try:
+            yield
+        finally:
+            self.running -= 1
+
+
+def driven(command):
+    """Returns the bus and address of the locomotive that a command has drive (V above 0), or None."""
+    words = command.upper().split()
+    numbers = words[1:2] + words[3:6]  # bus, address, mode, V
+    if words[:1] + words[2:3] != ["SET", "GL"] or len(numbers) < 4 or not all(map(str.isdecimal, numbers)):
+        return None
+    bus, address, mode, v = map(int, numbers)
+    return (bus, address) if v and mode != EMERGENCY_STOP else None
+
+
+async def send(stops, session, command, seen):
+    """Carries out a command that was made as `seen` stops of its locomotive were counted, as Session.ask.
+
+    It is refused if it has a locomotive drive that was stopped since. `seen` None: as it is sent.
+    """
+    if not (locomotive := driven(command)):
+        return await session.ask(command)
+    with stops.driving(*locomotive, stops.count(*locomotive) if seen is None else seen):
+        return await session.ask(command)
+
+
+async def halt(mirror, ask, bus, address):
+    """Has a locomotive make an emergency stop, and stand in its direction: the server is asked for that just before,
+    since the stop takes it out of the row. A session's `ask` carries out the commands."""
+    most = mirror.rows.get((bus, "GL", address, "does"), Drive(0, 0, 0, 0, ())).v_max
+    commands = f"GET {bus} GL {address}", f"SET {bus} GL {address} {EMERGENCY_STOP} 0 {most}"
+    now, reply = await asyncio.gather(*map(ask, commands), return_exceptions=True)
+    if isinstance(reply, BaseException):
+        mirror.stops.due[bus, address] -= 1  # no row comes of it
+        raise reply
+    way = mirror.way(bus, address) if isinstance(now, BaseException) or now.mode == EMERGENCY_STOP else now.mode
+    with contextlib.suppress(Refused):  # it stands
+        await ask(f"SET {bus} GL {address} {way} 0 {most}")
+
+
+async def stop_one(mirror, ask, bus, address):
+    """Has one locomotive make an emergency stop."""
+    mirror.stops.order_one(bus, address)
+    await halt(mirror, ask, bus, address)
+
+
+async def stop_several(mirror, ask, locomotives):
+    """Has each of these (bus, address) make an emergency stop, all at once; returns all refusals."""
+    stops = [stop_one(mirror, ask, *locomotive) for locomotive in locomotives]
+    return faults(locomotives, await asyncio.gather(*stops, return_exceptions=True))
+
+
+def faults(locomotives, replies):
+    """Returns what could not be stopped, and why. What is gone stands."""
+    return [f"{bus} GL {address}: {reply}" for (bus, address), reply in zip(locomotives, replies)
+            if reply and not str(reply).startswith("416")]
+
+
+async def stop_all(mirror, holders={}):
+    """Has all locomotives that drive make an emergency stop, at once.
+
+    If another session has one locked, its bus's power goes off. `holders` has sessions by their ids: they command what
+    they have locked. Returns what could not be stopped.
+    """
+    with mirror.stops.stopping_all():
+        if not mirror.session or mirror.session.ended.done():
+            return ["the server is away"]
+        cut: dict[int, asyncio.Task] = {}
+        under_way = {locomotive for locomotive, commands in mirror.stops.under_way.items() if commands}
+        refusals = await stop_those(mirror, holders, cut, driving(mirror, not mirror.here) | under_way)
+        while any(mirror.stops.under_way.values()):
+            await asyncio.sleep(SOON)
+        await asyncio.sleep(SETTLED)
+        again = {locomotive for locomotive in driving(mirror) | under_way if locomotive[0] not in cut}
+        return refusals + await stop_those(mirror, holders, cut, again)
+
+
+def driving(mirror, all_of_them=False):
+    """Returns the locomotives that drive; or all, since the panel that tells which is away."""
+    return {(bus, address) for (bus, group, address, part), row in mirror.rows.items()
+            if (group, part) == ("GL", "does") and (row.v or all_of_them)}
+
+
+async def stop_those(mirror, holders, cut, locomotives):
+    """Stops these at once, as stop_all; `cut` has the tasks that take the power of a bus off."""
+    async def stop(bus, address):
+        lock = mirror.rows.get((bus, "GL", address, "lock"))
+        session = holders.get(lock and lock.session, mirror.session)
+        session = mirror.session if session.ended.done() else session
+        try:
+            mirror.stops.due[bus, address] += 1
+            await halt(mirror, session.ask, bus, address)
+        except Refused as reply:
+            if not str(reply).startswith("414"):
+                raise
+            if bus not in cut:
+                cut[bus] = asyncio.create_task(mirror.session.ask(f"SET {bus} POWER OFF stop all"))
+            await asyncio.shield(cut[bus])
+
+    stops = [stop(*locomotive) for locomotive in locomotives]
+    return faults(locomotives, await asyncio.gather(*stops, return_exceptions=True))

@@ -1,0 +1,127 @@
+// The page: what web.py tells it, and its head and forms.
+import { stopSent, tell } from "./bar.js";
+import { $, called, devices, forget, name, redraw, remake, whenDrawn } from "./layout.js";
+import { halt, isOpen, open } from "./locomotives.js";
+import "./devices.js";
+import { ask, drop, joined, post, stopAll } from "./server.js";
+import { otherLanguage, text, translate } from "./texts.js";
+
+// ---- what web.py tells
+
+const GROUPS = ["GL", "GA", "FB", "POWER"];
+function apply({ key: [bus, group, address, part], row, ...beside }) { // row is null if it is gone
+  if (!GROUPS.includes(group)) return;
+  const key = (group === "POWER" ? [bus, group] : [bus, group, address]).join(" ");
+  if (!row && part !== "lock") return forget(key);
+  const device = devices.get(key) ?? {};
+  devices.set(key, device);
+  if (typeof part === "number") (device.ports ??= {})[part] = row;
+  else device[part] = part === "does" ? { ...row, way: beside.way } : row;
+  if ("lies" in beside) device.lies = beside.lies;
+  if ("stops" in beside) counted(key, device, beside.stops);
+  redraw([key]);
+}
+function counted(key, loco, stops) {
+  if (stops > loco.stops) halt(key, loco);
+  loco.stops = stops;
+}
+
+const events = new EventSource("/events");
+const on = (name, take) => events.addEventListener(name, e => take(JSON.parse(e.data)));
+let state = "joining", isHere = false;
+function shown(key, here) {
+  [state, isHere] = [key, here];
+  $("state").textContent = text(state);
+  document.body.classList.toggle("away", !isHere);
+}
+on("page", ({ key, names }) => {                // this page has joined, or joined again: all rows come
+  joined(key);
+  called(names);
+  for (const key of [...devices.keys()]) forget(key);
+});
+on("here", here => shown(here ? "layout" : "serverAway", here));
+on("row", apply);
+on("beat", () => post("/alive"));
+on("stop", counts => {                          // a STOP ALL, whoever pressed it
+  drop();
+  for (const [key, stops] of Object.entries(counts)) if (devices.has(key)) counted(key, devices.get(key), stops);
+  stopSent();
+});
+on("elsewhere", () => { events.close(); shown("tooManyTabs", false); });
+async function again() {                        // once web.py answers, and has a place for this page
+  const answer = await fetch("/").catch(() => null);
+  if (answer && answer.status !== 503) location.reload();
+  else events.onerror();
+}
+events.onerror = () => {
+  shown("programAway", false);
+  if (events.readyState === EventSource.CLOSED) setTimeout(again, 1000);
+};
+
+// ---- the head: STOP ALL, find, how many there are
+
+$("stop").onclick = stopAll;
+document.addEventListener("keydown", e => {
+  if (e.key !== "Escape") return;
+  if (!e.target.matches("input:not([type=range])")) return stopAll();
+  if (e.target === $("find")) $("find").value = "";
+  e.target.blur();                              // the next one stops all
+  redraw();
+});
+$("find").oninput = () => redraw();
+function find(keys) {
+  const wanted = $("find").value.trim().toLowerCase();
+  for (const key of keys) {
+    const device = devices.get(key), group = key.split(" ")[1];
+    if (!device?.card || group === "POWER") continue;
+    const hidden = !(key + " " + name(key)).toLowerCase().includes(wanted);
+    device.card.hidden = hidden || group === "GL" && !isOpen(key);
+    if (device.chip) device.chip.hidden = hidden;
+  }
+}
+function count() {
+  for (const group of ["GL", "GA", "FB"]) {
+    const all = [...devices].filter(([key, device]) => key.split(" ")[1] === group && device.card);
+    const on = all.filter(([, { does }]) => group === "GL" ? does.v : group === "FB" && does.value).length;
+    $("count" + group).textContent = text("count" + group, { all: all.length, on });
+  }
+}
+whenDrawn(find);
+whenDrawn(count);
+
+// ---- what is added: asked for first, since INIT of what is there may stop a train
+
+async function add(group, { bus, address, steps, functions }) {
+  const key = `${bus} ${group} ${address}`, quiet = ["412", "416", "422"];
+  const is = await ask(key, "/command", `GET ${key}${group === "GA" ? " 0" : ""}`, { quiet });
+  if (is.startsWith("200")) tell(text("isThere", { name: name(key) }), { failed: false });
+  else if (is.startsWith("412") || is.startsWith("422")) return tell(await whyNot(key));
+  else if (!is.startsWith("416")) return;
+  else {
+    const words = group === "GL" ? `N ${address < 128 ? 1 : 2} ${steps} ${functions}` : "N";
+    if (!(await ask(key, "/command", `INIT ${key} ${words}`)).startsWith("200")) return;
+  }
+  if (group === "GL") open(key, true);
+  $("add" + group).elements.address.value = "";
+}
+async function whyNot(key) {                    // an address that the server does not take, or a bus
+  const [bus, group, address] = key.split(" "), most = group === "GL" ? "gl_max" : "ga_max";
+  const { reply } = await post("/command", `GET ${bus} ${group} 1${group === "GA" ? " 0" : ""}`);
+  if (reply.startsWith("412")) return text("noBus", { bus });
+  if (reply.startsWith("422")) return text("noGroup", { bus });
+  return text("tooHigh", { address, bus, most });
+}
+for (const group of ["GL", "GA"]) $("add" + group).onsubmit = e => {
+  e.preventDefault();
+  add(group, Object.fromEntries(new FormData(e.target)));
+};
+
+// ---- its language
+
+function speak() {
+  translate();
+  shown(state, isHere);
+  remake();
+}
+$("language").onclick = () => { otherLanguage(); speak(); };
+speak();

@@ -1,0 +1,198 @@
+#!/usr/bin/env python3
+"""A port for programs that were written for srcpd: it passes all to the server, and answers what the server leaves out.
+
+Each client has a session of its own at the server, which is sent its lines as they are and answers them. This program
+answers these, by SRCP 0.8.4:
+
+  GET b DESCRIPTION                       the groups of a bus
+  GET b DESCRIPTION GL a, or GA a         what a locomotive, or an accessory, is
+  GET 0 SERVER                            RUNNING; it can neither be reset nor ended
+  INIT, SET, GET, TERM and WAIT 0 TIME    a clock: INIT 0 TIME 6 1 has it go six times as fast as the day
+  WAIT b FB a value seconds               the sensor, once it has that value
+  SET 0 GM to from type text              a message for the information session `to` that came this way; 0: for each
+  INIT b GL a L .., or INIT b GA a L      as P, which leaves the protocol to the server; so A, F and Z
+
+An information session that sends GET 0 SERVER, GET 0 TIME or GET b DESCRIPTION is told that between its other lines,
+and after GET 0 TIME each minute of the clock. SM is refused as the server does: no driver can program.
+"""
+import asyncio
+import re
+import time
+
+from srcp_bridges.program import arguments, run, say
+
+from srcp_bridges.old_words import FORBIDDEN, LATE, NO_DATA, NUMBER, SHORT, UNSUPPORTED, Answers, fault
+from srcp_bridges.places import Full, Places, add_arguments, listen
+from srcp_bridges.state import SELF
+
+CLIENTS, OF_ONE = 40, 20  # that are served: in all, and of one address
+LONGEST = 1000  # bytes of a line that the server reads
+WAITING = 1000  # lines of a client that may wait
+LINGER = 10.0  # seconds for which a WAIT goes on once its client has closed its side
+MODES = ["COMMAND"], ["INFO"]
+FOREIGN = re.compile(rb"([ \t]*INIT[ \t]+\d+[ \t]+G[LA][ \t]+\d+[ \t]+)[AFLZ](?=[ \t\r]|$)", re.I)
+
+
+class Proxy:
+    """The clients, and what they share."""
+
+    def __init__(self, asked):
+        self.asked, self.places = asked, Places(CLIENTS, OF_ONE)
+        self.clients: set[Client] = set()
+        self.answers = Answers(asked, lambda text: self.tell(text, lambda client: client.asked_time))
+
+    def tell(self, text, is_for):
+        """Tells a line of this program's own to information sessions."""
+        for client in self.clients:
+            if client.is_panel and is_for(client):
+                client.say(text)
+
+    def message(self, words: list[str]) -> str:
+        """Answers SET 0 GM to from type text."""
+        if len(words) < 4:
+            return SHORT
+        if wrong := fault(words[:2], 1 << 32, 1 << 32):
+            return wrong
+        to = int(words[0])
+        if to and to not in [client.id for client in self.clients if client.is_panel]:
+            return NO_DATA
+        self.tell(f"100 INFO 0 GM {' '.join(words)}", lambda client: to in (0, client.id))
+        return "200 OK"
+
+    async def run(self):
+        async with await listen(lambda *ends: Client(self, *ends).serve(), self.asked.bind, self.asked.listen):
+            await asyncio.gather(self.answers.mirror.run(), self.answers.tell_minutes())
+
+
+class Client:
+    """The connection of a client, and its own to the server. Its lines are carried out one after the other."""
+
+    def __init__(self, proxy: Proxy, reader: asyncio.StreamReader, writer: asyncio.StreamWriter):
+        self.proxy, self.reader, self.writer = proxy, reader, writer
+        self.lines: asyncio.Queue[bytes | None] = asyncio.Queue(WAITING)
+        self.replies: asyncio.Queue[None] = asyncio.Queue()  # how many came, and one more at the end
+        self.mode, self.id, self.is_panel, self.asked_time = "COMMAND", 0, False, False
+        self.peer, self.port = writer.get_extra_info("peername")[0], proxy.answers.mirror.server[1]
+
+    def say(self, text: str):
+        self.writer.write(f"{time.time():.3f} {text}\n".encode("latin-1"))
+
+    async def read(self):
+        """Takes in the lines of the client. Of one that is too long stays what the server needs to say so."""
+        begun = b""
+        try:
+            while more := await self.reader.read(1 << 16):
+                *lines, begun = (begun + more).split(b"\n")
+                for line in lines:
+                    await self.lines.put(line[:LONGEST + 9])
+                begun = begun[:LONGEST + 9]
+        except OSError:
+            pass  # it has gone
+        await self.lines.put(None)
+
+    async def hear(self, upstream: asyncio.StreamReader):
+        """Passes on what the server says, and counts its replies until the lines of a panel begin."""
+        try:
+            while line := await upstream.readline():
+                self.writer.write(line)
+                await self.writer.drain()
+                if not self.is_panel:
+                    words = line.split()
+                    if not self.id and words[1:4] == [b"200", b"OK", b"GO"]:
+                        self.id, self.is_panel = int(words[4]), self.mode == "INFO"
+                        SELF.begins(self.port, self.id, f"client {self.peer}")
+                    self.replies.put_nowait(None)
+        finally:
+            self.replies.put_nowait(None)
+
+    async def serve(self):
+        try:
+            with self.proxy.places.place(self.peer):
+                await self.carry_out_all()
+        except (OSError, Full) as why:
+            say(f"client {self.peer}: {why}")
+        except asyncio.CancelledError:
+            pass  # this program is ended
+        finally:
+            self.writer.close()
+
+    async def carry_out_all(self):
+        """Carries out what the client sends, until it has gone and all is answered, or the server has gone."""
+        upstream, self.server = await asyncio.open_connection(*self.proxy.answers.mirror.server)
+        self.hearing, self.reading = asyncio.create_task(self.hear(upstream)), asyncio.create_task(self.read())
+        self.proxy.clients.add(self)
+        try:
+            await self.replies.get()  # the welcome line
+            while (line := await self.next_line()) is not None:
+                await self.carry_out(line)
+            self.server.write_eof()
+            await self.hearing
+        finally:
+            self.proxy.clients.discard(self)
+            SELF.ends(self.port, self.id)
+            self.hearing.cancel(), self.reading.cancel()
+            self.server.close()
+
+    async def next_line(self) -> bytes | None:
+        """Returns the next line of the client; None if there is none, or the server has gone."""
+        line = asyncio.create_task(self.lines.get())
+        await asyncio.wait([line, self.hearing], return_when=asyncio.FIRST_COMPLETED)
+        if not line.done():
+            line.cancel()
+            return None
+        return line.result()
+
+    async def carry_out(self, line: bytes):
+        """Answers a line, or has the server answer it."""
+        words = [word.decode("latin-1") for word in re.findall(rb"[^ \t]+", line.removesuffix(b"\r"))]
+        keywords = [word.upper() for word in words]
+        if not self.id and keywords[:3] == ["SET", "CONNECTIONMODE", "SRCP"] and keywords[3:] in MODES:
+            self.mode = keywords[3]
+        if self.id and len(line) <= LONGEST and len(words) > 2 and NUMBER.fullmatch(words[1]):
+            if reply := await self.answer(keywords[0], int(words[1]), keywords[2], words[3:]):
+                if not self.is_panel or " ERROR " not in reply:
+                    self.say(reply)
+                    await self.writer.drain()
+                return
+            line = FOREIGN.sub(rb"\1P", line)
+        self.server.write(line + b"\n")
+        if not self.is_panel:
+            await self.replies.get()
+
+    async def answer(self, command: str, bus: int, group: str, words: list[str]) -> str | None:
+        """Returns the answer to a line that is answered here. An information session asks by GET alone."""
+        answers = self.proxy.answers
+        if self.is_panel and command != "GET":
+            return None
+        if (command, group) == ("GET", "DESCRIPTION"):
+            return await answers.describe(bus, words)
+        if (command, group) == ("WAIT", "FB"):
+            return await self.waited(answers.wait_sensor(bus, words))
+        if bus == 0 and group == "TIME":
+            self.asked_time = True
+            return await self.waited(answers.wait_time(words)) if command == "WAIT" else answers.time(command, words)
+        if bus == 0 and group == "SERVER":
+            return "100 INFO 0 SERVER RUNNING" if command == "GET" else FORBIDDEN
+        if bus == 0 and group == "GM":
+            return self.proxy.message(words) if command == "SET" else UNSUPPORTED
+        return None
+
+    async def waited(self, wait) -> str:
+        """Returns the answer of a WAIT. It does not go on for long once the client has closed its side."""
+        task = asyncio.create_task(wait)
+        try:
+            await asyncio.wait([task, self.reading, self.hearing], return_when=asyncio.FIRST_COMPLETED)
+            await asyncio.wait([task], timeout=0 if self.hearing.done() else LINGER)
+            return task.result() if task.done() else LATE
+        finally:
+            task.cancel()
+
+
+def main():
+    words = arguments(__doc__)
+    add_arguments(words, "--listen", 4304, "clients")
+    run(Proxy(words.parse_args()).run())
+
+
+if __name__ == "__main__":
+    main()

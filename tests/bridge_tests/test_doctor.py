@@ -1,0 +1,40 @@
+"""doctor.py and status.py of examples/, with a driver and a simulated station."""
+import os
+import subprocess
+import sys
+
+from .common import TOP, new_folder, until
+from .test_dcc_ex import DccExCase
+
+
+class Doctor(DccExCase):
+    program = "doctor"
+
+    def start(self, station=None, *words):
+        """Starts the driver at the server's own port, by which it tells of its sessions."""
+        self.environment = os.environ | {"XDG_RUNTIME_DIR": new_folder()}  # other cases have drivers too
+        words = "--station", station or self.link, *self.words, *words
+        self.driver = self.starts("dcc_ex.py", *words, env=self.environment)
+        self.joins()
+
+    def asks(self, file, *words):
+        """The lines that a program of examples/ prints, and its status."""
+        command = [sys.executable, TOP / "examples" / file, *words, "--port", str(self.server.port)]
+        done = subprocess.run(command, capture_output=True, text=True, env=self.environment)
+        return done.stdout, done.returncode
+
+    def test_the_driver_tells_how_its_station_is(self):
+        until(lambda: "9 told: 63 of 126, forward" in self.asks("doctor.py", "3")[0], "the locomotive was told")
+        told, status = self.asks("doctor.py", "3")
+        self.assertEqual(status, 0)
+        self.assertIn(f"8 station: {self.link} answers", told)
+        self.throttle.order("INIT 1 GL 7 M 1 28 5", "SET 1 GL 7 1 14 28")
+        until(lambda: "9 told: the station does not drive it: protocol M" in self.asks("doctor.py", "7")[0]
+              or "6 command" in self.asks("doctor.py", "7")[0].splitlines()[-2], "what is not driven")
+        self.station.unplug()
+        until(lambda: "4 power: it is off: no station" in self.asks("doctor.py", "3")[0], "no station")
+        self.station = type(self.station)(self.link)
+
+    def test_the_sessions_of_the_driver_have_its_name(self):
+        sessions = self.asks("status.py")[0].splitlines()[0]
+        self.assertEqual(sessions.count("(dcc_ex.py)"), 2)

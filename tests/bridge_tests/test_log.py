@@ -1,0 +1,44 @@
+"""log.py: each change and each session, with the time of day."""
+import re
+import time
+from pathlib import Path
+
+from .common import Case, new_folder, until
+
+STAMP = re.compile(r"^\d{4}-\d\d-\d\d \d\d:\d\d:\d\d\.\d{3} ", re.M)
+
+
+class Log(Case):
+    program = "log"
+
+    def setUp(self):
+        super().setUp()
+        self.throttle.order("INIT 1 GL 7 N 1 28 2", "SET 1 GL 7 1 9 28")
+        names = Path(new_folder(), "names.toml")
+        names.write_text('"1 GL 3" = "V 100"\n')
+        time.sleep(0.01)  # so that its panel begins at a later moment
+        self.log = self.starts("log.py", "--names", names, port=self.way.port)
+        until(lambda: "joined a server" in self.log.told(), "joined")
+
+    def lines(self):
+        return STAMP.sub("", self.log.told()).splitlines()
+
+    def test_each_change_is_written_once(self):
+        self.throttle.order("INIT 1 GL 3 N 1 28 2", "SET 1 LOCK GL 3 0", "SET 1 GL 3 0 9 28 1", "SET 1 GL 3 2 0 28",
+                            "SET 1 POWER ON main line", "INIT 1 GA 5 N", "SET 1 GA 5 1 1 -1", "SET 1 FB 7 1",
+                            "TERM 1 GA 5", "TERM 1 LOCK GL 3")
+        until(lambda: "V 100: unlocked" in self.lines(), "all written")
+        lines = self.lines()
+        want = ["V 100: made: N 1 28 2", "V 100: forward 0 of 0", "V 100: locked by session 1",
+                "V 100: backward 9 of 28 F0", "V 100: emergency stop 0 of 28 F0", "1 POWER: ON main line",
+                "1 GA 5: made: N", "1 GA 5: port 0: 0", "1 GA 5: port 1: 0", "1 GA 5: port 1: 1", "1 FB 7: 1",
+                "1 GA 5: the accessory is gone", "V 100: unlocked"]
+        self.assertEqual(lines[lines.index(want[0]):], want)
+        self.assertFalse([line for line in lines if "GL 7" in line])  # it was there before
+        self.assertTrue(all(STAMP.match(line) for line in self.log.told().splitlines() if "V 100" in line))
+
+    def test_the_server_goes_and_comes(self):
+        self.server.restart()
+        until(lambda: self.lines().count("joined a server that was started") == 2, "joined again")
+        self.assertIn("the server is away", self.lines())
+        self.assertIn("1 GL 7: the locomotive is gone", self.lines())

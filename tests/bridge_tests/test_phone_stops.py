@@ -1,0 +1,133 @@
+"""withrottle.py: what stops the locomotives of phones, and what waits then."""
+import signal
+import socket
+import time
+
+from .common import rows, until
+from .phones import Panel, WiThrottleCase
+
+
+class WiThrottleStops(WiThrottleCase):
+    def test_phones_that_are_gone_or_silent(self):
+        phone = self.phone()
+        phone.send("M0+S3<;>S3", "M0A*<;>V60")
+        self.has("100 INFO 1 GL 3 1 60 126")
+        phone.socket.shutdown(socket.SHUT_RDWR)
+        self.has("100 INFO 1 GL 3 1 0 126")
+        phone = self.phone(watched=True)
+        phone.send("M0+S3<;>S3", "M0A*<;>V60")
+        for _ in range(6):
+            time.sleep(0.25)
+            phone.send("*")
+        self.assertTrue(any(row.startswith("100 INFO 1 GL 3 1 60 126") for row in rows(self.server.port)))
+        self.has("100 INFO 1 GL 3 1 0 126")
+        phone.send("M0A*<;>V30")
+        self.has("100 INFO 1 GL 3 1 30 126")
+        phone.got("END")
+        self.lacks("100 INFO 1 LOCK", "100 INFO 1 GL 3 1 30 126")
+
+    def test_a_stop_is_not_behind_what_waits(self):
+        phone, panel = self.phone_with("S3"), Panel(self.server.port)
+        for stop, mode in (("M0A*<;>X", 2), ("M0AS3<;>V-1", 2), ("M0A*<;>V0", 1), ("M0AS3<;>I", 1), ("M0A*<;>Q", 1)):
+            phone.send("M0A*<;>V5")
+            phone.got("M0AS3<;>V5")
+            begin = len(panel.lines)
+            self.at_once(phone, *[f"M0A*<;>V{v}" for v in range(10, 110)], stop)
+            phone.got("M0AS3<;>V0")
+            phone.settled()
+            speeds = [line for line in panel.lines[begin:] if line.startswith("100 INFO 1 GL 3 ")]
+            self.assertIn(f"100 INFO 1 GL 3 {mode} 0 126", [line[:len("100 INFO 1 GL 3 1 0 126")] for line in speeds])
+            self.assertLess(len(speeds), 6)
+            self.has("100 INFO 1 GL 3 1 0 126")
+            self.assertEqual([line for line in phone.lines if "meanwhile" in line], [])
+            phone.send(stop, "M0A*<;>V20")
+            phone.got("M0AS3<;>V20")
+        begin = len(panel.lines)
+        self.at_once(phone, *[f"M0A*<;>V{v}" for v in range(10, 110)], "Q")
+        phone.got("END")
+        self.assertLess(len([line for line in panel.lines[begin:] if line.startswith("100 INFO 1 GL 3 1 ")]), 5)
+        self.has("100 INFO 1 GL 3 1 0 126")
+
+    def test_power_off_is_not_behind_what_waits(self):
+        phone, panel = self.phone_with("S3"), Panel(self.server.port)
+        self.throttle.order("SET 1 POWER ON")
+        phone.got("PPA1")
+        self.at_once(phone, *[f"M0A*<;>V{v}" for v in range(10, 110)], "PPA1", "PPA0")
+        phone.got("PPA0")
+        phone.settled()
+        self.assertEqual([line.split()[4] for line in panel.told("100 INFO 1 POWER")], ["OFF", "ON", "OFF"])
+        self.assertLess(len(panel.told("100 INFO 1 GL 3 1 ")), 5)
+        phone.send("PPA0", "PPA1")
+        phone.got("PPA1")
+        phone.send("M0A*<;>V20")
+        phone.got("M0AS3<;>V20")
+
+    def test_what_waits_does_not_undo_a_stop_of_others(self):
+        phone = self.phone_with("S3")
+        phone.send("M1+S3<;>S3")
+        phone.got("M1+S3<;>", "M1AS3<;>s1")
+        phone.send("M0A*<;>V5")
+        phone.got("M1AS3<;>V5")
+        self.at_once(phone, *[f"M0A*<;>V{v}" for v in range(10, 60)], "M1A*<;>X")
+        phone.settled()
+        self.has("100 INFO 1 GL 3 1 0 126")
+        phone.send("M0A*<;>V20")
+        phone.got("M0AS3<;>V20")
+        self.throttle.order("SET 1 POWER ON")
+        phone.got("PPA1")
+        self.server.process.send(signal.SIGSTOP)
+        print("SET 1 POWER OFF", file=self.throttle.stream, flush=True)
+        time.sleep(0.2)
+        self.at_once(phone, *[f"M0A*<;>V{v}" for v in range(30, 80)])
+        phone.got("PPA0", "HM3: it was stopped meanwhile")
+        phone.settled()
+        self.assertEqual(phone.lines.count("HM3: it was stopped meanwhile"), 1)
+        self.lacks("100 INFO 1 GL 3 1 79 126")
+        phone.send("M0A*<;>V21")
+        phone.got("M0AS3<;>V21")
+
+    def test_a_loss_puts_to_rest_what_phones_have_locked(self):
+        """A power off that has a reason does; one without does not."""
+        phone = self.phone_with("S3")
+        for why, v in (("", 60), (" stop all", 0), (" no station", 0)):
+            self.throttle.order("SET 1 POWER ON")
+            phone.got("PPA1")
+            phone.send("M0A*<;>V59", "M0A*<;>V60")
+            phone.got("M0AS3<;>V60")
+            self.throttle.order(f"SET 1 POWER OFF{why}")
+            phone.got("PPA0", *[f"HMpower off:{why}"] * bool(why))
+            self.has(f"100 INFO 1 GL 3 1 {v} 126")
+            self.throttle.order("SET 1 POWER ON", "SET 1 POWER OFF")
+            phone.got("PPA1", "PPA0")
+            self.has(f"100 INFO 1 GL 3 1 {v} 126")
+
+    def test_an_emergency_stop_tries_each(self):
+        """Of two locomotives another has locked the first, after a restart: the second stands all the same."""
+        phone = self.phone_with("S3", "S4")
+        for stop in ("X", "V0"):
+            self.restarted()
+            self.throttle.order(*[f"INIT 1 GL {address} N 1 126 5" for address in (3, 4)], "SET 1 LOCK GL 3 0",
+                                *[f"SET 1 GL {address} 0 40 126" for address in (3, 4)])
+            phone.got("M0AS4<;>V40")
+            phone.send(f"M0A*<;>{stop}")
+            self.has("100 INFO 1 GL 4 0 0 126", "100 INFO 1 GL 3 0 40 126")
+            until(lambda: any("414 ERROR device locked" in line for line in phone.told("HM")), "the refusal")
+            phone.settled()
+
+    def test_the_direction_outlives_stops(self):
+        """Also one by a program that keeps no direction, and what a phone sends first after it."""
+        self.throttle.order("INIT 1 GL 3 N 1 28 5", "SET 1 GL 3 0 9 28")
+        phone = self.phone()
+        phone.send("M0+S3<;>S3")
+        phone.got("M0AS3<;>R0", "M0AS3<;>s1")
+        phone.send("M0-S3<;>r")
+        phone.got("M0-S3<;>")
+        self.throttle.order("SET 1 GL 3 0 9 28", "SET 1 GL 3 2 0 28")
+        self.has("100 INFO 1 GL 3 2 0 28")
+        phone.send("M0+S3<;>S3", "M0A*<;>F11")
+        self.has("100 INFO 1 GL 3 0 0 28 0 1")
+        self.throttle.ask("SET 1 GL 3 2 0 28")
+        phone.send("M0A*<;>V20")
+        self.has("100 INFO 1 GL 3 0 20 126 0 1")
+        phone.send("M0A*<;>X", "M0A*<;>V21")
+        self.has("100 INFO 1 GL 3 0 21 126 0 1")

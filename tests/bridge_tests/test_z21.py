@@ -1,0 +1,148 @@
+"""z21.py, with a simulated station that is strict about its protocol and loses one datagram in ten."""
+import signal
+import subprocess
+import sys
+import time
+
+from .common import PROGRAMS, WAIT, free_port, rows
+from .stations import QUIET, Drives, Hands, Losses, StationCase
+
+
+class Z21Case(StationCase):
+    program, greeting, top, slowest = "z21", "Z21, serial number 123456", 28, 5
+    words = ("--patience", 0.5, "--silence", 5, "--turnout-pace", 20)  # a busy machine may not hear for a while
+
+    def opens(self):
+        from simulated_z21 import Z21
+        port = free_port()
+        self.where = f"127.0.0.1:{port}"
+        return Z21(port)
+
+    def drives(self):
+        """Returns once the driver tells nothing again, since all is confirmed."""
+        super().drives()
+        self.track(lambda s: time.monotonic() - s.commanded > 2 * QUIET, "all is confirmed")
+
+
+class Z21(Drives, Z21Case):
+    def test_many_emergency_stops_are_one_command_first(self):
+        self.station.loses = 0
+        super().test_many_emergency_stops_are_one_command_first()
+
+    def test_half_of_all_datagrams_are_lost(self):
+        """Each command is told again until the station confirms it, an emergency stop before what follows it."""
+        self.station.loses = 0.5
+        locomotives = range(11, 19)
+        for n in locomotives:
+            self.throttle.order(f"INIT 1 GL {n} N 1 14 29", f"SET 1 GL {n} {n % 2} 7 14 " + "0 1 " * 14 + "1")
+        for n in range(1, 5):
+            self.throttle.order(f"INIT 1 GA {n} N", f"SET 1 GA {n} {n % 2} 1 20")
+        self.track(lambda s: all(s.cabs.get(n) == (63, n % 2) for n in locomotives), "all drive")
+        functions = {(n, i) for n in locomotives for i in [*range(1, 29, 2), 28]}
+        self.track(lambda s: self.functions() == functions | {(3, 0), (3, 2)}, "functions")
+        self.track(lambda s: s.turnouts == {n: n % 2 for n in range(1, 5)}, "turnouts")
+        begun = len(self.station.log)
+        self.throttle.flood([f"SET 1 GL {n} {mode} 0 14" for n in locomotives for mode in (2, n % 2)])
+        self.track(lambda s: all(s.cabs[n] == (0, n % 2) for n in locomotives), "all stand")
+        for n in locomotives:
+            self.assertEqual(self.commands(f"t {n} ", begun), [f"t {n} -1 {n % 2}", f"t {n} 0 {n % 2}"])
+        self.track(lambda s: not s.outputs, "no output of a turnout is on")
+
+    def test_an_output_of_a_turnout_is_on_for_a_moment(self):
+        self.throttle.order("INIT 1 GA 5 N", "SET 1 GA 5 1 1 20")
+        self.track(lambda s: (5, 1) in s.pulses, "it has gone off")
+        self.assertGreater(self.station.pulses[5, 1], 0.08)
+
+    def test_who_says_nothing_is_told_nothing_and_the_driver_does(self):
+        """The station logs off who was silent: after 60 s, here after 3. What a hand does then is told."""
+        self.station.patience = 3.0
+        time.sleep(4)
+        self.station.loses = 0
+        self.assertEqual(len(self.station.clients), 1)
+        self.station.switch(0)
+        self.rests("station says off")
+
+    def test_a_station_that_sends_rubbish(self):
+        told = self.driver.told()
+        for _ in range(20):
+            self.station.rubbish()
+        self.station.sensor(7, 1)
+        self.has("100 INFO 1 FB 7 1", "100 INFO 1 POWER ON", "100 INFO 1 GL 3 1 14")
+        self.assertEqual(self.driver.told(), told)
+
+    def test_wrong_words_end_it_with_status_2_and_one_line(self):
+        from srcp_bridges.stations.line import network_place
+        for name, place in [("z21", ("z21", 21105)), ("[fe80::1]", ("fe80::1", 21105)), ("z21:5", ("z21", 5))]:
+            self.assertEqual(network_place(name, "", 21105), place)
+        for words in [["--station", "z21:abc"], ["--station", ":21105"], [], ["--station", "z21", "--bus", "0"]]:
+            command = [sys.executable, PROGRAMS / "z21.py", "--port", str(self.server.port), *words]
+            ran = subprocess.run(command, capture_output=True, text=True, timeout=WAIT)
+            self.assertEqual((ran.returncode, len(ran.stderr.splitlines())), (2, 1), (words, ran.stderr))
+
+
+class Z21WithLosses(Losses, Z21Case):
+    def test_a_station_that_stops_all(self):
+        """Power counts as off, and switching it on ends that."""
+        self.station.stop()
+        self.rests("station says off")
+        self.drives()
+
+    def test_a_station_that_programs_a_decoder(self):
+        """Power counts as off. The station is told nothing that would end the programming, until somebody does."""
+        self.station.program()
+        self.has("100 INFO 1 POWER OFF station says off", "100 INFO 1 GL 3 1 0 ")
+        time.sleep(QUIET)
+        self.assertTrue(self.station.programs())
+        self.drives()
+
+    def test_speeds_that_a_station_keeps(self):
+        """What drove there before the driver came is told to stand before the power comes."""
+        self.driver.end(signal.SIGKILL)
+        self.throttle.order("SET 1 GL 3 1 0 28", "SET 1 POWER OFF")
+        self.assertEqual(self.station.cabs[3], (63, 1))
+        self.start()
+        self.rests("")
+        self.throttle.order("SET 1 POWER ON")
+        self.track(lambda s: s.power == 1, "power is on")
+        self.assertEqual(self.station.cabs[3], (0, 1))
+
+    def test_a_station_that_reports_what_it_did_before_it_heard(self):
+        """That is no hand throttle: the registry stays as it is."""
+        self.driver.end(signal.SIGKILL)
+        self.throttle.order("SET 1 GL 3 1 0 28", "SET 1 POWER OFF")
+        self.station.deaf = True
+        self.start()
+        time.sleep(3 * QUIET)
+        self.has("100 INFO 1 GL 3 1 0 28", "100 INFO 1 POWER OFF")
+        self.station.deaf = False
+        self.rests("")
+
+    def test_the_driver_is_ended_while_datagrams_are_lost(self):
+        self.station.loses = 1
+        self.driver.send(signal.SIGTERM)
+        time.sleep(QUIET)
+        self.station.loses = 0
+        self.track(lambda s: s.cabs[3] == (0, 1) and s.power == 0, "all stand")
+
+    def test_the_driver_logs_off(self):
+        self.station.loses = 0
+        self.driver.end()
+        self.track(lambda s: not s.clients, "nobody is told anything")
+
+
+class Z21WithHands(Hands, Z21Case):
+    def test_a_hand_throttle_with_other_steps(self):
+        self.station.steps[3] = 3
+        self.station.hand(3, speed=100)
+        self.has("100 INFO 1 GL 3 1 23 28")
+        self.assertEqual(self.commands("t 3")[-1], "t 3 63 1")
+
+    def test_what_a_hand_does_while_all_is_lost(self):
+        """The driver asks for it again and again."""
+        self.station.loses = 1
+        self.station.hand(3, speed=45)
+        self.station.sensor(7, 1)
+        time.sleep(QUIET)
+        self.assertNotIn("100 INFO 1 FB 7 1", rows(self.server.port))
+        self.station.loses = 0
+        self.has("100 INFO 1 GL 3 1 10 28", "100 INFO 1 FB 7 1")
