@@ -8,46 +8,45 @@ import time
 from contextlib import contextmanager
 from pathlib import Path
 
-from pages import TOP, reader_of_a_page, take_bridges
+from pages import PACKING, TOP, missing_packaging_tools, reader_of_a_page, take_bridges
 from serving import SECONDS, WELCOME, Client, TriedNothing, free_port, wait_for
 
 PACKAGING = TOP / "packaging"
 CONF = "etc/srcp_server.toml"
 
 
-def with_dpkg_deb(case):
-    """The case if dpkg-deb is there; else it says that it tried nothing."""
+def with_packaging_tools(case):
+    """The case if what ./package takes is there; else it says that it tried nothing."""
     @functools.wraps(case)
     def tries(program):
-        if not shutil.which("dpkg-deb"):
-            raise TriedNothing("there is no dpkg-deb here")
+        if missing := missing_packaging_tools():
+            raise TriedNothing(f"there is no {missing} here")
         return case(program)
     return tries
 
 
+def pack(top, environment, *words, umask=-1):
+    """Returns the package that ./package of a copy of the repository makes, with these words."""
+    folder = top / "made"
+    folder.mkdir(exist_ok=True)
+    done = subprocess.run([top / "package", *words, folder], capture_output=True, text=True, timeout=PACKING,
+                          env=environment, umask=umask)
+    if done.returncode:
+        raise RuntimeError(done.stderr)
+    return folder / done.stdout.strip()
+
+
 @contextmanager
-def package_of(program, count=1):
-    """The packages that `count` calls make around the program, each in a folder of its own."""
+def package_of(program):
+    """The package around the program."""
     with reader_of_a_page(program) as reader:
-        if (TOP / "bridges").is_dir():
-            take_bridges(reader)
-        made = []
-        for number in range(count):
-            folder = reader.folder / f"made{number}"
-            folder.mkdir()
-            elsewhere = {"LC_ALL": ["C", "C.UTF-8"][number % 2], "TZ": f"UTC{number}"}
-            done = subprocess.run([reader.folder / "package", folder], capture_output=True, text=True, timeout=SECONDS,
-                                  env=reader.environment | elsewhere)
-            if done.returncode:
-                raise RuntimeError(done.stderr)
-            made.append(folder / done.stdout.strip())
-            time.sleep(1.1)
-        yield made
+        take_bridges(reader)
+        yield pack(reader.folder, reader.environment)
 
 
-@with_dpkg_deb
+@with_packaging_tools
 def package_serves_from_what_it_holds(program):
-    with package_of(program) as (package,), tempfile.TemporaryDirectory() as folder:
+    with package_of(program) as package, tempfile.TemporaryDirectory() as folder:
         root = Path(folder)
         subprocess.run(["dpkg-deb", "--extract", package, root], check=True, timeout=SECONDS)
         port = free_port()
@@ -64,46 +63,64 @@ def package_serves_from_what_it_holds(program):
             server.wait()
         guarded = f"ConditionPathExists=/{CONF}\n" in unit
         units = "".join(file.read_text() for file in (root / "lib/systemd/system").glob("*.service"))
-        named = re.findall(r"^ExecStart=\S+ (/\S+)", units.replace("%i", "web"), re.M)
+        named = re.findall(r"^ExecStart=\S+ (/\S+)", units.replace("${BRIDGE}", "web"), re.M)
         missing = [name for name in named if not (root / name[1:]).exists()]
     got = reply, guarded, missing
     return None if got == ("100 INFO 1 POWER OFF", True, []) else f"got {got}"
 
 
-@with_dpkg_deb
+@with_packaging_tools
 def package_is_the_same_to_the_byte(program):
-    """Whatever the locale and the time zone are, and whenever it is made."""
-    with package_of(program, 2) as made:
-        first, second = [package.read_bytes() for package in made]
+    """Whatever the folder, the locale, the time zone and the umask of the clone are, and whenever it is made."""
+    made = []
+    with reader_of_a_page(program) as reader:
+        take_bridges(reader)
+        for place, locale, zone, umask in (("one", "C", "UTC0", 0o022), ("another/one", "C.UTF-8", "UTC11", 0o077)):
+            top = reader.folder / "copies" / place
+            top.parent.mkdir(parents=True)
+            files = [file for file in reader.folder.iterdir() if file.name != "copies"]
+            subprocess.run(["install", "-d", top], check=True, umask=umask)
+            subprocess.run(["cp", "-r", *files, top], check=True, umask=umask)
+            there = reader.environment | {"LC_ALL": locale, "TZ": zone}
+            made.append(pack(top, there, umask=umask).read_bytes())
+            time.sleep(1.1)
+    first, second = made
     return None if first == second else f"{len(first)} and {len(second)} bytes, which differ"
 
 
-@with_dpkg_deb
+@with_packaging_tools
 def package_that_is_purged_leaves_nothing(program):
-    """Of the bridges neither links of units that were enabled nor what they kept. One that is removed leaves both."""
-    with package_of(program) as (package,), tempfile.TemporaryDirectory() as folder:
+    """Of the units neither links of those that were enabled, nor what was added to them, nor words, nor what the
+    bridges kept. One that is removed leaves all of that, and nothing that Python kept beside the programs."""
+    theirs = ("etc/systemd/system/multi-user.target.wants/srcp_bridge@web.service", "etc/default/srcp_bridge_web",
+              "etc/systemd/system/srcp_bridge@web.service.d/mine.conf",
+              "etc/systemd/system/srcp_server.service.d/mine.conf",
+              "var/lib/private/srcp_bridge_keep/layout.srcp", "var/lib/srcp_bridge_keep")
+    kept = "usr/share/srcp-server/bridges/srcp_bridges/stations/__pycache__/line.pyc"
+    others = "etc/systemd/system/multi-user.target.wants/ssh.service", "etc/default/ssh", "var/lib/private/ssh"
+    with package_of(program) as package, tempfile.TemporaryDirectory() as folder:
         root = Path(folder)
         subprocess.run(["dpkg-deb", "--control", package, root / "DEBIAN"], check=True, timeout=SECONDS)
-        links, kept = root / "etc/systemd/system/multi-user.target.wants", root / "var/lib/private/srcp_bridge_keep"
-        for made in (links, kept, root / "tools"):
-            made.mkdir(parents=True)
-        for unit in ("srcp_bridge@web", "ssh"):
-            (links / f"{unit}.service").symlink_to("/lib/systemd/system/none.service")
-        (kept / "layout.srcp").write_text("INIT 1 GL 3 N 1 28 5\n")
-        (kept.parent.parent / kept.name).symlink_to(kept)
-        (root / "tools" / "rm").symlink_to(shutil.which("rm"))
-        script = re.sub(r" (/(?:etc|var)/)", rf" {root}\1", (root / "DEBIAN" / "postrm").read_text())
+        for file in (*theirs, *others, kept):
+            (root / file).parent.mkdir(parents=True, exist_ok=True)
+            (root / file).write_text("")
+        (root / "tools").mkdir()
+        for tool in ("rm", "find"):
+            (root / "tools" / tool).symlink_to(shutil.which(tool))
         left = []
-        for verb in ("remove", "purge"):
-            subprocess.run([shutil.which("sh"), "-c", script, "postrm", verb], check=True, timeout=SECONDS,
+        for name, verb in (("prerm", "remove"), ("postrm", "remove"), ("postrm", "purge")):
+            script = re.sub(r" (/(?:etc|var|usr)/)", rf" {root}\1", (root / "DEBIAN" / name).read_text())
+            subprocess.run([shutil.which("sh"), "-c", script, name, verb], check=True, timeout=SECONDS,
                            env={"PATH": str(root / "tools")})
-            stays = sorted(path.name for path in root.rglob("*keep*"))
-            left.append((sorted(link.stem for link in links.iterdir()), stays))
-    want = [(["srcp_bridge@web", "ssh"], ["srcp_bridge_keep"] * 2), (["ssh"], [])]
-    return None if left == want else f"left {left}"
+            files = [file for part in ("etc", "var", "usr") for file in (root / part).rglob("*")]
+            left.append({str(file.relative_to(root)) for file in files if not list(file.glob("*"))})
+    missing = {file for file in (*theirs, *others)} - left[1]
+    stays = {file for file in left[2] if "srcp" in file and not file.startswith("usr")} | (left[0] & {kept})
+    got = missing, stays, set(others) <= left[2]
+    return None if got == (set(), set(), True) else f"missing after removal, left after purge, others: {got}"
 
 
-@with_dpkg_deb
+@with_packaging_tools
 def package_asks_for_the_c_library_of_the_program(program):
     """No symbol of the program is newer than the C library that the package and the page of installing name."""
     if not shutil.which("objdump"):
@@ -129,12 +146,47 @@ def program_takes_the_instructions_that_the_page_names(program):
     return None if got == (True, True, set()) else f"the page says it, some are of v2, and later ones: {got}"
 
 
+def linked_libraries():
+    """The libraries of the kit that the crates name, with those below them if the kit is here."""
+    crates = dict(re.findall(r"^(\w+): (.*)$", (TOP / "crates.txt").read_text(), re.M))
+    wanted, found = [name for line in crates.values() for name in line.split()], set()
+    kit = shutil.which("rt")
+    while wanted:
+        name = wanted.pop()
+        if name in crates or name in found:
+            continue
+        found.add(name)
+        if kit:
+            format_of = Path(kit).resolve().parent.parent / "rlibs" / f"{name}.rlib" / "format"
+            wanted += re.findall(r"^dep (\w+)$", format_of.read_text(errors="replace"), re.M)
+    return found
+
+
+def copyright_names_what_is_linked(_):
+    """Each library that the program is linked with, and a licence, which is that of the repository's two files."""
+    told = (PACKAGING / "copyright").read_text()
+    words = set(re.findall(r"\w+", told.partition("\nFiles: *\n")[0]))
+    if missing := linked_libraries() - words:
+        return f"packaging/copyright does not name {sorted(missing)}"
+    mit, apache, readme = [(TOP / name).read_text() for name in ("LICENSE-MIT", "LICENSE-APACHE", "README.md")]
+    body = re.search(r"^License: MIT\n((?: .*\n)+)", told, re.M)[1]
+    has_text = " ".join(body.replace(" .\n", "").split()) == " ".join(mit.partition("\n")[2].split())
+    is_named = "(LICENSE-MIT)" in readme and "(LICENSE-APACHE)" in readme and "License: MIT or Apache-2.0\n" in told
+    got = has_text, is_named, "Apache License" in apache
+    return None if got == (True, True, True) else f"the text of MIT, both named, the text of Apache: {got}"
+
+
 def version_is_counted_once(program):
-    """The program, its welcome line, the package and its changelog have one version."""
+    """The changes, the package, its changelog and the pages have one version; the program and its welcome line have
+    another."""
     told = subprocess.run([program, "--version"], capture_output=True, text=True, timeout=SECONDS).stdout.split()
-    package = re.match(r"srcp-server \(([\d.]+)-\d+\) ", (PACKAGING / "changelog").read_text())[1]
     welcome = WELCOME.decode().partition(";")[0].split()
-    return None if told == welcome == ["srcp_server", package] else f"got {told}, {welcome}, {package}"
+    changes, readme, install = [(TOP / name).read_text() for name in ("CHANGELOG.md", "README.md", "docs/install.md")]
+    package = re.match(r"srcp-server \(([\d.]+-\d+)\) ", (PACKAGING / "changelog").read_text())[1]
+    heads = re.findall(r"^## (.*)$", changes, re.M)
+    named = set(re.findall(r"srcp-server_([\d.]+-\d+)_", readme + install))
+    got = welcome, "`srcp_server 1.0`" in changes, f"{heads[0]}-1", named
+    return None if told == welcome and got == (["srcp_server", "1.0"], True, package, {package}) else f"{told}, {got}"
 
 
 def words_of_help(program):
@@ -208,6 +260,6 @@ def manual_of_the_configuration_is_the_page(_):
 
 PACKAGE_CASES = (package_serves_from_what_it_holds, package_is_the_same_to_the_byte,
                  package_that_is_purged_leaves_nothing, package_asks_for_the_c_library_of_the_program,
-                 program_takes_the_instructions_that_the_page_names, version_is_counted_once,
-                 manual_and_completions_are_the_help, bash_completes_words, commands_of_the_manual_page,
-                 manual_of_the_configuration_is_the_page)
+                 program_takes_the_instructions_that_the_page_names, copyright_names_what_is_linked,
+                 version_is_counted_once, manual_and_completions_are_the_help, bash_completes_words,
+                 commands_of_the_manual_page, manual_of_the_configuration_is_the_page)
