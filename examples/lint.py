@@ -20,13 +20,18 @@ def faults_of_keys(table, *keys):
         if value is None:
             yield key, f"{key} missing", ""
         elif not (type(value) is int and value in wanted if wanted else isinstance(value, list)):
-            yield key, f"{key} out of range", f": not {f'{wanted[0]} to {wanted[-1]}' if wanted else 'an array'}"
+            meant = ": a bus begins with [[bus]]" if key == "bus" and isinstance(value, dict) else ""
+            yield key, f"{key} out of range", f": not {f'{wanted[0]} to {wanted[-1]}' if wanted else 'an array'}{meant}"
 
 
 def unread(table, *keys):
     """The keys of a table that the server does not read: `check` says nothing of them."""
-    near = {key: get_close_matches(key, keys, 1) for key in table if key not in keys}
-    return [(key, "", f"{key} is not read" + "".join(f": did you mean {word}?" for word in near[key])) for key in near]
+    return [(key, "", f"{key} is not read{hint(key, keys)}") for key in table if key not in keys]
+
+
+def hint(word, known):
+    """What was meant by a word that is not known, if one is near."""
+    return "".join(f": did you mean {near}?" for near in get_close_matches(word, known, 1))
 
 
 def faults_of_bus(bus, before):
@@ -39,7 +44,9 @@ def faults_of_bus(bus, before):
     yield from faults_of_keys(bus, "groups")
     groups = bus["groups"] if isinstance(bus.get("groups"), list) else []
     for group in [group for group in groups if group not in list(GROUPS)]:
-        yield "groups", "unknown group" if isinstance(group, str) else "groups out of range", f": {group!r}"
+        is_text = isinstance(group, str)
+        meant = hint(group.upper(), GROUPS) if is_text else ""
+        yield "groups", "unknown group" if is_text else "groups out of range", f": {group!r}{meant}"
     limits = [key for group in GROUPS if group in groups for key in GROUPS[group]]
     yield from (*faults_of_keys(bus, *limits), *unread(bus, "number", "groups", *limits))
 
@@ -48,8 +55,21 @@ def line_of(lines, place, key):
     """The line of a key of the document or of the bus in that place; that of the bus, if it finds no such key."""
     heads = [0, *(at for at, line in enumerate(lines) if re.match(r"\s*\[\[\s*bus\s*\]\]", line)), len(lines)]
     place, key = (place, key) if place + 1 < len(heads) else (0, "bus")
-    found = (at for at in range(heads[place], heads[place + 1]) if re.match(rf"\W*{re.escape(key)}\W*=", lines[at]))
+    found = (at for at in range(heads[place], heads[place + 1]) if re.match(rf"\W*{re.escape(key)}\W*[=\]]", lines[at]))
     return next(found, heads[place]) + 1
+
+
+def fault_of_port(port):
+    """Why a server cannot have the port, or None, also if one has it: that is started anew with this configuration."""
+    try:
+        return socket.create_server(("127.0.0.1", port)).close()
+    except (OSError, OverflowError, TypeError) as met:
+        fault = met
+    try:
+        with socket.create_connection(("127.0.0.1", port), 1) as connection:
+            return None if connection.recv(12) == b"srcp_server " else fault
+    except (OSError, OverflowError, TypeError):
+        return fault
 
 
 def main(content):
@@ -65,15 +85,13 @@ def main(content):
     names = ["", *(f", bus {bus.get('number')}" if isinstance(bus, dict) else "" for bus in buses)]
     for place, key, said, more in faults:
         print(f"line {line_of(content.splitlines(), place, key)}{names[place]}: {said}{more}")
-    try:
-        socket.create_server(("127.0.0.1", document.get("port", 4303))).close()
-    except (OSError, OverflowError, TypeError) as fault:
+    if fault := fault_of_port(document.get("port", 4303)):
         print(f"the port cannot be had: {fault}")
     return next((said for _, _, said, _ in faults if said), None)
 
 
 words = argparse.ArgumentParser(description="Tells all faults of a configuration at once.")
 words.add_argument("file", type=argparse.FileType("rb"))
-refused = main(words.parse_args().file.read().decode(errors="surrogateescape"))
+refused = main(words.parse_args().file.read().decode(errors="surrogateescape").removeprefix("\ufeff"))
 print(f"srcp_server: config: {refused}" if refused else "check accepts it")
 raise SystemExit(2 if refused else 0)

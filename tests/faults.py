@@ -23,6 +23,7 @@ RECEIVE, SEND, WAIT = 45, 44, 232
 NO_NEW_PRIVILEGES, SECCOMP, SET_FILTER, NEW_LISTENER = 38, 317, 1, 8
 ASK, ALLOW, NEXT_CALL, ANSWER, CARRY_ON = 0x7FC00000, 0x7FFF0000, 0xC0502100, 0xC0182101, 1
 COMMANDS = 300
+MOST_CLIENTS = 63
 
 
 class Filter(ctypes.Structure):
@@ -144,7 +145,7 @@ def work_without_rest(server, seconds):
 @asks_the_system
 def calls_that_are_interrupted(program):
     """Of the reads and the writes of sockets each second one is interrupted: all is answered, and a panel is told all."""
-    calls = Counter()
+    calls: Counter[int] = Counter()
 
     def fault_of(call):
         calls[call] += 1
@@ -172,7 +173,8 @@ def wait_that_fails(program):
 
 def waits_in_vain(program, refusal):
     """Returns what is wrong with a server whose waits end by that error for a second, or None."""
-    calls, refuses = Counter(), threading.Event()
+    calls: Counter[int] = Counter()
+    refuses = threading.Event()
 
     def fault_of(call):
         calls[call] += 1
@@ -216,4 +218,42 @@ def accept_that_is_refused(program):
     return None if told == WELCOME else f"with a descriptor it was told {told!r}"
 
 
-FAULT_CASES = (calls_that_are_interrupted, wait_that_fails, accept_that_is_refused)
+def memory_of(pid):
+    """Returns how many bytes of addresses a process has."""
+    return int(Path(f"/proc/{pid}/statm").read_text().split()[0]) * resource.getpagesize()
+
+
+def clients_until_one_waits(port):
+    """Connects clients until one is not greeted. Returns all of them, that one last; or None if all are greeted."""
+    clients = []
+    for _ in range(MOST_CLIENTS):
+        clients.append(socket.create_connection(("127.0.0.1", port), timeout=0.5))
+        try:
+            clients[-1].recv(100)
+        except TimeoutError:
+            return clients
+    return None
+
+
+def accept_without_memory(program):
+    """If memory is refused for a connection, open peers are served, the server rests, and the connection is accepted
+    once there is some."""
+    with served(program) as (port, server):
+        throttle = Client(port, "COMMAND")
+        limits = resource.prlimit(server.pid, resource.RLIMIT_AS)
+        resource.prlimit(server.pid, resource.RLIMIT_AS, (memory_of(server.pid), limits[1]))
+        if (clients := clients_until_one_waits(port)) is None:
+            return f"{MOST_CLIENTS} clients find memory"
+        busy = work_without_rest(server, 1)
+        reply = throttle.asks("GET 1 POWER")
+        resource.prlimit(server.pid, resource.RLIMIT_AS, limits)
+        clients[-1].settimeout(SECONDS)
+        told = clients[-1].recv(100)
+        for client in clients:
+            client.close()
+    if busy or reply != "100 INFO 1 POWER OFF":
+        return f"{busy}; a command is answered {reply}"
+    return None if told == WELCOME else f"with memory it was told {told!r}"
+
+
+FAULT_CASES = (calls_that_are_interrupted, wait_that_fails, accept_that_is_refused, accept_without_memory)

@@ -38,6 +38,10 @@ srcp_server: config: unknown group
 """
 
 
+BOM = b"\xef\xbb\xbf"
+ALIKE = (BOM + b"port = 4304\nbus = []\n", BOM + BOM + b"bus = []\n", BOM, b"bus = []\n" + BOM, b"[bus]\nnumber = 1\n")
+
+
 def linted(document):
     """The lines that lint.py prints of a document, and its status."""
     with tempfile.NamedTemporaryFile() as file:
@@ -49,8 +53,8 @@ def linted(document):
 
 
 def lint_ends_with_what_check_says(program):
-    """Over all documents of the tables of check."""
-    for document in [*CHECKED, *REFUSED_DOCUMENTS]:
+    """Over all documents of the tables of check, and some more."""
+    for document in [*CHECKED, *REFUSED_DOCUMENTS, *ALIKE]:
         with tempfile.NamedTemporaryFile() as file:
             file.write(document)
             file.flush()
@@ -68,6 +72,18 @@ def lint_tells_all_faults(_):
     return None if (lines, status) == (TOLD.splitlines(), 2) else f"got {status}, {lines}"
 
 
+def lint_hints_at_what_was_meant(_):
+    """A bus with single brackets, and groups that are not in capitals or have a letter that is wrong."""
+    faulty = b"port = %d\n\n [bus] # main\nnumber = 1\n" % free_port()
+    bus = linted(faulty)
+    groups = linted(b'port = %d\nbus = [{number = 1, groups = ["power", "Ga", "XY"], ga_max = 4}]\n' % free_port())
+    want = ["line 3: bus out of range: not an array: a bus begins with [[bus]]", "srcp_server: config: bus out of range"]
+    if bus != (want, 2):
+        return f"got {bus}"
+    hints = [line.partition("unknown group: ")[2] for line in groups[0] if "unknown group: " in line]
+    return None if hints == ["'power': did you mean POWER?", "'Ga': did you mean GA?", "'XY'"] else f"got {groups}"
+
+
 def lint_tells_where_a_document_is_no_toml(_):
     places = {b"port = 4303\n[[bus]\n": "line 2, column 6", b"bus = []\n# \xff\n": "line 2, column 3"}
     for document, place in places.items():
@@ -77,13 +93,15 @@ def lint_tells_where_a_document_is_no_toml(_):
     return None
 
 
-def lint_tells_a_port_that_is_taken(_):
-    with socket.create_server(("127.0.0.1", 0)) as taken:
+def lint_tells_a_port_that_is_taken(program):
+    """By another program, or by one that says nothing, and not by a server, which would be started anew."""
+    with socket.create_server(("127.0.0.1", 0)) as taken, served(program) as (ours, _):
         port = taken.getsockname()[1]
         busy = linted(b"bus = []\nport = %d\n" % port)
+        own = linted(b"bus = []\nport = %d\n" % ours)
     free = linted(b"bus = []\nport = %d\n" % port)
     is_told = busy[0][0].startswith("the port cannot be had") and busy[0][-1] == "check accepts it" and busy[1] == 0
-    return None if is_told and free == (["check accepts it"], 0) else f"got {busy}, then {free}"
+    return None if is_told and own == free == (["check accepts it"], 0) else f"got {busy}, {own}, then {free}"
 
 
 def status_at(port, *words):
@@ -114,13 +132,16 @@ def silent_server():
 
 
 def status_of_no_server(program):
-    """If nobody listens, if nobody answers, and if all slots are in use, the status is 1."""
+    """If nobody listens, or nobody answers, the status is 1. A server whose slots are all in use is full, and is there."""
     with silent_server() as port, served(program) as (full, _):
         clients = [Client(full, "COMMAND") for _ in range(64)]
-        told = [status_at(free_port()), status_at(port, "--seconds", "0.2"), status_at(full)]
+        told = [status_at(free_port()), status_at(port, "--seconds", "0.2")]
+        full_told = status_at(full)
         for client in clients:
             client.close()
     wrong = [one for one in told if one[0] != 1 or one[1] or not one[2].startswith("no server answers at ")]
+    if full_told != (0, ["the server is full: 64 programs are connected"], ""):
+        return f"a full server: got {full_told}"
     return f"got {wrong}" if wrong else None
 
 
@@ -171,6 +192,7 @@ def statuses_of_the_readme(program):
     return None if len(listed) == len(met) + 1 else f"{listed}, and met {met}"
 
 
-LOOKING_CASES = (lint_ends_with_what_check_says, lint_tells_all_faults, lint_tells_where_a_document_is_no_toml,
-                 lint_tells_a_port_that_is_taken, status_tells_who_is_there_and_what_is_held, status_of_no_server,
-                 signals_that_end_the_server, statuses_of_the_readme)
+LOOKING_CASES = (lint_ends_with_what_check_says, lint_tells_all_faults, lint_hints_at_what_was_meant,
+                 lint_tells_where_a_document_is_no_toml, lint_tells_a_port_that_is_taken,
+                 status_tells_who_is_there_and_what_is_held, status_of_no_server, signals_that_end_the_server,
+                 statuses_of_the_readme)

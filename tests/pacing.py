@@ -16,6 +16,8 @@ LONGEST_REPLY = 2
 LOCKS = 150
 ENDS = 10
 SETS = 1_000_000
+IN_ONE_GO = 20_000
+LONGEST_GO = 4
 ROWS = 1_000
 LONGEST_END = 4
 CLOSED = 1
@@ -124,21 +126,46 @@ def sessions_on_both_sides(program):
 
 
 def quiet_session_beside_many(program):
-    """A session that sends one change at a time is answered soon, though others send without end and a panel reads."""
+    """A session that sends one change at a time is answered soon, though others send without end and a panel reads.
+    It has the last place, or one that sends nothing has."""
+    for behind in (0, 1):
+        replies = quiet_replies(program, behind)
+        if replies != ["200 OK"] * 5:
+            return f"a quiet session is answered {replies} with {behind} behind it"
+    return None
+
+
+def quiet_replies(program, behind):
+    """Returns the replies to a session with so many behind it that send nothing, or None if one does not come."""
     with served(program) as (port, _):
         panel = Client(port, "INFO")
         throttles = [Client(port, "COMMAND") for _ in range(QUIET_BESIDE)]
-        late = Client(port, "COMMAND")
+        quiet = Client(port, "COMMAND")
+        idle = [Client(port, "COMMAND") for _ in range(behind)]
         with running([threading.Thread(target=reads_to_the_end, args=(panel, []))]):
             with sending_without_end(throttles):
                 time.sleep(0.5)
-                late.socket.settimeout(LONGEST_REPLY)
+                quiet.socket.settimeout(LONGEST_REPLY)
                 try:
-                    replies = [late.asks(f"SET 1 FB 2 {turn % 2}") for turn in range(5)]
+                    replies = [quiet.asks(f"SET 1 FB 2 {turn % 2}") for turn in range(5)]
                 except TimeoutError:
                     replies = None
-            shut([panel])
-    return None if replies == ["200 OK"] * 5 else f"a quiet session is answered {replies}"
+            shut([panel, *idle])
+    return replies
+
+
+def commands_in_one_go(program):
+    """Without a panel the pieces of commands that come in one go follow one another without a wait."""
+    with served(program) as (port, _):
+        throttle = Client(port, "COMMAND")
+        began, answered = time.monotonic(), 0
+        with running([threading.Thread(target=send_all, args=(throttle, b"SET 1 FB 1 1\n" * IN_ONE_GO))]):
+            while answered < IN_ONE_GO and (piece := throttle.socket.recv(1 << 20)):
+                answered += piece.count(b"\n")
+        took = time.monotonic() - began
+    if answered < IN_ONE_GO or took > LONGEST_GO:
+        return f"{answered} of {IN_ONE_GO} commands are answered in {took:.1f} s"
+    return None
 
 
 def one_session_sends_a_million_commands(program):
@@ -241,5 +268,6 @@ def half_closed_panel_beside_many(program):
     return None if ended else f"its stream goes on after {LONGEST_END} s and {len(lines)} lines"
 
 
-PACING_CASES = (sessions_on_both_sides, quiet_session_beside_many, one_session_sends_a_million_commands, panels_that_pause,
-                end_of_a_session_with_locks, half_closed_panel_beside_many)
+PACING_CASES = (sessions_on_both_sides, quiet_session_beside_many, commands_in_one_go,
+                one_session_sends_a_million_commands, panels_that_pause, end_of_a_session_with_locks,
+                half_closed_panel_beside_many)

@@ -14,7 +14,7 @@ import subprocess
 import sys
 import tempfile
 import threading
-from contextlib import ExitStack, contextmanager
+from contextlib import ExitStack, contextmanager, suppress
 from pathlib import Path
 from queue import Empty, Queue
 from urllib.request import urlopen
@@ -27,6 +27,7 @@ STAND_INS = Path(__file__).resolve().parent / "stand_ins"
 # Programs that run until they are ended, and those of them that others then connect to.
 STAYS = ("./run serve", "nc ", "ssh ", "python3 examples/panel.py", "python3 bridges/", "mosquitto_sub ")
 LISTENS = {"./run serve": "4303", "ssh ": "5303"}
+PACKING = 120  # seconds that ./package may take on a busy machine: it asks each program for its help
 BLOCK = re.compile(r"^```(\w*)\n(.*?)^```$", re.M | re.S)
 ENDED, SILENT = "(the end)", "(nothing more)"
 PAUSE = re.compile(r"-- \d+ rows$")  # what a panel prints after a pause, of which a busy machine may make more
@@ -156,9 +157,9 @@ class Reader:
         for program in self.programs:
             program.signals(signal.SIGKILL)
             program.process.wait()
-        service = Path(self.environment["ROOT"]) / "pid"
-        if service.exists():
-            os.kill(int(service.read_text()), signal.SIGKILL)
+        for note in (Path(self.environment["ROOT"]) / "units").glob("*"):
+            with suppress(ProcessLookupError):
+                os.kill(int(note.read_text()), signal.SIGKILL)
 
 
 @contextmanager
@@ -188,8 +189,13 @@ def reader_of_a_page(program):
 def take_bridges(reader):
     """Gives the reader the programs of bridges/ too, at the reader's ports."""
     shutil.copytree(TOP / "bridges", reader.folder / "bridges", ignore=shutil.ignore_patterns("__pycache__"))
-    for file in (reader.folder / "bridges").glob("*.py"):
+    for file in (reader.folder / "bridges").rglob("*.py"):
         file.write_text(reader.at_ports(file.read_text()))
+
+
+def missing_packaging_tools():
+    """Returns what ./package takes that is not here."""
+    return " and no ".join(tool for tool in ("dpkg-deb", "strip") if not shutil.which(tool))
 
 
 def follow(page, program):
@@ -197,9 +203,17 @@ def follow(page, program):
     blocks, fault = console_blocks(page)
     if fault:
         return fault
-    if any("./package" in line for block in blocks for line in block) and not shutil.which("dpkg-deb"):
-        raise TriedNothing("there is no dpkg-deb here")
+    lines = [line for block in blocks for line in block]
+    packs, installs = ["./package" in line for line in lines], ["./release/" in line for line in lines]
+    if any(packs + installs) and (missing := missing_packaging_tools()):
+        raise TriedNothing(f"there is no {missing} here")
     with reader_of_a_page(program) as reader:
+        if any(packs + installs):
+            take_bridges(reader)
+        if any(installs):
+            (reader.folder / "release").mkdir()
+            subprocess.run([reader.folder / "package", reader.folder / "release"], check=True, timeout=PACKING,
+                           stdout=subprocess.DEVNULL)
         return next((fault for block in blocks if (fault := reader.follows(block))), None)
 
 
@@ -255,13 +269,22 @@ def first_screen_of_the_readme(program):
         for command in commands.splitlines():
             reader.steps(f"$ {reader.at_ports(command)}")
         wait_for(reader.ports["8303"], reader.programs[-1].process)
-        with urlopen(f"http://127.0.0.1:{reader.ports['8303']}/", timeout=SECONDS) as page:
-            told = page.read().decode()
-    return None if kind == "sh" and "STOP ALL" in told else f"{kind}: the page is {told[:100]!r}"
+        told = ""
+        for file in ("", "texts.js"):
+            with urlopen(f"http://127.0.0.1:{reader.ports['8303']}/{file}", timeout=SECONDS) as page:
+                told += page.read().decode()
+    is_page = told.startswith("<!doctype html>") and "STOP ALL" in told
+    return None if kind == "sh" and is_page else f"{kind}: the page is {told[:100]!r}"
 
 
 def commands_of_the_readme(program):
     return follow("README.md", program)
+
+
+def size_that_the_readme_tells(program):
+    """The program is one file of under a megabyte."""
+    size, page = os.path.getsize(program), (TOP / "README.md").read_text()
+    return None if size < 1_000_000 and "one file of under a megabyte" in page else f"it has {size} bytes"
 
 
 def holder_of_a_port(program):
@@ -354,6 +377,15 @@ def clauses_of_the_proofs_page(_):
     return None if rows else "no promises"
 
 
+def laws_that_pages_name(_):
+    """Each law that a page names is a function of some crate's laws."""
+    code = "".join(file.read_text() for file in (TOP / "crates").glob("*/src/laws.rt"))
+    laws = set(re.findall(r"^pub fn (\w+)", code, re.M))
+    named = [(page.name, name) for page in (TOP / "docs").glob("*.md")
+             for name in re.findall(r"laws::([a-z]\w+)", page.read_text())]
+    return next((f"{page}: no law {name}" for page, name in named if name not in laws), None if named else "no law")
+
+
 def contracts_that_the_proofs_page_quotes(_):
     """Each contract that the page shows stands in the code as it is shown, lines parted as they may be."""
     code = " ".join(" ".join(file.read_text().split()) for file in (TOP / "crates").glob("*/src/**/*.rt"))
@@ -377,8 +409,8 @@ def links_between_pages(_):
     return None
 
 
-PAGE_CASES = (first_screen_of_the_readme, commands_of_the_readme, holder_of_a_port, gate_that_proves_what_is_new,
-              programs_that_ask_for_python, commands_of_the_protocol_page, commands_of_the_replay_page,
-              commands_of_the_install_page, commands_of_the_configuration_page, choices_before_go,
-              choices_in_a_session, choices_that_cases_show, clauses_of_the_proofs_page,
+PAGE_CASES = (first_screen_of_the_readme, commands_of_the_readme, size_that_the_readme_tells, holder_of_a_port,
+              gate_that_proves_what_is_new, programs_that_ask_for_python, commands_of_the_protocol_page,
+              commands_of_the_replay_page, commands_of_the_install_page, commands_of_the_configuration_page,
+              choices_before_go, choices_in_a_session, choices_that_cases_show, clauses_of_the_proofs_page, laws_that_pages_name,
               contracts_that_the_proofs_page_quotes, links_between_pages, *PAGE_TABLE_CASES)

@@ -24,21 +24,26 @@ from pathlib import Path
 if sys.version_info < (3, 11):
     sys.exit("this takes Python 3.11 or later")
 
+from arm64 import ARM64_CASES
 from bridge_tests import BRIDGE_CASES
 from clients import CLIENT_CASES
 from debian_package import PACKAGE_CASES
+from doctor import DOCTOR_CASES
 from door import DOOR_CASES
 from faults import FAULT_CASES
 from inputs import INPUT_CASES
+from installed import INSTALLED_CASES
 from lingering import LINGERING_CASES
 from lint_and_status import LOOKING_CASES
 from pacing import PACING_CASES
 from pages import PAGE_CASES
 from rates import RATE_CASES
+from releases import RELEASE_CASES
 from run_script import RUN_SCRIPT_CASES
 from safety import SAFETY_CASES
 from serving import SERVING_CASES, TriedNothing, expected_text
 from tables import TABLE_CASES
+from vanishing import VANISHING_CASES
 
 TESTS = Path(__file__).resolve().parent
 CASES = TESTS / "cases"
@@ -241,7 +246,8 @@ STREAM_CASES = (input_past_its_limit, input_at_its_limit, input_that_cannot_be_r
                 script_past_its_limit, script_at_its_limit, script_that_cannot_be_read, run_that_cannot_be_written,
                 run_in_little_memory, full_bus_that_stalls_nobody)
 ALL_CASES = (STREAM_CASES + TABLE_CASES + INPUT_CASES + SERVING_CASES + DOOR_CASES + FAULT_CASES + CLIENT_CASES
-             + PAGE_CASES + RUN_SCRIPT_CASES + SAFETY_CASES + LOOKING_CASES + PACKAGE_CASES + LINGERING_CASES + PACING_CASES
+             + PAGE_CASES + RUN_SCRIPT_CASES + SAFETY_CASES + LOOKING_CASES + DOCTOR_CASES + PACKAGE_CASES
+             + INSTALLED_CASES + RELEASE_CASES + ARM64_CASES + LINGERING_CASES + VANISHING_CASES + PACING_CASES
              + RATE_CASES + BRIDGE_CASES)
 BESIDE = 10  # cases of bridges/ at once
 
@@ -268,7 +274,7 @@ def fault_of(case, program):
 def main():
     program, names = sys.argv[1], sys.argv[2:]
     if not os.access(program, os.X_OK):
-        sys.exit(f"{program} is not built: ./run builds it")
+        sys.exit(f"{program} is not built: ./run --build builds it")
     cases = cases_by_name()
     if unknown := [name for name in names if name not in cases]:
         sys.exit(f"no such case: {' '.join(unknown)}")

@@ -2,24 +2,28 @@
 """bench_bridges.py PROGRAM: measures the programs of bridges/ beside a built server, and prints a table.
 
 How long a command takes from a phone, and from a page, to a simulated station; how long a sensor takes from the station
-to a page; how long 200 subscribers (mosquitto_sub) wait for 5,000 changes; what each program costs while nothing
-happens, with one page, one phone and one display there. It needs mosquitto, mosquitto-clients and paho-mqtt.
+to a page; how long STOP ALL takes to the first and the last of 50 and of 99 trains, while 200 commands a second come;
+how long 200 subscribers (mosquitto_sub) wait for 5,000 changes; what each program costs while nothing happens, with one
+page, one phone and one display there. It needs mosquitto, mosquitto-clients and paho-mqtt.
 """
 import os
+import random
 import re
 import signal
 import statistics
 import sys
+import threading
 import time
 from pathlib import Path
 
 sys.path.insert(0, str(Path(__file__).resolve().parent.parent / "tests"))
-from bridge_tests import common, test_mqtt  # noqa: E402
+from bridge_tests import common  # noqa: E402
 from bridge_tests.common import Process, until  # noqa: E402
 from soak_bridges import Evening  # noqa: E402
 
-TIMES, IDLE = 200, 20
+TIMES, IDLE, SEED = 200, 20, 40
 SUBSCRIBERS, CHANGES = 200, 5000
+ROUNDS, TRAINS, DRIVERS, EACH = 100, (50, 99), 4, 0.02  # seconds between two commands of a driver
 
 
 def waited(act, true):
@@ -48,16 +52,86 @@ def latencies(evening):
     station, page = evening.station, evening.page
     evening.phone.send("M0+S3<;>S3")
     evening.throttle.order("INIT 1 GL 4 N 1 126 5")
-    until(lambda: 3 in station.cabs and 4 in station.cabs, "the station knows both")
+    until(lambda: page.rows.get((1, "GL", 3, "does")) and page.rows.get((1, "GL", 4, "does")), "the page knows both")
     speeds = [n % 100 + 1 for n in range(TIMES)]
-    told("phone to station", [waited(lambda: evening.phone.send(f"M0A*<;>V{v}"), lambda: station.cabs[3][0] == v)
-                              for v in speeds])
-    told("page to station", [waited(lambda: page.post(f"SET 1 GL 4 1 {v} 126"), lambda: station.cabs[4][0] == v)
-                             for v in speeds])
+
+    def drives(cab, v):
+        return station.cabs.get(cab, (0, 1))[0] == v
+
+    told("phone to station", [waited(lambda: evening.phone.send(f"M0A*<;>V{v}"), lambda: drives(3, v)) for v in speeds])
+    told("page to station", [waited(lambda: page.post(f"SET 1 GL 4 1 {v} 126"), lambda: drives(4, v)) for v in speeds])
     told("sensor to page", [waited(lambda: station.sensor(7, v), lambda: page.rows[1, "FB", 7, "does"]["value"] == v)
                             for v in [n % 2 for n in range(1, TIMES)]])
-    told("STOP ALL to station", [waited(lambda: (page.post(f"SET 1 GL 4 1 {v + 1} 126"), page.post("", "/stop")),
-                                        lambda: station.cabs[4][0] == -1) for v in range(20)])
+    told("STOP ALL to station, behind a command", [stop_of_one(evening, v) for v in range(1, 21)])
+
+
+def stop_of_one(evening, v):
+    """Returns the milliseconds from a command and a STOP ALL behind it until the station is told to stop."""
+    evening.station.log.clear()
+    begun = time.monotonic()
+    evening.page.post(f"SET 1 GL 4 1 {v} 126"), evening.page.post("", "/stop")
+    until(lambda: reached(evening.station.log.copy(), [4], begun), "the station is told")
+    return reached(evening.station.log.copy(), [4], begun)[4]
+
+
+class Traffic:
+    """Four drivers, who set the speeds of trains 200 times a second."""
+
+    def __init__(self, port, trains):
+        self.port, self.trains, self.goes, self.ends = port, trains, threading.Event(), False
+        self.threads = [threading.Thread(target=self.drive, args=(number,)) for number in range(DRIVERS)]
+        for thread in self.threads:
+            thread.start()
+
+    def drive(self, number):
+        session, draw = common.Session(self.port), random.Random(number)
+        while not self.ends:
+            if self.goes.wait(0.1):
+                session.ask(f"SET 1 GL {draw.choice(self.trains)} 1 {draw.randint(1, 126)} 126")
+                time.sleep(EACH)
+        session.close()
+
+    def end(self):
+        self.ends = True
+        for thread in self.threads:
+            thread.join()
+
+
+def reached(log, trains, begun):
+    """Returns for each train the milliseconds from `begun` until the station was told to stop it, or all."""
+    moments = {}
+    for moment, text in log:
+        stopped = trains if text == "!" else [int(text.split()[1])] if text.startswith("t ") and " -1 " in text else []
+        for train in stopped:
+            moments.setdefault(train, (moment - begun) * 1000)
+    return moments
+
+
+def stops_of_all(evening, count):
+    """STOP ALL of so many trains, by the page, 100 times."""
+    station, trains, first, last = evening.station, list(range(101, 101 + count)), [], []
+    station.slots = 2 * count
+    evening.throttle.order(*[f"INIT 1 GL {train} N 1 126 28" for train in trains])
+    traffic = Traffic(evening.server.port, trains)
+    for _ in range(ROUNDS):
+        evening.throttle.flood([f"SET 1 GL {train} 1 60 126" for train in trains])
+        until(lambda: all(station.cabs.get(train, (0, 1))[0] > 0 for train in trains), "all drive")
+        traffic.goes.set()
+        time.sleep(0.3)
+        station.log.clear()
+        begun = time.monotonic()
+        evening.page.post("", "/stop")
+        traffic.goes.clear()
+        until(lambda: len(reached(station.log.copy(), trains, begun)) == count, "all are stopped")
+        times = sorted(reached(station.log.copy(), trains, begun).values())
+        first.append(times[0])
+        last.append(times[-1])
+        time.sleep(0.3)
+    traffic.end()
+    evening.throttle.order(*[f"TERM 1 GL {train}" for train in trains])
+    for name, times in (("first", sorted(first)), ("last", sorted(last))):
+        print(f"| STOP ALL to the {name} of {count} trains, beside 200 commands a second | {times[ROUNDS // 2]:.1f} ms; "
+              f"{times[ROUNDS * 99 // 100 - 1]:.0f} ms at the 99th of {ROUNDS} |", flush=True)
 
 
 def idle(evening):
@@ -96,11 +170,13 @@ def many(evening):
 
 
 def main():
-    evening = Evening(os.path.abspath(sys.argv[1]))
+    evening = Evening(os.path.abspath(sys.argv[1]), SEED)
     try:
         print("| What | Measured |\n|---|---|", flush=True)
         time.sleep(2)
         latencies(evening)
+        for count in TRAINS:
+            stops_of_all(evening, count)
         idle(evening)
         many(evening)
     finally:

@@ -1,11 +1,13 @@
 #!/usr/bin/env python3
-"""soak_bridges.py PROGRAM [SECONDS]: all programs of bridges/ beside one built server, for ten minutes or SECONDS.
+"""soak_bridges.py PROGRAM [SECONDS [SEED]]: all programs of bridges/ beside a built server, for ten minutes or SECONDS.
 
-Throttles, a phone, a page, an MQTT client and the sensors of a simulated station change things at random. Now and then
-a program is killed, or sleeps until its panel is closed, and once the server is killed. At the end it says whether the
-station, the page, the file of keep.py, the topics that the broker retains and examples/panel.py all say what a fresh
-panel is sent. It needs mosquitto and paho-mqtt.
+Throttles, a phone, a page, an MQTT client and a simulated station change things at random. Now and then a program is
+killed, or sleeps until its panel is closed; the station is reset, or its cable comes off; the server hangs, and once it
+is killed. At the end it says whether the station, the page, the file of keep.py, the topics that the broker retains and
+examples/panel.py all say what a fresh panel is sent, and whether anything moved that no client had commanded since the
+last loss. It needs mosquitto and paho-mqtt.
 """
+import contextlib
 import json
 import os
 import random
@@ -14,29 +16,39 @@ import socket
 import subprocess
 import sys
 import time
+from functools import partial
 from pathlib import Path
 
 sys.path.insert(0, str(Path(__file__).resolve().parent.parent / "tests"))
 from bridge_tests import common, test_mqtt, test_web, test_withrottle  # noqa: E402
 from bridge_tests.common import until  # noqa: E402
+from soak_account import Account, starts  # noqa: E402
 
 PACE = 0.01  # seconds between two changes
+SETTLED = 1.5  # seconds until what was sent is carried out
+REST = 3.0  # seconds after a loss, in which nothing may start
+AWAY = 12.0  # seconds for which the server hangs: trains stand within 8
 QUIET = 4.0  # seconds until all has come to rest
 TROUBLE = 15.0  # seconds between two troubles
 LOCOMOTIVES, TURNOUTS = range(1, 21), range(1, 31)
 
 
+def moment():
+    time.sleep(2)
+
+
 class Evening:
-    def __init__(self, program, seed=40):
+    def __init__(self, program, seed):
         from simulated_station import Station
         common.SERVER, self.draw = program, random.Random(seed)
         self.server, self.broker, folder = common.Server(), test_mqtt.Broker(), common.new_folder()
         self.file, link = os.path.join(folder, "layout.srcp"), os.path.join(folder, "ttyACM0")
         self.station, self.web, self.phones = Station(link), common.free_port(), common.free_port()
         self.words = {"dcc_ex": ["--station", link], "web": ["--web", self.web], "guard": [],
-                      "withrottle": ["--listen", self.phones], "keep": [self.file, "--power", "--rest", "0.2"],
+                      "withrottle": ["--listen", self.phones], "keep": [self.file, "--rest", "0.2"],
                       "mqtt": ["--broker-port", self.broker.port, "--home-assistant"]}
         self.programs, self.count, self.troubles = {}, 0, []
+        self.account, self.wrong, self.leaves = Account(), [], []
         for name in self.words:
             self.starts(name)
         until(lambda: all("server: joined" in started.told() for started in self.programs.values()), "all have joined")
@@ -51,14 +63,27 @@ class Evening:
         self.programs[name] = common.program(name + ".py", *self.words[name], "--port", self.server.port)
 
     def clients(self):
-        self.throttle = common.Session(self.server.port)
-        until(lambda: common.connects(self.web) and common.connects(self.phones), "page and phones are served")
-        self.page, self.phone = test_web.Events(self.web), test_withrottle.Phone(self.phones)
+        """Begins all clients anew, also on a machine on which that takes its time."""
+        until(self.begin_clients, "all clients are served", 300)
+
+    def begin_clients(self):
+        for leave in self.leaves:
+            with contextlib.suppress(OSError):
+                leave()
+        try:
+            self.throttle = common.Session(self.server.port)
+            self.page, self.phone = test_web.Events(self.web), test_withrottle.Phone(self.phones)
+        except OSError:
+            return False
+        self.account.taken.clear()
+        phone_leaves = partial(self.phone.socket.shutdown, socket.SHUT_RDWR)
+        self.leaves = [self.throttle.close, self.page.leaves, phone_leaves]
+        return True
 
     # ---- changes
 
-    def change(self):
-        """One change, by one of those that make them; a reply that refuses it is as good as another."""
+    def command(self):
+        """A command for a throttle or a page."""
         draw, loco, turnout = self.draw, self.draw.choice(LOCOMOTIVES), self.draw.choice(TURNOUTS)
         functions = " ".join(draw.choice("01") for _ in range(draw.randint(0, 5)))
         commands = [f"INIT 1 GL {loco} N 1 {draw.choice([28, 126])} {draw.choice([5, 9])}",
@@ -66,38 +91,109 @@ class Evening:
                     f"TERM 1 GL {loco}", f"INIT 1 GA {turnout} N", f"SET 1 GA {turnout} {draw.randint(0, 1)} 1 50",
                     f"TERM 1 GA {turnout}", f"SET 1 POWER {draw.choice(['ON', 'OFF'])} by hand",
                     f"SET 1 FB {draw.randint(17, 32)} 1", f"SET 1 LOCK GL {loco} 1"]
-        weights = [3, 20, 1, 3, 10, 1, 1, 5, 1]
-        command = draw.choices(commands, weights)[0].rstrip()
-        who = draw.choices(["throttle", "page", "phone", "display", "station"], [10, 3, 3, 3, 2])[0]
-        if who == "throttle":
-            self.throttle.ask(command)
-        elif who == "page":
-            self.page.post(command)
+        return draw.choices(commands, [3, 20, 1, 3, 10, 1, 1, 5, 1])[0].rstrip()
+
+    def line(self):
+        """A line of a phone."""
+        draw, key = self.draw, self.draw.choice(["S3", "S30", "L300"])
+        return draw.choice([f"M0+{key}<;>{key}", f"M0A*<;>V{draw.randint(0, 126)}", f"M0-{key}<;>r",
+                            f"M0A{key}<;>F1{draw.randint(0, 9)}", f"PTA2{draw.choice(TURNOUTS)}"])
+
+    def change(self):
+        """One change, by one of those that make them; a reply that refuses it is as good as another."""
+        draw, account = self.draw, self.account
+        who = draw.choices(["throttle", "page", "phone", "display", "station", "hand"], [20, 6, 6, 6, 4, 1])[0]
+        if who in ("throttle", "page"):
+            account.sends(command := self.command())
+            (self.throttle.ask if who == "throttle" else self.page.post)(command)
         elif who == "phone":
-            key = draw.choice(["S3", "S30", "L300"])
-            words = draw.choice([f"M0+{key}<;>{key}", f"M0A*<;>V{draw.randint(0, 126)}", f"M0-{key}<;>r",
-                                 f"M0A{key}<;>F1{draw.randint(0, 9)}", f"PTA2{turnout}"])
-            self.phone.send(words)
+            account.phone_says(line := self.line())
+            self.phone.send(line)
         elif who == "display":
-            self.display.client.publish(f"srcp/1/GL/{loco}/set", json.dumps({"v": draw.randint(0, 28), "v_max": 28}))
+            account.sends_speed(loco := draw.choice(LOCOMOTIVES), v := draw.randint(0, 28))
+            self.display.client.publish(f"srcp/1/GL/{loco}/set", json.dumps({"v": v, "v_max": 28}))
+        elif who == "hand" and "INFO" in self.throttle.ask(f"GET 1 GL {(loco := draw.choice(LOCOMOTIVES))}"):
+            account.sends_speed(loco, v := draw.randint(0, 28))
+            self.station.hand(loco, v, draw.randint(0, 1))
         else:
             self.station.sensor(draw.randint(1, 16), draw.randint(0, 1))
         self.count += 1
 
+    # ---- troubles
+
+    def notes(self, what):
+        """Tells of a trouble as it comes."""
+        self.troubles.append(what)
+        print(f"after {self.count} changes: {what}", flush=True)
+
     def trouble(self):
-        """A program is killed, or sleeps until its panel is closed."""
+        """Something fails: a program, the station, its cable, or the server."""
         name = self.draw.choice(list(self.programs))
-        started = self.programs[name]
-        if self.draw.random() < 0.5:
-            self.troubles.append(f"{name} killed")
-            started.end(signal.SIGKILL)
+        kinds = [lambda: self.killed(name), lambda: self.slept(name), self.reset, self.cable, self.hung]
+        self.settle()
+        self.draw.choices(kinds, [4, 4, 1, 1, 1])[0]()
+        self.clients()
+
+    def settle(self):
+        """Waits until what was sent is carried out. Then nothing moves that nobody commanded."""
+        time.sleep(SETTLED)
+        self.wrong += [f"before trouble {len(self.troubles)}: {fault}" for fault in self.account.faults(self.station)]
+
+    def loses(self, what, *acts):
+        """A loss, of which nothing may start by itself, and after which nothing may move."""
+        self.notes(what)
+        self.account.lost()
+        begin = time.monotonic()
+        for act in acts:
+            act()
+        time.sleep(REST)
+        if told := starts(self.station, begin):
+            self.wrong.append(f"trouble {len(self.troubles)}, {what}, and the station was told {told}")
+        self.wrong += [f"trouble {len(self.troubles)}, {what}: {fault}" for fault in self.account.faults(self.station)]
+
+    def joined(self):
+        until(lambda: all("server: joined" in started.told() for started in self.programs.values()), "all have joined")
+
+    def killed(self, name):
+        def again():
+            self.programs[name].end(signal.SIGKILL)
             self.starts(name)
-        else:
-            self.troubles.append(f"{name} slept")
-            started.send(signal.SIGSTOP)
+
+        if name == "dcc_ex":
+            return self.loses("dcc_ex killed", again, self.joined)
+        self.notes(f"{name} killed")
+        again()
+        self.joined()
+
+    def slept(self, name):
+        self.notes(f"{name} slept")
+        self.programs[name].send(signal.SIGSTOP)
+        try:
             self.throttle.flood(["SET 1 FB 17 1"] * 100000)
-            started.send(signal.SIGCONT)
-        until(lambda: "server: joined" in self.programs[name].told(), "it has joined")
+        finally:
+            self.programs[name].send(signal.SIGCONT)
+
+    def begins(self, act):
+        """The station begins anew; turnouts lie as they lay."""
+        lies = self.station.turnouts
+        act()
+        self.station.turnouts = lies | self.station.turnouts
+
+    def reset(self):
+        self.loses("the station reset", partial(self.begins, self.station.restart))
+
+    def cable(self):
+        self.loses("the cable off", self.station.unplug, moment, partial(self.begins, self.station.open),
+                   moment)
+
+    def hung(self):
+        send = self.server.process.send
+        self.loses("the server hung", lambda: send(signal.SIGSTOP), lambda: time.sleep(AWAY),
+                   lambda: send(signal.SIGCONT), moment)
+
+    def restarts(self):
+        self.settle()
+        self.loses("the server killed", self.server.restart, moment)
         self.clients()
 
     def run(self, seconds):
@@ -111,10 +207,7 @@ class Evening:
                     next_trouble = time.monotonic() + TROUBLE
                 if restarts and time.monotonic() > restarts:
                     restarts = None
-                    self.troubles.append("the server killed")
-                    self.server.restart()
-                    time.sleep(3)
-                    self.clients()
+                    self.restarts()
             except OSError:
                 self.clients()
             time.sleep(PACE)
@@ -123,25 +216,25 @@ class Evening:
 
     def stamped(self):
         """The rows of a fresh panel, with their stamps."""
-        import srcp
+        from srcp_bridges.rows import parse
         with socket.create_connection(("127.0.0.1", self.server.port), 20) as connection:
             connection.sendall(b"SET CONNECTIONMODE SRCP INFO\nGO\n")
             connection.shutdown(socket.SHUT_WR)
             text = b""
             while more := connection.recv(65536):
                 text += more
-        return dict(srcp.parse(line) for line in text.decode("latin-1").split("\n")[3:-1])
+        return dict(parse(line) for line in text.decode("latin-1").split("\n")[3:-1])
 
     def track(self, rows):
         """Returns what the station should know."""
-        import srcp
+        from srcp_bridges.rows import position
         cabs, functions, turnouts = {}, set(), {}
         for (bus, group, address, part), row in rows.items():
             if (bus, group, part) == (1, "GL", "does"):
                 most = row.v_max or rows[bus, group, address, "is"].steps
-                cabs[address] = -1 if row.mode == 2 else min(126, -(-row.v * 126 // most))
+                cabs[address] = min(126, -(-row.v * 126 // most)) if address in self.account.driven else 0
                 functions |= {(address, number) for number, value in enumerate(row.functions) if value}
-            elif (bus, group, part) == (1, "GA", "is") and (port := srcp.position(rows, 1, address)) is not None:
+            elif (bus, group, part) == (1, "GA", "is") and (port := position(rows, 1, address)) is not None:
                 turnouts[address] = int(port > 0)
         return int(rows[1, "POWER", 0, "does"].on), cabs, functions, turnouts
 
@@ -153,17 +246,23 @@ class Evening:
         station = self.station
         if (station.power, {key for key, on in station.functions.copy().items() if on}) != (power, functions):
             yield f"the station's power or functions: {station.power} {power}"
-        if wrong := [cab for cab, speed in cabs.items() if station.cabs.get(cab, (0,))[0] != speed]:
+        if wrong := [cab for cab, speed in cabs.items() if max(0, station.cabs.get(cab, (0,))[0]) != speed]:
             yield f"the station's speeds: {[(cab, station.cabs.get(cab), cabs[cab]) for cab in wrong]}"
         if driving := {cab for cab, (speed, _) in station.cabs.items() if speed > 0 and cab not in cabs}:
             yield f"the station drives what is gone: {driving}"
         if wrong := {turnout for turnout, port in turnouts.items() if station.turnouts.get(turnout) != port}:
             yield f"the station's turnouts: {wrong}"
+        yield from self.account.faults(station)
         if station.faults:
             yield f"the station refused {station.faults[:3]}"
+        if "END" in self.page.events:  # a browser joins again
+            self.notes("the page was closed")
+            self.page = test_web.Events(self.web)
         if not test_web.WebCase.same(self, self.page):
             yield "the page's rows"
-        if Path(self.file).read_text("latin-1").split("\n")[:-1] != keep.commands_of(rows, True):
+        kept = Path(self.file).read_text("latin-1").split("\n")[:-1]
+        ways = {int(line.split()[3]): int(line.split()[4]) for line in kept if line.startswith("SET 1 GL ")}
+        if kept != keep.commands_of(rows, False, lambda _, address: ways.get(address)):  # no row tells it after a stop
             yield "the file of keep.py"
         topics = {topic: payload for topic, payload in test_mqtt.retained(self.broker.port).items()
                   if topic.startswith("srcp/") and not topic.endswith(("/position", "/online"))}
@@ -188,20 +287,24 @@ class Evening:
 
 
 def main():
-    evening = Evening(os.path.abspath(sys.argv[1]))
+    program, seconds, seed = [*sys.argv[1:], *["600", "40"][len(sys.argv) - 2:]]
+    evening = Evening(os.path.abspath(program), int(seed))
     try:
-        evening.run(float(sys.argv[2]) if len(sys.argv) > 2 else 600)
-        until(lambda: (time.sleep(QUIET), not list(evening.differences()))[1], "all say the same", 40)
+        evening.run(float(seconds))
+        until(lambda: (time.sleep(QUIET), not list(evening.differences()))[1], "all say the same", 60)
         differences = []
     except AssertionError:
         differences = list(evening.differences())
     finally:
         evening.ends()
-    print(f"{evening.count} changes, {len(evening.troubles)} troubles: {', '.join(evening.troubles)}")
+    print(f"{evening.count} changes, {len(evening.troubles)} troubles")
     for difference in differences:
         print(f"DIFFERS: {difference}")
+    for fault in evening.wrong:
+        print(f"MOVED: {fault}")
     print("all say the same" if not differences else f"{len(differences)} differ")
-    return 1 if differences else 0
+    print("nothing moved that nobody commanded" if not evening.wrong else f"{len(evening.wrong)} moved")
+    return 1 if differences or evening.wrong else 0
 
 
 if __name__ == "__main__":

@@ -1,0 +1,97 @@
+"""doctor.py: each link between a throttle and a locomotive, broken in turn; and the names of sessions in status.py."""
+import json
+import os
+import subprocess
+import sys
+import tempfile
+import time
+from contextlib import contextmanager
+from pathlib import Path
+
+from serving import SECONDS, Client, free_port, served
+
+EXAMPLES = Path(__file__).resolve().parent.parent / "examples"
+
+
+@contextmanager
+def told(**of_itself):
+    """The environment in which a program of this machine, which is running, tells that of itself."""
+    with tempfile.TemporaryDirectory() as folder:
+        file = Path(folder, "srcp_bridges", f"{os.getpid()}.json")
+        file.parent.mkdir()
+        file.write_text(json.dumps({"sessions": {}, "station": {}} | of_itself))
+        yield os.environ | {"XDG_RUNTIME_DIR": folder}
+
+
+def ran(environment, file, *words):
+    """The lines that a program of examples/ prints, and its status."""
+    done = subprocess.run([sys.executable, EXAMPLES / file, *map(str, words)], capture_output=True, text=True,
+                          timeout=SECONDS, env=environment)
+    return done.stdout.splitlines(), done.returncode
+
+
+def station(**how):
+    return {"bus": 1, "name": "/dev/ttyACM0", "here": True, "slots": 50, "taken": 1, "left_out": {},
+            "told": {"3": [60, 1, time.time()]}} | how
+
+
+def doctor_names_the_first_broken_link(program):
+    """Each step mends one link; before it the doctor ends with the number of that link."""
+    found = []
+
+    def look(port, address=3, **how):
+        with told(station=how) as environment:
+            lines, status = ran(environment, "doctor.py", address, "--port", port)
+        found.append((status, lines[status - 1 if status else -1].split(":")[0], lines[-1].startswith("-- ")))
+
+    look(free_port())
+    with served(program) as (port, _):
+        full = [Client(port, "COMMAND") for _ in range(64)]
+        look(port)
+        for client in full:
+            client.close()
+        throttle = Client(port, "COMMAND")
+        look(port, 10240)
+        look(port)
+        throttle.asks("INIT 1 GL 3 M 1 28 5")
+        look(port)
+        throttle.asks("SET 1 POWER ON", "SET 1 LOCK GL 3 0")
+        look(port)
+        throttle.asks("SET 1 GL 3 1 12 28")
+        look(port)
+        look(port, **station(here=False))
+        look(port, **station(left_out={"1 GL 3": "protocol M"}))
+        look(port, **station(told={}))
+        look(port, **station())
+    want = [(1, "1 server", True), (1, "1 server", True), (2, "2 layout", True), (3, "3 locomotive", True),
+            (4, "4 power", True), (6, "6 command", True), (7, "7 driver", True), (8, "8 station", True),
+            (9, "9 told", True), (9, "9 told", True), (0, "9 told", False)]
+    return None if found == want else f"got {found}, want {want}"
+
+
+def doctor_says_why_the_power_is_off(program):
+    with served(program) as (port, _), told() as environment:
+        Client(port, "COMMAND").asks("INIT 1 GL 3 N 1 28 5", "SET 1 POWER OFF no station")
+        lines, status = ran(environment, "doctor.py", 3, "--port", port)
+    want = "4 power: it is off: no station", "-- plug the station in. The power stays off until you switch it on"
+    return None if (*lines[-2:], status) == (*want, 4) else f"got {lines}, {status}"
+
+
+def status_names_the_sessions_of_programs_that_run(program):
+    """Those of a program that has ended have no name."""
+    with served(program) as (port, _):
+        throttle, panel = Client(port, "COMMAND"), Client(port, "INFO")
+        with told(sessions={str(port): {"1": "withrottle.py: Engine Driver"}}) as environment:
+            file = Path(environment["XDG_RUNTIME_DIR"], "srcp_bridges", "1.json")
+            ended = subprocess.Popen([sys.executable, "-c", ""])
+            ended.wait(SECONDS)
+            file.with_name(f"{ended.pid}.json").write_text(json.dumps({"sessions": {str(port): {"2": "x"}}, "station": {}}))
+            lines, status = ran(environment, "status.py", "--port", port)
+        throttle.close()
+        panel.close()
+    want = "sessions: 1 COMMAND (withrottle.py: Engine Driver), 2 INFO"
+    return None if (lines[0], status) == (want, 0) else f"got {lines}, {status}"
+
+
+DOCTOR_CASES = (doctor_names_the_first_broken_link, doctor_says_why_the_power_is_off,
+                status_names_the_sessions_of_programs_that_run)
