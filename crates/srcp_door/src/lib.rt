@@ -1,5 +1,5 @@
-//! The door of a server: what it is asked and answers (`Door`). Beside that the parts of a door that know neither sockets
-//! nor peers: how lines are paced (`Pace`), and the clock (`Timekeeper`).
+//! The door of a server: what it is asked and answers (`Door`). Beside that the parts of a door that know neither
+//! sockets nor peers: how lines are paced (`Pace`), and the clock (`Timekeeper`).
 //!
 //! It makes no system call. Of the protocol it knows only that a line ends in LF; `srcp_grammar` says what a line
 //! weighs.

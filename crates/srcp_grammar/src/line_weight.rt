@@ -6,7 +6,8 @@ ghost use Rattle.srcp_grammar.specs.Weight.{names_session, weight};
 use srcp_info::MOST_PORTS;
 use srcp_text::{Words, is_keyword, words};
 
-/// Limits the changes of a command: a lock and its device go, and an accessory has its row and those of its ports again.
+/// Limits the changes of a command: a lock and its device go, and an accessory has its row and those of its ports
+/// again.
 pub const MOST_CHANGES: usize = 3 + MOST_PORTS as usize;
 
 /// Returns how many changes a line of a command session can bring at most, by its words alone. Keywords are read in

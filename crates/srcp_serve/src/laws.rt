@@ -26,18 +26,18 @@ pub fn gives_unless_counted()
 {}
 
 /// States that a turn makes no panel overrun if it brings at most as many changes as the slack that the door was told
-/// (`each`). That is said of each panel, also of one that is closed in the turn. The slack is 256 if there was no panel.
-/// If each turn is so, no panel ever overran (`all`).
+/// (`each`). That is said of each panel, also of one that is closed in the turn. The slack is 256 if there was no
+/// panel. If each turn is so, no panel ever overran (`all`).
 pub fn paced_turns()
     ensures each { (buses : List Bus) → TurnsSpare buses (IsPaced buses) }
     ensures all { (buses : List Bus) → ServingSparesAll buses (IsPaced buses) }
 {}
 
-/// States that a turn makes no panel overrun if its lines are light enough (`each`). That is said of each panel, also of
-/// one that is closed in the turn. Two sums together have to be within the slack that the door was told, which is 256 if
-/// there was no panel. One is of the weights, by `srcp_grammar::weight`, of the lines that end in the bytes of the turn.
-/// The other is of the changes of its moment and of the ends of sessions. If each turn is so, no panel ever overran
-/// (`all`).
+/// States that a turn makes no panel overrun if its lines are light enough (`each`). That is said of each panel, also
+/// of one that is closed in the turn. Two sums together have to be within the slack that the door was told, which is
+/// 256 if there was no panel. One is of the weights, by `srcp_grammar::weight`, of the lines that end in the bytes of
+/// the turn. The other is of the changes of its moment and of the ends of sessions. If each turn is so, no panel ever
+/// overran (`all`).
 pub fn light_turns()
     ensures each { (buses : List Bus) → IsLayout buses → TurnsSpare buses (IsLight buses) }
     ensures all { (buses : List Bus) → IsLayout buses → ServingSparesAll buses (IsLight buses) }

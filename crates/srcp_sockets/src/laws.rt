@@ -126,8 +126,8 @@ pub fn accepts_are_true<S: System + Drop>(door: &SocketDoor<S>)
 }
 
 /// If the door answered `accept` by nobody, it had asked the system since `accept` was answered last, or the listener,
-/// which is socket 0, was found quiet, or there was no place. Then at least 128 sockets were accepted and are not closed,
-/// or 63 linger: there is no place with one more, and one may have been closed just now to make a place.
+/// which is socket 0, was found quiet, or there was no place. Then at least 128 sockets were accepted and are not
+/// closed, or 63 linger: there is no place with one more, and one may have been closed just now to make a place.
 pub fn accepts_are_asked<S: System + Drop>(door: &SocketDoor<S>)
     ensures { AreAsked (S.trace door.now.sockets.system) }
 {

@@ -16,11 +16,12 @@ const PROBE_AFTER: u32 = 10;
 /// How many seconds lie between two such questions.
 const PROBE_EVERY: u32 = 5;
 
-/// How many milliseconds the system of a peer may answer nothing, or take nothing of what is sent. Then the peer is lost.
+/// How many milliseconds the system of a peer may answer nothing, or take nothing of what is sent. Then the peer is
+/// lost.
 const LOST_AFTER: u32 = 30_000;
 
-/// Sets the options of a listener and of the sockets that it will accept: how much the system holds for a peer that does
-/// not read, and when a peer is lost that is gone.
+/// Sets the options of a listener and of the sockets that it will accept: how much the system holds for a peer that
+/// does not read, and when a peer is lost that is gone.
 ///
 /// # Errors
 /// Those of the system.
