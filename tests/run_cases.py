@@ -271,6 +271,16 @@ def fault_of(case, program):
         return f"{stop!r:.600} at {lines}: {stood[-1].line}{notes}"
 
 
+def with_second_tries(results, cases, program):
+    """The results, if each case that failed is run once more, by itself. A case cannot tell a busy machine from a program
+    that is lost. So what fails beside others and passes alone is printed, and fails nothing."""
+    for name, fault in results:
+        if fault and not isinstance(fault, TriedNothing):
+            print(f"AGAIN {name}: {fault}", flush=True)
+            fault = fault_of(cases[name], program)
+        yield name, fault
+
+
 def main():
     program, names = sys.argv[1], sys.argv[2:]
     if not os.access(program, os.X_OK):
@@ -283,6 +293,7 @@ def main():
     results = [(name, fault_of(cases[name], program)) for name in names or cases if name not in beside]
     with ThreadPoolExecutor(BESIDE) as pool:
         results += zip(beside, pool.map(lambda name: fault_of(cases[name], program), beside))
+    results = list(with_second_tries(results, cases, program))
     skipped = [(name, fault) for name, fault in results if isinstance(fault, TriedNothing)]
     failed = [(name, fault) for name, fault in results if fault and (name, fault) not in skipped]
     for name, missing in skipped:
