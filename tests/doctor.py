@@ -8,7 +8,7 @@ import time
 from contextlib import contextmanager
 from pathlib import Path
 
-from serving import SECONDS, Client, free_port, served
+from serving import SECONDS, Client, clients_at_all_places, free_port, placed, served
 
 EXAMPLES = Path(__file__).resolve().parent.parent / "examples"
 
@@ -46,11 +46,11 @@ def doctor_names_the_first_broken_link(program):
 
     look(free_port())
     with served(program) as (port, _):
-        full = [Client(port, "COMMAND") for _ in range(64)]
+        full = clients_at_all_places(port)
         look(port)
         for client in full:
             client.close()
-        throttle = Client(port, "COMMAND")
+        throttle = placed(port)
         look(port, 10240)
         look(port)
         throttle.asks("INIT 1 GL 3 M 1 28 5")

@@ -6,7 +6,7 @@ import threading
 import time
 from pathlib import Path
 
-from serving import SECONDS, WELCOME, Client, rows_of, served
+from serving import SECONDS, WELCOME, Client, comes_again, placed, rows_of, served
 
 REPLIES = 200_000
 ROWS = 6_000
@@ -112,7 +112,7 @@ def peers_that_reset_leave_their_places(program):
     """This holds too if the server finds that out by a write, since each second peer has sent commands."""
     with served(program) as (port, _):
         for count in range(160):
-            peer = Client(port, "COMMAND")
+            peer = placed(port)
             peer.socket.sendall(b"GET 1 POWER\n" * 2000 * (count % 2))
             peer.socket.setsockopt(socket.SOL_SOCKET, socket.SO_LINGER, RESET)
             peer.close()
@@ -213,6 +213,16 @@ def changes_without_end(throttle, command=b"SET 1 FB 1 %d\n"):
         pass
 
 
+def panel_that_leaves(port):
+    """It half-closes, and then closes."""
+    with socket.create_connection(("127.0.0.1", port), timeout=SECONDS) as panel:
+        panel.sendall(b"SET CONNECTIONMODE SRCP INFO\nGO\n")
+        if panel.recv(len(WELCOME), socket.MSG_WAITALL) != WELCOME:
+            raise EOFError
+        panel.shutdown(socket.SHUT_WR)
+        time.sleep(0.02)
+
+
 def panels_that_leave_in_midst_of_changes(program):
     """They half-close and then close. Each slot is free again, though each turn has output for its panel."""
     with served(program) as (port, _):
@@ -224,12 +234,9 @@ def panels_that_leave_in_midst_of_changes(program):
         came = 0
         try:
             for came in range(1, LEAVERS + 1):
-                with socket.create_connection(("127.0.0.1", port), timeout=SECONDS) as panel:
-                    panel.sendall(b"SET CONNECTIONMODE SRCP INFO\nGO\n")
-                    if panel.recv(len(WELCOME), socket.MSG_WAITALL) != WELCOME:
-                        return f"the panel {came} finds no place"
-                    panel.shutdown(socket.SHUT_WR)
-                    time.sleep(0.02)
+                comes_again(lambda: panel_that_leaves(port))
+        except (EOFError, ConnectionError):
+            return f"the panel {came} finds no place"
         finally:
             throttle.socket.shutdown(socket.SHUT_RDWR)
             for thread in threads:

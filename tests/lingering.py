@@ -9,7 +9,7 @@ from contextlib import ExitStack, contextmanager
 
 from door import small_socket
 from faults import work_without_rest
-from serving import SECONDS, Client, served
+from serving import SECONDS, Client, clients_at_all_places, placed, served
 
 COMMAND_SESSION = b"SET CONNECTIONMODE SRCP COMMAND\nGO\n"
 QUESTION = b"GET 1 POWER\n"
@@ -162,19 +162,6 @@ def half_closed_session_that_does_not_read(program):
             return work_without_rest(server, 2)
 
 
-def clients_at_all_places(port):
-    """Opens 64 sessions, as soon as their slots are free."""
-    sessions, end = [], time.monotonic() + SECONDS
-    while len(sessions) < 64:
-        try:
-            sessions.append(Client(port, "COMMAND"))
-        except (EOFError, OSError):
-            if time.monotonic() > end:
-                raise
-            time.sleep(0.1)
-    return sessions
-
-
 def clients_that_are_turned_away_and_stay(program):
     """They are owed nothing, so no session that ended and reads late is given up for them."""
     with served(program) as (port, _):
@@ -211,7 +198,7 @@ def clients_at_64_places(program):
     """Clients that find no free slot are turned away. If they stay they cost no work, and the next one is let in once a slot
     is free."""
     with served(program) as (port, server):
-        sessions = [Client(port, "COMMAND") for _ in range(64)]
+        sessions = clients_at_all_places(port)
         turned_away = [socket.create_connection(("127.0.0.1", port), timeout=SECONDS) for _ in range(10)]
         if any(client.recv(100) for client in turned_away):
             return "a client is answered that finds no place"
@@ -219,8 +206,7 @@ def clients_at_64_places(program):
             return busy
         reply = sessions[63].asks("GET 1 POWER")
         sessions.pop(10).close()
-        time.sleep(0.1)
-        replies = reply, Client(port, "COMMAND").asks("GET 1 POWER")
+        replies = reply, placed(port).asks("GET 1 POWER")
         del turned_away
     return None if replies == ("100 INFO 1 POWER OFF",) * 2 else f"one that has a place and one that comes are answered {replies}"
 

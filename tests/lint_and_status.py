@@ -10,7 +10,7 @@ from contextlib import contextmanager
 from functools import partial
 from pathlib import Path
 
-from serving import SECONDS, Client, free_port, served
+from serving import SECONDS, Client, clients_at_all_places, free_port, served
 from tables import CHECKED, REFUSED_DOCUMENTS
 
 EXAMPLES = Path(__file__).resolve().parent.parent / "examples"
@@ -134,7 +134,7 @@ def silent_server():
 def status_of_no_server(program):
     """If nobody listens, or nobody answers, the status is 1. A server whose slots are all in use is full, and is there."""
     with silent_server() as port, served(program) as (full, _):
-        clients = [Client(full, "COMMAND") for _ in range(64)]
+        clients = clients_at_all_places(full)
         told = [status_at(free_port()), status_at(port, "--seconds", "0.2")]
         full_told = status_at(full)
         for client in clients:

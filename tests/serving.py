@@ -100,6 +100,28 @@ class Client:
         self.socket.close()
 
 
+def comes_again(come):
+    """Returns what `come` does once it finds a place: the server may not have let go yet of one that was closed."""
+    end = time.monotonic() + SECONDS
+    while True:
+        try:
+            return come()
+        except (EOFError, ConnectionError):
+            if time.monotonic() > end:
+                raise
+            time.sleep(0.05)
+
+
+def placed(port):
+    """A client that has a command session, as soon as there is a place."""
+    return comes_again(lambda: Client(port, "COMMAND"))
+
+
+def clients_at_all_places(port):
+    """Opens 64 sessions, as soon as their places are free."""
+    return [placed(port) for _ in range(64)]
+
+
 @contextmanager
 def served(program, *words, prepare=None, layout=LAYOUT):
     """A server of a layout at a free port, ended at the end by its process id. Its process does `prepare` before it runs
@@ -159,14 +181,13 @@ def panels_hold_the_registry(program):
 
 def peer_65_is_turned_away(program):
     with served(program) as (port, _):
-        clients = [Client(port, "COMMAND") for _ in range(64)]
+        clients = clients_at_all_places(port)
         last = socket.create_connection(("127.0.0.1", port), timeout=SECONDS)
         if last.recv(100) != b"":
             return "the 65th peer is answered"
         clients[10].close()
-        time.sleep(0.1)
-        if Client(port, "COMMAND").asks("GET 1 POWER") != "100 INFO 1 POWER OFF":
-            return "a place that was given up is not free"
+        if placed(port).asks("GET 1 POWER") != "100 INFO 1 POWER OFF":
+            return "one that comes to a place that was given up is not answered"
     return None
 
 

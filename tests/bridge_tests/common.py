@@ -12,6 +12,8 @@ import time
 import unittest
 from pathlib import Path
 
+from serving import comes_again
+
 TOP = Path(__file__).resolve().parent.parent.parent
 PROGRAMS = Path(os.environ.get("SRCP_PROGRAMS", TOP / "bridges"))
 SERVER = None  # the built program; the case that runs sets it
@@ -145,7 +147,8 @@ class Session:
     def __init__(self, port, mode="COMMAND"):
         connection = socket.create_connection(("127.0.0.1", port), WAIT)
         self.stream = connection.makefile("rw", encoding="latin-1", newline="\n")
-        self.stream.readline()
+        if not self.stream.readline():
+            raise EOFError("the server is full")
         self.ask(f"SET CONNECTIONMODE SRCP {mode}")
         self.id = self.ask("GO").split()[-1]
 
@@ -168,6 +171,11 @@ class Session:
 
     def close(self):
         self.stream.close()
+
+
+def sessions(port, count):
+    """So many sessions, each as soon as there is a place for it."""
+    return [comes_again(lambda: Session(port)) for _ in range(count)]
 
 
 def rows(port):

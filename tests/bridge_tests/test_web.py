@@ -8,7 +8,7 @@ import socket
 import threading
 from pathlib import Path
 
-from .common import WAIT, Case, Session, connects, free_port, new_folder, parsed, rows, until
+from .common import WAIT, Case, connects, free_port, new_folder, parsed, rows, sessions, until
 
 
 class Events:
@@ -376,7 +376,7 @@ class Web(WebCase):
     def test_a_server_that_is_full(self):
         page = Events(self.port)
         page.order("INIT 1 GL 3 N 1 28 5")
-        others = [Session(self.server.port) for _ in range(61)]  # beside the throttle, and two of web.py
+        others = sessions(self.server.port, 61)  # beside the throttle, and two of web.py
         self.assertEqual(page.post("SET 1 LOCK GL 3 0"), "the server is full")
         others[0].close()
         until(lambda: page.post("SET 1 LOCK GL 3 0") == "200 OK", "there is a place again")

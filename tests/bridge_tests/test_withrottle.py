@@ -297,8 +297,7 @@ class WiThrottle(WiThrottleCase):
         for connection in others:
             connection.close()
         until(lambda: "server: joined" in other.told(), "it is there")
-        phone.send("M0+S3<;>S3")
-        phone.got("M0+S3<;>")
+        until(lambda: phone.told("M0+S3<;>") or phone.send("M0+S3<;>S3"), "there is a place for the phone too")
 
     def full(self):
         with socket.create_connection(("127.0.0.1", self.server.port), WAIT) as one:
