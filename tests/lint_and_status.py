@@ -146,13 +146,16 @@ def status_of_no_server(program):
 
 
 def signals_that_end_the_server(program):
-    """Ctrl-C, SIGTERM, and the end of its terminal (SIGHUP), which a server that nohup starts ignores."""
+    """Ctrl-C, SIGTERM, and the end of its terminal (SIGHUP), which a server that nohup starts ignores. Until then the
+    server prints nothing, though it serves."""
     for number in (signal.SIGINT, signal.SIGTERM, signal.SIGHUP):
         # the gate itself may run under nohup, or in the background of a shell, where SIGINT is ignored
-        with served(program, prepare=partial(signal.signal, number, signal.SIG_DFL)) as (_, server):
+        with served(program, prepare=partial(signal.signal, number, signal.SIG_DFL)) as (port, server):
+            Client(port, "COMMAND").asks("GET 1 GL 0", "SET 1 POWER ON")
             server.send_signal(number)
-            if server.wait(SECONDS) != -number:
-                return f"{number!r} ends it with {server.returncode}"
+            printed = server.communicate(timeout=SECONDS)
+            if server.returncode != -number or any(printed):
+                return f"{number!r} ends it with {server.returncode}, and it printed {printed}"
     with served(program, prepare=lambda: signal.signal(signal.SIGHUP, signal.SIG_IGN)) as (port, server):
         server.send_signal(signal.SIGHUP)
         reply = Client(port, "COMMAND").asks("GET 1 POWER")
@@ -163,7 +166,8 @@ def faults_met(program):
     """Each fault text that the program can be brought to print, and the status with which it then ends."""
     def ended(*words, **streams):
         done = subprocess.run([program, *words], stderr=subprocess.PIPE, timeout=SECONDS, **streams)
-        return done.stderr.decode().removeprefix("srcp_server: ").strip(), done.returncode
+        name, _, text = done.stderr.decode().partition(": ")
+        return text.strip() if name == "srcp_server" else name, done.returncode
 
     with tempfile.TemporaryDirectory() as folder, open("/dev/full", "wb") as full, served(program) as (port, _):
         empty, taken = Path(folder) / "empty.toml", Path(folder) / "taken.toml"

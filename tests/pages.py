@@ -7,7 +7,6 @@ that tests cannot count on are stood in for by those of stand_ins/. `./test` is 
 """
 import os
 import re
-import shlex
 import shutil
 import signal
 import subprocess
@@ -17,7 +16,6 @@ import threading
 from contextlib import ExitStack, contextmanager, suppress
 from pathlib import Path
 from queue import Empty, Queue
-from urllib.request import urlopen
 
 from page_tables import PAGE_TABLE_CASES
 from serving import SECONDS, Client, TriedNothing, free_ports, served, wait_for
@@ -198,8 +196,8 @@ def missing_packaging_tools():
     return " and no ".join(tool for tool in ("dpkg-deb", "strip") if not shutil.which(tool))
 
 
-def follow(page, program):
-    """Returns what of a page is not as it says, or None."""
+def follow(page, program, then=lambda reader: None):
+    """Returns what of a page is not as it says, or what is not as `then` finds it at the end, or None."""
     blocks, fault = console_blocks(page)
     if fault:
         return fault
@@ -214,7 +212,7 @@ def follow(page, program):
             (reader.folder / "release").mkdir()
             subprocess.run([reader.folder / "package", reader.folder / "release"], check=True, timeout=PACKING,
                            stdout=subprocess.DEVNULL)
-        return next((fault for block in blocks if (fault := reader.follows(block))), None)
+        return next((fault for block in blocks if (fault := reader.follows(block))), None) or then(reader)
 
 
 def rows_of_tables(page, first):
@@ -257,48 +255,6 @@ def choices_that_cases_show(_):
     missing = [name for name in named if not (TOP / "tests" / "cases" / name).is_dir()
                and f"def {name.replace('-', '_')}(program)" not in functions]
     return f"no such case: {missing}" if missing else None if named else "no case is named"
-
-
-def first_screen_of_the_readme(program):
-    """Its two commands serve the layout, and the page of it for a browser."""
-    if not (TOP / "bridges" / "web.py").exists():
-        raise TriedNothing("bridges/ is not here")
-    kind, commands = BLOCK.findall((TOP / "README.md").read_text())[0]
-    with reader_of_a_page(program) as reader:
-        take_bridges(reader)
-        for command in commands.splitlines():
-            reader.steps(f"$ {reader.at_ports(command)}")
-        wait_for(reader.ports["8303"], reader.programs[-1].process)
-        told = ""
-        for file in ("", "texts.js"):
-            with urlopen(f"http://127.0.0.1:{reader.ports['8303']}/{file}", timeout=SECONDS) as page:
-                told += page.read().decode()
-    is_page = told.startswith("<!doctype html>") and "STOP ALL" in told
-    return None if kind == "sh" and is_page else f"{kind}: the page is {told[:100]!r}"
-
-
-def commands_of_the_readme(program):
-    return follow("README.md", program)
-
-
-def size_that_the_readme_tells(program):
-    """The program is one file of under a megabyte."""
-    size, page = os.path.getsize(program), (TOP / "README.md").read_text()
-    return None if size < 1_000_000 and "one file of under a megabyte" in page else f"it has {size} bytes"
-
-
-def holder_of_a_port(program):
-    """The command of the README's table names the program that has the port: to root, and to nobody else."""
-    command = re.search(r"`sudo (ss [^`]*)`", (TOP / "README.md").read_text())[1]
-    if os.geteuid() or not all(map(shutil.which, ("ss", "setpriv"))):
-        raise TriedNothing("it takes root, ss (of iproute2) and setpriv (of util-linux)")
-    with served(program) as (port, server):
-        words = shlex.split(command.replace(":4303", f":{port}"))
-        nobody = ["setpriv", "--reuid=65534", "--regid=65534", "--clear-groups"]
-        told = [subprocess.run([*user, *words], capture_output=True, text=True, timeout=SECONDS).stdout
-                for user in ([], nobody)]
-    got = [(text.count(f"127.0.0.1:{port} "), f'("srcp_server",pid={server.pid},' in text) for text in told]
-    return None if got == [(1, True), (1, False)] else f"root is told {told[0]!r}, nobody {told[1]!r}"
 
 
 def gate_that_proves_what_is_new(_):
@@ -409,8 +365,7 @@ def links_between_pages(_):
     return None
 
 
-PAGE_CASES = (first_screen_of_the_readme, commands_of_the_readme, size_that_the_readme_tells, holder_of_a_port,
-              gate_that_proves_what_is_new, programs_that_ask_for_python, commands_of_the_protocol_page,
+PAGE_CASES = (gate_that_proves_what_is_new, programs_that_ask_for_python, commands_of_the_protocol_page,
               commands_of_the_replay_page, commands_of_the_install_page, commands_of_the_configuration_page,
               choices_before_go, choices_in_a_session, choices_that_cases_show, clauses_of_the_proofs_page, laws_that_pages_name,
               contracts_that_the_proofs_page_quotes, links_between_pages, *PAGE_TABLE_CASES)
