@@ -1,6 +1,7 @@
 """doctor.py: each link between a throttle and a locomotive, broken in turn; and the names of sessions in status.py."""
 import json
 import os
+import re
 import subprocess
 import sys
 import tempfile
@@ -77,6 +78,34 @@ def doctor_says_why_the_power_is_off(program):
     return None if (*lines[-2:], status) == (*want, 4) else f"got {lines}, {status}"
 
 
+def doctor_tells_how_each_link_is(program):
+    """Of a train that drives: its protocol, who has it locked, its station and how many slots that has, and what the
+    station was told and when."""
+    sessions = {"1": "withrottle.py: Engine Driver"}
+    with served(program) as (port, _), told(sessions={str(port): sessions}, station=station()) as environment:
+        throttle = Client(port, "COMMAND")
+        throttle.asks("INIT 1 GL 3 M 1 28 5", "SET 1 POWER ON", "SET 1 LOCK GL 3 0", "SET 1 GL 3 0 12 28")
+        lines, status = ran(environment, "doctor.py", 3, "--port", port)
+    want = ["1 server: it answers", "2 layout: bus 1 may have the address 3",
+            "3 locomotive: protocol M, 28 steps, 5 functions", "4 power: it is on",
+            "5 lock: session 1 has it (withrottle.py: Engine Driver), and alone may drive",
+            "6 command: drive backward at 12 of 28", "7 driver: it drives bus 1",
+            "8 station: /dev/ttyACM0 answers, and has 50 slots, of which 1 are taken", "9 told: 60 of 126, forward, N s ago"]
+    got = [re.sub(r" \d+ s ago\..*", " N s ago", line) for line in lines]
+    return None if (got, status) == (want, 0) else f"got {got}, {status}"
+
+
+def doctor_tells_the_unit_of_a_server_that_is_not_there(_):
+    with told() as environment:
+        tool = Path(environment["XDG_RUNTIME_DIR"], "systemctl")
+        tool.write_text('#!/bin/sh\n[ "$*" = "is-active srcp_server" ] && echo failed\n')
+        tool.chmod(0o755)
+        path = f"{tool.parent}{os.pathsep}{os.environ['PATH']}"
+        lines, status = ran(environment | {"PATH": path}, "doctor.py", 3, "--port", free_port())
+    is_told = lines[0].startswith("1 server: none answers at 127.0.0.1") and lines[0].endswith("; its unit is failed")
+    return None if is_told and status == 1 else f"got {lines}, {status}"
+
+
 def status_names_the_sessions_of_programs_that_run(program):
     """Those of a program that has ended have no name."""
     with served(program) as (port, _):
@@ -93,5 +122,6 @@ def status_names_the_sessions_of_programs_that_run(program):
     return None if (lines[0], status) == (want, 0) else f"got {lines}, {status}"
 
 
-DOCTOR_CASES = (doctor_names_the_first_broken_link, doctor_says_why_the_power_is_off,
+DOCTOR_CASES = (doctor_names_the_first_broken_link, doctor_says_why_the_power_is_off, doctor_tells_how_each_link_is,
+                doctor_tells_the_unit_of_a_server_that_is_not_there,
                 status_names_the_sessions_of_programs_that_run)
