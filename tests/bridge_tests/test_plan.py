@@ -1,0 +1,149 @@
+"""The file of --plan: what the page is sent of it, and that each fault is told with its line."""
+import unittest
+
+PLAN = r"""bus = 3
+plan = '''
+W==b1==s1==t1===b2=====t2==E
+             \        /
+              ===b3===
+'''
+
+[legend]
+W = { button = "West" }
+E = { button = "East" }
+b1 = { sensor = [1, 1] }
+b2 = { sensor = [1, 2] }
+b3 = { sensor = [1, 3] }
+s1 = { signal = [2, 1, 2, 0] }
+t1 = { turnout = [1, 1, 1] }
+t2 = { turnout = [1, 2, 0] }
+
+[names]
+"1 GL 3" = "V  100"
+
+[functions]
+"1 GL 3" = ["Light", "Whistle"]
+
+[[route]]
+number = 1
+name = "Straight on"
+from = "W"
+to = "E"
+turnouts = [[1, 1, 0], [1, 2, 1]]
+
+[[route]]
+number = 2
+name = "Back by the loop"
+from = "E"
+to = "W"
+turnouts = [[1, 1, 1], [1, 2, 0]]
+"""
+FAULTS = [  # the text, what stands in its place, and the fault
+    ("W==b1", "W=?b1", "line 3: '?' in column 3 is neither track nor a name"),
+    ("b1==s1", "b1==s9", "line 3: s9 in column 8 is not in the legend"),
+    ("===b3===", "===b2===", "line 5: b2 is drawn in line 3 already"),
+    ("b3 = { sensor = [1, 3] }\n", "b3 = { sensor = [1, 3] }\nb4 = { sensor = [1, 4] }\n",
+     "line 14: b4 is not drawn in the plan"),
+    ("             \\  ", "               \\", "line 3: tracks meet at the = in column 15, where no turnout is named"),
+    ("             \\", "          \\  ", "line 4: the track ends at the \\ in column 11"),
+    (" ===b3===", " ===b3== ", "line 4: the track ends at the / in column 23"),
+    ("t2==E", "==t2E", "line 3: tracks meet at the = in column 24, where no turnout is named"),
+    ("t1===b2", "s2===b2", "line 3: s2 in column 12 is not in the legend"),
+    ("W==b1==s1==t1", "W==b1==t1==s1", "line 3: t1 is a turnout: it has a track on one side, and two on the other"),
+    ("t1 = { turnout = [1, 1, 1] }", "t1 = { sensor = [1, 1] }", "line 3: tracks meet at t1, which is no turnout"),
+    ("s1 = { signal = [2, 1, 2, 0] }", "s1 = { turnout = [2, 1, 0] }", "line 3: s1 is a turnout: it has a"),
+    ("==E\n", "==E   b1\n", "line 3: b1 in column 32 has no track beside it"),
+    ("==E\n", "==+\n", "line 3: a track ends at the + in column 28"),
+    ("t1 = { turnout = [1, 1, 1] }", "t1 = { turnout = [1, 1] }", "line 15: t1: a turnout is [bus, address, port of"),
+    ("t1 = { turnout = [1, 1, 1] }", "t1 = { turnout = [1, 1, 2] }", "line 15: t1: a turnout is [bus, address, port"),
+    ("t1 = { turnout = [1, 1, 1] }", "t1 = { turnout = [1, true, 1] }", "line 15: t1: a turnout is [bus"),
+    ("[2, 1, 2, 0]", "[2, 2045, 2, 0]", "line 14: s1: a signal is [bus, address, port of go, port of stop]"),
+    ("sensor = [1, 2]", "sensor = [0, 2]", "line 12: b2: a sensor is [bus, address]"),
+    ("sensor = [1, 2]", "senser = [1, 2]", "line 12: b2 is one of turnout, signal, sensor and button"),
+    ("\"West\"", "5", "line 9: W: a button has a text"),
+    ("bus = 3", "bus = 251", "line 1: the routes have a bus of their own: bus = 1 to 250"),
+    ("\"V  100\"", "100", "line 19: 1 GL 3: a name is a text"),
+    ("\"Whistle\"", "3", "line 22: 1 GL 3: the labels of F0, F1 .. are a list of texts"),
+    ("number = 2", "number = 2045", "line 32: a route has a number from 1 to 2044"),
+    ("number = 2", "number = 1", "line 32: there is a route 1 already"),
+    ("name = \"Back by the loop\"\n", "", "line 31: a route has a name"),
+    ("from = \"E\"", "from = \"b1\"", "line 34: a route leads from a button of the plan"),
+    ("from = \"E\"\nto = \"W\"", "from = \"W\"\nto = \"E\"", "line 35: route 1 leads from W to E already"),
+    ("[[1, 1, 1], [1, 2, 0]]", "[[1, 1, 1], [1, 2]]", "line 36: the turnouts of a route are a list of [bus, address"),
+    ("[[1, 1, 1], [1, 2, 0]]", "[[1, 1, 1], [1, 2, 1]]", "line 36: no track leads from E to W over the turnouts"),
+    ("[[1, 1, 1], [1, 2, 0]]", "[[1, 2, 0]]", "line 36: no track leads from E to W over the turnouts"),
+    ("bus = 3\n", "bus = 3\nbus = 3\n", "Cannot overwrite a value (at line 2, column 8)"),
+]
+
+
+def plan_of(content):
+    from srcp_bridges.plan import plan_of
+    return plan_of(content)
+
+
+class Plans(unittest.TestCase):
+    program = "plan"
+
+    def of(self, text, *entries):
+        """What the page is sent of a drawing with these entries of the legend."""
+        return plan_of("\n".join([f"plan = '''\n{text}\n'''", "[legend]", *entries])).drawing
+
+    def test_what_the_page_is_sent(self):
+        names, functions, drawing = plan_of(PLAN)
+        self.assertEqual((names, functions), ({"1 GL 3": "V 100"}, {"1 GL 3": ["Light", "Whistle"]}))
+        self.assertEqual((drawing["width"], drawing["height"], drawing["bus"]), (28, 3, 3))
+        of = {element["name"]: element for element in drawing["elements"]}
+        self.assertEqual(list(of), ["W", "b1", "s1", "t1", "b2", "t2", "E", "b3"])  # as it is read
+        self.assertEqual((of["W"]["text"], of["b2"]["key"], of["s1"]["key"]), ("West", "1 FB 2", "2 GA 1"))
+        self.assertEqual((of["s1"]["go"], of["s1"]["stop"], of["s1"]["at"]), (2, 0, (8.0, 0.5)))
+        self.assertEqual((of["t1"]["at"], of["t1"]["ends"]), ((12.5, 0.5), [(17.0, 0.5), (14.5, 2.5)]))
+        self.assertEqual((of["t2"]["at"], of["t2"]["ends"]), ((23.5, 0.5), [(21.5, 2.5), (17.0, 0.5)]))
+
+    def corners(self, drawing, tracks):
+        return [tuple(drawing["tracks"][number]) for number in tracks]
+
+    def test_the_tracks_of_routes_and_blocks(self):
+        """A route takes the way to which its turnouts are put, and a block goes from its sensor to the next turnout."""
+        drawing = plan_of(PLAN).drawing
+        straight, loop = (self.corners(drawing, route["tracks"]) for route in drawing["routes"])
+        west, b1, s1, t1, b2, t2, east = [(x, 0.5) for x in (0.5, 4.0, 8.0, 12.5, 17.0, 23.5, 27.5)]
+        self.assertEqual(straight, [(west, b1), (b1, s1), (s1, t1), (t1, b2), (b2, t2), (t2, east)])
+        below, b3 = [(t1, (14.5, 2.5), (18.0, 2.5)), (t2, (21.5, 2.5), (18.0, 2.5))], (18.0, 2.5)
+        self.assertEqual({*loop}, {(t2, east), *below, (s1, t1), (b1, s1), (west, b1)})
+        blocks = {each["name"]: {*self.corners(drawing, each["tracks"])} for each in drawing["elements"]
+                  if each["kind"] == "sensor"}
+        self.assertEqual(blocks, {"b1": {(west, b1), (b1, s1), (s1, t1)}, "b2": {(t1, b2), (b2, t2)}, "b3": {*below}})
+        self.assertIn(b3, below[0])
+
+    def test_crossings_and_turnouts_without_a_straight_way(self):
+        """A crossing leads straight on alone. Of two ways that both branch off, the upper one counts as straight on."""
+        cross = "bus = 9\nplan = '''\na=\\ /=b\n   +\nc=/ \\=d\n'''\n[legend]\n"
+        cross += "".join(f"{name} = {{ button = \"\" }}\n" for name in "abcd")
+        route = "[[route]]\nnumber = {}\nname = \"\"\nfrom = \"{}\"\nto = \"{}\"\n"
+        drawing = plan_of(cross + route.format(1, "a", "d") + route.format(2, "b", "c")).drawing
+        one, two = (self.corners(drawing, each["tracks"]) for each in drawing["routes"])
+        self.assertEqual(one, [((0.5, 0.5), (2.0, 0.5), (3.5, 1.5)), ((3.5, 1.5), (5.0, 2.5), (6.5, 2.5))])
+        self.assertEqual([track[-1] for track in two], [(3.5, 1.5), (0.5, 2.5)])
+        for end in "bc":
+            with self.assertRaisesRegex(ValueError, f"line 12: no track leads from a to {end}"):
+                plan_of(cross + route.format(1, "a", end))
+        [y, *_] = self.of("    /=\n ==y\n    \\=", "y = { turnout = [1, 1, 1] }")["elements"]
+        self.assertEqual(y["ends"], [(5.0, 0.5), (5.0, 2.5)])
+
+    def test_tracks_that_end(self):
+        """Each is drawn once, also one on which nothing stands."""
+        drawing = self.of("==b\n\n====", "b = { sensor = [1, 1] }")
+        self.assertEqual(drawing["tracks"], [[(2.5, 0.5), (0.5, 0.5)], [(0.5, 2.5), (3.5, 2.5)]])
+
+    def test_faults(self):
+        for old, new, fault in FAULTS:
+            self.assertEqual(PLAN.count(old), 1, old)
+            with self.assertRaises(ValueError, msg=fault) as met:
+                plan_of(PLAN.replace(old, new))
+            self.assertIn(fault, str(met.exception))
+        for content, fault in [("plan = 3", "line 1: the plan is a text"), ("\nnames = 3", "line 2: names is a table"),
+                               ("bus = 3\nplan = \"\"\nroute = 1", "line 3: a route is a table: [[route]]"),
+                               ("plan = '''=#='''", "line 1: '#' in column 2")]:
+            with self.assertRaises(ValueError, msg=fault) as met:
+                plan_of(content)
+            self.assertIn(fault, str(met.exception))
