@@ -36,6 +36,7 @@ from inputs import INPUT_CASES
 from installed import INSTALLED_CASES
 from lingering import LINGERING_CASES
 from lint_and_status import LOOKING_CASES
+from names import NAME_CASES
 from pacing import PACING_CASES
 from pages import PAGE_CASES
 from rates import RATE_CASES
@@ -247,9 +248,9 @@ STREAM_CASES = (input_past_its_limit, input_at_its_limit, input_that_cannot_be_r
                 script_past_its_limit, script_at_its_limit, script_that_cannot_be_read, run_that_cannot_be_written,
                 run_in_little_memory, full_bus_that_stalls_nobody)
 ALL_CASES = (STREAM_CASES + TABLE_CASES + INPUT_CASES + SERVING_CASES + DOOR_CASES + FAULT_CASES + CLIENT_CASES
-             + FRONT_PAGE_CASES + PAGE_CASES + RUN_SCRIPT_CASES + SAFETY_CASES + LOOKING_CASES + DOCTOR_CASES + PACKAGE_CASES
-             + INSTALLED_CASES + RELEASE_CASES + ARM64_CASES + LINGERING_CASES + VANISHING_CASES + PACING_CASES
-             + RATE_CASES + BRIDGE_CASES)
+             + FRONT_PAGE_CASES + PAGE_CASES + NAME_CASES + RUN_SCRIPT_CASES + SAFETY_CASES + LOOKING_CASES
+             + DOCTOR_CASES + PACKAGE_CASES + INSTALLED_CASES + RELEASE_CASES + ARM64_CASES + LINGERING_CASES
+             + VANISHING_CASES + PACING_CASES + RATE_CASES + BRIDGE_CASES)
 BESIDE = 10  # cases of bridges/ at once
 
 
