@@ -2,7 +2,7 @@
 import asyncio
 import contextlib
 
-from srcp_bridges.rows import EMERGENCY_STOP, Refused
+from srcp_bridges.rows import Refused
 from srcp_bridges.srcp import ServerIsFull, Session
 from srcp_bridges.stop import send, stop_several
 
@@ -20,8 +20,7 @@ async def switch(mirror, ask, bus, address, changes):
     now = await ask(f"GET {bus} GL {address}", seen)
     functions = [old if number not in changes else 1 - old if changes[number] is None else changes[number]
                  for number, old in enumerate(now.functions)]
-    mode = mirror.way(bus, address) if now.mode == EMERGENCY_STOP else now.mode
-    words = [mode, now.v, now.v_max, *functions]
+    words = [await mirror.way_by(bus, address, now), now.v, now.v_max, *functions]
     await ask(f"SET {bus} GL {address} {' '.join(map(str, words))}", seen)
 
 
@@ -97,9 +96,9 @@ class Driver:
         """Changes direction or speed of a locomotive. `seen`: the stops that were counted as this was asked for."""
         seen = self.mirror.stops.count(self.bus, address) if seen is None else seen
         now = await self.ask(f"GET {self.bus} GL {address}")
-        way = self.mirror.way(self.bus, address) if now.mode == EMERGENCY_STOP else now.mode
+        way = await self.mirror.way_by(self.bus, address, now) if mode is None else mode
         speed, most = (now.v, now.v_max) if v is None else (v, TOP)
-        await self.ask(f"SET {self.bus} GL {address} {way if mode is None else mode} {speed} {most}", seen)
+        await self.ask(f"SET {self.bus} GL {address} {way} {speed} {most}", seen)
 
     async def switch(self, address, changes):
         """Changes functions of a locomotive, and nothing else."""

@@ -98,7 +98,7 @@ class Orders:
         bus, address = order.locomotive
         now = await order.session.ask(f"GET {bus} GL {address}")
         steps = getattr(self.mirror.rows.get((bus, "GL", address, "is")), "steps", 0)
-        way = self.mirror.way(bus, address) if now.mode == EMERGENCY_STOP else now.mode
+        way = await self.mirror.way_by(bus, address, now)
         words = [new if new is not None else old for new, old in zip(order.wanted, (way, now.v, now.v_max or steps))]
         command = f"SET {bus} GL {address} {' '.join(map(str, words))}"
         await send(self.mirror.stops, order.session, command, order.seen)

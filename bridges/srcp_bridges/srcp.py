@@ -11,6 +11,7 @@ from srcp_bridges.stop import Stops
 ANSWER = 3.0  # seconds within which the server answers; later it counts as gone
 BEAT = 2.0  # seconds between two questions that show whether it is there
 MOMENT = 0.3  # seconds until it is asked for the rows of before that were not listed again
+SOON = 0.01  # seconds until it is looked again whether the panel has told a row
 LONGEST = 4096  # bytes without an end of line; the server sends 126 at most
 
 
@@ -167,6 +168,17 @@ class Mirror:
     def way(self, bus, address):
         """Returns the direction of a locomotive: the one that its rows told last. An emergency stop tells none."""
         return self.ways.get((bus, address), FORWARD)
+
+    async def way_by(self, bus, address, row):
+        """Returns the direction of a locomotive whose row the server has just told. After an emergency stop it is that of
+        before: the panel may be late, so it is waited for until it has told that row too."""
+        ends = asyncio.get_running_loop().time() + ANSWER
+        while row.mode == EMERGENCY_STOP and self.here and asyncio.get_running_loop().time() < ends:
+            told = self.rows.get((bus, "GL", address, "does"))
+            if told and (told == row or told.stamp > row.stamp):
+                break
+            await asyncio.sleep(SOON)
+        return self.way(bus, address) if row.mode == EMERGENCY_STOP else row.mode
 
     async def get(self, key):
         """Returns the row that the server has at this moment, or None. It tells no row whose part is `is`."""

@@ -99,7 +99,7 @@ async def halt(mirror, ask, bus, address):
     if isinstance(reply, BaseException):
         mirror.stops.due[bus, address] -= 1  # no row comes of it
         raise reply
-    way = mirror.way(bus, address) if isinstance(now, BaseException) or now.mode == EMERGENCY_STOP else now.mode
+    way = mirror.way(bus, address) if isinstance(now, BaseException) else await mirror.way_by(bus, address, now)
     with contextlib.suppress(Refused):  # it stands
         await ask(f"SET {bus} GL {address} {way} 0 {most}")
 

@@ -35,17 +35,29 @@ fb_ports = 16
 WAIT = 30.0  # seconds that a busy machine may take
 folder = tempfile.TemporaryDirectory()  # gone at the end, with all that the tests write
 os.environ["XDG_RUNTIME_DIR"] = folder.name  # so there programs tell of themselves
-ports = itertools.count(10000 + os.getpid() % 60 * 350)  # below those that the system gives to connections
 choosing = threading.Lock()
 sys.path[:0] = [str(PROGRAMS)]
 sys.path.append(PACKAGES)
+
+
+@functools.cache
+def block():
+    """The numbers of 1,000 ports that no other run on this machine has, below those that the system gives to
+    connections. The run holds a name of the system for them until it ends."""
+    held = socket.socket(socket.AF_UNIX)
+    for first in itertools.cycle(range(10000, 30000, 1000)):
+        try:
+            held.bind(f"\0srcp_bridge_tests_{first}")
+            return held, itertools.cycle(range(first, first + 1000))
+        except OSError:
+            time.sleep(0.1)
 
 
 def free_port():
     """A port at which nobody listens, and that no other test is given. It is bound and not listened at: a program that
     another test is starting has the socket too for a moment, and a server that comes to the port would be refused."""
     with choosing:
-        for port in ports:
+        for port in block()[1]:
             try:
                 with socket.socket() as one:
                     one.setsockopt(socket.SOL_SOCKET, socket.SO_REUSEADDR, 1)

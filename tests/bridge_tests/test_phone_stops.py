@@ -114,6 +114,21 @@ class WiThrottleStops(WiThrottleCase):
             until(lambda: any("414 ERROR device locked" in line for line in phone.told("HM")), "the refusal")
             phone.settled()
 
+    def test_the_direction_outlives_a_stop_of_which_the_bridge_is_told_late(self):
+        phone = self.phone_with("S3")
+        phone.send("M0-S3<;>r")
+        phone.got("M0-S3<;>")
+        self.throttle.order("INIT 1 GL 3 N 1 28 5")
+        self.way.late = b"100 INFO 1 GL 3 0 9 28"
+        self.throttle.order("SET 1 GL 3 0 9 28", "SET 1 GL 3 2 0 28")
+        phone.send("M0+S3<;>S3")
+        phone.got("M0+S3<;>")
+        phone.send("M0A*<;>F11")
+        time.sleep(0.3)
+        self.way.late = None
+        self.way.free()
+        self.has("100 INFO 1 GL 3 0 0 28 0 1")
+
     def test_the_direction_outlives_stops(self):
         """Also one by a program that keeps no direction, and what a phone sends first after it."""
         self.throttle.order("INIT 1 GL 3 N 1 28 5", "SET 1 GL 3 0 9 28")
@@ -126,8 +141,11 @@ class WiThrottleStops(WiThrottleCase):
         self.has("100 INFO 1 GL 3 2 0 28")
         phone.send("M0+S3<;>S3", "M0A*<;>F11")
         self.has("100 INFO 1 GL 3 0 0 28 0 1")
-        self.throttle.ask("SET 1 GL 3 2 0 28")
-        phone.send("M0A*<;>V20")
+        phone.send("M0-S3<;>r")
+        phone.got("M0-S3<;>")
+        self.throttle.order("SET 1 GL 3 0 9 28", "SET 1 GL 3 2 0 28", "SET 1 POWER ON")
+        phone.got("PPA1")  # so the bridge knows of the stop: a speed that came before that would be refused
+        phone.send("M0+S3<;>S3", "M0A*<;>V20")
         self.has("100 INFO 1 GL 3 0 20 126 0 1")
         phone.send("M0A*<;>X", "M0A*<;>V21")
         self.has("100 INFO 1 GL 3 0 21 126 0 1")
