@@ -7,7 +7,7 @@ CRATES = TOP / "crates"
 
 
 def rows_under(page, heading):
-    """The cells of each row of the first table behind a heading of a page."""
+    """The cells of each row of the first table behind a heading of a page of docs/, or of another by its path."""
     table = (TOP / "docs" / page).read_text().partition(f"\n## {heading}\n")[2].partition("\n|")[2].partition("\n\n")[0]
     return [[cell.strip() for cell in line.strip()[1:-1].split("|")] for line in table.splitlines()[2:]]
 
@@ -107,7 +107,7 @@ def clauses_of_the_core_page(_):
     files = [CRATES / "srcp_core/src/server_core.rt", *(CRATES / "srcp_core/src/server_core").glob("*.rt")]
     code = "".join(file.read_text() for file in files)
     call, listed = None, {}
-    for first, clause, _ in rows_under("core-proof.md", "What the clauses of a call say"):
+    for first, clause, _ in rows_under(CRATES / "srcp_core" / "README.md", "What the clauses of a call say"):
         call = (quoted(first) or [call])[0]
         listed.setdefault(call, []).extend(quoted(clause) or [""])
     for call, clauses in listed.items():

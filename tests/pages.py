@@ -337,7 +337,7 @@ def laws_that_pages_name(_):
     """Each law that a page names is a function of some crate's laws."""
     code = "".join(file.read_text() for file in (TOP / "crates").glob("*/src/laws.rt"))
     laws = set(re.findall(r"^pub fn (\w+)", code, re.M))
-    named = [(page.name, name) for page in (TOP / "docs").glob("*.md")
+    named = [(page.name, name) for page in [*TOP.glob("docs/*.md"), *TOP.glob("crates/*/README.md")]
              for name in re.findall(r"laws::([a-z]\w+)", page.read_text())]
     return next((f"{page}: no law {name}" for page, name in named if name not in laws), None if named else "no law")
 
@@ -357,7 +357,7 @@ def anchors_of(page):
 
 def links_between_pages(_):
     """Each link of a page to a file of the repository reaches it, and its heading."""
-    for page in [TOP / "README.md", *(TOP / "docs").glob("*.md"), *(TOP / "bridges").glob("*.md")]:
+    for page in [*TOP.glob("*.md"), *TOP.glob("docs/*.md"), *TOP.glob("bridges/*.md"), *TOP.glob("crates/*/README.md")]:
         for path, anchor in re.findall(r"\]\((?!http)([^)#]*)#?([^)]*)\)", page.read_text()):
             file = page.parent / path if path else page
             if not file.exists() or anchor and anchor not in anchors_of(file):
