@@ -18,6 +18,7 @@ from srcp_bridges.entrance import Entrance, guest_of
 from srcp_bridges.hosts import address_of, is_own, to_type
 from srcp_bridges.page import BEHIND, Page, event, row_event
 from srcp_bridges.places import Full, Places, add_arguments, listen
+from srcp_bridges.plan import read_plan
 from srcp_bridges.program import arguments, names, run, say
 from srcp_bridges.request import ARRIVE, IDLE, LONGEST_HEAD, NO_REQUEST, TEXT, answer, read_request
 from srcp_bridges.srcp import Mirror
@@ -60,7 +61,8 @@ def enter(entrance, writer, asked, guest):
 
 class Web:
     def __init__(self, asked):
-        self.asked, self.names, self.pages = asked, names(asked.names), {}
+        self.asked, self.plan, self.pages = asked, read_plan(asked.plan), {}
+        self.names = self.plan.names | names(asked.names)
         self.mirror = Mirror(asked, self.told, lambda anew: self.tell(event("here", True)),
                              lambda: self.tell(event("here", False)))
         address = address_of(asked.bind)
@@ -162,7 +164,8 @@ class Web:
     async def events(self, reader, writer, browser):
         """Sends a page all rows and each change, until it is gone, silent, or too far behind."""
         page, key = Page(self.mirror, browser), secrets.token_hex(16)
-        first = event("page", {"key": key, "names": self.names}) + event("here", self.mirror.here)
+        first = event("page", {"key": key, "names": self.names, "functions": self.plan.functions,
+                               "plan": self.plan.drawing}) + event("here", self.mirror.here)
         rows = [row_event(self.mirror, *item) for item in self.mirror.rows.items()]
         writer.write("".join([EVENTS, first, *rows]).encode())
         self.pages[key], peer, why = page, writer.get_extra_info("peername")[0], "gone"
@@ -216,6 +219,7 @@ def main():
     add_arguments(words, "--web", 8303, "browsers")
     words.add_argument("--word", help="what a page is asked for; with --bind a random one if none is given")
     words.add_argument("--names", metavar="FILE", help="names of devices")
+    words.add_argument("--plan", metavar="FILE", help="names, labels of functions, and a track plan with its routes")
     words.add_argument("--silence", type=float, default=10.0, metavar="SECONDS",
                        help="of a page until it counts as gone (%(default)s)")
     run(begin(words.parse_args()))

@@ -8,12 +8,13 @@ const PULSE = 250;                              // milliseconds of a turnout's c
 
 // ---- a turnout, or a signal: an accessory of more than two ports
 
-async function put(key, ports, port) {
+export async function put(key, ports, port, words) {
   const [bus, , address] = key.split(" ");
   for (const other of Object.keys(ports)) if (other !== port && ports[other].value) {
-    await ask(key, "/command", `SET ${bus} GA ${address} ${other} 0 -1`);
+    await ask(key, "/command", `SET ${bus} GA ${address} ${other} 0 -1`, words);
   }
-  await ask(key, "/command", `SET ${bus} GA ${address} ${port} 1 ${Object.keys(ports).length > 2 ? -1 : PULSE}`);
+  const time = Object.keys(ports).length > 2 ? -1 : PULSE;
+  return ask(key, "/command", `SET ${bus} GA ${address} ${port} 1 ${time}`, words);
 }
 function makeAccessory(key, accessory) {
   const ports = Object.keys(accessory.ports), isSignal = ports.length > 2;

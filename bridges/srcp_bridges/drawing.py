@@ -40,6 +40,10 @@ class Node:
             middle += sum(0.5 if other.left > self.left else -0.5 for _, other in self.joins if other.row == self.row)
         return middle, self.row + 0.5
 
+    def is_corner(self) -> bool:
+        """Returns whether a track may turn at it. It goes straight through a diagonal between others."""
+        return self.text not in DOWN or any(other.row == self.row for _, other in self.joins)
+
     def where(self) -> str:
         return f"column {self.left + 1}"
 

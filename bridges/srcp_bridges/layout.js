@@ -5,7 +5,7 @@ export const $ = id => document.getElementById(id);
 export const devices = new Map();               // "1 GL 3" -> { is, does, lock: rows, ports: { number: row }, card }
 export const paint = {};                        // the function that draws a device, by its group
 const waiting = new Set();
-let names = {}, drawn = [];
+let names = {}, labels = {}, drawn = [];
 
 export function make(tag, words = {}, ...inner) {
   const element = Object.assign(document.createElement(tag), words);
@@ -18,7 +18,8 @@ export function button(text, label, onclick) {
   return element;
 }
 
-export const called = given => names = given;
+export function called(given, functions) { [names, labels] = [given, functions]; }
+export const labelOf = (key, n) => labels[key]?.[n];  // of a function of a locomotive
 export const isNamed = key => key in names;
 export function name(key) {
   const [, group, address] = key.split(" ");

@@ -1,5 +1,5 @@
 // Throttles, and the list of all locomotives.
-import { $, button, devices, make, name, paint, place, redraw } from "./layout.js";
+import { $, button, devices, labelOf, make, name, paint, place, redraw } from "./layout.js";
 import { ask, order, session } from "./server.js";
 import { Slider } from "./slider.js";
 import { text } from "./texts.js";
@@ -80,6 +80,10 @@ export function halt(key, loco) {
 
 // ---- its card
 
+function makeFunction(key, n) {
+  const label = labelOf(key, n), about = text("functionOf", { n });
+  return button(label || "F" + n, label ? `${label}, ${about}` : about, () => press(key, n));
+}
 function makeCard(key, loco) {
   const named = name(key);
   const input = make("input", { type: "range", min: 0, max: steps(loco), ariaLabel: text("speedOf", { name: named }) });
@@ -95,7 +99,7 @@ function makeCard(key, loco) {
   const faster = button("+", text("faster"), () => nudge(key, 1));
   loco.take = button("", "", () => lock(key));
   const removes = button(text("remove"), text("removeHint"), () => remove(key));
-  loco.functions = loco.does.functions.map((_, n) => button("F" + n, text("functionOf", { n }), () => press(key, n)));
+  loco.functions = loco.does.functions.map((_, n) => makeFunction(key, n));
   loco.speeds = [input, slower, faster];
   loco.commands = [loco.back, loco.forth, stand, halts, removes, loco.take, ...loco.functions];
   loco.card = make("li", { className: "card" },

@@ -31,6 +31,9 @@ export const TEXTS = {
     "ALLE HALT hat ihn abgeschaltet, da ein anderer Regler einen Zug hat."],
 
   parts: ["Parts of this page", "Teile dieser Seite"],
+  plan: ["Plan", "Plan"],
+  trackPlan: ["Track plan", "Gleisplan"],
+  routes: ["Routes", "Fahrstraßen"],
   trains: ["Trains", "Züge"],
   locomotives: ["Locomotives", "Lokomotiven"],
   turnouts: ["Turnouts", "Weichen"],
@@ -72,6 +75,21 @@ export const TEXTS = {
   branch: ["branch", "Abzweig"],
   portOf: ["port {port}", "Anschluss {port}"],
   sensorIs: ["{name} of bus {bus}: {is}", "{name} von Bus {bus}: {is}"],
+  unknown: ["unknown", "unbekannt"],
+  go: ["go", "Fahrt"],
+  halt: ["stop", "Halt"],
+  locked: ["locked", "verschlossen"],
+  lockedByRoute: ["{name} is locked by the route {route}.", "{name} ist von der Fahrstraße {route} verschlossen."],
+  chooseEnd: ["From {from}: choose where the route ends.", "Von {from}: das Ziel der Fahrstraße wählen."],
+  noRoute: ["No route leads from {from} to {to}.", "Keine Fahrstraße führt von {from} nach {to}."],
+  noBox: ["{name}: no program sets routes on bus {bus}.", "{name}: Kein Programm stellt Fahrstraßen auf Bus {bus}."],
+  isSet: ["The route {name} is set.", "Die Fahrstraße {name} ist gestellt."],
+  asked: ["The route {name} is asked for.", "Die Fahrstraße {name} ist angefordert."],
+  routeSet: ["set", "gestellt"],
+  routeAsked: ["waits", "wartet"],
+  routeFree: ["free", "frei"],
+  askRoute: ["Ask for this route", "Diese Fahrstraße anfordern"],
+  giveRouteBack: ["Give this route back", "Diese Fahrstraße auflösen"],
   occupied: ["occupied", "besetzt"],
   free: ["free", "frei"],
 
@@ -89,7 +107,7 @@ export const TEXTS = {
   noGroup: ["Bus {bus} of the layout has none of these.", "Bus {bus} der Anlage hat keine davon."],
 
   wrongValue: ["{name}: the server does not take this value.", "{name}: Der Server nimmt diesen Wert nicht."],
-  locked: ["{name} is taken by another throttle.", "{name} ist von einem anderen Regler genommen."],
+  lockedByOther: ["{name} is taken by another throttle.", "{name} ist von einem anderen Regler genommen."],
   forbidden: ["{name}: this is not allowed.", "{name}: Das ist nicht erlaubt."],
   isGone: ["{name} is not there any more.", "{name} ist nicht mehr da."],
   noMemory: ["{name}: the server has no memory left.", "{name}: Der Server hat keinen Speicher mehr."],
@@ -112,7 +130,7 @@ export const TEXTS = {
 };
 const LANGUAGES = ["en", "de"];
 const REPLIES = {                               // the reply of the server or of web.py, or its code: the text for it
-  412: "wrongValue", 414: "locked", 415: "forbidden", 416: "isGone", 500: "noMemory",
+  412: "wrongValue", 414: "lockedByOther", 415: "forbidden", 416: "isGone", 500: "noMemory",
   "it was stopped meanwhile": "stopped", "the server is full": "full", "the server is away": "serverGone",
   "too many connections": "tooMany", "no answer": "noAnswer",
 };

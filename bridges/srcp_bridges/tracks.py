@@ -39,10 +39,11 @@ def tracks_of(nodes: list[Node]) -> tuple[list[list[Point]], Ways]:
 
 def walk(begin: Node, node: Node) -> tuple[list[Point], Node, int]:
     """Follows plain track; returns its points, and what is at its end, with the side by which it comes there."""
-    before, points = begin, [begin.at(), node.at()]
+    before, passed = begin, [begin, node]
     while node.text in PLAIN and (after := [other for _, other in node.joins if other is not before]):
         before, node = node, after[0]
-        points.append(node.at())
+        passed.append(node)
+    points = [each.at() for each in passed if each.is_corner()]
     return points, node, next(side for side, other in node.joins if other is before)
 
 

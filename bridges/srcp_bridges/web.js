@@ -3,6 +3,7 @@ import { stopSent, tell } from "./bar.js";
 import { $, called, devices, forget, name, redraw, remake, whenDrawn } from "./layout.js";
 import { halt, isOpen, open } from "./locomotives.js";
 import "./devices.js";
+import { drawPlan } from "./plan.js";
 import { ask, drop, joined, post, stopAll } from "./server.js";
 import { otherLanguage, text, translate } from "./texts.js";
 
@@ -34,9 +35,10 @@ function shown(key, here) {
   $("state").textContent = text(state);
   document.body.classList.toggle("away", !isHere);
 }
-on("page", ({ key, names }) => {                // this page has joined, or joined again: all rows come
+on("page", ({ key, names, functions, plan }) => {  // this page has joined, or joined again: all rows come
   joined(key);
-  called(names);
+  called(names, functions);
+  drawPlan(plan);
   for (const key of [...devices.keys()]) forget(key);
 });
 on("here", here => shown(here ? "layout" : "serverAway", here));

@@ -60,6 +60,7 @@ from .test_mqtt import (Mqtt, MqttForHomeAssistant, MqttWithAWrongBroker, MqttWi
                         Payloads)
 from .test_orders import Orders, Stopping  # noqa: E402
 from .test_plan import Plans  # noqa: E402
+from .test_plan_in_chromium import PlanInChromium  # noqa: E402
 from .test_phone_stops import WiThrottleStops  # noqa: E402
 from .test_readme import Readme  # noqa: E402
 from .test_srcp import Following, Parsing  # noqa: E402
@@ -73,4 +74,4 @@ BRIDGE_CASES = cases_of(Readme, Following, MqttWithAWrongBroker, Stopping, Mqtt,
                         WebInChromium, WebByTouch, WebInGerman, WebWithBeats, Web, WebThatSleeps, WebWithAWord,
                         WebWithSilentPages, WebBesideManyConnections, WebInTheNetwork, Entering, WiThrottle,
                         WiThrottleStops, Srcpd, DccEx, DccExWithLosses, DccExWithHands, Z21, Z21WithLosses,
-                        Z21WithHands, Doctor, Guard, Keep, Log, Parsing, Plans)
+                        Z21WithHands, Doctor, Guard, Keep, Log, Parsing, Plans, PlanInChromium)

@@ -209,7 +209,7 @@ class Web(WebCase):
         from srcp_bridges import page
 
         async def main():
-            asked = argparse.Namespace(host="127.0.0.1", port=self.server.port, again=0.1, names=None,
+            asked = argparse.Namespace(host="127.0.0.1", port=self.server.port, again=0.1, names=None, plan=None,
                                        bind="127.0.0.1", word=None)
             site = web.Web(asked)
             following = asyncio.create_task(site.mirror.run())
@@ -300,10 +300,15 @@ class Web(WebCase):
         """Words that are wrong end it with status 2 and one line."""
         broken = Path(new_folder(), "names.toml")
         broken.write_text("1 GL 3 = V 100")
-        for words in (("--web", 99999), ("--bind", "300.1.1.1"), ("--names", broken), ("--names", "/nowhere/names")):
+        drawn = Path(new_folder(), "plan.toml")
+        drawn.write_text("plan = '''\na===t\n'''")
+        for words in (("--web", 99999), ("--bind", "300.1.1.1"), ("--names", broken), ("--names", "/nowhere/names"),
+                      ("--plan", broken), ("--plan", drawn), ("--plan", "/nowhere/plan")):
             started = self.starts("web.py", *words)
             self.assertEqual(started.process.wait(WAIT), 2, words)
             self.assertRegex(started.told(), rf"\A-- .*{words[0]}.*\n\Z")
+            if words[1] == drawn:
+                self.assertEqual(started.told(), f"-- --plan {drawn}: line 2: a in column 1 is not in the legend\n")
 
     def test_who_is_turned_away(self):
         page = Events(self.port)
