@@ -11,7 +11,7 @@ from . import common
 
 
 class Result(unittest.TestResult):
-    """The result of one test: `stop` is what it stopped at, with a note if its server had ended by then."""
+    """The result of one test: `stop` is what it stopped at, with a note of each of its programs that had ended by then."""
     stop = None
 
     def addError(self, test, fault):
@@ -23,9 +23,10 @@ class Result(unittest.TestResult):
         self.take(test, fault[1])
 
     def take(self, test, stop):
-        server = getattr(test, "server", None)
-        if server and (status := server.process.process.poll()) is not None:
-            stop.add_note(f"its server ended with status {status}: {server.process.told()!r}")
+        programs = {"server": test.server.process} if hasattr(test, "server") else {}
+        for name, program in (programs | getattr(test, "started", {})).items():
+            if (status := program.process.poll()) is not None:
+                stop.add_note(f"its {name} ended with status {status}: {program.told()[-1000:]!r}")
         self.stop = self.stop or stop
 
 
@@ -61,7 +62,7 @@ from .test_mqtt import (Mqtt, MqttForHomeAssistant, MqttWithAWrongBroker, MqttWi
 from .test_orders import Orders, Stopping  # noqa: E402
 from .test_plan import Plans  # noqa: E402
 from .test_plan_in_chromium import PlanInChromium  # noqa: E402
-from .test_phone_stops import WiThrottleStops  # noqa: E402
+from .test_phone_stops import WiThrottleStops, WiThrottleWithBeats  # noqa: E402
 from .test_readme import Readme  # noqa: E402
 from .test_srcp import Following, Parsing  # noqa: E402
 from .test_srcpd import Srcpd  # noqa: E402
@@ -73,5 +74,5 @@ BRIDGE_CASES = cases_of(Readme, Following, MqttWithAWrongBroker, Stopping, Mqtt,
                         MqttWithPersistence, MqttBesideOthers, MqttWithLimits, MqttWithTls, Orders, Payloads,
                         WebInChromium, WebByTouch, WebInGerman, WebWithBeats, Web, WebThatSleeps, WebWithAWord,
                         WebWithSilentPages, WebBesideManyConnections, WebInTheNetwork, Entering, WiThrottle,
-                        WiThrottleStops, Srcpd, DccEx, DccExWithLosses, DccExWithHands, Z21, Z21WithLosses,
-                        Z21WithHands, Doctor, Guard, Keep, Log, Parsing, Plans, PlanInChromium)
+                        WiThrottleStops, WiThrottleWithBeats, Srcpd, DccEx, DccExWithLosses, DccExWithHands, Z21,
+                        Z21WithLosses, Z21WithHands, Doctor, Guard, Keep, Log, Parsing, Plans, PlanInChromium)

@@ -1,4 +1,5 @@
 """What the cases of bridges/ share: a server, the programs, a way between that can be cut, waiting for what comes."""
+import contextlib
 import functools
 import itertools
 import os
@@ -32,7 +33,7 @@ ga_max = 12
 ga_ports = 4
 fb_ports = 16
 """
-WAIT = 30.0  # seconds that a busy machine may take
+WAIT = 60.0  # seconds that a busy machine may take
 folder = tempfile.TemporaryDirectory()  # gone at the end, with all that the tests write
 os.environ["XDG_RUNTIME_DIR"] = folder.name  # so there programs tell of themselves
 choosing = threading.Lock()
@@ -89,8 +90,12 @@ def connects(port):
 
 
 def until(true, what, seconds=WAIT):
+    """Waits until that is true. What it looks up may not be there yet."""
     end = time.monotonic() + seconds
-    while not true():
+    while True:
+        with contextlib.suppress(LookupError):
+            if true():
+                return
         if time.monotonic() > end:
             raise AssertionError(f"not within {seconds} s: {what}")
         time.sleep(0.02)
@@ -303,9 +308,10 @@ class Case(unittest.TestCase):
         self.addCleanup(lambda: self.server.stop())
         self.throttle, self.way = Session(self.server.port), Way(self.server)
         self.addCleanup(self.way.end)
+        self.started = {}
 
     def starts(self, name, *words, port=None, **more):
-        started = program(name, *words, "--port", port or self.server.port, **more)
+        self.started[name] = started = program(name, *words, "--port", port or self.server.port, **more)
         self.addCleanup(started.end, signal.SIGKILL)
         return started
 

@@ -70,13 +70,14 @@ class Phone:
 class WiThrottleCase(Case):
     """A case with withrottle.py beside its server."""
     program = "withrottle"
+    words = "--heartbeat", 1, "--patience", 1
 
     def setUp(self):
         super().setUp()
         self.listen, names = free_port(), os.path.join(new_folder(), "names.toml")
         Path(names).write_text('"1 GL 3" = "V 100"\n"1 GL 4" = "V 100"\n"1 GA 5" = "Yard ]west\\n"\n')
-        self.bridge = self.starts("withrottle.py", "--listen", self.listen, "--names", names, "--heartbeat", 1,
-                                  "--patience", 1, port=self.way.port)
+        self.bridge = self.starts("withrottle.py", "--listen", self.listen, "--names", names, *self.words,
+                                  port=self.way.port)
         until(lambda: connects(self.listen) and "server: joined" in self.bridge.told(), "the bridge is there")
 
     def phone(self, **more):

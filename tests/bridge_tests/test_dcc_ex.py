@@ -91,9 +91,13 @@ class DccEx(Drives, DccExCase):
             self.throttle.order(f"SET 1 GL 3 1 {v % 100} 100")
             time.sleep(0.01)
         on = " ".join("1" * 29)
-        self.throttle.order(*[f"INIT 1 GL {n} N 1 28 29" for n in (4, 5, 6)],
-                            *[f"SET 1 GL {n} 1 0 28 {on}" for n in (4, 5, 6)], "SET 1 GL 3 2 0 100")
-        self.track(lambda s: s.cabs[3][0] == -1, "an emergency stop", 3)
+        self.throttle.flood([*[f"INIT 1 GL {n} N 1 28 29" for n in (4, 5, 6)],
+                             *[f"SET 1 GL {n} 1 0 28 {on}" for n in (4, 5, 6)]])
+        self.track(lambda s: s.functions.get((4, 3)), "functions are on their way")
+        begun = len(self.station.log)
+        self.throttle.order("SET 1 GL 3 2 0 100")
+        self.track(lambda s: s.cabs[3][0] == -1, "an emergency stop")
+        self.assertLess(len(self.commands("F", begun)), 50)
 
     def test_a_station_in_the_network(self):
         self.driver.end()

@@ -439,7 +439,7 @@ class MqttWithAWrongBroker(Case):
         self.throttle.order("SET 1 POWER ON")
         threading.Thread(target=self.serve, args=(broker,), daemon=True).start()
         bridge = self.starts("mqtt.py", "--broker-port", broker.getsockname()[1])
-        until(lambda: self.came == "all", "all was sent", 50)
+        until(lambda: self.came == "all", "all was sent")
         self.has("100 INFO 1 POWER ON")
         self.assertNotIn("Traceback", bridge.told())
         self.assertIsNone(bridge.process.poll())

@@ -1,4 +1,5 @@
 """withrottle.py: what stops the locomotives of phones, and what waits then."""
+import itertools
 import signal
 import socket
 import time
@@ -7,25 +8,30 @@ from .common import rows, until
 from .phones import Panel, WiThrottleCase
 
 
-class WiThrottleStops(WiThrottleCase):
+class WiThrottleWithBeats(WiThrottleCase):
+    words = "--heartbeat", 3, "--patience", 3
+
     def test_phones_that_are_gone_or_silent(self):
         phone = self.phone()
         phone.send("M0+S3<;>S3", "M0A*<;>V60")
         self.has("100 INFO 1 GL 3 1 60 126")
         phone.socket.shutdown(socket.SHUT_RDWR)
         self.has("100 INFO 1 GL 3 1 0 126")
-        phone = self.phone(watched=True)
-        phone.send("M0+S3<;>S3", "M0A*<;>V60")
-        for _ in range(6):
+        phone, panel = self.phone(watched=True), Panel(self.server.port)
+        phone.send("M0+S3<;>S3", "M0A*<;>V61")
+        for _ in range(16):
             time.sleep(0.25)
             phone.send("*")
-        self.assertTrue(any(row.startswith("100 INFO 1 GL 3 1 60 126") for row in rows(self.server.port)))
+        self.assertTrue(any(row.startswith("100 INFO 1 GL 3 1 61 126") for row in rows(self.server.port)))
         self.has("100 INFO 1 GL 3 1 0 126")
         phone.send("M0A*<;>V30")
-        self.has("100 INFO 1 GL 3 1 30 126")
         phone.got("END")
         self.lacks("100 INFO 1 LOCK", "100 INFO 1 GL 3 1 30 126")
+        speeds = [line.split()[6] for line in panel.told("100 INFO 1 GL 3 ")]
+        self.assertEqual([v for v, _ in itertools.groupby(speeds)][-4:], ["61", "0", "30", "0"])
 
+
+class WiThrottleStops(WiThrottleCase):
     def test_a_stop_is_not_behind_what_waits(self):
         phone, panel = self.phone_with("S3"), Panel(self.server.port)
         for stop, mode in (("M0A*<;>X", 2), ("M0AS3<;>V-1", 2), ("M0A*<;>V0", 1), ("M0AS3<;>I", 1), ("M0A*<;>Q", 1)):

@@ -148,7 +148,7 @@ class Following(Case):
             self.way.cut()
             self.throttle.order("TERM 1 GL 4")
             self.way.free()
-            end = time.monotonic() + 10
+            end = time.monotonic() + WAIT
             while time.monotonic() < end and (1, "GL", 4, "is") in self.mirror.rows:
                 self.throttle.order("SET 1 GL 5 1 9 28")
                 time.sleep(0.05)
