@@ -4,7 +4,7 @@ import { said, press } from "./elements.js";
 import { holding, isAsked, isSet, listRoutes } from "./routes.js";
 
 const ACROSS = 24, DOWN = 44, FINGER = 44;      // pixels of a letter of the drawing, and of what a finger hits
-const EDGE = 12, GAP = 16;                      // beside the drawing, and of a leg to which a turnout does not lead
+const EDGE = 12, TOP = 6, GAP = 16;             // beside it, above it, and of a leg to which a turnout does not lead
 let plan = null, shown = "", tracks = [], groups = new Map();
 
 const point = ([x, y]) => [x * ACROSS, y * DOWN];
@@ -59,8 +59,8 @@ export function drawPlan(given) {
   groups.clear();
   listRoutes(plan ?? { routes: [], elements: [] });
   if (!plan) return $("drawing").replaceChildren();
-  const [width, height] = [plan.width * ACROSS + 2 * EDGE, plan.height * DOWN];
-  for (const [key, value] of Object.entries({ width, height, viewBox: `${-EDGE} 0 ${width} ${height}` })) {
+  const [width, height] = [plan.width * ACROSS + 2 * EDGE, plan.height * DOWN + TOP];
+  for (const [key, value] of Object.entries({ width, height, viewBox: `${-EDGE} ${-TOP} ${width} ${height}` })) {
     $("drawing").setAttribute(key, value);
   }
   tracks = plan.tracks.map(each => make("path", { d: line(each) }));

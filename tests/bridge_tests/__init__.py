@@ -61,7 +61,7 @@ from .test_mqtt import (Mqtt, MqttForHomeAssistant, MqttWithAWrongBroker, MqttWi
                         Payloads)
 from .test_orders import Orders, Stopping  # noqa: E402
 from .test_plan import Plans  # noqa: E402
-from .test_plan_in_chromium import PlanInChromium  # noqa: E402
+from .test_plan_in_chromium import LargePlanInChromium, PlanInChromium  # noqa: E402
 from .test_phone_stops import WiThrottleStops, WiThrottleWithBeats  # noqa: E402
 from .test_readme import Readme  # noqa: E402
 from .test_srcp import Following, Parsing  # noqa: E402
@@ -75,4 +75,5 @@ BRIDGE_CASES = cases_of(Readme, Following, MqttWithAWrongBroker, Stopping, Mqtt,
                         WebInChromium, WebByTouch, WebInGerman, WebWithBeats, Web, WebThatSleeps, WebWithAWord,
                         WebWithSilentPages, WebBesideManyConnections, WebInTheNetwork, Entering, WiThrottle,
                         WiThrottleStops, WiThrottleWithBeats, Srcpd, DccEx, DccExWithLosses, DccExWithHands, Z21,
-                        Z21WithLosses, Z21WithHands, Doctor, Guard, Keep, Log, Parsing, Plans, PlanInChromium)
+                        Z21WithLosses, Z21WithHands, Doctor, Guard, Keep, Log, Parsing, Plans, PlanInChromium,
+                        LargePlanInChromium)

@@ -11,7 +11,7 @@ from .test_web import Events, WebCase
 
 
 class ChromiumCase(WebCase):
-    """With SRCP_PICTURES=FOLDER pictures of the page are put there; `panel.png` of them is the one in docs/."""
+    """With SRCP_PICTURES=FOLDER pictures of the page are put there."""
     layout = LAYOUT.replace("fb_ports = 32", "fb_ports = 500")
     pictures = os.environ.get("SRCP_PICTURES")
     language, silence = "en-GB", 30
@@ -292,7 +292,7 @@ class WebInChromium(ChromiumCase):
         self.assertTrue(self.js(f"{self.card('2 GA 7')}.textContent").startswith("Signal 7 2 GA 7"))
         seen = "document.querySelector('#FB li[data-key=\"1 FB 7\"]').innerText"
         self.assertEqual(self.js(seen).split(), ["Block", "7", "7"])
-        self.picture("panel", 800, 600)
+        self.picture("names", 800, 600)
         self.js("Object.assign(document.getElementById('find'), { value: 'ice' }).oninput()")
         until(lambda: self.js(f"{self.card('1 GL 3')}.hidden && {self.card('1 GA 2')}.hidden"), "others are hidden")
         self.assertFalse(self.js(f"{self.card('1 GL 7')}.hidden"))

@@ -1,5 +1,8 @@
 """The file of --plan: what the page is sent of it, and that each fault is told with its line."""
+import tomllib
 import unittest
+
+from .common import TOP
 
 PLAN = r"""bus = 3
 plan = '''
@@ -134,6 +137,23 @@ class Plans(unittest.TestCase):
         """Each is drawn once, also one on which nothing stands."""
         drawing = self.of("==b\n\n====", "b = { sensor = [1, 1] }")
         self.assertEqual(drawing["tracks"], [[(2.5, 0.5), (0.5, 0.5)], [(0.5, 2.5), (3.5, 2.5)]])
+
+    def test_the_example(self):
+        """It has four routes, and all that it names is in the layout beside it."""
+        text, layout = ((TOP / "examples" / name).read_text() for name in ("plan.toml", "layout.toml"))
+        names, functions, drawing = plan_of(text)
+        buses = {bus["number"]: bus for bus in tomllib.loads(layout)["bus"]}
+        keys = [each["key"] for each in drawing["elements"] if "key" in each] + [*names, *functions]
+        keys += [f"{drawing['bus']} {group} {route['number']}" for route in drawing["routes"] for group in ("GA", "FB")]
+        for bus, group, address in map(str.split, keys):
+            most = buses[int(bus)][{"GL": "gl_max", "GA": "ga_max", "FB": "fb_ports"}[group]]
+            self.assertLessEqual(int(address), most, (bus, group))
+        self.assertEqual([route["number"] for route in drawing["routes"]], [1, 2, 3, 4])
+        page = (TOP / "bridges" / "README.md").read_text()
+        self.assertIn(text[text.index("plan = '''"):text.index("[legend]")].rstrip(), page)
+        with self.assertRaises(ValueError) as met:
+            plan_of(text.replace("t1 =", "t8 ="))
+        self.assertIn(f"--plan examples/plan.toml: {met.exception}`", page)
 
     def test_faults(self):
         for old, new, fault in FAULTS:

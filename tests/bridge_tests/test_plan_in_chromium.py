@@ -1,7 +1,12 @@
 """The track plan of web.py's page in Chromium: clicks, keys, routes, and how it looks."""
+import re
+import time
+from pathlib import Path
+
 from .browser import started
-from .common import TOP, rows, until
-from .test_chromium import ChromiumCase
+from .common import TOP, new_folder, rows, until
+from .large_plan import large_plan
+from .test_chromium import CONTRAST, SMALL, ChromiumCase
 
 LAYOUT = """port = {port}
 [[bus]]
@@ -176,3 +181,78 @@ class PlanInChromium(PlanCase):
                                             ["F2", "function 2"]])
         self.assertTrue(self.js(f"{self.card('1 GL 3')}.textContent").startswith("V 100 1 GL 3"))
         self.press("1 GL 3", "Whistle"), self.has("100 INFO 1 GL 3 1 0 28 0 1 0")
+
+    def test_in_chromium_the_picture(self):
+        """The picture of the page in docs/: a train on a route that is set, and another one that waits."""
+        self.throttle.order("SET 1 POWER ON", "INIT 1 GL 3 N 1 126 5", "SET 1 GL 3 1 40 126 1", "INIT 1 GL 7 N 1 126 5",
+                            "SET 1 GL 7 0 88 126 1 0 1", *[f"INIT {bus} GA {n} N" for bus in (1, 2, 3) for n in (1, 2)],
+                            "INIT 2 GA 3 N", *[f"SET 2 GA {n} {2 * (n == 1)} 1 -1" for n in (1, 2, 3)],
+                            "SET 1 GA 1 1 1 -1", "SET 1 GA 2 0 1 -1", "SET 1 LOCK GA 1 0", "SET 3 FB 2 1",
+                            "SET 1 FB 1 1", "SET 1 FB 4 1")
+        until(lambda: self.has_card("1 GL 7") and self.has_card("2 GA 3"), "the cards")
+        until(lambda: (self.drawn("set"), self.drawn("busy")) == (2, 5), "the route, and both trains")
+        self.picture("panel", 1160, 800)
+
+
+class LargePlanInChromium(PlanCase):
+    """64 elements and 30 routes."""
+
+    def plan(self):
+        path = Path(new_folder(), "plan.toml")
+        path.write_text(large_plan(10))
+        return path
+
+    def fill(self):
+        self.throttle.flood([f"INIT 1 GA {n + m} N" for n in range(1, 10) for m in (0, 20)])
+        self.throttle.flood([f"SET 1 GA {n + m} {int(n + m != 4)} 1 -1" for n in range(1, 10) for m in (0, 20)])
+        self.throttle.flood([f"INIT 2 GA {n} N" for n in (*range(1, 11), *range(21, 31), 40, 41)])
+        self.throttle.flood([f"SET 2 GA {n} {2 * int(n in (4, 40))} 1 -1" for n in (*range(1, 11), 21, 22, 40)])
+        self.throttle.flood([f"INIT 3 GA {n} N" for n in range(1, 31)])
+        self.throttle.order("SET 3 GA 4 1 1 -1", "SET 3 FB 4 1", "SET 3 GA 28 1 1 -1", "SET 1 FB 2 1", "SET 1 FB 6 1")
+        self.throttle.flood([f"SET 1 LOCK GA {n} 0" for n in range(1, 5)])
+        until(lambda: self.drawn("set") and self.drawn("asked") and self.drawn("busy"), "it is drawn")
+
+    def test_in_chromium_a_large_plan(self):
+        """It has one size, and is scrolled on a phone; each part of it is seen well and large enough for a finger."""
+        self.fill()
+        size = "['width', 'height'].map(key => document.getElementById('drawing').getBoundingClientRect()[key])"
+        wide, small = self.js(size), SMALL.replace("'button,", "'#drawing g[role=button], button,").replace(
+            "e.offsetParent", "(e.offsetParent || e.ownerSVGElement)")
+        self.assertEqual(len(self.js("[...document.querySelectorAll('#drawing g')].map(e => e.dataset.name)")), 64)
+        for name, *words in [("plan_wide", 1280, 1100), ("plan_dark", 1280, 1100, False, True),
+                             ("plan_phone", 390, 844, True), ("plan_phone_dark", 390, 844, True, True)]:
+            self.picture(name, *words)
+            self.assertEqual(self.js(size), wide)
+            self.assertLessEqual(self.js("document.documentElement.scrollWidth - innerWidth"), 0, words)
+            self.assertEqual((self.js(small), self.js(CONTRAST), self.js(FAINT)), ([], [], []), words)
+        self.assertEqual(self.browser.faults, [])
+
+    def test_in_chromium_fingers_on_a_plan(self):
+        """A swipe scrolls it and throws nothing; a tap throws what is under it."""
+        self.fill()
+        self.browser.shows(390, 844, phone=True)
+        left = "document.getElementById('sheet').scrollLeft"
+        was = [row for row in rows(self.server.port) if re.match("100 INFO [12] GA", row)]
+        x, y = self.browser.place(self.element("s1"))
+        before = self.js(left)
+        self.assertGreater(before, 0)
+        self.browser.touches(*[(x - step * 12, y) for step in range(20)])
+        until(lambda: self.js(left) > before + 50, "it is scrolled")
+        time.sleep(0.5)
+        self.assertEqual([row for row in rows(self.server.port) if re.match("100 INFO [12] GA", row)], was)
+        self.says("t6", "t6, Turnout 7: straight")
+        self.browser.touches(self.browser.place(self.element("t6")))
+        self.says("t6", "t6, Turnout 7: branch")
+
+
+FAINT = """(() => {
+  const numbers = colour => colour.match(/[\\d.]+/g).slice(0, 3).map(Number);
+  const light = colour => numbers(colour).map(c => (c /= 255) <= .03928 ? c / 12.92 : ((c + .055) / 1.055) ** 2.4)
+    .reduce((sum, c, n) => sum + c * [.2126, .7152, .0722][n], 0);
+  const back = light(getComputedStyle(document.getElementById('sheet')).backgroundColor);
+  const seen = [['.track', 'stroke', 3], ['text.name', 'fill', 4.5], ['.turnout .mark', 'fill', 3]];
+  return [...new Set(seen.flatMap(([path, key, least]) => [...document.querySelectorAll('#drawing ' + path)]
+    .map(e => light(getComputedStyle(e)[e.matches('.locked .mark') ? 'stroke' : key]))
+    .map(a => (Math.max(a, back) + .05) / (Math.min(a, back) + .05)).filter(ratio => ratio < least)
+    .map(ratio => `${path} ${ratio.toFixed(1)}`)))];
+})()"""

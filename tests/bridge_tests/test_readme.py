@@ -14,7 +14,7 @@ from .test_mqtt import IS_THERE, Broker
 from .test_web import Events
 
 PAGE = "bridges/README.md"
-PORTS = ("8303", "8304", "12090", "1883")
+PORTS = ("8303", "8304", "8305", "12090", "1883")
 BROKER = "## Many displays"
 
 
