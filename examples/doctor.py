@@ -1,8 +1,8 @@
 #!/usr/bin/env python3
 """doctor.py ADDRESS [--bus BUS] [--host HOST] [--port PORT] [--seconds SECONDS]: why does this locomotive not move?
 
-It looks at each link from the server to the track, and prints how it is. At the first broken one it says what to do, and
-ends with that link's number as its status. Status 0: as far as it can tell, none is broken.
+It looks at each link from the server to the track, and prints how it is. At the first broken one it says what to do,
+and ends with that link's number as its status. Status 0: as far as it can tell, none is broken.
 """
 import argparse
 import shutil

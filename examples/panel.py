@@ -1,5 +1,6 @@
 #!/usr/bin/env python3
-"""panel.py [--host HOST] [--port PORT]: a panel. It joins the server, keeps every row, and prints each line as it comes.
+"""panel.py [--host HOST] [--port PORT]: a panel. It joins the server, keeps every row, and prints each line as it
+comes.
 
 A server closes the connection of a panel that falls behind. This one then joins again, and is sent all rows anew.
 Ctrl-C ends it.
@@ -16,8 +17,8 @@ LONGEST = 3.0  # on a busy layout no such moment comes: it waits for one this lo
 
 
 def lines_of(connection):
-    """Yields each line that the server sends, until it closes the connection, and None after a moment without a line, or
-    if no such moment came for too long. The last line before a close may be cut: what has no LF is dropped."""
+    """Yields each line that the server sends, until it closes the connection, and None after a moment without a line,
+    or if no such moment came for too long. The last line before a close may be cut: what has no LF is dropped."""
     connection.settimeout(MOMENT)
     begun, since = b"", time.monotonic()
     while True:

@@ -17,7 +17,8 @@ COUNTED = {"GL": "locomotives", "GA": "turnouts", "FB": "sensors"}
 
 
 def snapshot(host, port, seconds):
-    """Returns the lines that a panel is sent that shuts down its sending side: after the listing the connection ends."""
+    """Returns the lines that a panel is sent that shuts down its sending side: after the listing the connection
+    ends."""
     with socket.create_connection((host, port), seconds) as connection:
         connection.sendall(b"SET CONNECTIONMODE SRCP INFO\nGO\n")
         connection.shutdown(socket.SHUT_WR)
@@ -49,7 +50,8 @@ def summary(rows, own, names):
     yield f"sessions: {', '.join(sessions) or 'none'}"
     for bus in sorted({int(device[0]) for device in told} - {0}):
         power = [f"power {' '.join(words[5:])}" for device, words in told.items() if device == (str(bus), "POWER")]
-        counts = [f"{sum(device[:2] == (str(bus), group) for device in told)} {name}" for group, name in COUNTED.items()]
+        counts = [f"{sum(device[:2] == (str(bus), group) for device in told)} {name}"
+                  for group, name in COUNTED.items()]
         yield f"bus {bus}: {', '.join(power + counts)}"
     locks = [f"bus {device[0]} {device[2]} {device[3]} by session {words[-1]}" for device, words in told.items()
              if device[1] == "LOCK"]

@@ -2,8 +2,8 @@
 """throttle.py [--host HOST] [--port PORT] [--bus BUS] [--address ADDRESS] [WORD ..]: a throttle for one locomotive.
 
 Each word is a step: `faster`, `slower`, `turn`, `light`, `stop`. Without words it reads them from the keyboard, one a
-line, until the input ends (Ctrl-D). Then, and at SIGINT, SIGTERM or SIGHUP, it stops the locomotive if that drives as this
-throttle said.
+line, until the input ends (Ctrl-D). Then, and at SIGINT, SIGTERM or SIGHUP, it stops the locomotive if that drives as
+this throttle said.
 """
 import argparse
 import signal
@@ -51,7 +51,8 @@ class Throttle:
         return [int(word) for word in self.ask(f"GET {self.locomotive}").split(" ")[6:]]
 
     def set(self, *words):
-        """Has the locomotive drive so, and prints what the server says of it then. Functions not given stay as they are."""
+        """Has the locomotive drive so, and prints what the server says of it then. Functions not given stay as they
+        are."""
         self.ask(" ".join(["SET", self.locomotive, *map(str, words)]))
         print(self.ask(f"GET {self.locomotive}"), flush=True)
 

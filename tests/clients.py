@@ -189,6 +189,6 @@ def clients_say_how_they_are_started(_):
 
 
 CLIENT_CASES = (panel_that_watches_a_throttle, panel_that_joins_again, panel_on_a_busy_layout,
-                throttle_of_a_train_that_runs, throttle_with_any_number_of_functions, throttle_that_ends_leaves_it_standing,
-                throttle_whose_train_another_took, throttle_by_itself_meets_no_train_of_the_readme,
-                clients_say_how_they_are_started)
+                throttle_of_a_train_that_runs, throttle_with_any_number_of_functions,
+                throttle_that_ends_leaves_it_standing, throttle_whose_train_another_took,
+                throttle_by_itself_meets_no_train_of_the_readme, clients_say_how_they_are_started)

@@ -134,7 +134,8 @@ def package_asks_for_the_c_library_of_the_program(program):
 
 
 def program_takes_the_instructions_that_the_page_names(program):
-    """It has some of x86-64-v2, as the page of installing says, and none of those that came later: no AVX, FMA or BMI2."""
+    """It has some of x86-64-v2, as the page of installing says, and none of those that came later: no AVX, FMA or
+    BMI2."""
     if not shutil.which("objdump"):
         raise TriedNothing("there is no objdump here")
     disassembles = ["objdump", "-d", "--no-show-raw-insn", program]
@@ -250,6 +251,7 @@ def commands_of_the_manual_page(program):
 def manual_of_the_configuration_is_the_page(_):
     """srcp_server.toml(5) has the keys of docs/configuration.md, with the same limits."""
     manual, page = (PACKAGING / "srcp_server.toml.5").read_text(), (TOP / "docs" / "configuration.md").read_text()
+
     def limits(rows):
         return {key: re.findall(r"\d[\d,]*(?: to \d+)?", text) for key, text in rows}
     ours = limits(re.findall(r"^\.It Ic (\w+)\n((?:[^.].*\n)+)", manual, re.M))

@@ -90,7 +90,8 @@ def doctor_tells_how_each_link_is(program):
             "3 locomotive: protocol M, 28 steps, 5 functions", "4 power: it is on",
             "5 lock: session 1 has it (withrottle.py: Engine Driver), and alone may drive",
             "6 command: drive backward at 12 of 28", "7 driver: it drives bus 1",
-            "8 station: /dev/ttyACM0 answers, and has 50 slots, of which 1 are taken", "9 told: 60 of 126, forward, N s ago"]
+            "8 station: /dev/ttyACM0 answers, and has 50 slots, of which 1 are taken",
+            "9 told: 60 of 126, forward, N s ago"]
     got = [re.sub(r" \d+ s ago\..*", " N s ago", line) for line in lines]
     return None if (got, status) == (want, 0) else f"got {got}, {status}"
 
@@ -114,7 +115,8 @@ def status_names_the_sessions_of_programs_that_run(program):
             file = Path(environment["XDG_RUNTIME_DIR"], "srcp_bridges", "1.json")
             ended = subprocess.Popen([sys.executable, "-c", ""])
             ended.wait(SECONDS)
-            file.with_name(f"{ended.pid}.json").write_text(json.dumps({"sessions": {str(port): {"2": "x"}}, "station": {}}))
+            file.with_name(f"{ended.pid}.json").write_text(json.dumps(
+                {"sessions": {str(port): {"2": "x"}}, "station": {}}))
             lines, status = ran(environment, "status.py", "--port", port)
         throttle.close()
         panel.close()

@@ -42,13 +42,14 @@ def stamps_are_the_time(program):
 def server_that_rests_is_not_woken(program):
     """Nothing happens, though a lock ends in an hour: the server sleeps until a client asks for something."""
     with served(program) as (port, server):
-        throttle, _panel = Client(port, "COMMAND"), Client(port, "INFO")
+        throttle, panel = Client(port, "COMMAND"), Client(port, "INFO")
         throttle.asks("INIT 1 GL 3 N 1 28 5", "SET 1 LOCK GL 3 3600")
         time.sleep(0.3)
         before = sleeps(server)
         time.sleep(1)
         woken = sleeps(server) - before
         reply = throttle.asks("GET 1 POWER")
+        panel.close()
     got, want = (woken, reply), (0, "100 INFO 1 POWER OFF")
     return None if got == want else f"how often it was woken in a second, and a reply: {got}"
 

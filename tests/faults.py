@@ -132,8 +132,8 @@ def process_that_never_rests():
 
 
 def work_without_rest(server, seconds):
-    """Returns how much of a processor a server takes, as a text, if that is a fifth of one, or on a busy machine half of
-    what a process takes that never rests; or None."""
+    """Returns how much of a processor a server takes, as a text, if that is a fifth of one, or on a busy machine half
+    of what a process takes that never rests; or None."""
     with process_that_never_rests() as other:
         before, begun = (processor_seconds(server.pid), processor_seconds(other)), time.monotonic()
         time.sleep(seconds)
@@ -144,7 +144,8 @@ def work_without_rest(server, seconds):
 
 @asks_the_system
 def calls_that_are_interrupted(program):
-    """Of the reads and the writes of sockets each second one is interrupted: all is answered, and a panel is told all."""
+    """Of the reads and the writes of sockets each second one is interrupted: all is answered, and a panel is told
+    all."""
     calls: Counter[int] = Counter()
 
     def fault_of(call):

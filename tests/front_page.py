@@ -96,7 +96,8 @@ def numbers_of_the_readme(_):
 
 
 def programs_that_the_readme_names(_):
-    """Each is there, is tried by cases of its own, and no program of bridges/ is left out but the simulated stations."""
+    """Each is there, is tried by cases of its own, and no program of bridges/ is left out but the simulated
+    stations."""
     named = set(re.findall(r"`(?:bridges/)?(\w+)\.py`", README.read_text())) & {
         file.stem for file in (TOP / "bridges").glob("*.py")}
     there = {file.stem for file in (TOP / "bridges").glob("*.py") if not file.stem.startswith("simulated_")}
@@ -126,7 +127,8 @@ def stamps_by_the_clock_of_the_start(program):
                 throttle.socket.sendall(b"SET 1 POWER ON\n")
                 late.append(float(throttle.line().split()[0]) - time.time())
     first, second = late
-    return None if abs(first - HOUR) < 5 and abs(second) < 5 else f"stamps are ahead by {first:.1f} s and {second:.1f} s"
+    is_told = abs(first - HOUR) < 5 and abs(second) < 5
+    return None if is_told else f"stamps are ahead by {first:.1f} s and {second:.1f} s"
 
 
 def holder_of_a_port(program):

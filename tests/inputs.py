@@ -88,7 +88,8 @@ def script_cut_after_each_byte(program):
     for count in range(len(script) + 1):
         status, complaint, told = outcome(program, [], script[:count])
         if fault := fault_of_script(script[:count]):
-            if fault := unlike(f"{count} bytes", (status, complaint, told), (2, f"srcp_server: {fault}\n".encode(), b"")):
+            want = 2, f"srcp_server: {fault}\n".encode(), b""
+            if fault := unlike(f"{count} bytes", (status, complaint, told), want):
                 return fault
             continue
         head = re.match(rb"connection 1 (\d+) open\n", told)

@@ -121,8 +121,8 @@ def bytes_of_sockets(port):
 
 
 def memory_of_the_unit_holds_panels_that_do_not_read(program):
-    """63 panels read nothing of 30,000 locomotives. What the server and its sockets take is less than 40 MB, and less than
-    half of what the unit allows: as many peers may be kept aside."""
+    """63 panels read nothing of 30,000 locomotives. What the server and its sockets take is less than 40 MB, and less
+    than half of what the unit allows: as many peers may be kept aside."""
     if not shutil.which("ss"):
         raise TriedNothing("there is no ss (of iproute2) here")
     buses = "".join(f'[[bus]]\nnumber = {bus}\ngroups = ["GL"]\ngl_max = 10239\n' for bus in (1, 2, 3))
@@ -141,7 +141,8 @@ def memory_of_the_unit_holds_panels_that_do_not_read(program):
         taken += int(re.search(r"VmRSS:\s+(\d+)", status)[1]) << 10
         for panel in panels:
             panel.close()
-    return None if 10 << 20 < taken < min(40_000_000, allowed / 2) else f"they take {taken >> 20} MiB of {allowed >> 20}"
+    is_held = 10 << 20 < taken < min(40_000_000, allowed / 2)
+    return None if is_held else f"they take {taken >> 20} MiB of {allowed >> 20}"
 
 
 INSTALLED_CASES = (commands_of_the_package, pages_of_the_package_have_no_dead_link, units_of_the_package,

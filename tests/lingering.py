@@ -1,5 +1,5 @@
-"""How the door over sockets serves peers that are hard to serve: that send urgent data, that end and read late, that stay;
-and a server that stood still."""
+"""How the door over sockets serves peers that are hard to serve: that send urgent data, that end and read late, that
+stay; and a server that stood still."""
 import os
 import signal
 import socket
@@ -66,8 +66,8 @@ def pulse_sent_to_a_server_that_stood_still(program):
 
 
 def fall_after_a_long_wait(program):
-    """The system ends the waits of a process of low priority late by a two-hundredth: a pulse of 10 s ends in time all the
-    same. On a busy machine one of some servers is enough."""
+    """The system ends the waits of a process of low priority late by a two-hundredth: a pulse of 10 s ends in time all
+    the same. On a busy machine one of some servers is enough."""
     with ExitStack() as stack:
         panels = []
         for _ in range(5):
@@ -96,7 +96,8 @@ def kept_by_the_system(port, client):
 
 
 def replies_that_the_system_keeps(port):
-    """Returns how many replies fill the buffers of a session that does not read: the fewest of three, for they differ."""
+    """Returns how many replies fill the buffers of a session that does not read: the fewest of three, for they
+    differ."""
     return min(replies_kept(port) for _ in range(3))
 
 
@@ -134,8 +135,8 @@ def lines_to_the_end(client):
 
 
 def leaver_that_reads_late(program):
-    """A session that ends itself while the server still holds replies for it, and that reads 3 s later, gets every one. So
-    does one that ends itself after the server slept for longer than such a peer is kept."""
+    """A session that ends itself while the server still holds replies for it, and that reads 3 s later, gets every one.
+    So does one that ends itself after the server slept for longer than such a peer is kept."""
     with served(program) as (port, _):
         owed = replies_that_the_system_keeps(port) + 700
         late, sleeper = small_socket(port), small_socket(port)
@@ -181,7 +182,8 @@ def clients_that_are_turned_away_and_stay(program):
 
 
 def end_of_a_session_with_much_behind_it(program):
-    """16 MB come behind the command that ends a session: they are dropped as fast as they come, and the reply is there."""
+    """16 MB come behind the command that ends a session: they are dropped as fast as they come, and the reply is
+    there."""
     with served(program) as (port, _):
         leaver = Client(port, "COMMAND")
         begun = time.monotonic()
@@ -195,8 +197,8 @@ def end_of_a_session_with_much_behind_it(program):
 
 
 def clients_at_64_places(program):
-    """Clients that find no free slot are turned away. If they stay they cost no work, and the next one is let in once a slot
-    is free."""
+    """Clients that find no free slot are turned away. If they stay they cost no work, and the next one is let in once a
+    slot is free."""
     with served(program) as (port, server):
         sessions = clients_at_all_places(port)
         turned_away = [socket.create_connection(("127.0.0.1", port), timeout=SECONDS) for _ in range(10)]
@@ -208,9 +210,10 @@ def clients_at_64_places(program):
         sessions.pop(10).close()
         replies = reply, placed(port).asks("GET 1 POWER")
         del turned_away
-    return None if replies == ("100 INFO 1 POWER OFF",) * 2 else f"one that has a place and one that comes are answered {replies}"
+    are_served = replies == ("100 INFO 1 POWER OFF",) * 2
+    return None if are_served else f"one that has a place and one that comes are answered {replies}"
 
 
 LINGERING_CASES = (urgent_data_stalls_nobody, pulse_sent_to_a_server_that_stood_still, fall_after_a_long_wait,
-                   leaver_that_reads_late, half_closed_session_that_does_not_read, clients_that_are_turned_away_and_stay,
-                   end_of_a_session_with_much_behind_it, clients_at_64_places)
+                   leaver_that_reads_late, half_closed_session_that_does_not_read,
+                   clients_that_are_turned_away_and_stay, end_of_a_session_with_much_behind_it, clients_at_64_places)

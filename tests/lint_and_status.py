@@ -77,7 +77,8 @@ def lint_hints_at_what_was_meant(_):
     faulty = b"port = %d\n\n [bus] # main\nnumber = 1\n" % free_port()
     bus = linted(faulty)
     groups = linted(b'port = %d\nbus = [{number = 1, groups = ["power", "Ga", "XY"], ga_max = 4}]\n' % free_port())
-    want = ["line 3: bus out of range: not an array: a bus begins with [[bus]]", "srcp_server: config: bus out of range"]
+    want = ["line 3: bus out of range: not an array: a bus begins with [[bus]]",
+            "srcp_server: config: bus out of range"]
     if bus != (want, 2):
         return f"got {bus}"
     hints = [line.partition("unknown group: ")[2] for line in groups[0] if "unknown group: " in line]
@@ -114,10 +115,11 @@ def status_at(port, *words):
 def status_tells_who_is_there_and_what_is_held(program):
     with served(program) as (port, _):
         before = status_at(port)
-        throttle, _panel = Client(port, "COMMAND"), Client(port, "INFO")
+        throttle, panel = Client(port, "COMMAND"), Client(port, "INFO")
         throttle.asks("SET 1 POWER ON main line", "INIT 1 GL 3 N 1 28 5", "INIT 1 GL 7 N 1 28 5", "INIT 1 GA 5 N",
                       "SET 1 LOCK GL 3 0")
         after = status_at(port)
+        panel.close()
     want = ((0, ["sessions: none", "bus 1: power OFF, 0 locomotives, 0 turnouts, 8 sensors", "locks: none"], ""),
             (0, ["sessions: 2 COMMAND, 3 INFO", "bus 1: power ON main line, 2 locomotives, 1 turnouts, 8 sensors",
                  "locks: bus 1 GL 3 by session 2"], ""))
@@ -132,7 +134,8 @@ def silent_server():
 
 
 def status_of_no_server(program):
-    """If nobody listens, or nobody answers, the status is 1. A server whose slots are all in use is full, and is there."""
+    """If nobody listens, or nobody answers, the status is 1. A server whose slots are all in use is full, and is
+    there."""
     with silent_server() as port, served(program) as (full, _):
         clients = clients_at_all_places(full)
         told = [status_at(free_port()), status_at(port, "--seconds", "0.2")]

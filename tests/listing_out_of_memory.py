@@ -1,7 +1,8 @@
 """listing_out_of_memory.py: the record of the script of cases/listing-whole if one allocation of its run is refused.
 
-No program computes these records. Each follows from what is promised of the one event that is refused its memory: an `open`
-gives no connection, and the next one gets its number; a line that is refused is answered 500 and changes nothing.
+No program computes these records. Each follows from what is promised of the one event that is refused its memory: an
+`open` gives no connection, and the next one gets its number; a line that is refused is answered 500 and changes
+nothing.
 """
 from run_cases import CASES, parse_record
 from serving import expected_text
@@ -27,7 +28,8 @@ UNKNOWN = "1.000 410 ERROR unknown command"
 
 
 def printed(steps=STEPS, throttle=(THROTTLE_SESSION, THROTTLE), panel=(PANEL_SESSION, PANEL), refused=(), rows=ROWS):
-    """A record as the trial prints it. An information session is sent the listing of the rows as they are at the end."""
+    """A record as the trial prints it. An information session is sent the listing of the rows as they are at the
+    end."""
     lines = list(steps)
     for session, sent in filter(None, (throttle, panel)):
         listed = rows if " true " in session else []
@@ -54,7 +56,8 @@ PANEL_GONE = [f"{event} NoSuch" for event in range(15, 21)]
 RECORDS = {
     0: printed(),
     # the panel's `open` gives connection 1 then, and no event behind it names that
-    2: printed(STEPS[:1], (NO_SESSION, []), None, ["2 Memory", *(f"{event} NoSuch" for event in range(3, 14)), *PANEL_GONE],
+    2: printed(STEPS[:1], (NO_SESSION, []), None,
+               ["2 Memory", *(f"{event} NoSuch" for event in range(3, 14)), *PANEL_GONE],
                FIRST_ROWS),
     # the reply is longer than the room for it, so the next command is refused; the others come before any session
     4: printed([STEPS[0], "Began { session: 1, moment: 1000, mode: Info }"],

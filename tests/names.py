@@ -1,4 +1,5 @@
-"""The names that pages say: files of code, and functions, types and definitions, which are there and defined as told."""
+"""The names that pages say: files of code, and functions, types and definitions, which are there and defined as
+told."""
 import re
 from functools import cache
 from pathlib import Path
@@ -10,7 +11,8 @@ CODE = {".rt", ".antt", ".py", ".c", ".h"}
 PLACEHOLDERS = {"F", "X", "NAME"}  # stand for any name, as srcp_X for any crate
 # What others define and pages name: words of Rattle, of Rust's library, of systems and of git.
 OTHERS = {"BTreeMap", "Drop", "IfErr", "IfSome", "OnErr", "SO_KEEPALIVE", "SO_LINGER", "SO_SNDBUF", "TCP_USER_TIMEOUT",
-          "VecDeque", "circular_buffer", "console", "ensures", "nc", "requires", "result", "return", "ssh", "SHA256SUMS"}
+          "VecDeque", "circular_buffer", "console", "ensures", "nc", "requires", "result", "return", "ssh",
+          "SHA256SUMS"}
 # These name words of the protocol and of systems.
 FOR_USERS = {TOP / "README.md", TOP / "CHANGELOG.md", TOP / "bridges" / "README.md", *(
     TOP / "docs" / f"{name}.md" for name in ("protocol", "configuration", "install", "replay"))}
@@ -34,7 +36,8 @@ def names_defined(path):
     """Returns the names that a file of code defines, and its own."""
     form = DEFINES[Path(path).suffix].replace("name", r"[^\W\d][\w']*")
     found = re.findall(form, code_files()[path], re.M)
-    return {name for names in found for name in ([names] if isinstance(names, str) else names) if name} | {Path(path).stem}
+    groups = [[names] if isinstance(names, str) else names for names in found]
+    return {Path(path).stem, *(name for names in groups for name in names if name)}
 
 
 def pages():
@@ -63,7 +66,7 @@ def files_that_pages_name(_):
             count += 1
             form = re.compile("/" + re.escape(named).replace(r"\*", "[^/]*") + "$")
             if not is_placeholder(named) and not any(map(form.search, there)):
-                return f"{page.name}: no file {named}"
+                return f"{page.relative_to(TOP)}: no file {named}"
     return None if count > 100 else f"{count} files are named"
 
 
@@ -89,7 +92,7 @@ def names_of_places(_):
             count += 1
             texts = [code_files()[path] for path in places_of(place)]
             if not any(re.search(rf"\b{name}\b", code) for code in texts):
-                return f"{page.name}: no {name} in {place}"
+                return f"{page.relative_to(TOP)}: no {name} in {place}"
     return None if count > 40 else f"{count} names are said of places"
 
 
@@ -97,13 +100,14 @@ def names_that_pages_say(_):
     """A single name on a page for those who change the program is defined in the code, or is a crate that is used."""
     defined = OTHERS.union(*map(names_defined, code_files()))
     defined |= set(re.findall(r"\w+", (TOP / "crates.txt").read_text()))
-    defined |= set(re.findall(r"\b[A-Z_]{3,}\b", "".join((TOP / name).read_text() for name in ("test", "tests/run_cases.py"))))
+    of_the_gate = "".join((TOP / name).read_text() for name in ("test", "tests/run_cases.py"))
+    defined |= set(re.findall(r"\b[A-Z_]{3,}\b", of_the_gate))
     count = 0
     for page, text in pages_on_the_code():
         for name in re.findall(r"^([A-Za-z_]\w*)(?:\(\))?$", "\n".join(spans_of(text)), re.M):
             count += 1
             if name not in defined and not is_placeholder(name) and not re.fullmatch(r"[A-Z]{2,5}", name):
-                return f"{page.name}: nothing defines {name}"
+                return f"{page.relative_to(TOP)}: nothing defines {name}"
     return None if count > 400 else f"{count} names"
 
 

@@ -45,8 +45,8 @@ def shut(clients):
 
 @contextmanager
 def panel_that_pauses(port, pause, every):
-    """A panel in a process of its own, which stands still for `pause` seconds after each `every` seconds. Its session is in
-    the list at the end if it was closed."""
+    """A panel in a process of its own, which stands still for `pause` seconds after each `every` seconds. Its session
+    is in the list at the end if it was closed."""
     panel, closed = Client(port, "INFO", receives=4096), []
     child = os.fork()
     if child == 0:
@@ -248,7 +248,8 @@ def told_to_the_end(client, seconds):
 
 
 def half_closed_panel_beside_many(program):
-    """A panel that sends no more is sent its whole listing while 32 sessions send without end, and then its stream ends."""
+    """A panel that sends no more is sent its whole listing while 32 sessions send without end, and then its stream
+    ends."""
     with served(program) as (port, _):
         first = Client(port, "COMMAND")
         first.asks_many([f"INIT 1 GL {address} N 1 28 5" for address in range(1, ROWS + 1)])

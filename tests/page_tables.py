@@ -84,7 +84,8 @@ def limits_of_the_architecture_page(_):
 def refusals_of_the_architecture_page(_):
     """Asserts that what refuses a wrong limit is there: a file of the proof, a name in the crates, or a case."""
     cases = "".join(file.read_text() for file in (TOP / "tests").glob("*.py"))
-    code = "".join(file.read_text() for part in ("src", "specs", "proofs") for file in CRATES.glob(f"*/{part}/**/*.*t*"))
+    code = "".join(file.read_text() for part in ("src", "specs", "proofs")
+                   for file in CRATES.glob(f"*/{part}/**/*.*t*"))
     for limit, *_, refuses in rows_under("architecture.md", "Limits"):
         for text in quoted(refuses):
             is_case = (TOP / "tests" / "cases" / text).is_dir() or f"def {text.replace('-', '_')}(program)" in cases

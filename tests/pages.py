@@ -1,9 +1,9 @@
 """The commands of the pages, run as they stand there: each prints what the page says, stamps aside.
 
-Every block ```console of a page is run, from the top of the page to its end, in a copy of the repository around the built
-program. In such a block `$` stands before a command, `>` before what is typed then, `^C` for Ctrl-C, and `..` for any
-lines. What else stands there is printed. A block without a command goes on with the program that runs still. Programs
-that tests cannot count on are stood in for by those of stand_ins/. `./test` is not run: it runs this.
+Every block ```console of a page is run, from the top of the page to its end, in a copy of the repository around the
+built program. In such a block `$` stands before a command, `>` before what is typed then, `^C` for Ctrl-C, and `..` for
+any lines. What else stands there is printed. A block without a command goes on with the program that runs still.
+Programs that tests cannot count on are stood in for by those of stand_ins/. `./test` is not run: it runs this.
 """
 import os
 import re
@@ -270,11 +270,13 @@ def gate_that_proves_what_is_new(_):
     keeps = "a later run in any checkout here proves and tries only what changed" in told and "--anew proves" in told
     calls = re.findall(r"^rt (.*)$", (TOP / "test").read_text(), re.M)
     got = *said, calls
-    return None if got == (keeps, not keeps, ["ci"]) else f"the page says {got} of the kit {letter}, which keeps: {keeps}"
+    want = keeps, not keeps, ["ci"]
+    return None if got == want else f"the page says {got} of the kit {letter}, which keeps: {keeps}"
 
 
 def older_pythons():
-    """Returns the Pythons below that of the README that run here, if they know the syntax: 3.7 and lower ones do not."""
+    """Returns the Pythons below that of the README that run here, if they know the syntax: 3.7 and lower ones do
+    not."""
     names = [name for minor in range(8, python_of_the_readme()) if (name := shutil.which(f"python3.{minor}"))]
     return [name for name in names if not subprocess.run([name, "--version"], capture_output=True).returncode]
 
@@ -285,8 +287,8 @@ def python_of_the_readme():
 
 
 def programs_that_ask_for_python(_):
-    """Each program of examples/ and bridges/, and the tests, refuse a Python below that of the README, and say which one
-    they take: one that claims to be older, and the older ones that are here. This Python they accept."""
+    """Each program of examples/ and bridges/, and the tests, refuse a Python below that of the README, and say which
+    one they take: one that claims to be older, and the older ones that are here. This Python they accept."""
     minor = python_of_the_readme()
     older = f"import runpy, sys; sys.modules['tomllib'], sys.version_info = None, (3, {minor - 1}, 9, 'final', 0); " \
             "sys.argv = [sys.argv[1], '--help']; sys.path[0] = sys.argv[0].rpartition('/')[0]; " \
@@ -367,5 +369,5 @@ def links_between_pages(_):
 
 PAGE_CASES = (gate_that_proves_what_is_new, programs_that_ask_for_python, commands_of_the_protocol_page,
               commands_of_the_replay_page, commands_of_the_install_page, commands_of_the_configuration_page,
-              choices_before_go, choices_in_a_session, choices_that_cases_show, clauses_of_the_proofs_page, laws_that_pages_name,
-              contracts_that_the_proofs_page_quotes, links_between_pages, *PAGE_TABLE_CASES)
+              choices_before_go, choices_in_a_session, choices_that_cases_show, clauses_of_the_proofs_page,
+              laws_that_pages_name, contracts_that_the_proofs_page_quotes, links_between_pages, *PAGE_TABLE_CASES)

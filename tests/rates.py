@@ -19,7 +19,8 @@ FALLS = 10
 
 @contextmanager
 def panel_reading(port, lines_a_second):
-    """Runs a panel in a process of its own, for which the system keeps little. It reads some lines of a change a second."""
+    """Runs a panel in a process of its own, for which the system keeps little. It reads some lines of a change a
+    second."""
     panel, told = small_socket(port), b""
     panel.sendall(b"SET CONNECTIONMODE SRCP INFO\nGO\n")
     while told.count(b"\n") < 3:
@@ -54,7 +55,8 @@ def read_at(client, bytes_a_second):
 
 
 def closed_after(port, lines_a_second, seconds):
-    """When a panel that reads so fast is closed beside a session that sends without end, or None if it is kept so long."""
+    """When a panel that reads so fast is closed beside a session that sends without end, or None if it is kept so
+    long."""
     asker = Client(port, "COMMAND")
     with sending_without_end([Client(port, "COMMAND")]), panel_reading(port, lines_a_second) as session:
         begun = time.monotonic()
@@ -80,8 +82,8 @@ def panel_that_reads_slower_than_a_line_a_millisecond(program):
 
 
 def changes_at_one_moment_beside_many(program):
-    """Ports fall back at one moment, 149 of them, while sessions before and behind a panel send without end. The panel is
-    sent each fall."""
+    """Ports fall back at one moment, 149 of them, while sessions before and behind a panel send without end. The panel
+    is sent each fall."""
     with served(program) as (port, _):
         first = Client(port, "COMMAND")
         addresses = [range(fall * PORTS + 1, (fall + 1) * PORTS + 1) for fall in range(FALLS)]
@@ -113,5 +115,5 @@ def falls_heard(panel, most):
     return heard
 
 
-RATE_CASES = (panel_that_reads_a_little_faster_than_a_line_a_millisecond, panel_that_reads_slower_than_a_line_a_millisecond,
-              changes_at_one_moment_beside_many)
+RATE_CASES = (panel_that_reads_a_little_faster_than_a_line_a_millisecond,
+              panel_that_reads_slower_than_a_line_a_millisecond, changes_at_one_moment_beside_many)

@@ -1,12 +1,12 @@
 #!/usr/bin/env python3
-"""run_cases.py PROGRAM [NAME ..]: runs the built program over every case of cases/, over the failures of its streams, over
-tables of inputs, over inputs that are cut or large, serving, and over the commands of the pages; or over the cases that
-are named. Cases of bridges/ run beside each other.
+"""run_cases.py PROGRAM [NAME ..]: runs the built program over every case of cases/, over the failures of its streams,
+over tables of inputs, over inputs that are cut or large, serving, and over the commands of the pages; or over the cases
+that are named. Cases of bridges/ run beside each other.
 
 A case is a folder: `args` (one word a line), `stdin`, or in `stdin.from` the path of a file to read in its place,
 `config.toml` where it needs one, `status`, and what is expected: `stdout` and `stderr` to the byte, or in `expect.json`
-what single connections are sent, the word that each ends with, and the refused events. In what is expected, the words of
-TEXTS stand for texts of the program. The last line counts the cases; the status is 0 only where all of them pass.
+what single connections are sent, the word that each ends with, and the refused events. In what is expected, the words
+of TEXTS stand for texts of the program. The last line counts the cases; the status is 0 only where all of them pass.
 """
 import json
 import os
@@ -99,8 +99,8 @@ def run_case(folder, program):
 
     elsewhere = content("stdin.from")
     stdin = content(elsewhere.decode().strip() if elsewhere else "stdin")
-    done = subprocess.run([program, *content("args").decode().splitlines()], input=stdin, capture_output=True, cwd=folder,
-                          timeout=SECONDS)
+    words = [program, *content("args").decode().splitlines()]
+    done = subprocess.run(words, input=stdin, capture_output=True, cwd=folder, timeout=SECONDS)
     if done.returncode != int(content("status")):
         return f"status {done.returncode}, want {content('status').decode().strip()}; stderr {done.stderr[:200]!r}"
     for name, got in (("stdout", done.stdout), ("stderr", done.stderr)):
@@ -261,7 +261,8 @@ def cases_by_name():
 
 
 def fault_of(case, program):
-    """Returns why a case fails, or None. One that stops, as when nothing comes for too long, fails at its current lines."""
+    """Returns why a case fails, or None. One that stops, as when nothing comes for too long, fails at its current
+    lines."""
     try:
         return case(program)
     except TriedNothing as missing:
@@ -274,8 +275,8 @@ def fault_of(case, program):
 
 
 def with_second_tries(results, cases, program):
-    """The results, if each case that failed is run once more, by itself. A case cannot tell a busy machine from a program
-    that is lost. So what fails beside others and passes alone is printed, and fails nothing."""
+    """The results, if each case that failed is run once more, by itself. A case cannot tell a busy machine from a
+    program that is lost. So what fails beside others and passes alone is printed, and fails nothing."""
     for name, fault in results:
         if fault and not isinstance(fault, TriedNothing):
             print(f"AGAIN {name}: {fault}", flush=True)

@@ -1,11 +1,12 @@
 #!/usr/bin/env python3
 """run_out_of_memory.py: refuses each allocation in turn, to every call that can want memory and to a whole run.
 
-`rt try` builds the program of crates/out_of_memory_tests once, without a proof, and refuses the allocation of the same number in each
-case. A case names a trial and how many allocations come first, so that each allocation of the trial is refused in one of
-them. Its outcome is `refused` or `granted` if the promises were kept, `unprepared` if the allocation is none of the call's,
-and `broken` else. The trials of a listing get its script and print the whole record of the run. One that is no record of
-listing_out_of_memory.py is `broken` too. The last line counts the cases; the status is 0 only if all of them pass.
+`rt try` builds the program of crates/out_of_memory_tests once, without a proof, and refuses the allocation of the same
+number in each case. A case names a trial and how many allocations come first, so that each allocation of the trial is
+refused in one of them. Its outcome is `refused` or `granted` if the promises were kept, `unprepared` if the allocation
+is none of the call's, and `broken` else. The trials of a listing get its script and print the whole record of the run.
+One that is no record of listing_out_of_memory.py is `broken` too. The last line counts the cases; the status is 0 only
+if all of them pass.
 """
 import re
 import subprocess
@@ -35,8 +36,8 @@ def write_cases(folder):
 
 
 def outcomes_of_all():
-    """Returns for each trial its outcomes with its first allocation refused, its second, and so on. Returns for each listing
-    the events that were refused in its records, in that order."""
+    """Returns for each trial its outcomes with its first allocation refused, its second, and so on. Returns for each
+    listing the events that were refused in its records, in that order."""
     with tempfile.TemporaryDirectory() as cases:
         write_cases(cases)
         # one step for the interpreter: the run that is compiled with checks is what counts

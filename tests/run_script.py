@@ -38,8 +38,8 @@ NO_ROWS = "rows 1\n0.000 100 INFO 1 POWER OFF\n"
 
 @contextmanager
 def repository_of_one_crate(program, kit=KIT, crates="srcp_server: clap\n"):
-    """A repository of one crate, as the name of its folder, with a PATH that has the tools alone. Its `rt`, which is not on
-    the PATH yet, copies the built program."""
+    """A repository of one crate, as the name of its folder, with a PATH that has the tools alone. Its `rt`, which is
+    not on the PATH yet, copies the built program."""
     with tempfile.TemporaryDirectory() as folder:
         top = Path(folder)
         crate, tools = top / "crates" / "srcp_server", top / "tools"
@@ -107,8 +107,8 @@ def run_with_another_kit(program):
 
 
 def run_that_builds_what_it_needs(program):
-    """The crates that the program needs are built in turn, each behind those that it needs, and with all processors. One
-    that it does not need is not built."""
+    """The crates that the program needs are built in turn, each behind those that it needs, and with all processors.
+    One that it does not need is not built."""
     with repository_of_one_crate(program, crates=CRATES) as (top, environment):
         (top / "rt").rename(top / "tools" / "rt")
         (top / "tools" / "nproc").unlink()
@@ -158,7 +158,8 @@ def run_on_a_terminal(program):
         outcome_of_run(top, environment)
         ours, theirs = pty.openpty()
         os.write(ours, b"\x04")
-        done = subprocess.run([top / "run"], stdin=theirs, env=environment, capture_output=True, text=True, timeout=SECONDS)
+        done = subprocess.run([top / "run"], stdin=theirs, env=environment,
+                              capture_output=True, text=True, timeout=SECONDS)
         os.close(ours)
         os.close(theirs)
     is_told = done.returncode == 0 and "waits for one (Ctrl-D ends it)" in done.stderr and done.stdout == NO_ROWS

@@ -49,8 +49,8 @@ class Client:
     """A connection to a server, with the lines that came of it."""
 
     def __init__(self, port, mode, receives=None):
-        """Stays in the handshake if the mode is None. `receives` is how many unread bytes the socket is to keep, if the system
-        is not to choose."""
+        """Stays in the handshake if the mode is None. `receives` is how many unread bytes the socket is to keep, if the
+        system is not to choose."""
         self.socket = socket.socket()
         self.socket.settimeout(SECONDS)
         if receives:
@@ -124,8 +124,8 @@ def clients_at_all_places(port):
 
 @contextmanager
 def served(program, *words, prepare=None, layout=LAYOUT):
-    """A server of a layout at a free port, ended at the end by its process id. Its process does `prepare` before it runs
-    the program."""
+    """A server of a layout at a free port, ended at the end by its process id. Its process does `prepare` before it
+    runs the program."""
     port = free_port()
     with tempfile.NamedTemporaryFile("w", suffix=".toml") as config:
         config.write(layout.format(port=port))
@@ -258,8 +258,8 @@ def limit_memory(server, more):
 
 
 def memory_that_runs_out(program):
-    """The locomotive that there is no memory for is refused and changes nothing; with memory it can be made. Meanwhile a
-    port falls back in time, and a session that ends itself is let go."""
+    """The locomotive that there is no memory for is refused and changes nothing; with memory it can be made. Meanwhile
+    a port falls back in time, and a session that ends itself is let go."""
     with served(program) as (port, server):
         throttle, leaver, panel = Client(port, "COMMAND"), Client(port, "COMMAND"), Client(port, "INFO")
         throttle.asks("INIT 1 GA 5 N")

@@ -15,7 +15,8 @@ CHECKED = {
         "port 4303\nbus 1 GA 2044 PORTS 4 FB 2",
     b'port = 80\nbus = [{number = 9, groups = []}, {number = 2, groups = ["GA"], ga_max = 1, ga_ports = 2}]':
         "port 80\nbus 2 GA 1\nbus 9",
-    b'bus = [{number = 9, groups = ["GA"], ga_max = 1, ga_ports = 8}, {number = 2, groups = ["GA"], ga_max = 1, ga_ports = 3}]':
+    b'bus = [{number = 9, groups = ["GA"], ga_max = 1, ga_ports = 8}, '
+    b'{number = 2, groups = ["GA"], ga_max = 1, ga_ports = 3}]':
         "port 4303\nbus 2 GA 1 PORTS 3\nbus 9 GA 1 PORTS 8",
 }
 REFUSED_DOCUMENTS = {
