@@ -60,9 +60,9 @@ from .test_log import Log  # noqa: E402
 from .test_mqtt import (Mqtt, MqttForHomeAssistant, MqttWithAWrongBroker, MqttWithPersistence,  # noqa: E402
                         Payloads)
 from .test_orders import Orders, Stopping  # noqa: E402
-from .test_plan import Plans  # noqa: E402
-from .test_plan_in_chromium import LargePlanInChromium, PlanInChromium  # noqa: E402
 from .test_phone_stops import WiThrottleStops, WiThrottleWithBeats  # noqa: E402
+from .test_plan import Plans  # noqa: E402
+from .test_plan_in_chromium import LargePlanInChromium, PlanInChromium, PlanInGerman  # noqa: E402
 from .test_readme import Readme  # noqa: E402
 from .test_srcp import Following, Parsing  # noqa: E402
 from .test_srcpd import Srcpd  # noqa: E402
@@ -76,4 +76,4 @@ BRIDGE_CASES = cases_of(Readme, Following, MqttWithAWrongBroker, Stopping, Mqtt,
                         WebWithSilentPages, WebBesideManyConnections, WebInTheNetwork, Entering, WiThrottle,
                         WiThrottleStops, WiThrottleWithBeats, Srcpd, DccEx, DccExWithLosses, DccExWithHands, Z21,
                         Z21WithLosses, Z21WithHands, Doctor, Guard, Keep, Log, Parsing, Plans, PlanInChromium,
-                        LargePlanInChromium)
+                        LargePlanInChromium, PlanInGerman)

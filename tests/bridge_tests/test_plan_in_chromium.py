@@ -194,6 +194,28 @@ class PlanInChromium(PlanCase):
         self.picture("panel", 1160, 800)
 
 
+class PlanInGerman(PlanCase):
+    language = "de-AT,en"
+
+    def test_in_chromium_a_german_plan(self):
+        """It speaks German, also on the narrowest phone, and English at a press."""
+        self.throttle.order(*[f"INIT 3 GA {n} N" for n in (1, 2, 3, 4)], "INIT 1 GA 1 N", "SET 1 GA 1 1 1 -1")
+        self.says("b1", "b1, Melder 1: frei"), self.says("t1", "t1, West turnout: Abzweig")
+        self.says("s1", "s1, Home signal: unbekannt")
+        self.clicks("W"), self.tells("Von West: das Ziel der Fahrstraße wählen.")
+        self.clicks("Q"), self.tells("Die Fahrstraße West to track 2 ist angefordert.")
+        self.route_is("West to track 2", "wartet")
+        self.throttle.order("SET 3 FB 2 1", "SET 1 LOCK GA 1 0")
+        self.says("t1", "t1, West turnout: Abzweig, verschlossen")
+        self.clicks("t1"), self.tells("West turnout ist von der Fahrstraße West to track 2 verschlossen.", failed=True)
+        self.picture("plan_german", 320, 640, True)
+        self.assertLessEqual(self.js("document.documentElement.scrollWidth - innerWidth"), 0)
+        self.assertEqual(self.js(SMALL), [])
+        self.js("document.getElementById('language').click()")
+        self.says("t1", "t1, West turnout: branch, locked"), self.route_is("West to track 2", "set")
+        self.assertEqual(self.browser.faults, [])
+
+
 class LargePlanInChromium(PlanCase):
     """64 elements and 30 routes."""
 
