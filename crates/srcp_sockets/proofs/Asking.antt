@@ -40,7 +40,7 @@ is_nobody (Answers (AcceptCall (Ok None))) = true
 is_nobody other = false
 
 -- a step stands in what was there, or in what came
-splits : (log came before after : List Step) (step : Step) → log ++ came ≡ before ++ step ∷ after
+pub splits : (log came before after : List Step) (step : Step) → log ++ came ≡ before ++ step ∷ after
     → ((rest : List Step) × (log ≡ before ++ step ∷ rest))
     ⊎ ((mid : List Step) × (came ≡ mid ++ step ∷ after) × (before ≡ log ++ mid))
 splits [] came before after step e = inr (before, e, refl)
@@ -55,7 +55,7 @@ splits (x ∷ log) came (y ∷ before) after step e =
     inr (there.0, there.1, ap (λ s. s ∷ before) (sym same) ∙ ap (λ (l : List Step). x ∷ l) there.2))
     (splits log came before after step more)
 
-or_last : (a : Bool) → (a || true) ≡ true
+pub or_last : (a : Bool) → (a || true) ≡ true
 or_last true = refl
 or_last false = refl
 

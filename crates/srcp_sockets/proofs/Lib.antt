@@ -10,3 +10,5 @@ pub mod Followed
 pub mod Timing
 pub mod Clocking
 pub mod Delivered
+pub mod Doing
+pub mod Handing

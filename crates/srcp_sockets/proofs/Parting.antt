@@ -193,7 +193,7 @@ same_number : (n m : ℕ) → (n == m) ≡ true → n ≡ m
 same_number n m e = grind (arith, nat_tests)
 
 -- nobody with that number is there by its account
-unwatched_is : (trace : Option (List Step)) (peers : List Peer) (l : Listening) (last number : ℕ) (log : List Step) → trace ≡ Some log
+pub unwatched_is : (trace : Option (List Step)) (peers : List Peer) (l : Listening) (last number : ℕ) (log : List Step) → trace ≡ Some log
     → IsMissing number peers → Stands trace peers l last → (account number log).watched ≡ false
 unwatched_is trace peers l last number log is missing stands = ⊎_elim
     (λ (there : IsThere number peers).

@@ -211,7 +211,7 @@ read_from wall start old new before line who answer buffer lined allowed tells t
     (sym (ap (times wall start) t.2 ∙ times_more wall start t.0 (Answers (ReadCall who answer buffer))))
     (read_rightly (times wall start t.0) before line who answer buffer (lined t.0 t.1) allowed (timed t.0 t.1))
 
-read_time : (turn : Turn) (line : Line) (answer : Result Got DoorFault) (buffer : List ℕ)
+pub read_time : (turn : Turn) (line : Line) (answer : Result Got DoorFault) (buffer : List ℕ)
     → (after_read turn line answer buffer).timekeeper ≡ turn.timekeeper
 read_time turn line (Ok (got.Bytes count)) buffer = refl
 read_time turn line (Ok got.Nothing) buffer = refl

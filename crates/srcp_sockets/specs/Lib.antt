@@ -1,6 +1,7 @@
 pub mod Asked
 pub mod Delivery
 pub mod Doors
+pub mod Duties
 pub mod Facts
 pub mod Faults
 pub mod Follows

@@ -9,12 +9,16 @@ ghost use Rattle.srcp_door.specs.declared.door.DoorFault.{DoorFault};
 ghost use Rattle.srcp_door.specs.declared.door.Got.{Got};
 ghost use Rattle.srcp_peers.specs.declared.system.Ready.{Ready};
 ghost use Rattle.srcp_door.specs.Calls.{ReadCall, NowCall, WriteCall};
-ghost use Rattle.srcp_peers.specs.Accounts.{account, is_at_rest, is_short_wait, may_close, may_end, may_fail, may_shut};
+ghost use Rattle.srcp_peers.specs.Accounts.{account, is_at_rest, is_held, is_short_wait, may_close, may_end, may_fail};
+ghost use Rattle.srcp_peers.specs.Accounts.{may_shut};
 ghost use Rattle.srcp_peers.specs.Steps.{Closes, Shuts, Step, Answers, Waits};
 ghost use Rattle.srcp_sockets.specs.Asked.{AreAsked};
+ghost use Rattle.srcp_sockets.specs.Duties.{IsHandedOut, has_waited, held_piece, is_failing, is_fault, is_shown};
+ghost use Rattle.srcp_sockets.specs.Duties.{last_shown, takes_input};
 ghost use Rattle.srcp_sockets.specs.Doors.{IsThere};
 ghost use Rattle.srcp_sockets.specs.KeptTimes.{AreKeptTimes, ArePaced};
 ghost use Rattle.srcp_peers.specs.Times.{times};
+ghost use Rattle.srcp_peers.specs.Turns.{got_bytes, reports_end};
 ghost use Rattle.srcp_peers.specs.Streams.{gave, handed, taken, took};
 
 use crate::door::SocketDoor;
@@ -130,6 +134,47 @@ pub fn accepts_are_true<S: System + Drop>(door: &SocketDoor<S>)
 /// closed, or 63 linger: there is no place with one more, and one may have been closed just now to make a place.
 pub fn accepts_are_asked<S: System + Drop>(door: &SocketDoor<S>)
     ensures { AreAsked (S.trace door.now.sockets.system) }
+{
+    let _sockets = &door.sockets;
+}
+
+/// Each moment was reported as the next step behind a look at the clock: as a fault if that could not be read, and else
+/// as a time. If the door had not waited since it answered the call before, input of a peer was held that the core
+/// takes.
+pub fn turns_wait<S: System + Drop>(door: &SocketDoor<S>)
+    ensures clock { (before after : List Step) (answer : Result ℕ DoorFault)
+        → S.trace door.now.sockets.system ≡ Some (before ++ Answers (NowCall answer) ∷ after)
+        → is_shown (last_shown before) answer ≡ true }
+    ensures waits { (before after : List Step) (answer : Result ℕ DoorFault)
+        → S.trace door.now.sockets.system ≡ Some (before ++ Answers (NowCall answer) ∷ after)
+        → ((socket : ℕ) → takes_input (account socket before) ≡ false) → has_waited before ≡ true }
+{
+    let _sockets = &door.sockets;
+}
+
+/// Suppose input of a peer was held, and the turn was not late. Then a read of it reported no end. It handed out all of
+/// the piece that the buffer takes, if no line ends in that; and else no fewer lines than those at its start that weigh
+/// nothing.
+pub fn input_is_handed_out<S: System + Drop>(door: &SocketDoor<S>)
+    ensures { (before after : List Step) (socket : ℕ) (answer : Result Got DoorFault) (buffer : List ℕ)
+        → S.trace door.now.sockets.system ≡ Some (before ++ Answers (ReadCall socket answer buffer) ∷ after)
+        → (account socket before).watched ≡ true → is_held (account socket before).received ≡ true
+        → (let t = times door.now.sockets.turn.timekeeper.wall door.now.sockets.turn.timekeeper.start before in
+        t.turn.late ≡ false → (reports_end answer ≡ false)
+        × IsHandedOut (t.lines socket) (held_piece (account socket before).received (length buffer))
+        (length (got_bytes answer buffer))) }
+{
+    let _sockets = &door.sockets;
+}
+
+/// A read of a peer that was not there reported a fault. So did a read of one of which a read or a write had failed and
+/// nothing was held. The exceptions are a turn that was late, and one that had reported another end.
+pub fn faults_are_told<S: System + Drop>(door: &SocketDoor<S>)
+    ensures { (before after : List Step) (socket : ℕ) (answer : Result Got DoorFault) (buffer : List ℕ)
+        → S.trace door.now.sockets.system ≡ Some (before ++ Answers (ReadCall socket answer buffer) ∷ after)
+        → is_failing (account socket before) ≡ true
+        → (let t = times door.now.sockets.turn.timekeeper.wall door.now.sockets.turn.timekeeper.start before in
+        t.turn.late ≡ false → t.turn.ends ≡ true → is_fault answer ≡ true) }
 {
     let _sockets = &door.sockets;
 }

@@ -6,6 +6,7 @@ ghost use Rattle.std.specs.Prelude.{IfErr, IfNone, IfOk, IfSome, [], length, sli
 ghost use Rattle.srcp_peers.specs.declared.peer.Peer.{Peer};
 ghost use Rattle.srcp_sockets.specs.Asked.{AreAsked, AreAsked-prop};
 ghost use Rattle.srcp_sockets.specs.Delivery.{HasEnded, HasWaited, linger_end};
+ghost use Rattle.srcp_sockets.specs.Duties.{AreDone, AreDone-prop, HasLooked, MayTell};
 ghost use Rattle.srcp_sockets.specs.Work.{AreClosedUp, IsClocked, IsPeerRead, IsWaiting, goes_on, is_close};
 ghost use Rattle.srcp_sockets.specs.Facts.{Stands-prop};
 ghost use Rattle.std.specs.List.{list_any};
@@ -56,6 +57,7 @@ pub(crate) struct Sockets<S: System + Drop> {
     ghost named: { IsNamed (S.trace system) last } by { IsNamed-prop (S.trace system) last },
     ghost timed: { IsTimed (S.trace system) turn } by { IsTimed-prop (S.trace system) turn },
     ghost asked: { AreAsked (S.trace system) } by { AreAsked-prop (S.trace system) },
+    ghost done: { AreDone turn.timekeeper.wall turn.timekeeper.start (S.trace system) } by { AreDone-prop turn.timekeeper.wall turn.timekeeper.start (S.trace system) },
     ghost places: { 129 ≤ vec_capacity peers },
 }
 
@@ -82,6 +84,7 @@ impl<S: System + Drop> Sockets<S> {
         requires ready { length ready.old ≡ 128 }
         ensures calls { SaysNothing (S.trace self.old.system) (S.trace self.new.system) }
         ensures read { AreRead (S.trace self.new.system) }
+        ensures may { MayTell (S.trace self.new.system) }
         ensures offered { AreOffered (flushed_in self.old.turn self.old.flushed self.old.peers.items)
             self.old.peers.items (S.trace self.old.system) (S.trace self.new.system) }
         ensures waits { HasWaited (cond (goes_on self.old.turn self.old.flushed self.old.peers.items) 0 1)
@@ -153,6 +156,7 @@ impl<S: System + Drop> Sockets<S> {
         requires ready { length ready.old ≡ 128 }
         ensures calls { SaysNothing (S.trace self.old.system) (S.trace self.new.system) }
         ensures waits { HasWaited (cond held 0 1) (S.trace self.old.system) (S.trace self.new.system) }
+        ensures looked { held ≡ false → HasLooked (S.trace self.new.system) }
         ensures slack { self.new.turn.slack ≡ self.old.turn.slack }
         ensures flushed { self.new.flushed ≡ self.old.flushed }
         ensures refused { self.new.refused ≡ self.old.refused }
@@ -181,6 +185,7 @@ impl<S: System + Drop> Sockets<S> {
         ensures calls { SaysNothing (S.trace self.old.system) (S.trace self.new.system) }
         ensures waits { IsWaiting (longest_wait self.old.peers.items self.old.listening self.old.turn self.old.most)
             (S.trace self.old.system) (S.trace self.new.system) }
+        ensures looked { HasLooked (S.trace self.new.system) }
         ensures turn { self.new.turn ≡ after_wait self.old.turn }
         ensures flushed { self.new.flushed ≡ self.old.flushed }
         ensures refused { self.new.refused ≡ self.old.refused }
@@ -327,7 +332,8 @@ impl<S: System + Drop> Sockets<S> {
     /// # Errors
     /// `Now` if the clock cannot be read.
     pub(crate) fn now(&mut self) -> Result<u64, DoorFault>
-        requires { AreRead (S.trace self.old.system) }
+        requires read { AreRead (S.trace self.old.system) }
+        requires may { MayTell (S.trace self.old.system) }
         ensures trace { SaysOne (S.trace self.old.system) (NowCall result) (S.trace self.new.system) }
         ensures fault { IfErr result (λ fault. fault ≡ DoorFault.Now) }
         ensures clock { IsClocked self.old.turn result (S.trace self.old.system) (S.trace self.new.system) }
@@ -392,8 +398,9 @@ impl<S: System + Drop> Sockets<S> {
         self.turn.late
     }
 
-    /// Hands out nothing of a peer.
+    /// Hands out nothing of a peer, in a turn that is late.
     pub(crate) fn hold_back(&mut self, number: u32, buffer: &[u8]) -> Result<Got, DoorFault>
+        requires { self.old.turn.late ≡ true }
         ensures trace { SaysOne (S.trace self.old.system) (ReadCall number result buffer.now)
             (S.trace self.new.system) }
         ensures nothing { result ≡ Ok Got.Nothing }

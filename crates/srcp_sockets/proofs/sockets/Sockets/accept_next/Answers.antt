@@ -9,9 +9,11 @@ use Rattle.srcp_sockets.specs.Doors.{Stands}
 use Rattle.srcp_peers.specs.Listeners.{refused_listening}
 use Rattle.srcp_peers.specs.Steps.{Accepts, Answers}
 use Rattle.srcp_peers.specs.Times.{is_as_heard, refused_accept}
+use Rattle.srcp_peers.specs.Turns.{after_call}
 use Rattle.srcp_peers.proofs.Keeping.{own}
 use Rattle.srcp_peers.proofs.Saying.{says_after, says_call, says_step}
 use Rattle.srcp_sockets.proofs.Asking.{asked_accept, asked_step, was_asked}
+use Rattle.srcp_sockets.proofs.Doing.{done_step, done_turn}
 use Rattle.srcp_sockets.proofs.Naming.{named_call, named_come, named_silent, nobody_named}
 use Rattle.srcp_sockets.proofs.Coming.{stands_came, stands_refused}
 use Rattle.srcp_sockets.proofs.Standing.{stands_answered}
@@ -39,6 +41,10 @@ invariant_of-self g c =
           c.in-Ok.ensures c.note_accept.ensures self.timed;
       asked = asked_step mid new (Answers call) c.note_accept.ensures refl
           (asked_step old mid (Accepts number said) c.in-Ok.ensures refl self.asked);
+      done = done_turn new self.turn c.note_accept-in-Ok.new.self (after_call self.turn call) c.note_accept-in-Ok.ensures refl refl
+          (done_step self.turn.timekeeper.wall self.turn.timekeeper.start mid new (Answers call) c.note_accept.ensures (λ log is. tt)
+          (done_step self.turn.timekeeper.wall self.turn.timekeeper.start old mid (Accepts number said) c.in-Ok.ensures (λ log is. tt)
+          self.done));
       places = le_trans self.places c.push.ensures.capacity;
     }
 
@@ -82,6 +88,11 @@ invariant_of-self-in-Err g c =
           c.in-Err.ensures c.note_accept-in-Err.ensures self.timed;
       asked = asked_accept mid new answer c.note_accept-in-Err.ensures (λ e. was_asked old mid number said c.in-Err.ensures)
           (asked_step old mid (Accepts number said) c.in-Err.ensures refl self.asked);
+      done = done_turn new self.turn c.note_accept-in-Err-2.new.self (after_call self.turn call) c.note_accept-in-Err-2.ensures refl refl
+          (done_step self.turn.timekeeper.wall self.turn.timekeeper.start mid new (Answers call) c.note_accept-in-Err.ensures
+          (λ log is. tt)
+          (done_step self.turn.timekeeper.wall self.turn.timekeeper.start old mid (Accepts number said) c.in-Err.ensures (λ log is. tt)
+          self.done));
       places = self.places;
     }
 

@@ -1,14 +1,16 @@
-use Rattle.std.proofs.Common.{◌≡◌, ◌∙◌, Bool, ap, subst}
+use Rattle.std.proofs.Common.{◌≡◌, ◌∙◌, Bool, ap, subst, sym}
 use Rattle.std.specs.Prelude.{◌&&◌, cond, not}
 use Rattle.srcp_peers.specs.declared.readiness.Flush.{Flush}
 use Rattle.srcp_peers.specs.AllPeers.{AreOffered}
 use Rattle.srcp_peers.specs.Turns.{flushing, has_ticked}
 use Rattle.srcp_peers.proofs.Offering.{all_offered_then}
+use Rattle.srcp_peers.proofs.Resting.{and_right}
 use Rattle.srcp_peers.proofs.Saying.{keeps_then, says_then}
 use Rattle.srcp_sockets.specs.Delivery.{HasWaited}
 use Rattle.srcp_sockets.specs.Doors.{flushed_in}
 use Rattle.srcp_sockets.specs.Work.{goes_on}
 use Rattle.srcp_sockets.proofs.Delivered.{waited_after, waited_keeps}
+use Rattle.srcp_sockets.proofs.Doing.{looked_silent, may_tell}
 use Rattle.srcp_sockets.proofs.sockets.Sockets.begin_turn.Goals as goal
 
 pub returns-clause-calls : goal.returns-clause-calls
@@ -54,3 +56,18 @@ returns-clause-waits g c =
     (waited_after (cond c.goes_on-held.result 0 1) old gone looked
     (keeps_then old flushed gone c.flush.ensures.times c.close_gone.ensures.times) c.look.ensures.waits)
     c.begin_visits.ensures.times)
+
+pub returns-clause-may : goal.returns-clause-may
+returns-clause-may g c =
+    let was = c.args.self.now in
+    let old = g.S.System.trace was.system in
+    let flushed = g.S.System.trace c.flush.new.self.system in
+    let gone = g.S.System.trace c.close_gone.new.self.system in
+    let looked = g.S.System.trace c.look.new.self.system in
+    let new = g.S.System.trace c.begin_visits.new.self.system in
+    may_tell old new was.peers.items was.listening was.last c.goes_on-held.result was.stands
+    (says_then old gone new (says_then old flushed gone c.flush.ensures.calls c.close_gone.ensures.calls)
+    (says_then gone looked new c.look.ensures.calls c.begin_visits.ensures.calls))
+    (λ held. sym c.holds_input-holds.ensures
+    ∙ and_right (not (has_ticked was.turn was.flushed)) c.holds_input-holds.result (sym c.goes_on-held.ensures ∙ held))
+    (λ none. looked_silent looked new c.begin_visits.ensures.calls (c.look.ensures.looked none))

@@ -6,6 +6,7 @@ use Rattle.srcp_peers.specs.AllPeers.{AreMarked}
 use Rattle.srcp_sockets.specs.Doors.{Stands}
 use Rattle.srcp_peers.specs.Turns.{room_of}
 use Rattle.srcp_sockets.proofs.Asking.{asked_silent}
+use Rattle.srcp_sockets.proofs.Doing.{done_silent}
 use Rattle.srcp_sockets.proofs.Naming.{named_silent}
 use Rattle.srcp_sockets.proofs.Serving.{all_read}
 use Rattle.srcp_sockets.proofs.Standing.{stands_turned}
@@ -27,6 +28,8 @@ invariant_of-self g c =
       named = named_silent old new last c.begin_visits.ensures.calls c.args.self.now.named;
       timed = timed_kept old new c.args.self.now.turn c.begin_visits.ensures.times c.args.self.now.timed;
       asked = asked_silent old new c.begin_visits.ensures.calls c.args.self.now.asked;
+      done = done_silent c.args.self.now.turn.timekeeper.wall c.args.self.now.turn.timekeeper.start old new c.begin_visits.ensures.calls
+          c.begin_visits.ensures.times c.args.self.now.done;
       places = c.args.self.now.places;
     }
 

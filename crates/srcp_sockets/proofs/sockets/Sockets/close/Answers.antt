@@ -3,8 +3,10 @@ use Rattle.srcp_peers.specs.declared.peer.Peer.{Peer}
 use Rattle.srcp_door.specs.declared.door.DoorFault.TheVariants.{Close}
 use Rattle.srcp_door.specs.Calls.{CloseCall}
 use Rattle.srcp_sockets.proofs.Asking.{asked_step}
+use Rattle.srcp_sockets.proofs.Doing.{done_step, done_turn}
 use Rattle.srcp_sockets.proofs.Clocking.{clock_is}
 use Rattle.srcp_peers.specs.Steps.{Answers}
+use Rattle.srcp_peers.specs.Turns.{after_call}
 use Rattle.srcp_peers.proofs.Saying.{says_call}
 use Rattle.srcp_sockets.proofs.Naming.{named_call}
 use Rattle.srcp_sockets.proofs.Parting.{stands_left, stands_missing}
@@ -28,6 +30,10 @@ invariant_of-self g c =
           (λ peer. c.note_close-in_default.ensures peer (Err Close))
           c.note_close.ensures c.args.self.now.timed;
       asked = asked_step old new (Answers call) c.note_close.ensures refl c.args.self.now.asked;
+      done = done_turn new c.args.self.now.turn c.note_close-in_default.new.self (after_call c.args.self.now.turn call)
+          (c.note_close-in_default.ensures c.args.number (Err Close)) refl refl
+          (done_step c.args.self.now.turn.timekeeper.wall c.args.self.now.turn.timekeeper.start old new (Answers call) c.note_close.ensures
+          (λ log is. tt) c.args.self.now.done);
       places = c.args.self.now.places;
     }
 
@@ -49,6 +55,10 @@ invariant_of-self-2 g c =
           (λ peer. c.note_close-3.ensures peer (Ok tt))
           c.note_close-2.ensures c.args.self.now.timed;
       asked = asked_step old new (Answers call) c.note_close-2.ensures refl c.args.self.now.asked;
+      done = done_turn new c.args.self.now.turn c.note_close-3.new.self (after_call c.args.self.now.turn call)
+          (c.note_close-3.ensures c.args.number (Ok tt)) refl refl
+          (done_step c.args.self.now.turn.timekeeper.wall c.args.self.now.turn.timekeeper.start old new (Answers call) c.note_close-2.ensures
+          (λ log is. tt) c.args.self.now.done);
       places = c.args.self.now.places;
     }
 

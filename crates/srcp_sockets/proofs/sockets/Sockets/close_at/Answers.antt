@@ -4,6 +4,7 @@ use Rattle.srcp_sockets.specs.Doors.{Stands}
 use Rattle.srcp_sockets.specs.Work.{is_close}
 use Rattle.srcp_peers.specs.Steps.{Closes}
 use Rattle.srcp_sockets.proofs.Asking.{asked_step}
+use Rattle.srcp_sockets.proofs.Doing.{done_step}
 use Rattle.srcp_sockets.proofs.Clocking.{clock_is}
 use Rattle.srcp_peers.proofs.Making.{makes_more, makes_none}
 use Rattle.srcp_peers.proofs.Saying.{says_step, keeps_step}
@@ -26,6 +27,8 @@ invariant_of-self g c =
       named = named_silent old new self.last (says_step old new (Closes peer.number) c.close.ensures refl) self.named;
       timed = timed_kept old new self.turn (keeps_step old new (Closes peer.number) c.close.ensures (λ t. refl)) self.timed;
       asked = asked_step old new (Closes peer.number) c.close.ensures refl self.asked;
+      done = done_step self.turn.timekeeper.wall self.turn.timekeeper.start old new (Closes peer.number) c.close.ensures (λ log is. tt)
+          self.done;
       places = search rules;
     }
 

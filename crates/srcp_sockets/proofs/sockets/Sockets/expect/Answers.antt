@@ -1,8 +1,10 @@
 use Rattle.std.proofs.Common.{refl}
 use Rattle.srcp_door.specs.Calls.{ExpectCall}
 use Rattle.srcp_peers.specs.Steps.{Answers}
+use Rattle.srcp_peers.specs.Turns.{after_call}
 use Rattle.srcp_peers.proofs.Saying.{says_call}
 use Rattle.srcp_sockets.proofs.Asking.{asked_step}
+use Rattle.srcp_sockets.proofs.Doing.{done_step, done_turn}
 use Rattle.srcp_sockets.proofs.Naming.{named_call}
 use Rattle.srcp_sockets.proofs.Standing.{stands_step}
 use Rattle.srcp_sockets.proofs.Timing.{timed_expect}
@@ -21,6 +23,9 @@ invariant_of-self g c =
       timed = timed_expect old new c.args.self.now.turn c.expect.new.self c.args.due c.args.slack c.expect.ensures c.note_expect.ensures
           c.args.self.now.timed;
       asked = asked_step old new (Answers call) c.note_expect.ensures refl c.args.self.now.asked;
+      done = done_turn new c.args.self.now.turn c.expect.new.self (after_call c.args.self.now.turn call) c.expect.ensures refl refl
+          (done_step c.args.self.now.turn.timekeeper.wall c.args.self.now.turn.timekeeper.start old new (Answers call) c.note_expect.ensures
+          (λ log is. tt) c.args.self.now.done);
       places = c.args.self.now.places;
     }
 

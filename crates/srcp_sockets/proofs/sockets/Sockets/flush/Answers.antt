@@ -4,6 +4,7 @@ use Rattle.srcp_peers.specs.declared.peer.Peer.{Peer}
 use Rattle.srcp_peers.specs.AllPeers.{AreOffered}
 use Rattle.srcp_sockets.specs.Doors.{Stands}
 use Rattle.srcp_sockets.proofs.Asking.{asked_silent}
+use Rattle.srcp_sockets.proofs.Doing.{done_silent}
 use Rattle.srcp_sockets.proofs.Naming.{named_silent}
 use Rattle.srcp_sockets.proofs.Standing.{stands_turned}
 use Rattle.srcp_sockets.proofs.Timing.{timed_kept}
@@ -24,6 +25,8 @@ invariant_of-self g c =
       named = named_silent old new last c.flush.ensures.calls c.args.self.now.named;
       timed = timed_kept old new c.args.self.now.turn c.flush.ensures.times c.args.self.now.timed;
       asked = asked_silent old new c.flush.ensures.calls c.args.self.now.asked;
+      done = done_silent c.args.self.now.turn.timekeeper.wall c.args.self.now.turn.timekeeper.start old new c.flush.ensures.calls
+          c.flush.ensures.times c.args.self.now.done;
       places = c.args.self.now.places;
     }
 

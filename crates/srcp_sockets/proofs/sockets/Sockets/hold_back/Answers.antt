@@ -1,9 +1,11 @@
-use Rattle.std.proofs.Common.{refl, Ok}
+use Rattle.std.proofs.Common.{◌∙◌, ap, refl, sym, true≢false, Ok}
 use Rattle.srcp_door.specs.declared.door.Got.TheVariants.{Nothing}
 use Rattle.srcp_door.specs.Calls.{ReadCall}
 use Rattle.srcp_peers.specs.Steps.{Answers}
+use Rattle.srcp_peers.specs.declared.turn.Turn.{Turn}
 use Rattle.srcp_peers.proofs.Saying.{says_call}
 use Rattle.srcp_sockets.proofs.Asking.{asked_step}
+use Rattle.srcp_sockets.proofs.Doing.{done_step}
 use Rattle.srcp_sockets.proofs.Naming.{named_call}
 use Rattle.srcp_sockets.proofs.Standing.{stands_step}
 use Rattle.srcp_sockets.proofs.Timing.{timed_nothing}
@@ -20,6 +22,9 @@ invariant_of-self g c =
       named = named_call old new c.args.self.now.last call (says_call old new call c.note_read.ensures) refl c.args.self.now.named;
       timed = timed_nothing old new c.args.self.now.turn c.args.number c.args.buffer.now c.note_read.ensures c.args.self.now.timed;
       asked = asked_step old new (Answers call) c.note_read.ensures refl c.args.self.now.asked;
+      done = done_step c.args.self.now.turn.timekeeper.wall c.args.self.now.turn.timekeeper.start old new (Answers call) c.note_read.ensures
+          (λ log is early. absurd (true≢false (sym c.requires ∙ ap (λ (t : Turn). t.late) (sym (c.args.self.now.timed log is).same) ∙ early)))
+          c.args.self.now.done;
       places = c.args.self.now.places;
     }
 

@@ -1,4 +1,4 @@
-use Rattle.std.proofs.Common.{subst, sym, Bool}
+use Rattle.std.proofs.Common.{◌∙◌, subst, sym, true≢false, Bool}
 use Rattle.std.specs.Prelude.{cond}
 use Rattle.srcp_peers.specs.Waiting.{longest_wait}
 use Rattle.srcp_peers.proofs.Saying.{says_none}
@@ -22,3 +22,6 @@ returns-clause-waits g c =
     let w = c.wait.ensures.waits in
     subst (λ (held : Bool). HasWaited (cond held 0 1) old new) (sym c.if-held.false)
     (waited_more 0 old old new (longest_wait self.peers.items self.listening self.turn self.most) w.0 w.1 w.2 (waited_none old))
+
+pub returns-then-held-clause-looked : goal.returns-then-held-clause-looked
+returns-then-held-clause-looked g c none = absurd (true≢false (sym c.if-held.true ∙ none))

@@ -1,4 +1,5 @@
 use Rattle.srcp_sockets.proofs.Asking.{asked_first}
+use Rattle.srcp_sockets.proofs.Doing.{done_first}
 use Rattle.srcp_sockets.proofs.Timing.{timed_first}
 use Rattle.srcp_sockets.proofs.Naming.{named_first}
 use Rattle.srcp_sockets.proofs.sockets.Sockets.new.Goals as goal
@@ -11,3 +12,7 @@ invariant_of-result-clause-timed g c = timed_first (g.S.System.trace c.args.syst
 
 pub invariant_of-result-clause-asked : goal.invariant_of-result-clause-asked
 invariant_of-result-clause-asked g c = asked_first (g.S.System.trace c.args.system) c.requires.trace
+
+pub invariant_of-result-clause-done : goal.invariant_of-result-clause-done
+invariant_of-result-clause-done g c = done_first c.args.turn.timekeeper.wall c.args.turn.timekeeper.start (g.S.System.trace c.args.system)
+    c.requires.trace

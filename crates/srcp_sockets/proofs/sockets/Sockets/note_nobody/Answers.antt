@@ -1,9 +1,12 @@
 use Rattle.std.proofs.Common.{◌≡◌, ap, refl, ⊎_elim, true, None, [], ◌∷◌}
 use Rattle.std.specs.Prelude.{filter_map}
 use Rattle.srcp_door.specs.Calls.{AcceptCall, peer_of}
+use Rattle.srcp_peers.specs.Steps.{Answers}
 use Rattle.srcp_peers.specs.Times.{is_as_heard}
+use Rattle.srcp_peers.specs.Turns.{after_call}
 use Rattle.srcp_peers.proofs.Saying.{says_call}
 use Rattle.srcp_sockets.proofs.Asking.{asked_accept}
+use Rattle.srcp_sockets.proofs.Doing.{done_step, done_turn}
 use Rattle.srcp_sockets.proofs.Naming.{named_call}
 use Rattle.srcp_sockets.proofs.Standing.{stands_answered}
 use Rattle.srcp_sockets.proofs.Timing.{timed_unasked}
@@ -28,6 +31,9 @@ invariant_of-self g c =
       timed = timed_unasked old new self.turn c.note_accept-2.new.self answer c.note_accept-2.ensures as_heard
           c.note_accept.ensures self.timed;
       asked = asked_accept old new answer c.note_accept.ensures c.requires.excused self.asked;
+      done = done_turn new self.turn c.note_accept-2.new.self (after_call self.turn (AcceptCall answer)) c.note_accept-2.ensures refl refl
+          (done_step self.turn.timekeeper.wall self.turn.timekeeper.start old new (Answers (AcceptCall answer)) c.note_accept.ensures
+          (λ log is. tt) self.done);
       places = self.places;
     }
 

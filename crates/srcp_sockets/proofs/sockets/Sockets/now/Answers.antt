@@ -1,19 +1,42 @@
-use Rattle.std.proofs.Common.{◌≡◌, ◌∙◌, ◌++◌, ◌∷◌, [], ℕ, List, Err, None, Ok, Option, Some, ap, append_assoc, refl}
+use Rattle.std.proofs.Common.{◌≡◌, ◌∙◌, ◌++◌, ◌∷◌, [], ℕ, List, Err, None, Ok, Option, Some, true, false, ap, append_assoc, refl}
 use Rattle.std.specs.Prelude.{Result}
 use Rattle.srcp_door.specs.declared.door.DoorFault.{DoorFault}
 use Rattle.srcp_door.specs.declared.door.DoorFault.TheVariants.{Now}
 use Rattle.srcp_peers.specs.declared.turn.Turn.{Turn}
-use Rattle.srcp_peers.specs.Turns.{moment_at}
+use Rattle.srcp_peers.specs.Turns.{begun, moment_at, reported_at}
+use Rattle.srcp_sockets.specs.Duties.{AreDone, is_shown}
 use Rattle.srcp_sockets.specs.Work.{moment_of}
 use Rattle.srcp_door.specs.Calls.{NowCall}
 use Rattle.srcp_peers.specs.Steps.{Answers, Clocks, Step}
 use Rattle.srcp_peers.proofs.Saying.{says_after, says_call, says_step}
 use Rattle.srcp_sockets.proofs.Asking.{asked_step}
+use Rattle.srcp_sockets.proofs.Doing.{done_step, done_turn, moment_done}
 use Rattle.srcp_sockets.proofs.Naming.{named_call, named_silent}
 use Rattle.srcp_sockets.proofs.Parting.{stands_clocked}
 use Rattle.srcp_sockets.proofs.Serving.{read_clocked, stands_now}
 use Rattle.srcp_sockets.proofs.Timing.{timed_moment}
 use Rattle.srcp_sockets.proofs.sockets.Sockets.now.Goals as goal
+
+-- the moment that follows of what the clock showed
+moment_is : (turn : Turn) (answer : Result ℕ DoorFault) (shown : Option ℕ) → (shown ≡ None → answer ≡ Err Now)
+    → ((time : ℕ) → shown ≡ Some time → answer ≡ Ok (moment_at turn time)) → answer ≡ moment_of turn shown
+moment_is turn answer None none some = none refl
+moment_is turn answer (Some time) none some = some time refl
+
+moment_shown : (turn : Turn) (answer : Result ℕ DoorFault) (shown : Option ℕ) → answer ≡ moment_of turn shown
+    → is_shown (Some shown) answer ≡ true
+moment_shown turn answer None e = ap (is_shown (Some None)) e
+moment_shown turn answer (Some time) e = ap (is_shown (Some (Some time))) e
+
+-- the turn went on, by the moment
+done_moment : (trace : Option (List Step)) (before after : Turn) (shown : Option ℕ) (answer : Result ℕ DoorFault)
+    → (shown ≡ None → (answer ≡ Err Now) × (after ≡ begun before false))
+    → ((time : ℕ) → shown ≡ Some time → (answer ≡ Ok (moment_at before time)) × (after ≡ reported_at before time (moment_at before time)))
+    → AreDone before.timekeeper.wall before.timekeeper.start trace → AreDone after.timekeeper.wall after.timekeeper.start trace
+done_moment trace before after None answer none some done =
+    done_turn trace before after (begun before false) (none refl).1 refl refl done
+done_moment trace before after (Some time) answer none some done =
+    done_turn trace before after (reported_at before time (moment_at before time)) (some time refl).1 refl refl done
 
 pub invariant_of-self : goal.invariant_of-self
 invariant_of-self g c =
@@ -21,9 +44,10 @@ invariant_of-self g c =
     let mid = g.S.System.trace c.clock-shown.new.self in
     let new = g.S.System.trace c.note_now.new.self in
     let answer = c.report_moment-answer.result in
+    let turn = c.args.self.now.turn in
     record {
       stands = stands_now mid new c.args.self.now.peers.items c.args.self.now.listening c.args.self.now.last answer
-          (read_clocked old mid c.clock-shown.result c.clock-shown.ensures c.requires) c.note_now.ensures
+          (read_clocked old mid c.clock-shown.result c.clock-shown.ensures c.requires.read) c.note_now.ensures
           (stands_clocked old mid c.args.self.now.peers.items c.args.self.now.listening c.args.self.now.last c.clock-shown.result
           c.clock-shown.ensures c.args.self.now.stands);
       named = named_call mid new c.args.self.now.last (NowCall answer) (says_call mid new (NowCall answer) c.note_now.ensures) refl
@@ -34,6 +58,16 @@ invariant_of-self g c =
           c.note_now.ensures c.args.self.now.timed;
       asked = asked_step mid new (Answers (NowCall answer)) c.note_now.ensures refl
           (asked_step old mid (Clocks c.clock-shown.result) c.clock-shown.ensures refl c.args.self.now.asked);
+      done = done_moment new turn c.report_moment-answer.new.self c.clock-shown.result answer
+          c.report_moment-answer.ensures.none c.report_moment-answer.ensures.some
+          (done_step turn.timekeeper.wall turn.timekeeper.start mid new (Answers (NowCall answer)) c.note_now.ensures
+          (moment_done turn.timekeeper.wall turn.timekeeper.start old mid c.clock-shown.result answer c.clock-shown.ensures
+          (moment_shown turn answer c.clock-shown.result
+          (moment_is turn answer c.clock-shown.result (λ e. (c.report_moment-answer.ensures.none e).0)
+          (λ time e. (c.report_moment-answer.ensures.some time e).0)))
+          c.requires.may)
+          (done_step turn.timekeeper.wall turn.timekeeper.start old mid (Clocks c.clock-shown.result) c.clock-shown.ensures
+          (λ log is. tt) c.args.self.now.done));
       places = c.args.self.now.places;
     }
 
@@ -45,12 +79,6 @@ returns-clause-trace g c =
     let answer = c.report_moment-answer.result in
     says_after old mid new (NowCall answer) (says_step old mid (Clocks c.clock-shown.result) c.clock-shown.ensures refl)
     (says_call mid new (NowCall answer) c.note_now.ensures)
-
--- the moment that follows of what the clock showed
-moment_is : (turn : Turn) (answer : Result ℕ DoorFault) (shown : Option ℕ) → (shown ≡ None → answer ≡ Err Now)
-    → ((time : ℕ) → shown ≡ Some time → answer ≡ Ok (moment_at turn time)) → answer ≡ moment_of turn shown
-moment_is turn answer None none some = none refl
-moment_is turn answer (Some time) none some = some time refl
 
 pub returns-clause-clock : goal.returns-clause-clock
 returns-clause-clock g c =

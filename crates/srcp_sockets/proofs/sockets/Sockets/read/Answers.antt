@@ -4,16 +4,18 @@ use Rattle.std.proofs.lemmas.Bool.{cases_eq}
 use Rattle.std.proofs.lemmas.List.{get_or_default}
 use Rattle.srcp_peers.specs.AllPeers.{AreApart}
 use Rattle.srcp_peers.specs.Reports.{IsAnswered}
-use Rattle.srcp_peers.specs.Turns.{got_bytes}
+use Rattle.srcp_peers.specs.Turns.{after_read, got_bytes}
 use Rattle.srcp_peers.specs.declared.peer.Peer.{Peer}
 use Rattle.srcp_door.specs.Calls.{ReadCall}
 use Rattle.srcp_peers.specs.Peers.{IsKept}
 use Rattle.srcp_peers.specs.Steps.{Answers, SaysOne}
 use Rattle.srcp_peers.proofs.Saying.{says_call}
 use Rattle.srcp_sockets.proofs.Asking.{asked_step}
+use Rattle.srcp_sockets.proofs.Doing.{done_step, done_turn}
+use Rattle.srcp_sockets.proofs.Handing.{read_done}
 use Rattle.srcp_sockets.proofs.Naming.{named_call}
 use Rattle.srcp_sockets.proofs.Standing.{stands_one}
-use Rattle.srcp_sockets.proofs.Timing.{line_kept, timed_read}
+use Rattle.srcp_sockets.proofs.Timing.{line_kept, read_time, timed_read}
 use Rattle.srcp_sockets.proofs.sockets.Sockets.read.Goals as goal
 
 pub invariant_of-self : goal.invariant_of-self
@@ -26,6 +28,7 @@ invariant_of-self g c =
     let within = c.in-Some.ensures.found.0 in
     let answer = c.read-handed.result.got in
     let buffer = c.read-handed.new.buffer in
+    let turn = c.args.self.now.turn in
     record {
       stands = stands_one old new c.args.self.now.peers.items c.in-Some.index
           x c.read-handed.new.self c.args.self.now.listening c.args.self.now.last within c.read-handed.ensures.kept
@@ -43,6 +46,15 @@ invariant_of-self g c =
             single = c.read-handed.ensures.ends;
           }) c.read-handed.ensures.trace c.args.self.now.timed;
       asked = asked_step old new (Answers (ReadCall x.number answer buffer)) c.read-handed.ensures.trace refl c.args.self.now.asked;
+      done = done_turn new turn c.read-handed.new.turn (after_read turn x.share.line answer buffer) c.read-handed.ensures.turn
+          (ap (λ m. m.wall) (read_time turn x.share.line answer buffer)) (ap (λ m. m.start) (read_time turn x.share.line answer buffer))
+          (done_step turn.timekeeper.wall turn.timekeeper.start old new (Answers (ReadCall x.number answer buffer))
+          c.read-handed.ensures.trace
+          (λ log logged early. read_done turn.timekeeper.wall turn.timekeeper.start old turn x answer buffer (length c.args.buffer.now)
+          c.read-handed.result.refused log logged c.args.self.now.timed
+          (subst (IsKept old) (sym is) (c.args.self.now.stands.kept c.in-Some.index x within))
+          (ap (λ (p : Peer). p.stay) is ∙ (c.in-Some.ensures.found.1 x).1) c.read-handed.auto.buffer c.read-handed.ensures.answered)
+          c.args.self.now.done);
       places = c.args.self.now.places;
     }
 

@@ -1,11 +1,15 @@
-use Rattle.std.proofs.Common.{refl}
+use Rattle.std.proofs.Common.{ap, refl}
 use Rattle.srcp_door.specs.Calls.{ReadCall}
 use Rattle.srcp_peers.specs.Steps.{Answers}
+use Rattle.srcp_peers.specs.Turns.{after_read}
+use Rattle.srcp_door.specs.declared.pacing.Line.TheVariants.{Ended}
 use Rattle.srcp_peers.proofs.Saying.{says_call}
 use Rattle.srcp_sockets.proofs.Asking.{asked_step}
+use Rattle.srcp_sockets.proofs.Doing.{done_step, done_turn}
 use Rattle.srcp_sockets.proofs.Naming.{named_call}
-use Rattle.srcp_sockets.proofs.Parting.{stands_missed}
-use Rattle.srcp_sockets.proofs.Timing.{timed_missed}
+use Rattle.srcp_sockets.proofs.Handing.{missing_done}
+use Rattle.srcp_sockets.proofs.Parting.{stands_missed, unwatched_is}
+use Rattle.srcp_sockets.proofs.Timing.{read_time, timed_missed}
 use Rattle.srcp_sockets.proofs.sockets.Sockets.read_nobody.Goals as goal
 
 pub invariant_of-self : goal.invariant_of-self
@@ -14,6 +18,9 @@ invariant_of-self g c =
     let new = g.S.System.trace c.note_read.new.self in
     let answer = c.report_fault-answer.result in
     let call = ReadCall c.args.number answer c.args.buffer.now in
+    let self = c.args.self.now in
+    let wall = self.turn.timekeeper.wall in
+    let start = self.turn.timekeeper.start in
     record {
       stands = stands_missed old new c.args.self.now.peers.items c.args.self.now.listening c.args.self.now.last c.args.number answer
           c.args.buffer.now c.report_fault-answer.ensures.reported c.requires c.note_read.ensures c.args.self.now.stands;
@@ -22,6 +29,15 @@ invariant_of-self g c =
           c.report_fault-answer.ensures.reported c.report_fault-answer.ensures.new c.report_fault-answer.ensures.ends c.note_read.ensures
           c.args.self.now.timed;
       asked = asked_step old new (Answers call) c.note_read.ensures refl c.args.self.now.asked;
+      done = done_turn new self.turn c.report_fault-answer.new.self (after_read self.turn Ended answer c.args.buffer.now)
+          (c.report_fault-answer.ensures.new Ended c.args.buffer.now)
+          (ap (λ m. m.wall) (read_time self.turn Ended answer c.args.buffer.now))
+          (ap (λ m. m.start) (read_time self.turn Ended answer c.args.buffer.now))
+          (done_step wall start old new (Answers call) c.note_read.ensures
+          (λ log is early. missing_done wall start old self.turn c.args.number answer c.args.buffer.now log is self.timed
+          (unwatched_is old self.peers.items self.listening self.last c.args.number log is c.requires self.stands)
+          c.report_fault-answer.ensures.exact)
+          self.done);
       places = c.args.self.now.places;
     }
 

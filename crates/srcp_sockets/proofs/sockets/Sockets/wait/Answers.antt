@@ -8,9 +8,11 @@ use Rattle.srcp_peers.specs.Accounts.{is_short_wait}
 use Rattle.srcp_sockets.specs.Doors.{Stands}
 use Rattle.srcp_peers.specs.Peers.{is_resting}
 use Rattle.srcp_peers.specs.Steps.{Tells, Waits}
+use Rattle.srcp_peers.specs.Turns.{after_wait}
 use Rattle.srcp_sockets.specs.KeptTimes.{IsTimed}
 use Rattle.srcp_peers.proofs.Saying.{says_step}
 use Rattle.srcp_sockets.proofs.Asking.{asked_step}
+use Rattle.srcp_sockets.proofs.Doing.{done_step, done_turn, looked_wait}
 use Rattle.srcp_sockets.proofs.Naming.{named_silent}
 use Rattle.srcp_sockets.proofs.Waited.{stands_waited}
 use Rattle.srcp_sockets.proofs.Timing.{timed_wait}
@@ -41,6 +43,9 @@ invariant_of-self g c =
           (timed_wait old new c.args.self.now.turn most count ready c.longest_wait-most.ensures.due c.longest_wait-most.ensures.panels
           c.wait-count.ensures.trace c.args.self.now.timed);
       asked = asked_step old new (Waits most count ready) c.wait-count.ensures.trace refl c.args.self.now.asked;
+      done = done_turn new c.args.self.now.turn c.wait.new.self (after_wait c.args.self.now.turn) c.wait.ensures refl refl
+          (done_step c.args.self.now.turn.timekeeper.wall c.args.self.now.turn.timekeeper.start old new (Waits most count ready)
+          c.wait-count.ensures.trace (λ log is. tt) c.args.self.now.done);
       places = c.args.self.now.places;
     }
 
@@ -55,3 +60,7 @@ returns-clause-waits g c = (
   subst (λ (most : Option ℕ). Tells (g.S.System.trace c.args.self.now.system) (Waits most c.wait-count.result c.wait-count.new.ready)
       (g.S.System.trace c.wait-count.new.self)) c.longest_wait-most.ensures.exact c.wait-count.ensures.trace,
 )
+
+pub returns-clause-looked : goal.returns-clause-looked
+returns-clause-looked g c = looked_wait (g.S.System.trace c.args.self.now.system) (g.S.System.trace c.wait-count.new.self)
+    c.longest_wait-most.result c.wait-count.result c.wait-count.new.ready c.wait-count.ensures.trace

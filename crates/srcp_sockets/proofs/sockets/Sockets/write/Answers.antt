@@ -3,8 +3,10 @@ use Rattle.srcp_peers.specs.declared.peer.Peer.{Peer}
 use Rattle.srcp_door.specs.declared.door.DoorFault.TheVariants.{Write}
 use Rattle.srcp_door.specs.Calls.{WriteCall}
 use Rattle.srcp_peers.specs.Steps.{Answers, SaysOne}
+use Rattle.srcp_peers.specs.Turns.{after_call}
 use Rattle.srcp_peers.proofs.Saying.{says_call}
 use Rattle.srcp_sockets.proofs.Asking.{asked_step}
+use Rattle.srcp_sockets.proofs.Doing.{done_step, done_turn}
 use Rattle.srcp_sockets.proofs.Naming.{named_call}
 use Rattle.srcp_sockets.proofs.Parting.{stands_unwritten}
 use Rattle.srcp_sockets.proofs.Standing.{stands_one}
@@ -34,6 +36,12 @@ invariant_of-self-2 g c =
           x.number c.args.bytes.now (Ok c.write-count.result) c.note_write-2.ensures c.write-count.ensures.trace c.args.self.now.timed;
       asked = asked_step (g.S.System.trace c.args.self.now.system) (g.S.System.trace c.write-count.new.system)
           (Answers (WriteCall x.number c.args.bytes.now (Ok c.write-count.result))) c.write-count.ensures.trace refl c.args.self.now.asked;
+      done = done_turn (g.S.System.trace c.write-count.new.system) c.args.self.now.turn c.note_write-2.new.self
+          (after_call c.args.self.now.turn (WriteCall x.number c.args.bytes.now (Ok c.write-count.result)))
+          (c.note_write-2.ensures x.number c.args.bytes.now) refl refl
+          (done_step c.args.self.now.turn.timekeeper.wall c.args.self.now.turn.timekeeper.start (g.S.System.trace c.args.self.now.system)
+          (g.S.System.trace c.write-count.new.system) (Answers (WriteCall x.number c.args.bytes.now (Ok c.write-count.result)))
+          c.write-count.ensures.trace (λ log is. tt) c.args.self.now.done);
       places = c.args.self.now.places;
     }
 
@@ -66,3 +74,12 @@ invariant_of-self-clause-stands g c = stands_unwritten (g.S.System.trace c.args.
 pub invariant_of-self-clause-asked : goal.invariant_of-self-clause-asked
 invariant_of-self-clause-asked g c = asked_step (g.S.System.trace c.args.self.now.system) (g.S.System.trace c.note_write.new.self)
     (Answers (WriteCall c.args.number c.args.bytes.now (Err Write))) c.note_write.ensures refl c.args.self.now.asked
+
+pub invariant_of-self-clause-done : goal.invariant_of-self-clause-done
+invariant_of-self-clause-done g c =
+    let turn = c.args.self.now.turn in
+    let call = WriteCall c.args.number c.args.bytes.now (Err Write) in
+    done_turn (g.S.System.trace c.note_write.new.self) turn c.note_write-in_default.new.self (after_call turn call)
+    (c.note_write-in_default.ensures c.args.number c.args.bytes.now) refl refl
+    (done_step turn.timekeeper.wall turn.timekeeper.start (g.S.System.trace c.args.self.now.system)
+    (g.S.System.trace c.note_write.new.self) (Answers call) c.note_write.ensures (λ log is. tt) c.args.self.now.done)

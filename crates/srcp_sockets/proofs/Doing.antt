@@ -1,0 +1,346 @@
+-- What a door has done goes on from step to step.
+use Rattle.std.proofs.Common.{◌≡◌, ◌∙◌, ℕ, suc, ◌<◌, ◌≤◌, ◌+◌, Bool, true, false, not, List, [], ◌∷◌, ◌++◌, length, take, refl, ap, sym, subst}
+use Rattle.std.proofs.Common.{arith, ⊎_elim, ◌⊎◌, ◌==◌, ◌&&◌, ◌||◌, if◌then◌else◌, Option, Some, None, Ok, Err, true≢false, append-nil}
+use Rattle.std.specs.Prelude.{Result, fold, nat_lt, slice_index_or}
+use Rattle.std.specs.List.{list_all, list_any}
+use Rattle.std.proofs.lemmas.Bool.{or_cases}
+use Rattle.std.proofs.lemmas.Bool.Decides.{nat_tests}
+use Rattle.std.proofs.lemmas.List.{length-append}
+use Rattle.std.proofs.lemmas.List.Sums.{fold-append}
+use Rattle.std.specs.declared.io.ErrorKind.{ErrorKind}
+use Rattle.srcp_door.specs.Calls.{Call, NowCall}
+use Rattle.srcp_door.specs.declared.door.DoorFault.{DoorFault}
+use Rattle.srcp_peers.specs.declared.peer.Peer.{Peer}
+use Rattle.srcp_peers.specs.declared.readiness.Input.{Input}
+use Rattle.srcp_peers.specs.declared.readiness.Input.TheVariants as input
+use Rattle.srcp_peers.specs.declared.stay.Stay.{Stay}
+use Rattle.srcp_peers.specs.declared.stay.Stay.TheVariants as stay
+use Rattle.srcp_peers.specs.declared.system.Ready.{Ready}
+use Rattle.srcp_peers.specs.declared.system.Refusal.{Refusal}
+use Rattle.srcp_peers.specs.declared.system.Refusal.TheVariants.{Later, Again, Fault}
+use Rattle.srcp_peers.specs.declared.turn.Listening.{Listening}
+use Rattle.srcp_peers.specs.declared.turn.Turn.{Turn}
+use Rattle.srcp_peers.specs.Accounts.{Account, Received, accepted, account, account_step, closed, heard_refusal, is_held, read_in, read_of}
+use Rattle.srcp_peers.specs.Accounts.{refused_read, refused_write, shut_down, untouched, waited, woken, woken_came, woken_sent}
+use Rattle.srcp_peers.specs.Peers.{Agrees, ComesAs, ReadsAs, StaysAs, holds_input, is_here}
+use Rattle.srcp_peers.specs.Steps.{Accepts, Answers, Clocks, Closes, Reads, SaysNothing, Shuts, Step, Tells, Waits, Writes}
+use Rattle.srcp_peers.specs.Steps.{call_of, calls, refusal_of}
+use Rattle.srcp_peers.specs.Times.{KeepsTimes, Times, first_times, times, times_step}
+use Rattle.srcp_peers.proofs.AccountStreams.{if_same}
+use Rattle.srcp_peers.proofs.Keeping.{account_more}
+use Rattle.srcp_peers.proofs.Resting.{and_left, and_right, held_is}
+use Rattle.srcp_sockets.specs.Doors.{Stands}
+use Rattle.srcp_sockets.specs.Duties.{AreDone, HasLooked, IsDone, MayTell, has_waited, is_shown, last_shown, shown_by}
+use Rattle.srcp_sockets.specs.Duties.{takes_input, waited_after}
+use Rattle.srcp_sockets.proofs.Asking.{splits}
+use Rattle.srcp_sockets.proofs.Standing.{nobody}
+
+-- ---- one step came
+
+not_none : (x : Step) (mid after : List Step) → [] ≡ mid ++ x ∷ after → ⊥
+not_none x [] after e = cc
+not_none x (y ∷ mid) after e = cc
+
+one_only : (step x : Step) (mid after : List Step) → step ∷ [] ≡ mid ++ x ∷ after → (mid ≡ []) × (x ≡ step)
+one_only step x [] after e = (refl, (let same : step ≡ x = cc in sym same))
+one_only step x (y ∷ mid) after e =
+    let none : [] ≡ mid ++ x ∷ after = cc in
+    absurd (not_none x mid after none)
+
+pub done_step : (wall start : ℕ) (old new : Option (List Step)) (step : Step) → Tells old step new
+    → ((log : List Step) → old ≡ Some log → IsDone wall start log step) → AreDone wall start old → AreDone wall start new
+done_step wall start old new step tells may done before after x is =
+    let t = tells (before ++ x ∷ after) is in
+    ⊎_elim
+    (λ (here : (rest : List Step) × (t.0 ≡ before ++ x ∷ rest)). done before here.0 x (t.1 ∙ ap Some here.1))
+    (λ (there : (mid : List Step) × (step ∷ [] ≡ mid ++ x ∷ after) × (before ≡ t.0 ++ mid)).
+    let one = one_only step x there.0 after there.1 in
+    let same : before ≡ t.0 = there.2 ∙ ap (λ (l : List Step). t.0 ++ l) one.0 ∙ append-nil t.0 in
+    subst (λ (l : List Step). IsDone wall start l x) (sym same)
+    (subst (λ (s : Step). IsDone wall start t.0 s) (sym one.1) (may t.0 t.1)))
+    (splits t.0 (step ∷ []) before after x (sym t.2))
+
+-- ---- steps came that are no calls and no waits
+
+-- nothing is to be done before it
+abbrev pub is_free : Step → Bool
+is_free (Waits most count ready) = false
+is_free (Answers call) = false
+is_free other = true
+
+free_done : (wall start : ℕ) (log : List Step) (step : Step) → is_free step ≡ true → IsDone wall start log step
+free_done wall start log (Accepts number answer) e = tt
+free_done wall start log (Reads who buffer answer) e = tt
+free_done wall start log (Writes who bytes answer) e = tt
+free_done wall start log (Waits most count ready) e = absurd (true≢false (sym e))
+free_done wall start log (Shuts who) e = tt
+free_done wall start log (Closes who) e = tt
+free_done wall start log (Clocks answer) e = tt
+free_done wall start log (Answers call) e = absurd (true≢false (sym e))
+
+free_in : (mid after : List Step) (x : Step) → list_all is_free (mid ++ x ∷ after) ≡ true → is_free x ≡ true
+free_in [] after x all = and_left (is_free x) (list_all is_free after) all
+free_in (m ∷ mid) after x all = free_in mid after x (and_right (is_free m) (list_all is_free (mid ++ x ∷ after)) all)
+
+pub no_call : (call : Call) (rest : List Call) → call ∷ rest ≡ [] → ⊥
+no_call call rest e = cc
+
+pub some_call : (call : Call) → Some call ≡ None → ⊥
+some_call call e = cc
+
+waits_grow : (came : List Step) (t : Times) → calls came ≡ [] → t.waits ≤ (fold times_step t came).waits
+waits_grow [] t e = omega arith
+waits_grow (Accepts number answer ∷ came) t e = waits_grow came (times_step t (Accepts number answer)) e
+waits_grow (Reads who buffer answer ∷ came) t e = waits_grow came t e
+waits_grow (Writes who bytes answer ∷ came) t e = waits_grow came t e
+waits_grow (Waits most count ready ∷ came) t e =
+    let more : t.waits + 1 ≤ (fold times_step (times_step t (Waits most count ready)) came).waits =
+    waits_grow came (times_step t (Waits most count ready)) e in
+    omega (arith, more)
+waits_grow (Shuts who ∷ came) t e = waits_grow came t e
+waits_grow (Closes who ∷ came) t e = waits_grow came t e
+waits_grow (Clocks (Some time) ∷ came) t e = waits_grow came (times_step t (Clocks (Some time))) e
+waits_grow (Clocks None ∷ came) t e = waits_grow came t e
+waits_grow (Answers call ∷ came) t e = absurd (no_call call (calls came) e)
+
+free_from : (came : List Step) (t : Times) → calls came ≡ [] → (fold times_step t came).waits ≡ t.waits → list_all is_free came ≡ true
+free_from [] t e same = refl
+free_from (Accepts number answer ∷ came) t e same = free_from came (times_step t (Accepts number answer)) e same
+free_from (Reads who buffer answer ∷ came) t e same = free_from came t e same
+free_from (Writes who bytes answer ∷ came) t e same = free_from came t e same
+free_from (Waits most count ready ∷ came) t e same =
+    let more : t.waits + 1 ≤ (fold times_step (times_step t (Waits most count ready)) came).waits =
+    waits_grow came (times_step t (Waits most count ready)) e in
+    absurd (omega (arith, more, same))
+free_from (Shuts who ∷ came) t e same = free_from came t e same
+free_from (Closes who ∷ came) t e same = free_from came t e same
+free_from (Clocks (Some time) ∷ came) t e same = free_from came (times_step t (Clocks (Some time))) e same
+free_from (Clocks None ∷ came) t e same = free_from came t e same
+free_from (Answers call ∷ came) t e same = absurd (no_call call (calls came) e)
+
+pub free_came : (old new : Option (List Step)) → SaysNothing old new → KeepsTimes old new → (later : List Step) → new ≡ Some later
+    → (log : List Step) × (came : List Step) × (old ≡ Some log) × (later ≡ log ++ came) × (list_all is_free came ≡ true)
+free_came old new says keeps later is =
+    let s = says later is in
+    let k = keeps later is in
+    let both : Some s.0 ≡ Some k.0 = sym s.2 ∙ k.1 in
+    let same : s.0 ≡ k.0 = cc in
+    let waits : (fold times_step (times 0 0 s.0) s.1).waits ≡ (times 0 0 s.0).waits =
+    ap (λ (t : Times). t.waits) (sym (fold-append times_step (first_times 0 0) s.0 s.1))
+    ∙ ap (λ l. (times 0 0 l).waits) (sym s.3) ∙ ap (λ (t : Times). t.waits) (k.2 0 0) ∙ ap (λ l. (times 0 0 l).waits) (sym same) in
+    (s.0, s.1, s.2, s.3, free_from s.1 (times 0 0 s.0) s.4 waits)
+
+pub done_silent : (wall start : ℕ) (old new : Option (List Step)) → SaysNothing old new → KeepsTimes old new → AreDone wall start old
+    → AreDone wall start new
+done_silent wall start old new says keeps done before after x is =
+    let s = free_came old new says keeps (before ++ x ∷ after) is in
+    ⊎_elim
+    (λ (here : (rest : List Step) × (s.0 ≡ before ++ x ∷ rest)). done before here.0 x (s.2 ∙ ap Some here.1))
+    (λ (there : (mid : List Step) × (s.1 ≡ mid ++ x ∷ after) × (before ≡ s.0 ++ mid)).
+    free_done wall start before x (free_in there.0 after x (ap (list_all is_free) (sym there.1) ∙ s.4)))
+    (splits s.0 s.1 before after x (sym s.3))
+
+-- no step was made
+pub done_first : (wall start : ℕ) (trace : Option (List Step)) → (trace ≡ Some [] ⊎ trace ≡ None) → AreDone wall start trace
+done_first wall start trace begins before after x is = ⊎_elim
+    (λ (e : trace ≡ Some []). let same : [] ≡ before ++ x ∷ after = cc in absurd (not_none x before after same))
+    (λ (e : trace ≡ None). absurd (nothing (sym e ∙ is)))
+    begins
+  where
+    nothing : None ≡ Some (before ++ x ∷ after) → ⊥
+    nothing e = cc
+
+-- the turn went on, from the same clocks
+pub done_turn : (trace : Option (List Step)) (before after same : Turn) → after ≡ same → same.timekeeper.wall ≡ before.timekeeper.wall
+    → same.timekeeper.start ≡ before.timekeeper.start → AreDone before.timekeeper.wall before.timekeeper.start trace
+    → AreDone after.timekeeper.wall after.timekeeper.start trace
+done_turn trace before after same is wall start done =
+    subst (λ (t : Turn). AreDone t.timekeeper.wall t.timekeeper.start trace) (sym is)
+    (subst (λ (w : ℕ). AreDone w same.timekeeper.start trace) (sym wall)
+    (subst (λ (s : ℕ). AreDone before.timekeeper.wall s trace) (sym start) done))
+
+-- ---- input is held
+
+woken_takes : (socket : ℕ) (a : Account) (ready : List Ready) → takes_input (fold (woken socket) a ready) ≡ takes_input a
+woken_takes socket a [] = refl
+woken_takes socket a (one ∷ more) = woken_takes socket (woken socket a one) more
+    ∙ if_same takes_input (one.socket == socket) (record a {
+      sent = woken_sent a.sent one.writable;
+      received = woken_came a.received one.readable (one.closed || one.urgent);
+    }) a refl
+
+takes_accepted : (socket number : ℕ) (a : Account) (answer : Result Unit ErrorKind) → takes_input a ≡ true
+    → takes_input (account_step socket a (Accepts number answer)) ≡ true
+takes_accepted socket number a (Ok done) takes = by (socket == 0) (number == socket)
+  where
+    by : (b c : Bool) → takes_input (if b then a else if c then accepted a (Ok done) else a) ≡ true
+    by true c = takes
+    by false true = and_right (not a.sent.cut) (is_held a.received) (and_right a.watched (not a.sent.cut && is_held a.received) takes)
+    by false false = takes
+takes_accepted socket number a (Err fault) takes = by (socket == 0) (number == socket) (refusal_of fault)
+  where
+    by : (b c : Bool) (said : Refusal)
+        → takes_input (if b then record a { received = heard_refusal a.received said } else if c then a else a) ≡ true
+    by true c Later = takes
+    by true c Again = takes
+    by true c Fault = takes
+    by false true said = takes
+    by false false said = takes
+
+longer : (handed gave more : ℕ) → nat_lt handed gave ≡ true → nat_lt handed (gave + more) ≡ true
+longer handed gave more h = grind (arith, nat_tests)
+
+takes_read : (a : Account) (buffer : List ℕ) (answer : Result ℕ ErrorKind) → takes_input a ≡ true
+    → takes_input (read_of a buffer answer) ≡ true
+takes_read a buffer (Ok count) takes = by a.watched a.sent.cut takes
+  where
+    by : (watched cut : Bool) → (watched && (not cut && is_held a.received)) ≡ true
+        → (watched && (not cut && is_held (read_in a.received buffer (Ok count)))) ≡ true
+    by true false h = ap (nat_lt (length a.received.handed)) (length-append a.received.gave (take count buffer))
+        ∙ longer (length a.received.handed) (length a.received.gave) (length (take count buffer)) h
+    by true true h = absurd (true≢false (sym h))
+    by false cut h = absurd (true≢false (sym h))
+takes_read a buffer (Err fault) takes = by (refusal_of fault)
+  where
+    by : (said : Refusal) → takes_input (record a { received = refused_read a.received said; unread = false }) ≡ true
+    by Later = takes
+    by Again = takes
+    by Fault = takes
+
+takes_wrote : (a : Account) (said : Refusal) → takes_input (record a { sent = refused_write a.sent said }) ≡ takes_input a
+takes_wrote a Later = refl
+takes_wrote a Again = refl
+takes_wrote a Fault = refl
+
+-- one of two
+either : (b : Bool) (x a : Account) → takes_input x ≡ true → takes_input a ≡ true → takes_input (if b then x else a) ≡ true
+either true x a e f = e
+either false x a e f = f
+
+takes_step : (socket : ℕ) (a : Account) (step : Step) → call_of step ≡ None → takes_input a ≡ true
+    → takes_input (account_step socket a step) ≡ true
+takes_step socket a (Accepts number answer) none takes = takes_accepted socket number a answer takes
+takes_step socket a (Reads who buffer answer) none takes = either (who == socket) (read_of a buffer answer) a
+    (takes_read a buffer answer takes) takes
+takes_step socket a (Writes who bytes (Ok count)) none takes = either (who == socket) _ a takes takes
+takes_step socket a (Writes who bytes (Err fault)) none takes = either (who == socket) _ a
+    (takes_wrote a (refusal_of fault) ∙ takes) takes
+takes_step socket a (Waits most count ready) none takes = woken_takes socket (waited socket a most) (take count ready) ∙ takes
+takes_step socket a (Shuts who) none takes = either (who == socket) (shut_down a) a takes takes
+takes_step socket a (Closes who) none takes = either (who == socket) (closed a) a takes takes
+takes_step socket a (Clocks answer) none takes = takes
+takes_step socket a (Answers call) none takes = absurd (some_call call none)
+
+-- steps of which none is a call
+pub no_calls : (step : Step) (came : List Step) → calls (step ∷ came) ≡ [] → (call_of step ≡ None) × (calls came ≡ [])
+no_calls (Accepts number answer) came e = (refl, e)
+no_calls (Reads who buffer answer) came e = (refl, e)
+no_calls (Writes who bytes answer) came e = (refl, e)
+no_calls (Waits most count ready) came e = (refl, e)
+no_calls (Shuts who) came e = (refl, e)
+no_calls (Closes who) came e = (refl, e)
+no_calls (Clocks answer) came e = (refl, e)
+no_calls (Answers call) came e = absurd (no_call call (calls came) e)
+
+takes_came : (socket : ℕ) (a : Account) (came : List Step) → calls came ≡ [] → takes_input a ≡ true
+    → takes_input (fold (account_step socket) a came) ≡ true
+takes_came socket a [] e takes = takes
+takes_came socket a (step ∷ came) e takes =
+    let none = no_calls step came e in
+    takes_came socket (account_step socket a step) came none.1 (takes_step socket a step none.0 takes)
+
+takes_silent : (socket : ℕ) (old new : Option (List Step)) → SaysNothing old new
+    → ((log : List Step) → old ≡ Some log → takes_input (account socket log) ≡ true) → (log : List Step) → new ≡ Some log
+    → takes_input (account socket log) ≡ true
+takes_silent socket old new says takes later is =
+    let s = says later is in
+    ap (λ l. takes_input (account socket l)) s.3 ∙ ap takes_input (fold-append (account_step socket) untouched s.0 s.1)
+    ∙ takes_came socket (account socket s.0) s.1 s.4 (takes s.0 s.2)
+
+-- a peer of which the door holds input
+held_peer : (peers : List Peer) → list_any holds_input peers ≡ true
+    → (k : ℕ) × (k < length peers) × ((d : Peer) → holds_input (slice_index_or peers k d) ≡ true)
+held_peer [] e = absurd (true≢false (sym e))
+held_peer (p ∷ peers) e = ⊎_elim
+    (λ (here : holds_input p ≡ true). (0, omega arith, λ d. here))
+    (λ (there : list_any holds_input peers ≡ true).
+    let one = held_peer peers there in
+    let lt : one.0 < length peers = one.1 in
+    (suc one.0, omega (arith, lt), λ d. one.2 d))
+    (or_cases (holds_input p) (list_any holds_input peers) e)
+
+pub gave_as : (received : Received) (incoming : List ℕ) (state : Input) → ReadsAs received incoming state
+    → received.gave ≡ received.handed ++ incoming
+gave_as received incoming input.Ready h = h.0
+gave_as received incoming input.Draining h = h.0
+gave_as received incoming input.Quiet h = h.0
+gave_as received incoming input.Ended h = h.0
+gave_as received incoming input.Failed h = h.0
+
+takes_so : (watched cut held other none : Bool) → watched ≡ true → cut ≡ other → held ≡ not none → (not other && not none) ≡ true
+    → (watched && (not cut && held)) ≡ true
+takes_so watched cut held other none w c h e = rw (w, c, h) e
+
+takes_as : (a : Account) (p : Peer) → Agrees a p → holds_input p ≡ true → takes_input a ≡ true
+takes_as a p h holds = by p.stay h.reads h.stays holds
+  where
+    by : (here : Stay) → ComesAs a.received p.incoming p.input here → StaysAs a.watched a.lingering p.outgoing here
+        → (is_here here && (not p.cut && not (length p.incoming == 0))) ≡ true → takes_input a ≡ true
+    by stay.Here reads stays e = takes_so a.watched a.sent.cut (is_held a.received) p.cut (length p.incoming == 0) stays.0 h.cut
+        (held_is a.received p.incoming (gave_as a.received p.incoming p.input reads)) e
+    by (stay.Draining since) reads stays e = absurd (true≢false (sym e))
+    by (stay.Shut since) reads stays e = absurd (true≢false (sym e))
+
+-- ---- it waited
+
+waited_step : (waited : Bool) (step : Step) → call_of step ≡ None → waited ≡ true → waited_after waited step ≡ true
+waited_step waited (Accepts number answer) none e = e
+waited_step waited (Reads who buffer answer) none e = e
+waited_step waited (Writes who bytes answer) none e = e
+waited_step waited (Waits most count ready) none e = refl
+waited_step waited (Shuts who) none e = e
+waited_step waited (Closes who) none e = e
+waited_step waited (Clocks answer) none e = e
+waited_step waited (Answers call) none e = absurd (some_call call none)
+
+waited_came : (waited : Bool) (came : List Step) → calls came ≡ [] → waited ≡ true → fold waited_after waited came ≡ true
+waited_came waited [] e w = w
+waited_came waited (step ∷ came) e w =
+    let none = no_calls step came e in
+    waited_came (waited_after waited step) came none.1 (waited_step waited step none.0 w)
+
+pub looked_wait : (old new : Option (List Step)) (most : Option ℕ) (count : ℕ) (ready : List Ready) → Tells old (Waits most count ready) new
+    → HasLooked new
+looked_wait old new most count ready tells later is =
+    let t = tells later is in
+    ap has_waited t.2 ∙ fold-append waited_after false t.0 (Waits most count ready ∷ [])
+
+pub looked_silent : (old new : Option (List Step)) → SaysNothing old new → HasLooked old → HasLooked new
+looked_silent old new says looked later is =
+    let s = says later is in
+    ap has_waited s.3 ∙ fold-append waited_after false s.0 s.1 ∙ waited_came (has_waited s.0) s.1 s.4 (looked s.0 s.2)
+
+-- ---- a moment may be reported
+
+pub may_tell : (old new : Option (List Step)) (peers : List Peer) (l : Listening) (last : ℕ) (held : Bool) → Stands old peers l last
+    → SaysNothing old new → (held ≡ true → list_any holds_input peers ≡ true) → (held ≡ false → HasLooked new) → MayTell new
+may_tell old new peers l last true stands says holds looked log is none =
+    let one = held_peer peers (holds refl) in
+    let p : Peer = slice_index_or peers one.0 nobody in
+    let takes = takes_silent p.number old new says
+    (λ before was. takes_as (account p.number before) p (stands.kept one.0 nobody one.1 before was) (one.2 nobody)) log is in
+    absurd (true≢false (sym takes ∙ none p.number))
+may_tell old new peers l last false stands says holds looked log is none = looked refl log is
+
+pub moment_done : (wall start : ℕ) (old mid : Option (List Step)) (shown : Option ℕ) (answer : Result ℕ DoorFault) → Tells old (Clocks shown) mid
+    → is_shown (Some shown) answer ≡ true → MayTell old → (log : List Step) → mid ≡ Some log
+    → IsDone wall start log (Answers (NowCall answer))
+moment_done wall start old mid shown answer tells is_so may log is =
+    let t = tells log is in
+    record {
+      clock = ap (λ l. is_shown (last_shown l) answer) t.2
+          ∙ ap (λ s. is_shown s answer) (fold-append (λ before step. shown_by step) None t.0 (Clocks shown ∷ [])) ∙ is_so;
+      waits = λ none. ap has_waited t.2 ∙ fold-append waited_after false t.0 (Clocks shown ∷ [])
+          ∙ may t.0 t.1 (λ socket. sym (ap takes_input (account_more socket t.0 (Clocks shown)))
+          ∙ ap (λ l. takes_input (account socket l)) (sym t.2) ∙ none socket);
+    }

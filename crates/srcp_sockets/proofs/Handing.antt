@@ -1,0 +1,138 @@
+-- What a read answers that is made in time.
+use Rattle.std.proofs.Common.{◌≡◌, ◌∙◌, ℕ, suc, ◌<◌, ◌≤◌, Bool, true, false, not, List, [], ◌∷◌, ◌++◌, length, take, drop, refl, ap, sym, subst}
+use Rattle.std.proofs.Common.{arith, ⊎_elim, ◌==◌, ◌&&◌, ◌||◌, cond, Option, Some, Ok, Err, true≢false}
+use Rattle.std.specs.Prelude.{◌≢◌, Result, min}
+use Rattle.std.specs.Bool.{MatchBool}
+use Rattle.std.proofs.Math.Seq.{drop-append_seam}
+use Rattle.std.proofs.lemmas.Bool.{cases_lt}
+use Rattle.std.proofs.lemmas.Bool.Decides.{nat_tests}
+use Rattle.srcp_door.specs.Pacing.{Allows, IsLongest, IsOneLine, lines, weight_of}
+use Rattle.srcp_door.specs.declared.door.DoorFault.{DoorFault}
+use Rattle.srcp_door.specs.declared.door.DoorFault.TheVariants as fault
+use Rattle.srcp_door.specs.declared.door.Got.{Got}
+use Rattle.srcp_door.specs.declared.door.Got.TheVariants as got
+use Rattle.srcp_door.specs.declared.pacing.Line.{Line}
+use Rattle.srcp_door.specs.declared.pacing.Pace.{Pace}
+use Rattle.srcp_door.specs.declared.pacing.Pace.TheVariants.{Paced, OneLine}
+use Rattle.srcp_door.specs.declared.pacing.Share.{Share}
+use Rattle.srcp_peers.specs.declared.peer.Peer.{Peer}
+use Rattle.srcp_peers.specs.declared.readiness.Input.{Input}
+use Rattle.srcp_peers.specs.declared.readiness.Input.TheVariants as input
+use Rattle.srcp_peers.specs.declared.readiness.Output.{Output}
+use Rattle.srcp_peers.specs.declared.readiness.Output.TheVariants as output
+use Rattle.srcp_peers.specs.declared.stay.Stay.TheVariants as stay
+use Rattle.srcp_peers.specs.declared.turn.Turn.{Turn}
+use Rattle.srcp_peers.specs.Accounts.{Account, Received, Sent, account, is_held}
+use Rattle.srcp_peers.specs.Peers.{Agrees, IsKept, ReadsAs, StaysAs, WritesAs, is_lost}
+use Rattle.srcp_peers.specs.Reports.{IsAnswered, has_failed, is_ended, is_failed, piece_of}
+use Rattle.srcp_peers.specs.Steps.{Step}
+use Rattle.srcp_peers.specs.Turns.{got_bytes}
+use Rattle.srcp_peers.proofs.Resting.{and_right, held_is}
+use Rattle.srcp_peers.proofs.States.{reads_here}
+use Rattle.srcp_sockets.specs.Duties.{IsHandedOut, IsReadDone, held_piece, is_fault}
+use Rattle.srcp_sockets.specs.KeptTimes.{IsTimedFrom}
+use Rattle.srcp_sockets.proofs.Doing.{gave_as}
+use Rattle.srcp_sockets.proofs.Timing.{line_kept}
+
+-- ---- what is handed out
+
+light_longest : (line : Line) (most : ℕ) (piece : List ℕ) (count : ℕ) → IsLongest line most piece count → IsHandedOut line piece count
+light_longest line most piece count h = record {
+  begun = h.begun;
+  light = λ n within none. ⊎_elim
+      (λ (more : lines (take count piece) < lines (take n piece)).
+      let weighs : most < weight_of line (take n piece) = h.longest n within more in
+      absurd (omega (arith, weighs, none)))
+      (λ (fewer : lines (take n piece) ≤ lines (take count piece)). fewer)
+      (cases_lt (lines (take count piece)) (lines (take n piece)));
+}
+
+allowed : (pace : Pace) (share : Share) (piece : List ℕ) (count : ℕ) → Allows pace share piece count
+    → IsHandedOut share.line piece count
+allowed (Paced left) share piece count h = light_longest share.line (cond share.mark 0 left) piece count h
+allowed OneLine share piece count h = by share.mark h
+  where
+    by : (mark : Bool) → MatchBool mark (IsLongest share.line 0 piece count) (IsOneLine share.line piece count)
+        → IsHandedOut share.line piece count
+    by true longest = light_longest share.line 0 piece count longest
+    by false one = light_longest share.line one.first piece count one.longest
+
+-- ---- who failed
+
+pub lost_as : (sent : Sent) (outgoing : List ℕ) (state : Output) → WritesAs sent outgoing state → is_lost state ≡ sent.lost
+lost_as sent outgoing output.Open h = sym h.1
+lost_as sent outgoing output.Full h = sym h.1
+lost_as sent outgoing output.Lost h = sym h.1
+
+failed_as : (received : Received) (incoming : List ℕ) (state : Input) → ReadsAs received incoming state
+    → has_failed state ≡ received.failed
+failed_as received incoming input.Ready h = sym h.1
+failed_as received incoming input.Draining h = sym h.1
+failed_as received incoming input.Quiet h = sym h.1
+failed_as received incoming input.Ended h = sym h.1
+failed_as received incoming input.Failed h = sym h.1
+
+none_held : (incoming : List ℕ) → not (length incoming == 0) ≡ false → incoming ≡ []
+none_held [] e = refl
+none_held (byte ∷ incoming) e = absurd (true≢false (sym (some (length incoming)) ∙ e))
+  where
+    some : (n : ℕ) → not (suc n == 0) ≡ true
+    some n = grind (arith, nat_tests)
+
+not_held : (held either : Bool) → (not held && either) ≡ true → held ≡ false
+not_held true either e = absurd (true≢false (sym e))
+not_held false either e = refl
+
+watched_fails : (watched rest : Bool) → watched ≡ true → (not watched || rest) ≡ true → rest ≡ true
+watched_fails true rest w e = e
+watched_fails false rest w e = absurd (true≢false (sym w))
+
+-- ---- the answer
+
+-- of a peer that is there
+pub read_done : (wall start : ℕ) (trace : Option (List Step)) (turn : Turn) (p : Peer) (answer : Result Got DoorFault) (buffer : List ℕ)
+    (room : ℕ) (kept : Bool) (log : List Step) → trace ≡ Some log → IsTimedFrom wall start trace turn → IsKept trace p
+    → p.stay ≡ stay.Here → length buffer ≡ room → IsAnswered turn p room answer (got_bytes answer buffer) kept
+    → IsReadDone wall start log p.number answer buffer
+read_done wall start trace turn p answer buffer room kept log is timed agrees here long answered =
+    let a : Account = account p.number log in
+    let h : Agrees a p = agrees log is in
+    let reads : ReadsAs a.received p.incoming p.input = reads_here a.received p.incoming p.input p.stay here h.reads in
+    let gave : a.received.gave ≡ a.received.handed ++ p.incoming = gave_as a.received p.incoming p.input reads in
+    let held : is_held a.received ≡ not (length p.incoming == 0) = held_is a.received p.incoming gave in
+    let stays : StaysAs a.watched a.lingering p.outgoing stay.Here = subst (StaysAs a.watched a.lingering p.outgoing) here h.stays in
+    let some : is_held a.received ≡ true → p.incoming ≢ [] = λ e none.
+    true≢false (sym e ∙ held ∙ ap (λ (xs : List ℕ). not (length xs == 0)) none) in
+    let piece : piece_of p room ≡ held_piece a.received (length buffer) =
+    ap (λ n. take (min 256 n) p.incoming) (sym long)
+    ∙ ap (take (min 256 (length buffer))) (sym (ap (drop (length a.received.handed)) gave ∙ drop-append_seam a.received.handed p.incoming)) in
+    record {
+      told = λ ends failing.
+          let rest = watched_fails a.watched (not (is_held a.received) && (a.sent.lost || a.received.failed)) stays.0 failing in
+          let none = none_held p.incoming (sym held ∙ not_held (is_held a.received) (a.sent.lost || a.received.failed) rest) in
+          let fails : is_failed p ≡ true = ap (λ b. b || has_failed p.input) (lost_as a.sent p.outgoing p.output h.writes)
+          ∙ ap (λ b. a.sent.lost || b) (failed_as a.received p.incoming p.input reads)
+          ∙ and_right (not (is_held a.received)) (a.sent.lost || a.received.failed) rest in
+          let may : turn.ends ≡ true = ap (λ (t : Turn). t.ends) (sym (timed log is).same) ∙ ends in
+          let end : Result Got DoorFault = cond (is_ended p) (Ok got.Ended) (Ok got.Nothing) in
+          ap is_fault (answered.end none ∙ ap (λ b. cond b (cond (is_failed p) (Err fault.Read) end) (Ok got.Nothing)) may
+          ∙ ap (λ b. cond b (Err fault.Read) end) fails);
+      held = λ watched e. (answered.some (some e)).0;
+      handed = λ watched e.
+          subst (λ (l : Line). IsHandedOut l (held_piece a.received (length buffer)) (length (got_bytes answer buffer)))
+          (sym (line_kept trace wall start p log agrees is))
+          (subst (λ (xs : List ℕ). IsHandedOut p.share.line xs (length (got_bytes answer buffer))) piece
+          (allowed turn.pace p.share (piece_of p room) (length (got_bytes answer buffer)) (answered.some (some e)).1));
+    }
+
+-- of one that is not there
+pub missing_done : (wall start : ℕ) (trace : Option (List Step)) (turn : Turn) (who : ℕ) (answer : Result Got DoorFault) (buffer : List ℕ)
+    (log : List Step) → trace ≡ Some log → IsTimedFrom wall start trace turn → (account who log).watched ≡ false
+    → answer ≡ cond turn.ends (Err fault.Read) (Ok got.Nothing) → IsReadDone wall start log who answer buffer
+missing_done wall start trace turn who answer buffer log is timed missing answered = record {
+  told = λ ends failing.
+      let may : turn.ends ≡ true = ap (λ (t : Turn). t.ends) (sym (timed log is).same) ∙ ends in
+      ap is_fault (answered ∙ ap (λ b. cond b (Err fault.Read) (Ok got.Nothing)) may);
+  held = λ watched e. absurd (true≢false (sym watched ∙ missing));
+  handed = λ watched e. absurd (true≢false (sym watched ∙ missing));
+}

@@ -1,0 +1,9 @@
+use Rattle.srcp_door.specs.Calls.{NowCall}
+use Rattle.srcp_peers.specs.Steps.{Answers}
+use Rattle.srcp_sockets.proofs.laws.turns_wait.Goals as goal
+
+pub returns-clause-clock : goal.returns-clause-clock
+returns-clause-clock g c before after answer is = (c.args.door.now.sockets.done before after (Answers (NowCall answer)) is).clock
+
+pub returns-clause-waits : goal.returns-clause-waits
+returns-clause-waits g c before after answer is = (c.args.door.now.sockets.done before after (Answers (NowCall answer)) is).waits
