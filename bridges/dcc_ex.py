@@ -7,7 +7,7 @@ and what a hand throttle at it does.
 A slow line drops middle positions of a slider and no last one. Locomotives stop, and power goes off, if the server is
 away for PATIENCE seconds, if the station is lost or begins anew, and when this program is ended: the registry says so,
 power stays off until somebody switches it on, and a locomotive stands until somebody commands it anew. Decoders of the
-protocols M and S are left out.
+protocols M and S are left out. Decoders on the programming track are programmed by program.py.
 """
 import re
 from typing import Any
@@ -18,7 +18,8 @@ from srcp_bridges.stations.station import Station, words_of_driver
 
 MESSAGE = re.compile(
     r"<(?:(?P<banner>iDCC.*)|(?P<sensor>[Qq]) (?P<number>\d{1,5})|# (?P<slots>\d{1,4})|p(?P<power>[01])(?: MAIN| JOIN)?"
-    r"|(?P<overload>\*.*OVERLOAD.*)|l (?P<cab>\d{1,5}) -?\d+ (?P<speed>\d{1,3}) (?P<functions>\d{1,10})|(?P<refused>X))>",
+    r"|(?P<overload>\*.*OVERLOAD.*)|l (?P<cab>\d{1,5}) -?\d+ (?P<speed>\d{1,3}) (?P<functions>\d{1,10})|(?P<refused>X)"
+    r"|[rv] ?(?P<cv>\d{1,4}) (?P<value>-[123]|\d{1,3}))>",
     re.ASCII | re.DOTALL)
 
 
@@ -49,6 +50,10 @@ class DccEx(Station):
                 text = f"- {address}"
         return f"<{text}>\n".encode()
 
+    def encode_cv(self, cv: int, value: int | None) -> bytes:
+        """Returns the command that reads a CV, or writes a value into it, at the programming track."""
+        return f"<R {cv}>\n".encode() if value is None else f"<W {cv} {value}>\n".encode()
+
     def take(self, message: bytes) -> None:
         """Takes a message; others than these do not matter."""
         text = message.decode("latin-1")
@@ -62,6 +67,8 @@ class DccEx(Station):
         elif found["slots"]:
             self.track.slots = int(found["slots"])
             self.alive()
+        elif found["cv"]:
+            self.programming.take(int(found["cv"]), int(found["value"]))
         elif found["refused"]:
             say("station: refused a command")
         elif self.ready.is_set():

@@ -2,7 +2,7 @@
 """A DCC-EX command station without hardware, on a pseudo-terminal, to try dcc_ex.py with.
 
 LINK is made to lead to its line, and goes as it ends. It prints each command that changes the track, and refuses what
-is not in its grammar. A number that is typed turns the sensor of that number.
+is not in its grammar. A number that is typed turns the sensor of that number. A decoder is on its programming track.
 """
 import argparse
 import os
@@ -20,19 +20,23 @@ if sys.version_info < (3, 11):
 NUMBER = r"(0|[1-9]\d*)"
 SYNTAX = {"power": r"([01])", "throttle": rf"t {NUMBER} (-1|{NUMBER}) ([01])", "accessory": rf"a {NUMBER} ([01])",
           "function": rf"F {NUMBER} {NUMBER} ([01])", "forget": rf"- {NUMBER}", "sensors": "Q", "status": "s",
-          "cabs": "#", "stop": "!"}
+          "cabs": "#", "stop": "!", "read": rf"R {NUMBER}", "write": rf"W {NUMBER} {NUMBER}"}
 BANNER = "<iDCC-EX V-5.0.7 / MEGA / STANDARD_MOTOR_SHIELD G-sim>\r\n"
+DECODER = {1: 3, 2: 4, 3: 8, 4: 6, 5: 255, 6: 88, 7: 3, 8: 13, 13: 1, 17: 195, 18: 232, 19: 0, 21: 0, 22: 0, 27: 0,
+           28: 3, 29: 6, 33: 1, 34: 2, 66: 128, 95: 128}  # the CVs of a decoder
 
 
 class Station:
     """What a station knows, and its line. `faults` has what it refused, `log` all commands with their moments.
 
-    `hand`, `switch` and `overload` are what happens at the station itself. `late`: seconds until it reports.
+    `hand`, `switch` and `overload` are what happens at the station itself. `late`: seconds until it reports. `decoder`
+    has the CVs of the one on the programming track; None: there is no such track.
     """
 
     def __init__(self, link, show=lambda text: None):
         self.link, self.show, self.boot, self.faults, self.ids, self.stalled = link, show, 0.0, [], {}, False
         self.rate, self.late, self.slots = 0, 0.0, 50  # commands a second, 0 for no limit
+        self.decoder: dict[int, int] | None = dict(DECODER)
         self.open()
 
     def open(self):
@@ -158,6 +162,18 @@ class Station:
             self.say(f"<# {self.slots}>\r\n")
         elif name == "stop":
             self.stop_all()
+        elif name in ("read", "write"):
+            return self.program(*map(int, words))
+        return True
+
+    def program(self, cv, value=None):
+        """Reads a CV, or writes a value into it; returns whether the numbers are right."""
+        if not 1 <= cv <= 1024 or (value or 0) > 255:
+            return False
+        found = -3 if self.decoder is None and value is None else (self.decoder or {}).get(cv, -1)
+        if found >= 0 and value is not None:
+            found = self.decoder[cv] = value
+        self.report(f"<{'v' if value is None else 'r'} {cv} {found}>\r\n")
         return True
 
     def obey_cab(self, name, cab, first, *rest):

@@ -2,7 +2,8 @@
 """A Z21 without hardware, at a UDP port of this machine, to try z21.py with.
 
 It loses one datagram in ten. It prints each command that changes the track, as DCC-EX would be told it, and refuses
-what is not in its protocol. A number that is typed turns the sensor of that number.
+what is not in its protocol. A number that is typed turns the sensor of that number. It has one track, and the decoder
+of one locomotive there can be programmed.
 """
 import argparse
 import random
@@ -11,6 +12,8 @@ import socket
 import sys
 import threading
 import time
+
+from simulated_station import DECODER
 
 if sys.version_info < (3, 11):
     sys.exit("-- this takes Python 3.11 or later")
@@ -26,12 +29,14 @@ class Z21:
 
     `commanded` is when the last command came that was no question. `hand`, `switch`, `stop`, `program` and `overload`
     are what happens at the station itself. It keeps speeds while its power is off, and while it stops all. Who says
-    nothing for `patience` seconds is told nothing more. While it is `deaf` it hears questions alone.
+    nothing for `patience` seconds is told nothing more. While it is `deaf` it hears questions alone. `decoder` has the
+    CVs of the one that is programmed; None: its track has a short circuit. `asked` counts questions for its status.
     """
 
     def __init__(self, port, show=lambda text: None, loses=0.1):
         self.port, self.show, self.loses, self.patience, self.chance = port, show, loses, 60.0, random.Random(port)
         self.stalled, self.deaf, self.faults, self.sensors, self.log = False, False, [], set(), []
+        self.decoder: dict[int, int] | None = dict(DECODER)
         self.open()
 
     def open(self):
@@ -46,7 +51,7 @@ class Z21:
     def reset(self):
         """Knows what it knows when its power comes. The track's is on."""
         self.status, self.cabs, self.functions, self.turnouts, self.log = 0, {}, {}, {}, []
-        self.commanded = 0.0
+        self.commanded, self.asked = 0.0, 0
         self.steps, self.clients, self.heard, self.outputs, self.pulses, self.last = {}, {}, {}, {}, {}, {}
 
     restart = reset
@@ -197,12 +202,13 @@ class Z21:
         return True
 
     def take_bus(self, *data):
-        if data[0] in (0x80, 0x53, 0xE4) or data[:2] in ((0x21, 0x80), (0x21, 0x81)):
+        if data[0] in (0x80, 0x53, 0xE4, 0x23, 0x24) or data[:2] in ((0x21, 0x80), (0x21, 0x81)):
             self.commanded = time.monotonic()
             if self.deaf:
                 return True
         match data:
             case 0x21, 0x24:
+                self.asked += 1
                 self.say_bus(self.client, 0x62, 0x22, self.status)
             case 0x21, (0x80 | 0x81) as word:
                 self.changes("power", f"{word & 1}")
@@ -220,6 +226,10 @@ class Z21:
                 self.say_bus(self.client, *self.cab((high & 63) << 8 | low))
             case 0xE4, 0x10 | 0x12 | 0x13 as form, high, low, code if high > 191 or high == 0 and low < 128:
                 self.take_speed((high & 63) << 8 | low, form & 3, code & 127, code >> 7)
+            case 0x23, 0x11, high, low if high < 4:
+                self.take_cv(high * 256 + low + 1)
+            case 0x24, 0x12, high, low, value if high < 4:
+                self.take_cv(high * 256 + low + 1, value)
             case 0xE4, 0xF8, high, low, bits if bits & 63 <= 28 and bits < 128:
                 self.take_function((high & 63) << 8 | low, bits & 63, bits >> 6)
             case _:
@@ -249,6 +259,22 @@ class Z21:
         self.changes(("function", cab, number), f"F {cab} {number} {on}")
         self.functions[cab, number] = on
         self.tell(TO_HANDS, *self.cab(cab))
+
+    def take_cv(self, cv, value=None):
+        """Reads a CV, or writes a value into it. What drives on its track would be written too."""
+        if self.power and any(speed > 0 for speed, _ in self.cabs.values()):
+            self.fault(f"CV {cv} while a train drives")
+        text = f"R {cv}" if value is None else f"W {cv} {value}"
+        self.log.append((time.monotonic(), text))
+        self.show(f"<{text}>")
+        self.program()
+        if self.decoder is None:
+            return self.say_bus(self.client, 0x61, 0x12)
+        if cv not in self.decoder:
+            return self.say_bus(self.client, 0x61, 0x13)
+        if value is not None:
+            self.decoder[cv] = value
+        self.say_bus(self.client, 0x64, 0x14, *divmod(cv - 1, 256), self.decoder[cv])
 
 
 def main():

@@ -11,25 +11,25 @@ answers these, by SRCP 0.8.4:
   WAIT b FB a value seconds               the sensor, once it has that value
   SET 0 GM to from type text              a message for the information session `to` that came this way; 0: for each
   INIT b GL a L .., or INIT b GA a L      as P, which leaves the protocol to the server; so A, F and Z
+  INIT b SM NMRA, GET b SM 0 CV cv        a CV, if a driver on this machine has that bus; so SET, VERIFY and TERM
 
 An information session that sends GET 0 SERVER, GET 0 TIME or GET b DESCRIPTION is told that between its other lines,
-and after GET 0 TIME each minute of the clock. SM is refused as the server does: no driver can program.
+and after GET 0 TIME each minute of the clock.
 """
 import asyncio
 import re
 import time
 
-from srcp_bridges.program import arguments, run, say
-
 from srcp_bridges.old_words import FORBIDDEN, LATE, NO_DATA, NUMBER, SHORT, UNSUPPORTED, Answers, fault
 from srcp_bridges.places import Full, Places, add_arguments, listen
+from srcp_bridges.program import arguments, run, say
+from srcp_bridges.service_mode import ServiceMode
 from srcp_bridges.state import SELF
 
 CLIENTS, OF_ONE = 40, 20  # that are served: in all, and of one address
 LONGEST = 1000  # bytes of a line that the server reads
 WAITING = 1000  # lines of a client that may wait
 LINGER = 10.0  # seconds for which a WAIT goes on once its client has closed its side
-MODES = ["COMMAND"], ["INFO"]
 FOREIGN = re.compile(rb"([ \t]*INIT[ \t]+\d+[ \t]+G[LA][ \t]+\d+[ \t]+)[AFLZ](?=[ \t\r]|$)", re.I)
 
 
@@ -73,6 +73,7 @@ class Client:
         self.replies: asyncio.Queue[None] = asyncio.Queue()  # how many came, and one more at the end
         self.mode, self.id, self.is_panel, self.asked_time = "COMMAND", 0, False, False
         self.peer, self.port = writer.get_extra_info("peername")[0], proxy.answers.mirror.server[1]
+        self.service_mode = ServiceMode(self.port)
 
     def say(self, text: str):
         self.writer.write(f"{time.time():.3f} {text}\n".encode("latin-1"))
@@ -146,7 +147,7 @@ class Client:
         """Answers a line, or has the server answer it."""
         words = [word.decode("latin-1") for word in re.findall(rb"[^ \t]+", line.removesuffix(b"\r"))]
         keywords = [word.upper() for word in words]
-        if not self.id and keywords[:3] == ["SET", "CONNECTIONMODE", "SRCP"] and keywords[3:] in MODES:
+        if not self.id and re.fullmatch("SET CONNECTIONMODE SRCP (COMMAND|INFO)", " ".join(keywords)):
             self.mode = keywords[3]
         if self.id and len(line) <= LONGEST and len(words) > 2 and NUMBER.fullmatch(words[1]):
             if reply := await self.answer(keywords[0], int(words[1]), keywords[2], words[3:]):
@@ -175,7 +176,7 @@ class Client:
             return "100 INFO 0 SERVER RUNNING" if command == "GET" else FORBIDDEN
         if bus == 0 and group == "GM":
             return self.proxy.message(words) if command == "SET" else UNSUPPORTED
-        return None
+        return await self.service_mode.answer(command, bus, words) if group == "SM" else None
 
     async def waited(self, wait) -> str:
         """Returns the answer of a WAIT. It does not go on for long once the client has closed its side."""

@@ -13,14 +13,14 @@ import asyncio
 from typing import Any
 
 from srcp_bridges.program import run
-from srcp_bridges.rows import FORWARD
 from srcp_bridges.stations import datasets
 from srcp_bridges.stations.confirmed import Confirmed
-from srcp_bridges.stations.datasets import ASK_STATUS, FLAGS, NOT_DRIVING, SHORT_CIRCUIT, dataset, xbus
+from srcp_bridges.stations.datasets import ASK_STATUS, FLAGS, NOT_DRIVING, PROGRAMMING, SHORT_CIRCUIT, dataset, xbus
+from srcp_bridges.stations.hands import OFF, PROGRAMS
 from srcp_bridges.stations.line import network_place
+from srcp_bridges.stations.programming import NOBODY, SHORT
 from srcp_bridges.stations.registry import POWER
 from srcp_bridges.stations.station import words_of_driver
-from srcp_bridges.stations.track import FUNCTIONS
 
 PORT = 21105
 PULSE = 0.1  # seconds for which a turnout's output is on
@@ -32,6 +32,7 @@ class Z21(Confirmed):
     SENSORS = dataset(datasets.GET_RMBUS, b"\0") + dataset(datasets.GET_RMBUS, b"\1")
     ALIVE = dataset(datasets.GET_FLAGS) + ASK_STATUS + SENSORS
     STOP_ALL = xbus(0x80)
+    PROGRAMS_BESIDE = False  # its track is off while it programs
 
     def __init__(self, asked):
         super().__init__(asked)
@@ -48,7 +49,7 @@ class Z21(Confirmed):
             case ("power",), on:
                 return xbus(0x21, 0x80 | on) + ASK_STATUS
             case ("cab", address), _:
-                command = datasets.drive(address, value[0], value[1], self.top(address))
+                command = datasets.drive(address, value[0], value[1], self.track.top_of(address))
             case ("function", address, number), on:
                 command = datasets.function(address, number, on)
             case ("turnout", address), port:
@@ -57,8 +58,8 @@ class Z21(Confirmed):
                 return b""  # it has a place for each locomotive
         return command + datasets.ask_locomotive(address)
 
-    def top(self, address):
-        return self.track.top(self.track.locomotive(address)[0])
+    def encode_cv(self, cv: int, value: int | None) -> bytes:
+        return datasets.read_cv(cv) if value is None else datasets.write_cv(cv, value)
 
     def say_stop_all(self):
         """The station stops all until its power is switched on, also if that is on already."""
@@ -91,20 +92,23 @@ class Z21(Confirmed):
                 self.ready.clear()
                 self.greeted("Z21, has forgotten this program")
             elif header == datasets.RMBUS and len(data) == 11 and data[0] < 2:
-                bits = int.from_bytes(data[1:], "little")
-                for number in range(80):
-                    self.sense(80 * data[0] + number + 1, bits >> number & 1)
+                for number, value in datasets.sensors_of(*data):
+                    self.sense(number, value)
             elif header == datasets.XBUS and self.ready.is_set():
                 self.take_xbus(data[:-1])
 
     def take_xbus(self, data: bytes) -> None:
         match list(data):
-            case [0x61, 0 | 1 | 2 as told]:  # power is off, is on, or serves to program a decoder
-                self.power(int(told == 1))
-            case [0x81, 0]:  # it stops all
-                self.power(0)
+            case [0x61, 0 | 1] | [0x81, 0]:  # its power; it stops all
+                self.heard_power(data[1])
+            case [0x61, 2]:
+                self.heard_power(0, PROGRAMS)
             case [0x61, 8]:
                 self.hands.overload()
+            case [0x61, 0x12 | 0x13 as why]:
+                self.programming.take(None, SHORT if why == 0x12 else NOBODY)
+            case [0x64, 0x14, high, low, value]:
+                self.programming.take(high * 256 + low + 1, value)
             case [0x62, 0x22, status]:
                 self.take_status(status)
             case [0x43, high, low, 1 | 2 as port]:
@@ -117,24 +121,13 @@ class Z21(Confirmed):
         self.alive()
         if status & SHORT_CIRCUIT and self.track.told.get(POWER) and not self.awaits(POWER):
             self.hands.overload()
-        self.power(int(not status & NOT_DRIVING))
-
-    def power(self, on):
-        if not on or self.has_heard(POWER, on):
-            self.hands.power(on)
-        self.confirm(POWER, on)
+        self.heard_power(int(not status & NOT_DRIVING), PROGRAMS if status & PROGRAMMING else OFF)
 
     def locomotive(self, address, steps, code, functions):
-        top, speed, part = self.top(address), datasets.speed_of(code & 127, steps), ("cab", address)
+        top, speed = self.track.top_of(address), datasets.speed_of(code & 127, steps)
         if steps != top and speed > 0:  # a hand throttle drives it in other steps
             speed = -(-speed * top // steps)
-        drives = speed, code >> 7
-        before = self.hands.reports.reported.get(part, (0, FORWARD))
-        news = drives if speed <= 0 or self.has_heard(part, drives) else before
-        self.hands.locomotive(address, news[0], news[1], functions)
-        self.confirm(part, drives)
-        for number in range(FUNCTIONS):
-            self.confirm(("function", address, number), functions >> number & 1)
+        self.heard_locomotive(address, (speed, code >> 7), functions)
 
     def turnout(self, address, port):
         """Its output goes off after a while. What the station says of the turnout then confirms that."""

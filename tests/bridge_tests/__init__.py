@@ -63,9 +63,10 @@ from .test_orders import Orders, Stopping  # noqa: E402
 from .test_phone_stops import WiThrottleStops, WiThrottleWithBeats  # noqa: E402
 from .test_plan import Plans  # noqa: E402
 from .test_plan_in_chromium import LargePlanInChromium, PlanInChromium, PlanInGerman  # noqa: E402
+from .test_program import DccExWithPrograms, Programming, Z21WithPrograms  # noqa: E402
 from .test_readme import Readme  # noqa: E402
 from .test_srcp import Following, Parsing  # noqa: E402
-from .test_srcpd import Srcpd  # noqa: E402
+from .test_srcpd import Srcpd, SrcpdWithADriver  # noqa: E402
 from .test_web import Web, WebThatSleeps, WebWithSilentPages  # noqa: E402
 from .test_withrottle import WiThrottle  # noqa: E402
 from .test_z21 import Z21, Z21WithHands, Z21WithLosses  # noqa: E402
@@ -74,6 +75,7 @@ BRIDGE_CASES = cases_of(Readme, Following, MqttWithAWrongBroker, Stopping, Mqtt,
                         MqttWithPersistence, MqttBesideOthers, MqttWithLimits, MqttWithTls, Orders, Payloads,
                         WebInChromium, WebByTouch, WebInGerman, WebWithBeats, Web, WebThatSleeps, WebWithAWord,
                         WebWithSilentPages, WebBesideManyConnections, WebInTheNetwork, Entering, WiThrottle,
-                        WiThrottleStops, WiThrottleWithBeats, Srcpd, DccEx, DccExWithLosses, DccExWithHands, Z21,
-                        Z21WithLosses, Z21WithHands, Doctor, Guard, Keep, Log, Parsing, Plans, PlanInChromium,
-                        LargePlanInChromium, PlanInGerman)
+                        WiThrottleStops, WiThrottleWithBeats, Srcpd, SrcpdWithADriver, DccEx, DccExWithLosses,
+                        DccExWithHands, Z21, Z21WithLosses, Z21WithHands, DccExWithPrograms, Z21WithPrograms,
+                        Programming, Doctor, Guard, Keep, Log, Parsing, Plans, PlanInChromium, LargePlanInChromium,
+                        PlanInGerman)

@@ -1,15 +1,19 @@
 """srcpd.py, with lines as old clients send them: from memory, since no such client could be had."""
+import os
 import random
 import signal
 import socket
 import threading
 import time
 
-from .common import WAIT, Case, Server, Session, connects, free_port, until
+from .common import WAIT, Case, Server, Session, connects, free_port, new_folder, until
+from .test_dcc_ex import DccExCase
 
 HELLO = "SET PROTOCOL SRCP 0.8.4", "201 OK PROTOCOL SRCP"
 COMMAND = "SET CONNECTIONMODE SRCP COMMAND", "202 OK CONNECTIONMODE"
-OK = "200 OK"
+OK, NO_DATA, WRONG = "200 OK", "416 ERROR no data", "412 ERROR wrong value"
+SHORT, LONG, UNSUPPORTED = "419 ERROR list too short", "418 ERROR list too long", "423 ERROR unsupported operation"
+PROTOCOL = "420 ERROR unsupported device protocol"
 SEQUENCES = {  # of a command session: what is sent, and the reply without its stamp, one after the other
     "what a server offers": [
         ("GET 0 DESCRIPTION", "100 INFO 0 DESCRIPTION SESSION SERVER TIME GM DESCRIPTION"),
@@ -253,6 +257,43 @@ class Srcpd(Case):
         client.socket.close()
         self.proxy.send(signal.SIGTERM)
         self.assertEqual(self.proxy.end(), 0)
+
+
+class SrcpdWithADriver(DccExCase):
+    """Decoders are programmed by the driver of the bus."""
+    program = "srcpd"
+
+    def start(self, station=None, *words):
+        """Starts the driver and the proxy at the server's own port, by which the one finds the other."""
+        environment = os.environ | {"XDG_RUNTIME_DIR": new_folder()}  # other cases have drivers too
+        self.driver = self.starts("dcc_ex.py", "--station", self.link, *self.words, env=environment)
+        self.listen = free_port()
+        self.proxy = self.starts("srcpd.py", "--listen", self.listen, env=environment)
+        until(lambda: connects(self.listen) and "server: joined" in self.proxy.told(), "the proxy is there")
+        self.joins()
+
+    def test_a_programmer(self):
+        client = Client(self.listen, "COMMAND")
+        for sent, reply in [
+                ("GET 1 SM 0 CV 29", NO_DATA), ("TERM 1 SM", NO_DATA), ("INIT 1 SM MM", PROTOCOL), ("INIT 1 SM", SHORT),
+                ("INIT 1 SM NMRA", OK), ("GET 1 SM 0 CV 29", "100 INFO 1 SM 0 CV 29 6"), ("SET 1 SM 0 CV 29 38", OK),
+                ("get 1 sm 0 cv 29", "100 INFO 1 SM 0 CV 29 38"), ("VERIFY 1 SM 0 CV 29 38", OK),
+                ("VERIFY 1 SM 0 CV 29 6", WRONG), ("SET 1 SM 0 CV 29 256", WRONG), ("GET 1 SM 0 CV 1025", WRONG),
+                ("GET 1 SM 0 CV 0", WRONG), ("GET 1 SM 3 CV 29", WRONG), ("GET 1 SM 0 CV x", WRONG),
+                ("GET 1 SM 0 CV", SHORT), ("SET 1 SM 0 CV 29", SHORT), ("GET 1 SM", SHORT), ("GET 1 SM 0 CV 1 2", LONG),
+                ("SET 1 SM 0 REG 1 3", UNSUPPORTED), ("WAIT 1 SM 0 CV 29 6", UNSUPPORTED),
+                ("GET 1 SM 0 CV 500", NO_DATA), ("GET 2 SM 0 CV 29", "421 ERROR unsupported device"),
+                ("TERM 1 SM", OK), ("TERM 1 SM", NO_DATA)]:
+            self.assertEqual((sent, *client.ask(sent)), (sent, reply))
+        self.assertEqual(self.commands("W "), ["W 29 38"])
+        self.assertEqual(client.ask("INIT 1 SM NMRA", "SET 1 SM 0 CV 1 7", "GET 1 SM 0 CV 1", "GET 1 POWER"),
+                         [OK, OK, "100 INFO 1 SM 0 CV 1 7", "100 INFO 1 POWER ON"])
+        self.station.unplug()
+        self.has("100 INFO 1 POWER OFF no station")
+        self.assertEqual(client.ask("GET 1 SM 0 CV 1"), ["417 ERROR timeout"])
+        self.driver.end(signal.SIGKILL)
+        self.assertEqual(client.ask("GET 1 SM 0 CV 1"), ["421 ERROR unsupported device"])
+        self.station.open()
 
 
 def line(draw):

@@ -90,10 +90,21 @@ class Z21WithLosses(Losses, Z21Case):
     def test_a_station_that_programs_a_decoder(self):
         """Power counts as off. The station is told nothing that would end the programming, until somebody does."""
         self.station.program()
-        self.has("100 INFO 1 POWER OFF station says off", "100 INFO 1 GL 3 1 0 ")
+        self.has("100 INFO 1 POWER OFF programming", "100 INFO 1 GL 3 1 0 ")
+        asked = self.station.asked
+        self.track(lambda s: s.asked > asked + 3, "it has told its status again and again")
         time.sleep(QUIET)
         self.assertTrue(self.station.programs())
         self.drives()
+
+    def test_a_locomotive_that_drove_before_the_driver_came(self):
+        """It has no function on, so that nothing else has the station report it: it is told to stand too."""
+        self.driver.end(signal.SIGKILL)
+        self.throttle.order("INIT 1 GL 3 N 1 28 0", "INIT 1 GL 4 N 1 28 0")
+        self.station.functions.clear()
+        self.station.cabs[4] = 40, 1
+        self.start()
+        self.track(lambda s: (s.cabs[3], s.cabs[4]) == ((0, 1), (0, 1)), "both stand")
 
     def test_speeds_that_a_station_keeps(self):
         """What drove there before the driver came is told to stand before the power comes."""

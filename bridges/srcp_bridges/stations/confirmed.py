@@ -2,8 +2,12 @@
 import asyncio
 from typing import Any
 
+from srcp_bridges.rows import FORWARD
 from srcp_bridges.stations.datagrams import Datagrams
+from srcp_bridges.stations.hands import OFF
+from srcp_bridges.stations.registry import POWER
 from srcp_bridges.stations.station import PACE, Station
+from srcp_bridges.stations.track import FUNCTIONS
 
 CONFIRMS = 0.25  # seconds within which the station confirms what it was told
 TICK = 0.1  # seconds between two looks at what is not confirmed
@@ -13,10 +17,11 @@ LEAVING = 2.0  # seconds, at most, until all stand at the end
 class Confirmed(Station):
     """A part of the track is told one value at a time: the next once the station has confirmed that.
 
-    The driver of one kind of station gives also: `confirm`, called with what each report says; and `look`, which asks
-    for what the station may have reported in vain.
+    The driver of one kind of station calls `heard_power`, `heard_locomotive` and `confirm` with what reports say. It
+    gives also `look`, which asks for what the station may have reported in vain.
     """
     ANSWER = 0.2
+    REPEATS: float | None = 3.0  # seconds, more than a CV takes
     where: tuple[str, int]
 
     def __init__(self, asked):
@@ -57,6 +62,22 @@ class Confirmed(Station):
             self.hands.reports.reported[part] = value
             self.track.changed.set()
         return is_so
+
+    def heard_power(self, on, why=OFF):
+        """Takes a report of the power, and why it is off."""
+        if not on or self.has_heard(POWER, on):
+            self.hands.power(on, why)
+        self.confirm(POWER, on)
+
+    def heard_locomotive(self, address, drives, functions):
+        """Takes a report of a locomotive: its speed and direction, and a bit for each function."""
+        part = "cab", address
+        before = self.hands.reports.reported.get(part, (0, FORWARD))
+        news = drives if drives[0] <= 0 or self.has_heard(part, drives) else before
+        self.hands.locomotive(address, *news, functions)
+        self.confirm(part, drives)
+        for number in range(FUNCTIONS):
+            self.confirm(("function", address, number), functions >> number & 1)
 
     def greeted(self, message):
         self.awaited.clear()

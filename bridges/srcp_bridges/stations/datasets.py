@@ -9,7 +9,8 @@ FORMATS = {14: 0, 28: 2, 126: 3}  # of a command, by the numbers of steps
 REPORTED = {0: 14, 2: 28, 4: 126}  # the numbers of steps of a report, by its format
 FLAGS = (0x10003).to_bytes(4, "little")  # the station tells of its power, turnouts, sensors, and all locomotives
 SHORT_CIRCUIT = 0x04  # a bit of its status
-NOT_DRIVING = 0x27  # bits of its status: it stops all, power off, short circuit, programming
+PROGRAMMING = 0x20  # another: it programs a decoder
+NOT_DRIVING = 0x07 | PROGRAMMING  # all bits with which it does not drive: it stops all, power off, short circuit
 
 
 def dataset(header: int, data: bytes = b"") -> bytes:
@@ -63,6 +64,21 @@ def output(address: int, port: int, on: int) -> bytes:
 
 def ask_turnout(address: int) -> bytes:
     return xbus(0x43, *divmod(address - 1, 256))
+
+
+def read_cv(cv: int) -> bytes:
+    return xbus(0x23, 0x11, *divmod(cv - 1, 256))
+
+
+def write_cv(cv: int, value: int) -> bytes:
+    return xbus(0x24, 0x12, *divmod(cv - 1, 256), value)
+
+
+def sensors_of(group: int, *states: int) -> Iterator[tuple[int, int]]:
+    """Yields the number and the value of each sensor that a report of the R-BUS tells of."""
+    bits = int.from_bytes(bytes(states), "little")
+    for number in range(8 * len(states)):
+        yield 80 * group + number + 1, bits >> number & 1
 
 
 def functions_of(first: int, *more: int) -> int:

@@ -7,6 +7,8 @@ from srcp_bridges.stations.registry import POWER
 from srcp_bridges.stations.reports import Reports
 from srcp_bridges.stop import send, stop_one
 
+OFF, PROGRAMS = "station says off", "programming"  # why the power is off
+
 
 class Hands:
     """An echo of what the station was told changes nothing; what else it reports is ordered at the registry."""
@@ -23,14 +25,14 @@ class Hands:
             self.track.told[part] = value
         return True
 
-    def power(self, on):
+    def power(self, on, why=OFF):
         """Takes a report of the power. What is off stays off until somebody switches it on."""
         if not self.is_news(POWER, on):
             return
         if on:
             self.orders.command(POWER, f"SET {self.bus.number} POWER ON")
         else:
-            self.bus.lose("station says off")
+            self.bus.lose(why)
 
     def overload(self):
         """The station has cut its power. It would try again by itself: so it is told to stay off."""
@@ -39,7 +41,9 @@ class Hands:
     def locomotive(self, address, speed, way, functions):
         """Takes a report of a locomotive; `functions` has a bit for each. What the registry has not is not its own."""
         made, drive = self.track.locomotive(address)
+        self.track.others.pop(address, None)
         if not made:
+            self.track.others[address] = speed
             return
         self.track.known.add(address)
         part = "cab", address
@@ -58,7 +62,7 @@ class Hands:
         part, command = ("cab", address), f"SET {self.bus.number} GL {address} {way}"
         stays = partial(self.bus.holds.keep, part)
         if speed > 0:
-            top = self.track.top(self.track.locomotive(address)[0])
+            top = self.track.top_of(address)
             self.orders.command(part, f"{command} {speed} {top}", partial(self.track.mark, part))
         elif drive.v and speed < 0:
             self.orders.put(part, partial(stop_one, self.mirror, self.mirror.ask, self.bus.number, address), stays)

@@ -12,6 +12,7 @@ from srcp_bridges.stations.bus import Bus
 from srcp_bridges.stations.datagrams import Datagrams
 from srcp_bridges.stations.hands import Hands
 from srcp_bridges.stations.line import Line
+from srcp_bridges.stations.programming import Programming
 from srcp_bridges.stations.registry import POWER
 
 ASK = 1.0  # seconds between two questions to a silent station
@@ -26,10 +27,13 @@ class Station:
     """The line to a command station, which is opened again and again.
 
     The driver of one kind of station gives: `connect`, which opens a line; `take`, which takes a message that ends in
-    END; `encode`, which returns the command for a part of the track and its value; and the four commands.
+    END; `encode`, which returns the command for a part of the track and its value; `encode_cv`, which returns the
+    one for a CV; and the four commands.
     """
     END, ANSWER = b"\n", ASK  # ANSWER: seconds for which an answer is waited for
     HELLO, ALIVE, STOP_ALL, SENSORS = b"", b"", b"", b""
+    PROGRAMS_BESIDE = True  # as Programming has it
+    REPEATS: float | None = None
 
     def __init__(self, asked):
         self.name, self.silence, self.again = asked.station, asked.silence, asked.again
@@ -40,6 +44,7 @@ class Station:
         self.questions, self.began = 0, 0.0
         self.line: Line | Datagrams
         self.driven: dict[int, tuple[int, int, float]] = {}  # speed, direction and time of what was told last
+        self.programming = Programming(self, self.PROGRAMS_BESIDE, self.REPEATS)
 
     async def connect(self) -> Line | Datagrams:
         raise NotImplementedError
@@ -50,11 +55,15 @@ class Station:
     def encode(self, part: tuple, value: Any) -> bytes:
         raise NotImplementedError
 
+    def encode_cv(self, cv: int, value: int | None) -> bytes:
+        raise NotImplementedError
+
     # ---- what `take` calls
 
     def greeted(self, message):
         """The station has just started, or answers the first question: it stops all, and nothing starts by itself."""
         say(f"station: {message}")
+        self.programming.lose()
         self.hands.reports.clear()
         self.say_stop_all()
         now = asyncio.get_running_loop().time()
@@ -158,6 +167,7 @@ class Station:
             with contextlib.suppress(OSError):
                 await self.leave()
             self.ready.clear()
+            self.programming.lose()
             self.line.close()
 
     def tasks(self) -> list[Coroutine]:
@@ -204,13 +214,14 @@ class Station:
         """Tells doctor.py how the station is, what is not driven, and what was told last of each locomotive."""
         while True:
             SELF.tell_station(bus=self.bus.number, name=self.name, here=self.ready.is_set(), slots=self.track.slots,
-                              taken=len(self.track.known), left_out=dict(self.bus.left_out), told=dict(self.driven))
+                              taken=len(self.track.known), left_out=dict(self.bus.left_out), told=dict(self.driven),
+                              door=self.programming.path)
             await asyncio.sleep(MOMENT)
 
     async def run(self):
         """Drives until this program is ended. The registry then says that no station is driven."""
         runs = (self.bus.mirror.run(), self.bus.orders.run(), self.keep_line(), self.on_join(), self.feedback(),
-                self.tell_of_itself())
+                self.tell_of_itself(), self.programming.run())
         tasks = [asyncio.create_task(task) for task in runs]
         try:
             await asyncio.gather(*tasks)

@@ -31,6 +31,7 @@ class Track:
         self.not_before = [0.0] * 5
         self.stops: set[int] = set()  # locomotives of whose emergency stop the station is still to be told
         self.known: set[int] = set()
+        self.others: dict[int, int] = {}  # speeds of locomotives that the registry has not, as the station reports
         self.slots, self.changed = None, asyncio.Event()
         self.tops: tuple[int, ...] = TOPS
         self.at_first: tuple | None = None  # what a locomotive of which it was told nothing does, if it may drive
@@ -81,6 +82,9 @@ class Track:
         """Returns the fastest step of a locomotive at the station."""
         return next((top for top in self.tops if made and made.steps <= top), self.tops[-1])
 
+    def top_of(self, address):
+        return self.top(self.locomotive(address)[0])
+
     # ---- what differs
 
     def mark(self, part):
@@ -113,6 +117,7 @@ class Track:
         """The station has forgotten all. How turnouts lie has not changed."""
         self.told = {part: value for part, value in self.told.items() if part[0] == "turnout"}
         self.known.clear()
+        self.others.clear()
         self.stops.clear()
         self.mark_all()
 
@@ -143,6 +148,13 @@ class Track:
     def speed(self, address):
         """Returns the speed that the station was told last."""
         return (self.told.get(("cab", address)) or (0,))[0]
+
+    def driving(self):
+        """Returns the locomotives that drive, or are about to: none if the power is off."""
+        told = [part[1] for part in self.told if part[0] == "cab" and self.speed(part[1]) > 0]
+        waiting = [part[1] for part in self.waiting[DRIVING]]
+        others = [address for address, speed in self.others.items() if speed > 0]
+        return sorted(told + waiting + others) if self.told.get(POWER) else []
 
     def tell(self, part, value):
         """Notes that the station is told of a part."""

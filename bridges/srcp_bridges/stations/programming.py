@@ -1,0 +1,116 @@
+"""A door of a driver, by which programs of this machine have its station read and write the CVs of a decoder."""
+import asyncio
+import contextlib
+import os
+import re
+
+from srcp_bridges.program import say
+from srcp_bridges.state import folder
+
+LIMIT = 15.0  # seconds that a station may take for a CV
+NOBODY, CANNOT_MEASURE, NO_TRACK, SHORT = -1, -2, -3, -4  # what a station may say in place of a value
+WHY = {NOBODY: "no decoder answers", CANNOT_MEASURE: "the station cannot measure at its programming track",
+       NO_TRACK: "the station has no programming track", SHORT: "a short circuit at the programming track"}
+REQUEST = re.compile(r"(?:READ (\d{1,4})|WRITE (\d{1,4}) (\d{1,3}))\n?", re.ASCII)
+
+
+class Programming:
+    """Carries out one request after the other: READ CV, or WRITE CV VALUE. A reply is a code of SRCP, and the value or
+    what is wrong: `200 6`, `416 no decoder answers`.
+
+    The driver gives `encode_cv`, which returns the command that reads a CV, or writes a value into it. It calls `take`.
+    `beside`: the station programs on a track of its own, and trains drive on meanwhile. `repeats`: the seconds after
+    which it is told again, or None.
+    """
+
+    def __init__(self, station, beside: bool, repeats: float | None):
+        self.station, self.beside, self.repeats = station, beside, repeats
+        self.path, self.turn = str(folder() / f"{os.getpid()}.door"), asyncio.Lock()
+        self.asked: tuple[int, int | None] = 0, None
+        self.said: asyncio.Future[int] | None = None
+        self.doubtful = 0.0  # until then an answer that names no CV may be a second one to an earlier command
+
+    # ---- what the station does
+
+    def take(self, cv: int | None, value: int) -> None:
+        """Takes what the station says of a CV, or of the one that was asked for: its value, or one of WHY."""
+        if not self.said or self.said.done() or cv not in (None, self.asked[0]):
+            return
+        if cv is None and asyncio.get_running_loop().time() < self.doubtful:
+            return
+        if value < 0 or self.asked[1] in (None, value):
+            self.said.set_result(value)
+
+    def lose(self) -> None:
+        """The station is away, or has begun anew: what was asked of it has no answer."""
+        if self.said and not self.said.done():
+            self.said.set_exception(ConnectionError("the station is away"))
+
+    async def carry_out(self, cv: int, value: int | None) -> str:
+        """Has the station read a CV, or write a value into it; returns the reply."""
+        if not self.station.ready.is_set():
+            return "417 the station is away"
+        if not self.beside and (driving := self.station.track.driving()):
+            return f"413 locomotive {driving[0]} drives, and the station stops all to program"
+        self.asked, self.said = (cv, value), asyncio.get_running_loop().create_future()
+        try:
+            async with asyncio.timeout(LIMIT):
+                result = await self.tell(self.said, self.station.encode_cv(cv, value))
+            return f"416 {WHY[result]}" if result in WHY else f"200 {result}"
+        except TimeoutError:
+            return "417 the station does not answer"
+        except OSError as fault:
+            return f"417 {fault}"
+        finally:
+            self.said = None
+
+    async def tell(self, said: asyncio.Future[int], command: bytes) -> int:
+        """Tells the station a command, again and again if it has to be; returns its answer."""
+        told = 0
+        try:
+            while not said.done():
+                self.station.line.write(command)
+                told += 1
+                await asyncio.wait([said], timeout=self.repeats)
+            return said.result()
+        finally:
+            if self.repeats and told > 1:
+                self.doubtful = asyncio.get_running_loop().time() + 2 * self.repeats
+
+    # ---- the door
+
+    async def answer(self, line: str) -> str:
+        """Returns the reply to a request."""
+        if not (found := REQUEST.fullmatch(line)):
+            return "410 neither READ CV nor WRITE CV VALUE"
+        cv, value = int(found[1] or found[2]), None if found[3] is None else int(found[3])
+        if not 1 <= cv <= 1024 or (value or 0) > 255:
+            return "412 a CV is 1 to 1024, and its value 0 to 255"
+        async with self.turn:
+            return await self.carry_out(cv, value)
+
+    async def serve(self, reader: asyncio.StreamReader, writer: asyncio.StreamWriter) -> None:
+        """Answers the requests of one program until it has gone."""
+        try:
+            while line := await reader.readline():
+                writer.write(f"{await self.answer(line.decode('latin-1'))}\n".encode())
+                await writer.drain()
+        except (OSError, ValueError, asyncio.CancelledError):
+            pass  # it has gone, or sends what has no end, or this program is ended
+        finally:
+            writer.close()
+
+    async def run(self) -> None:
+        """Has the door open until this program is ended. Who may come to the server's port may come to it too."""
+        try:
+            os.makedirs(os.path.dirname(self.path), exist_ok=True)
+            server = await asyncio.start_unix_server(self.serve, self.path)
+        except OSError as fault:
+            return say(f"no decoder can be programmed: {self.path}: {fault}")
+        try:
+            os.chmod(self.path, 0o666)
+            await asyncio.get_running_loop().create_future()
+        finally:
+            server.close()
+            with contextlib.suppress(OSError):
+                os.unlink(self.path)

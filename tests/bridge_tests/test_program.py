@@ -1,0 +1,241 @@
+"""Programming decoders: program.py of examples/, with a driver and a simulated station of each kind."""
+import asyncio
+import os
+import signal
+import socket
+import subprocess
+import sys
+import threading
+import time
+import types
+import unittest
+from unittest import mock
+
+from .common import TOP, WAIT, folder, new_folder, until
+from .stations import QUIET, StationCase
+from .test_dcc_ex import DccExCase
+from .test_z21 import Z21Case
+
+EXAMPLE = TOP / "examples" / "program.py"
+
+
+class Programs(StationCase):
+    """The table: what program.py does by each station."""
+
+    def may(self):
+        """Has all be so that the station may program."""
+
+    def programs(self, *words):
+        """What program.py prints, and its status."""
+        command = [sys.executable, EXAMPLE, "--port", str(self.way.port), *map(str, words)]
+        done = subprocess.run(command, capture_output=True, text=True, timeout=2 * WAIT)
+        return done.stdout, done.stderr, done.returncode
+
+    def door(self):
+        return os.path.join(folder.name, "srcp_bridges", f"{self.driver.pid}.door")
+
+    def asks(self, *requests):
+        """The replies of the driver to lines at its door."""
+        with socket.socket(socket.AF_UNIX) as door:
+            door.settimeout(2 * WAIT)
+            door.connect(self.door())
+            stream = door.makefile("rw", newline="\n")
+            replies = []
+            for request in requests:
+                print(request, file=stream, flush=True)
+                replies.append(stream.readline().rstrip("\n"))
+            return replies
+
+    def told(self):
+        """The commands for CVs that the station was told."""
+        return self.commands("R ") + self.commands("W ")
+
+    def test_program_reads_writes_and_verifies(self):
+        self.may()
+        self.assertEqual(self.programs("read", 1, 29), ("CV 1 = 3\nCV 29 = 6\n", "", 0))
+        self.assertEqual(self.programs("write", 29, 38), ("CV 29 = 38\n", "", 0))
+        self.assertEqual(self.station.decoder[29], 38)
+        self.assertEqual(self.programs("verify", 29, 38), ("CV 29 = 38\n", "", 0))
+        self.assertEqual(self.programs("verify", 29, 6), ("", "CV 29 = 38, and not 6\n", 1))
+        self.station.decoder |= {1024: 255, 256: 0, 257: 7}
+        self.assertEqual(self.asks("READ 1024", "WRITE 1024 0", "WRITE 256 255", "READ 256", "READ 257"),
+                         ["200 255", "200 0", "200 255", "200 255", "200 7"])
+
+    def test_program_shows_the_twenty_that_people_change(self):
+        self.may()
+        self.station.loses = 0
+        del self.station.decoder[27]
+        told, wrong, status = self.programs("table")
+        lines = [line.split(None, 2) for line in told.splitlines()]
+        self.assertEqual((len(lines), wrong, status), (20, "", 0))
+        for cv, value, about in lines:
+            self.assertEqual(value, str(self.station.decoder.get(int(cv), "-")))
+            self.assertTrue(about)
+
+    def test_program_finds_no_decoder(self):
+        self.may()
+        self.station.decoder = {}
+        for words in (["read", 1], ["write", 1, 3], ["table"]):
+            out, wrong, status = self.programs(*words)
+            self.assertRegex(wrong, "^CV [18]: no decoder answers\n$")
+            self.assertEqual((out, status), ("", 1))
+        self.assertEqual({command[0] for command in self.told()}, {"R", "W"})
+        self.assertNotIn("R 29", self.told())
+        self.station.decoder = None
+        self.assertEqual(self.asks("READ 1"), [self.no_track])
+
+    def test_program_refuses_what_is_out_of_range(self):
+        self.may()
+        for request, code in [("READ 0", "412"), ("READ 1025", "412"), ("WRITE 1 256", "412"), ("WRITE 0 1", "412"),
+                              ("READ 1 2", "410"), ("WRITE 1", "410"), ("", "410"), ("READ -1", "410"),
+                              ("READ \u0661", "410"), ("READ 1" + " " * 99, "410"), ("x" * 9999, "410")]:
+            self.assertEqual(self.asks(request)[0][:3], code, request)
+        self.assertEqual(self.told(), [])
+
+
+class DccExWithPrograms(Programs, DccExCase):
+    no_track = "416 the station has no programming track"
+
+    def test_program_has_wrong_words(self):
+        """Also those that name no CV or no value end it with status 2."""
+        for words in (["read", 0], ["read", 1025], ["write", 1, 256], ["write", 1, -1], ["write", 1], ["read"],
+                      ["verify", 1, 2, 3], ["table", 1], ["erase", 1], []):
+            out, wrong, status = self.programs(*words)
+            self.assertEqual((out, status, "Traceback" in wrong), ("", 2, False), words)
+        self.assertEqual(self.told(), [])
+
+    def test_program_needs_a_driver(self):
+        out, wrong, status = self.programs("--bus", 2, "read", 1)
+        self.assertEqual((out, status), ("", 1))
+        self.assertRegex(wrong, "^no drivers of bus 2 are joined here")
+        self.assertTrue(os.path.exists(self.door()))
+        self.driver.end(signal.SIGKILL)
+        self.assertRegex(self.programs("read", 1)[1], "^no drivers of bus 1 are joined here")
+        self.start()
+        self.assertEqual(self.asks("READ 1"), ["200 3"])
+        idle = socket.socket(socket.AF_UNIX)
+        idle.connect(self.door())
+        self.assertEqual(self.driver.end(), 0)
+        self.assertFalse(os.path.exists(self.door()))
+        self.assertNotIn("Traceback", self.driver.told())
+        idle.close()
+
+    def test_program_while_trains_drive(self):
+        """The station has a track for it. Requests of several are carried out one after the other."""
+        self.station.late = 0.2
+        replies = {}
+
+        def reads(cv):
+            replies[cv] = self.asks(f"READ {cv}")
+
+        threads = [threading.Thread(target=reads, args=(cv,)) for cv in (1, 8, 29)]
+        for thread in threads:
+            thread.start()
+        for thread in threads:
+            thread.join(WAIT)
+        self.assertEqual(replies, {1: ["200 3"], 8: ["200 13"], 29: ["200 6"]})
+        moments = [moment for moment, text in self.station.log if text.startswith("R ")]
+        self.assertGreater(min(moments[1] - moments[0], moments[2] - moments[1]), 0.15)
+        self.assertEqual((self.station.power, self.station.cabs[3]), (1, (63, 1)))
+        self.has("100 INFO 1 POWER ON", "100 INFO 1 GL 3 1 14 28")
+
+    def test_program_loses_its_station(self):
+        self.station.stalled = True
+        time.sleep(0.2)
+        self.assertEqual(self.asks("READ 1"), ["417 the station is away"])
+        self.assertEqual(self.asks("READ 1"), ["417 the station is away"])
+        self.station.stalled = False
+        self.rests("")
+        until(lambda: self.asks("READ 1") == ["200 3"], "it answers again")
+        self.station.late = 30.0
+        thread = threading.Thread(target=lambda: time.sleep(QUIET) or self.station.restart())
+        thread.start()
+        self.assertEqual(self.asks("READ 1"), ["417 the station is away"])  # it was reset
+        thread.join()
+
+
+class Z21WithPrograms(Programs, Z21Case):
+    no_track = "416 a short circuit at the programming track"
+
+    def may(self):
+        self.throttle.order("SET 1 GL 3 1 0 28")
+        self.track(lambda s: s.cabs[3] == (0, 1), "it stands")
+
+    def test_program_is_refused_while_a_train_drives(self):
+        """Also one that the registry has not. The power goes off as the station programs, and stays off."""
+        refused = "locomotive 3 drives, and the station stops all to program"
+        self.assertEqual(self.programs("read", 1), ("", f"CV 1: {refused}\n", 1))
+        self.assertEqual(self.asks("WRITE 1 4"), [f"413 {refused}"])
+        self.assertEqual((self.station.power, self.station.cabs[3], self.told()), (1, (63, 1), []))
+        self.may()
+        self.station.loses = 0
+        self.station.hand(77, speed=40)
+        until(lambda: self.asks("READ 1")[0].startswith("413 locomotive 77 drives"), "that of a hand")
+        self.station.hand(77, speed=0)
+        until(lambda: self.asks("READ 1") == ["200 3"], "all stand")
+        self.has("100 INFO 1 POWER OFF programming", "100 INFO 1 GL 3 1 0 28")
+        self.throttle.order("SET 1 GL 3 1 14 28")
+        time.sleep(QUIET)
+        self.assertEqual(self.asks("READ 29"), ["200 6"])  # without power nothing drives
+        self.assertTrue(self.station.programs())
+        self.throttle.order("SET 1 GL 3 1 0 28", "SET 1 POWER ON")
+        self.track(lambda s: s.power == 1, "somebody ends the programming")
+
+    def test_program_while_datagrams_are_lost(self):
+        """The station is told again until it answers."""
+        self.may()
+        self.station.loses = 1
+        thread = threading.Thread(target=lambda: time.sleep(QUIET) or setattr(self.station, "loses", 0))
+        thread.start()
+        self.assertEqual(self.asks("WRITE 3 20"), ["200 20"])
+        thread.join()
+        self.assertEqual((self.station.decoder[3], self.told()), (20, ["W 3 20"]))
+
+
+class Programming(unittest.TestCase):
+    """What a driver makes of what its station says, without one."""
+    program = "programming"
+
+    def station(self, says):
+        """A station: `says` is called with each command, and with what takes its answers."""
+        from srcp_bridges.stations import programming
+        self.door = os.path.join(new_folder(), "door")
+        track = types.SimpleNamespace(driving=lambda: [])
+        line = types.SimpleNamespace(write=lambda command: says(command, made.take))
+        ready = types.SimpleNamespace(is_set=lambda: True)
+        station = types.SimpleNamespace(track=track, line=line, ready=ready, encode_cv=lambda *asked: asked)
+        made = programming.Programming(station, True, 0.1)
+        limit = mock.patch.object(programming, "LIMIT", 0.5)
+        limit.start()
+        self.addCleanup(limit.stop)
+        return made
+
+    def answers(self, says, *requests):
+        async def asked():
+            made = self.station(says)
+            return [await made.answer(request + "\n") for request in requests]
+        return asyncio.run(asked())
+
+    def test_a_station_that_says_nothing_of_it(self):
+        told = []
+        self.assertEqual(self.answers(lambda command, take: told.append(command), "READ 7"),
+                         ["417 the station does not answer"])
+        self.assertEqual(set(told), {(7, None)})
+        self.assertGreater(len(told), 2)
+
+    def test_what_is_of_another_command_is_passed_over(self):
+        def says(command, take):
+            cv, value = command
+            for of, told in [(cv + 1, 5), (cv, 9 if value == 6 else 6), (cv, 7), (None, -1)]:
+                take(of, told)
+
+        self.assertEqual(self.answers(says, "READ 1", "WRITE 1 6", "WRITE 1 7"),
+                         ["200 6", "416 no decoder answers", "200 7"])
+
+    def test_a_late_answer_is_not_that_of_the_next(self):
+        """A station that is slow answers twice what it was told twice, and names no CV if it fails."""
+        def says(command, take):
+            loop = asyncio.get_running_loop()
+            loop.call_later(0.15 if command[0] == 1 else 0.3, take, *((None, -1) if command[0] == 1 else (2, 44)))
+
+        self.assertEqual(self.answers(says, "READ 1", "READ 2"), ["416 no decoder answers", "200 44"])
