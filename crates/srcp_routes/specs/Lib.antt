@@ -1,0 +1,5 @@
+pub mod Conflicts
+pub mod Laws
+pub mod Plan
+pub mod Stages
+pub mod Steps

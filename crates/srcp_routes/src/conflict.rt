@@ -1,0 +1,174 @@
+//! Which routes conflict, and which sensors are free.
+
+ghost use Rattle.std.specs.Prelude.{◌≡◌, ◌++◌, IfOk, OnOk, map};
+ghost use Rattle.srcp_routes.specs.Conflicts.{is_same, is_signal, has_turnout, uses, has_block, signal_meets};
+ghost use Rattle.srcp_routes.specs.Conflicts.{turnouts_meet, blocks_meet, meets, conflicts, is_free, are_free, told_sensor};
+ghost use Rattle.srcp_routes.specs.Conflicts.{unknown, route_sensors, sensors_of};
+
+use crate::{Device, Route};
+use std::alloc::{AllocError, Global};
+use std::vec::Vec;
+
+/// Says what a sensor was last told to be.
+#[derive(Clone, Copy, Debug, PartialEq, Eq)]
+pub(crate) struct Sensed {
+    /// The sensor.
+    pub(crate) sensor: Device,
+    /// True if it was told to be 0, and not told to be anything else since.
+    pub(crate) is_free: bool,
+}
+
+/// Returns whether these are one device.
+pub(crate) fn is_same(a: Device, b: Device) -> bool
+    ensures { result ≡ is_same a b }
+{
+    a.bus == b.bus && a.address == b.address
+}
+
+/// Returns whether a route has this accessory as its signal.
+fn is_signal(route: &Route, device: Device) -> bool
+    ensures { result ≡ is_signal route.now device }
+{
+    match route.signal {
+        Some(signal) => is_same(signal.device, device),
+        None => false,
+    }
+}
+
+/// Returns whether a route has this accessory as a turnout.
+fn has_turnout(route: &Route, device: Device) -> bool
+    ensures { result ≡ has_turnout route.now device }
+{
+    route
+        .turnouts
+        .iter()
+        .any(|turnout| is_same(turnout.device, device))
+}
+
+/// Returns whether a route has this accessory as its signal or as a turnout.
+fn uses(route: &Route, device: Device) -> bool
+    ensures { result ≡ uses route.now device }
+{
+    is_signal(route, device) || has_turnout(route, device)
+}
+
+/// Returns whether a route has a block at this sensor.
+fn has_block(route: &Route, sensor: Device) -> bool
+    ensures { result ≡ has_block route.now sensor }
+{
+    route.blocks.iter().any(|block| is_same(*block, sensor))
+}
+
+/// Returns whether the signal of one route is an accessory of the other.
+fn signal_meets(route: &Route, other: &Route) -> bool
+    ensures { result ≡ signal_meets route.now other.now }
+{
+    match route.signal {
+        Some(signal) => uses(other, signal.device),
+        None => false,
+    }
+}
+
+/// Returns whether a turnout of one route is an accessory of the other.
+fn turnouts_meet(route: &Route, other: &Route) -> bool
+    ensures { result ≡ turnouts_meet route.now other.now }
+{
+    route
+        .turnouts
+        .iter()
+        .any(|turnout| uses(other, turnout.device))
+}
+
+/// Returns whether the routes share a block.
+fn blocks_meet(route: &Route, other: &Route) -> bool
+    ensures { result ≡ blocks_meet route.now other.now }
+{
+    route.blocks.iter().any(|block| has_block(other, *block))
+}
+
+/// Returns whether an accessory or a block of one route is one of the other.
+fn meets(route: &Route, other: &Route) -> bool
+    ensures { result ≡ meets route.now other.now }
+{
+    signal_meets(route, other) || turnouts_meet(route, other) || blocks_meet(route, other)
+}
+
+/// Returns whether two routes share a turnout, a signal or a block.
+pub(crate) fn conflicts(route: &Route, other: &Route) -> bool
+    ensures { result ≡ conflicts route.now other.now }
+{
+    meets(route, other) || meets(other, route)
+}
+
+/// Returns whether a sensor is free.
+pub(crate) fn is_free(sensors: &[Sensed], sensor: Device) -> bool
+    ensures { result ≡ is_free sensors.now sensor }
+{
+    sensors
+        .iter()
+        .any(|known| known.is_free && is_same(known.sensor, sensor))
+}
+
+/// Returns whether all these blocks are free.
+pub(crate) fn are_free(sensors: &[Sensed], blocks: &[Device]) -> bool
+    ensures { result ≡ are_free sensors.now blocks.now }
+{
+    blocks.iter().all(|block| is_free(sensors, *block))
+}
+
+/// Returns what is known of a sensor after one was told to be on or off.
+fn told(known: Sensed, sensor: Device, is_on: bool) -> Sensed
+    ensures { result ≡ told_sensor sensor is_on known }
+{
+    if is_same(known.sensor, sensor) {
+        Sensed {
+            sensor: known.sensor,
+            is_free: !is_on,
+        }
+    } else {
+        known
+    }
+}
+
+/// Takes in what a sensor was told to be.
+pub(crate) fn sense(sensors: &mut [Sensed], sensor: Device, is_on: bool)
+    ensures { sensors.new ≡ map (told_sensor sensor is_on) sensors.old }
+{
+    for known in sensors.iter_mut() {
+        *known = told(*known, sensor, is_on);
+    }
+}
+
+/// Returns a sensor of which nothing was told.
+fn unknown(sensor: Device) -> Sensed
+    ensures { result ≡ unknown sensor }
+{
+    Sensed {
+        sensor,
+        is_free: false,
+    }
+}
+
+/// Adds the sensors of a route.
+fn add_sensors(sensors: &mut Vec<Sensed>, route: &Route) -> Result<(), AllocError>
+    ensures { OnOk result (sensors.new.items ≡ sensors.old.items ++ route_sensors route.now) }
+{
+    for block in &route.blocks {
+        sensors.push(unknown(*block))?;
+    }
+    if let Some(sensor) = route.frees {
+        sensors.push(unknown(sensor))?;
+    }
+    Ok(())
+}
+
+/// Returns the sensors of all routes.
+pub(crate) fn sensors_of(alloc: Global, routes: &[Route]) -> Result<Vec<Sensed>, AllocError>
+    ensures { IfOk result (λ sensors. sensors.items ≡ sensors_of routes.now) }
+{
+    let mut sensors = Vec::new(alloc);
+    for route in routes {
+        add_sensors(&mut sensors, route)?;
+    }
+    Ok(sensors)
+}

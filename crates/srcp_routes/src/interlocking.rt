@@ -1,0 +1,354 @@
+//! All routes of a plan: which of them sends its order next, and what each event makes of them.
+
+ghost use Rattle.std.specs.Prelude.{◌≡◌, ◌<◌, false, IfOk, IfSome, is_some, length, map};
+ghost use Rattle.srcp_routes.specs.Plan.{conflict_at, stage_at, wanted_at, is_clear, is_freed, freed_below, lost_at};
+ghost use Rattle.srcp_routes.specs.Laws.{start};
+ghost use Rattle.srcp_routes.specs.Plan.{first_below, written_below};
+ghost use Rattle.srcp_routes.specs.Stages.{lost_stage};
+ghost use Rattle.srcp_routes.specs.Steps.{may_begin, ready_at, order_at, next, asked, given, told, stage_replied};
+ghost use Rattle.srcp_routes.specs.Steps.{replied, lost as lost_table, heard, step};
+
+use crate::conflict::{Sensed, are_free, conflicts, is_free, is_same, sense, sensors_of};
+use crate::stage::{after_reply, lost, order_of, ready, retried};
+use crate::{Device, Order, Route, Stage};
+use std::alloc::{AllocError, Global};
+use std::marker::Model;
+use std::vec::Vec;
+
+/// What comes to an interlocking. Routes are named by their places in the plan.
+#[derive(Clone, Copy, Debug, PartialEq, Eq)]
+pub enum Event {
+    /// A route is asked for.
+    Ask(usize),
+    /// A route is given back.
+    Give(usize),
+    /// A sensor is told to be on or off.
+    Told(Device, bool),
+    /// The order that was sent is accepted, or refused.
+    Reply(bool),
+    /// A command session has begun: the locks of the one before it are gone.
+    Lost,
+}
+
+/// Sets routes and gives them back: one order at a time, each by the reply to the one before.
+#[derive(Drop)]
+pub struct Interlocking {
+    routes: Vec<Route>,
+    stages: Vec<Stage>,
+    wanted: Vec<bool>,
+    sensors: Vec<Sensed>,
+    waiting: Option<usize>,
+}
+
+impl Model for Interlocking {
+    ghost use Rattle.std.specs.Prelude.{◌≡◌, ◌<◌, length};
+    ghost use Rattle.std.specs.Option.{ForSome};
+    ghost use Rattle.srcp_routes.specs.Plan.{Table};
+
+    ghost Value = { Table };
+
+    ghost view = { λ t. record {
+      routes = t.routes.items;
+      stages = t.stages.items;
+      wanted = t.wanted.items;
+      sensors = t.sensors.items;
+      waiting = t.waiting;
+    } };
+
+    ghost invariant = { λ t.
+        (length t.stages.items ≡ length t.routes.items) × (length t.wanted.items ≡ length t.routes.items) };
+}
+
+/// Returns whether the routes at two places conflict.
+fn conflict_at(routes: &[Route], n: usize, m: usize) -> bool
+    ensures { result ≡ conflict_at routes.now n m }
+{
+    match routes.get(n) {
+        Some(route) => match routes.get(m) {
+            Some(other) => conflicts(route, other),
+            None => false,
+        },
+        None => false,
+    }
+}
+
+/// Returns the stage of the route at a place.
+fn stage_at(stages: &[Stage], n: usize) -> Stage
+    ensures { result ≡ stage_at stages.now n }
+{
+    match stages.get(n) {
+        Some(stage) => *stage,
+        None => Stage::Idle,
+    }
+}
+
+/// Returns whether the route at a place is wanted.
+fn wanted_at(wanted: &[bool], n: usize) -> bool
+    ensures { result ≡ wanted_at wanted.now n }
+{
+    match wanted.get(n) {
+        Some(is_wanted) => *is_wanted,
+        None => false,
+    }
+}
+
+/// Returns whether no route that conflicts with one has left `Idle`.
+fn is_clear(routes: &[Route], stages: &[Stage], n: usize) -> bool
+    ensures { result ≡ is_clear routes.now stages.now n }
+{
+    for m in 0..routes.len() {
+        if conflict_at(routes, n, m) && !stage_at(stages, m).is_idle() {
+            return false;
+        }
+    }
+    true
+}
+
+/// Returns whether the route at a place is held, and the fall of this sensor gives it back.
+fn is_freed(routes: &[Route], stages: &[Stage], sensor: Device, n: usize) -> bool
+    ensures { result ≡ is_freed routes.now stages.now sensor n }
+{
+    match routes.get(n) {
+        Some(route) => match route.frees {
+            Some(freeing) => is_same(freeing, sensor) && stage_at(stages, n).is_held(),
+            None => false,
+        },
+        None => false,
+    }
+}
+
+/// Gives back each held route that the fall of this sensor gives back.
+fn give_freed(routes: &[Route], stages: &[Stage], sensor: Device, wanted: &mut [bool])
+    ensures { wanted.new ≡ freed_below (is_freed routes.now stages.now sensor) (length wanted.old) wanted.old }
+{
+    for n in 0..wanted.len() {
+        if is_freed(routes, stages, sensor, n) {
+            wanted[n] = false;
+        }
+    }
+}
+
+/// Returns the stage of the route at a place as a command session begins.
+fn lost_at(routes: &[Route], n: usize) -> Stage
+    ensures { result ≡ lost_at routes.now n }
+{
+    match routes.get(n) {
+        Some(route) => lost(route),
+        None => Stage::Idle,
+    }
+}
+
+/// Returns the stages of all routes as a command session begins.
+fn lost_stages(alloc: Global, routes: &[Route]) -> Result<Vec<Stage>, AllocError>
+    ensures { IfOk result (λ stages. stages.items ≡ map lost_stage routes.now) }
+{
+    routes.iter().map(|route| lost(route)).collect(alloc)
+}
+
+/// Returns for each route that it is not wanted.
+fn none_wanted(alloc: Global, routes: &[Route]) -> Result<Vec<bool>, AllocError>
+    ensures { IfOk result (λ wanted. wanted.items ≡ map (λ route. false) routes.now) }
+{
+    routes.iter().map(|_| false).collect(alloc)
+}
+
+/// Puts each route into its stage as a command session begins.
+fn lose_all(routes: &[Route], stages: &mut [Stage])
+    ensures { stages.new ≡ written_below (lost_at routes.now) (length stages.old) stages.old }
+{
+    for n in 0..stages.len() {
+        stages[n] = lost_at(routes, n);
+    }
+}
+
+/// Notes that no route is wanted.
+fn want_none(wanted: &mut [bool])
+    ensures { wanted.new ≡ written_below (λ n. false) (length wanted.old) wanted.old }
+{
+    for n in 0..wanted.len() {
+        wanted[n] = false;
+    }
+}
+
+impl Interlocking {
+    /// Makes the interlocking of a plan, which waits for the event that a command session has begun. No other call
+    /// takes memory.
+    ///
+    /// # Errors
+    /// If memory is refused.
+    pub fn new(alloc: Global, routes: Vec<Route>) -> Result<Interlocking, AllocError>
+        ensures { IfOk result (λ table. table ≡ start routes.items) }
+    {
+        let stages = lost_stages(alloc, &routes)?;
+        let wanted = none_wanted(alloc, &routes)?;
+        let sensors = sensors_of(alloc, &routes)?;
+        Ok(Interlocking {
+            routes,
+            stages,
+            wanted,
+            sensors,
+            waiting: None,
+        })
+    }
+
+    /// Returns whether the route at a place may begin.
+    fn may_begin(&self, n: usize, is_free: bool) -> bool
+        ensures { result ≡ may_begin self.now n is_free }
+    {
+        stage_at(&self.stages, n).is_idle()
+            && wanted_at(&self.wanted, n)
+            && is_free
+            && is_clear(&self.routes, &self.stages, n)
+    }
+
+    /// Returns the stage whose order the route at a place may send next.
+    fn ready_at(&self, n: usize) -> Stage
+        ensures { result ≡ ready_at self.now n }
+    {
+        match self.routes.get(n) {
+            Some(route) => {
+                let is_free = are_free(&self.sensors, &route.blocks);
+                let begins = self.may_begin(n, is_free);
+                ready(
+                    route,
+                    wanted_at(&self.wanted, n),
+                    is_free,
+                    begins,
+                    stage_at(&self.stages, n),
+                )
+            }
+            None => Stage::Idle,
+        }
+    }
+
+    /// Returns the order that the route at a place may send next.
+    fn order_at(&self, n: usize) -> Option<Order>
+        ensures { result ≡ order_at self.now n }
+    {
+        match self.routes.get(n) {
+            Some(route) => order_of(route, self.ready_at(n)),
+            None => None,
+        }
+    }
+
+    /// Returns the first of so many routes that may send an order.
+    fn due(&self, count: usize) -> Option<usize>
+        ensures first { result ≡ first_below (λ n. is_some (order_at self.now n)) count }
+        ensures below { IfSome result (λ n. n < count) }
+    {
+        for n in 0..count {
+            if self.order_at(n).is_some() {
+                return Some(n);
+            }
+        }
+        None
+    }
+
+    /// Sends the next order, if none waits for its reply.
+    fn next(&mut self) -> Option<Order>
+        ensures table { self.new ≡ (next self.old).table }
+        ensures order { result ≡ (next self.old).order }
+    {
+        if self.waiting.is_some() {
+            return None;
+        }
+        match self.due(self.routes.len()) {
+            Some(n) => {
+                let order = self.order_at(n);
+                let stage = self.ready_at(n);
+                self.stages[n] = stage;
+                self.waiting = Some(n);
+                order
+            }
+            None => None,
+        }
+    }
+
+    /// Notes that a route is asked for.
+    fn ask(&mut self, n: usize)
+        ensures { self.new ≡ asked self.old n }
+    {
+        if n < self.routes.len() {
+            self.wanted[n] = true;
+        }
+    }
+
+    /// Notes that a route is given back.
+    fn give(&mut self, n: usize)
+        ensures { self.new ≡ given self.old n }
+    {
+        if n < self.routes.len() {
+            let stage = retried(stage_at(&self.stages, n));
+            self.stages[n] = stage;
+            self.wanted[n] = false;
+        }
+    }
+
+    /// Notes what a sensor was told to be.
+    fn tell(&mut self, sensor: Device, is_on: bool)
+        ensures { self.new ≡ told self.old sensor is_on }
+    {
+        if !is_on && !is_free(&self.sensors, sensor) {
+            give_freed(&self.routes, &self.stages, sensor, &mut self.wanted);
+        }
+        sense(&mut self.sensors, sensor, is_on);
+    }
+
+    /// Returns the stage of the route at a place after the reply to its order.
+    fn stage_replied(&self, n: usize, ok: bool) -> Stage
+        ensures { result ≡ stage_replied self.now n ok }
+    {
+        match self.routes.get(n) {
+            Some(route) => after_reply(route, stage_at(&self.stages, n), ok),
+            None => Stage::Idle,
+        }
+    }
+
+    /// Notes the reply to the order that waits for one.
+    fn reply(&mut self, ok: bool)
+        ensures { self.new ≡ replied self.old ok }
+    {
+        let Some(n) = self.waiting else {
+            return;
+        };
+        if n < self.routes.len() {
+            let stage = self.stage_replied(n, ok);
+            self.stages[n] = stage;
+            if !ok {
+                self.wanted[n] = false;
+            }
+        }
+        self.waiting = None;
+    }
+
+    /// Notes that a command session has begun.
+    fn lose(&mut self)
+        ensures { self.new ≡ lost_table self.old }
+    {
+        lose_all(&self.routes, &mut self.stages);
+        want_none(&mut self.wanted);
+        self.waiting = None;
+    }
+
+    /// Notes an event.
+    fn hear(&mut self, event: Event)
+        ensures { self.new ≡ heard self.old event }
+    {
+        match event {
+            Event::Ask(n) => self.ask(n),
+            Event::Give(n) => self.give(n),
+            Event::Told(sensor, is_on) => self.tell(sensor, is_on),
+            Event::Reply(ok) => self.reply(ok),
+            Event::Lost => self.lose(),
+        }
+    }
+
+    /// Takes in an event, and returns the order to send then, if there is one.
+    pub fn step(&mut self, event: Event) -> Option<Order>
+        ensures table { self.new ≡ (step self.old event).table }
+        ensures order { result ≡ (step self.old event).order }
+    {
+        self.hear(event);
+        self.next()
+    }
+}

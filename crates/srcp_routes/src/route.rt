@@ -1,0 +1,64 @@
+//! What a plan says of one route, and the orders that routes send.
+
+use std::vec::Vec;
+
+/// Names an accessory or a sensor.
+#[derive(Clone, Copy, Debug, PartialEq, Eq)]
+pub struct Device {
+    /// The bus.
+    pub bus: u8,
+    /// The address on it.
+    pub address: u32,
+}
+
+/// Says which port of an accessory has to be on.
+#[derive(Clone, Copy, Debug, PartialEq, Eq)]
+pub struct Setting {
+    /// The accessory.
+    pub device: Device,
+    /// The port.
+    pub port: u8,
+}
+
+/// Says how an accessory shows the signal of a route.
+#[derive(Clone, Copy, Debug, PartialEq, Eq)]
+pub struct Signal {
+    /// The accessory.
+    pub device: Device,
+    /// The port that shows "go".
+    pub go: u8,
+    /// The port that shows "stop".
+    pub stop: u8,
+}
+
+/// Describes a route.
+#[derive(Drop)]
+pub struct Route {
+    /// Its number, by which it is asked for and reported.
+    pub number: u32,
+    /// The turnouts, each with the port that it wants.
+    pub turnouts: Vec<Setting>,
+    /// The sensors that have to be 0.
+    pub blocks: Vec<Device>,
+    /// Its signal, if it has one.
+    pub signal: Option<Signal>,
+    /// The sensor whose fall gives it back, if it has one.
+    pub frees: Option<Device>,
+}
+
+/// Says what a route commands.
+#[derive(Clone, Copy, Debug, PartialEq, Eq)]
+pub enum Order {
+    /// Locks a turnout.
+    Lock(Device),
+    /// Throws a turnout.
+    Throw(Setting),
+    /// Shows "go".
+    Show(Setting),
+    /// Shows "stop".
+    Stop(Setting),
+    /// Reports whether the route of this number is set.
+    Report(u32, bool),
+    /// Gives up the lock of a turnout.
+    Unlock(Device),
+}

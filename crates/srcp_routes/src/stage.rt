@@ -1,0 +1,284 @@
+//! The stages of one route: its order at each, and what comes after it.
+
+ghost use Rattle.std.specs.Prelude.{◌≡◌};
+ghost use Rattle.srcp_routes.specs.Stages.{left_stage, leaving_stage, thrown_stage, first_stage, lost_stage};
+ghost use Rattle.srcp_routes.specs.Stages.{retried_stage, order_of, accepted_stage, refused_stage, after_reply};
+ghost use Rattle.srcp_routes.specs.Stages.{turned_back, ready_stage, show_setting, stop_setting, is_idle, is_held};
+
+use crate::{Order, Route, Setting, Signal};
+
+/// Says how far a route has come.
+#[derive(Clone, Copy, Debug, PartialEq, Eq)]
+pub enum Stage {
+    /// It holds nothing, and its signal shows "stop".
+    Idle,
+    /// It holds nothing, and its signal is to be stopped.
+    Clearing,
+    /// It holds nothing, and its signal could not be stopped.
+    Blocked,
+    /// It holds nothing, and is to be reported as not set.
+    Closing,
+    /// So many turnouts are locked, and the next is being locked.
+    Locking(usize),
+    /// All turnouts are locked, so many are thrown, and the next is being thrown.
+    Throwing(usize),
+    /// All turnouts are thrown, and the signal waits for the blocks.
+    Ready,
+    /// The signal is being shown.
+    Showing,
+    /// It is to be reported as set.
+    Reporting,
+    /// It is set.
+    Set,
+    /// Its signal is to be stopped, and it holds its locks.
+    Stopping,
+    /// Its signal could not be stopped, and it keeps its locks.
+    Stuck,
+    /// It is to be reported as not set, and holds its locks.
+    Hiding,
+    /// So many turnouts stay locked, and the next is being unlocked.
+    Unlocking(usize),
+}
+
+impl Stage {
+    /// Returns whether a route holds nothing at this stage, and its signal shows "stop".
+    pub(crate) fn is_idle(self) -> bool
+        ensures { result ≡ is_idle self }
+    {
+        matches!(self, Stage::Idle)
+    }
+
+    /// Returns whether a route holds locks at this stage, or may be about to.
+    pub fn is_held(self) -> bool
+        ensures { result ≡ is_held self }
+    {
+        !matches!(
+            self,
+            Stage::Idle | Stage::Clearing | Stage::Blocked | Stage::Closing
+        )
+    }
+}
+
+/// Returns the setting in which a signal shows "go".
+fn show_setting(signal: Signal) -> Setting
+    ensures { result ≡ show_setting signal }
+{
+    Setting {
+        device: signal.device,
+        port: signal.go,
+    }
+}
+
+/// Returns the setting in which a signal shows "stop".
+fn stop_setting(signal: Signal) -> Setting
+    ensures { result ≡ stop_setting signal }
+{
+    Setting {
+        device: signal.device,
+        port: signal.stop,
+    }
+}
+
+/// Returns the stage of a route that has so many locks to give up.
+fn left_stage(left: usize) -> Stage
+    ensures { result ≡ left_stage left }
+{
+    if left == 0 {
+        Stage::Idle
+    } else {
+        Stage::Unlocking(left - 1)
+    }
+}
+
+/// Returns the stage in which a route whose signal may show "go" is given back.
+fn leaving_stage(route: &Route) -> Stage
+    ensures { result ≡ leaving_stage route.now }
+{
+    match route.signal {
+        Some(_) => Stage::Stopping,
+        None => Stage::Hiding,
+    }
+}
+
+/// Returns the stage of a route whose turnouts are all thrown.
+fn thrown_stage(route: &Route) -> Stage
+    ensures { result ≡ thrown_stage route.now }
+{
+    match route.signal {
+        Some(_) => Stage::Ready,
+        None => Stage::Reporting,
+    }
+}
+
+/// Returns the stage in which a route begins.
+fn first_stage(route: &Route) -> Stage
+    ensures { result ≡ first_stage route.now }
+{
+    if route.turnouts.is_empty() {
+        thrown_stage(route)
+    } else {
+        Stage::Locking(0)
+    }
+}
+
+/// Returns the stage of a route as a command session begins, which holds no lock.
+pub(crate) fn lost(route: &Route) -> Stage
+    ensures { result ≡ lost_stage route.now }
+{
+    match route.signal {
+        Some(_) => Stage::Clearing,
+        None => Stage::Closing,
+    }
+}
+
+/// Returns the stage of a route that is given back: a signal that could not be stopped is to be stopped again.
+pub(crate) fn retried(stage: Stage) -> Stage
+    ensures { result ≡ retried_stage stage }
+{
+    match stage {
+        Stage::Blocked => Stage::Clearing,
+        Stage::Stuck => Stage::Stopping,
+        other => other,
+    }
+}
+
+/// Returns the order of a route at a stage, if it has one.
+pub(crate) fn order_of(route: &Route, stage: Stage) -> Option<Order>
+    ensures { result ≡ order_of route.now stage }
+{
+    match stage {
+        Stage::Idle | Stage::Blocked | Stage::Ready | Stage::Set | Stage::Stuck => None,
+        Stage::Locking(done) => match route.turnouts.get(done) {
+            Some(setting) => Some(Order::Lock(setting.device)),
+            None => None,
+        },
+        Stage::Throwing(done) => match route.turnouts.get(done) {
+            Some(setting) => Some(Order::Throw(*setting)),
+            None => None,
+        },
+        Stage::Unlocking(left) => match route.turnouts.get(left) {
+            Some(setting) => Some(Order::Unlock(setting.device)),
+            None => None,
+        },
+        Stage::Showing => match route.signal {
+            Some(signal) => Some(Order::Show(show_setting(signal))),
+            None => None,
+        },
+        Stage::Clearing | Stage::Stopping => match route.signal {
+            Some(signal) => Some(Order::Stop(stop_setting(signal))),
+            None => None,
+        },
+        Stage::Reporting => Some(Order::Report(route.number, true)),
+        Stage::Closing | Stage::Hiding => Some(Order::Report(route.number, false)),
+    }
+}
+
+/// Returns the stage after the reply that accepts the order of a stage.
+fn accepted_stage(route: &Route, stage: Stage) -> Stage
+    ensures { result ≡ accepted_stage route.now stage }
+{
+    let count = route.turnouts.len();
+    match stage {
+        Stage::Clearing => Stage::Closing,
+        Stage::Closing => Stage::Idle,
+        Stage::Locking(done) => {
+            if done < count && count - done > 1 {
+                Stage::Locking(done + 1)
+            } else {
+                Stage::Throwing(0)
+            }
+        }
+        Stage::Throwing(done) => {
+            if done < count && count - done > 1 {
+                Stage::Throwing(done + 1)
+            } else {
+                thrown_stage(route)
+            }
+        }
+        Stage::Showing => Stage::Reporting,
+        Stage::Reporting => Stage::Set,
+        Stage::Stopping => Stage::Hiding,
+        Stage::Hiding => left_stage(count),
+        Stage::Unlocking(left) => left_stage(left),
+        other => other,
+    }
+}
+
+/// Returns the stage after the reply that refuses the order of a stage.
+fn refused_stage(route: &Route, stage: Stage) -> Stage
+    ensures { result ≡ refused_stage route.now stage }
+{
+    match stage {
+        Stage::Clearing => Stage::Blocked,
+        Stage::Closing => Stage::Idle,
+        Stage::Locking(done) => left_stage(done),
+        Stage::Throwing(_) => Stage::Hiding,
+        Stage::Showing => Stage::Stopping,
+        Stage::Reporting => leaving_stage(route),
+        Stage::Stopping => Stage::Stuck,
+        Stage::Hiding => left_stage(route.turnouts.len()),
+        Stage::Unlocking(left) => left_stage(left),
+        other => other,
+    }
+}
+
+/// Returns the stage after the reply to the order of a stage.
+pub(crate) fn after_reply(route: &Route, stage: Stage, ok: bool) -> Stage
+    ensures { result ≡ after_reply route.now stage ok }
+{
+    if ok {
+        accepted_stage(route, stage)
+    } else {
+        refused_stage(route, stage)
+    }
+}
+
+/// Returns the stage in which a route that is not wanted goes back, in the safe order.
+fn turned_back(route: &Route, stage: Stage) -> Stage
+    ensures { result ≡ turned_back route.now stage }
+{
+    match stage {
+        Stage::Locking(done) => left_stage(done),
+        Stage::Throwing(_) | Stage::Ready => Stage::Hiding,
+        Stage::Reporting | Stage::Set => leaving_stage(route),
+        other => other,
+    }
+}
+
+/// Returns the stage whose order a route may send next: whether it is wanted, its blocks are free, and it may begin.
+pub(crate) fn ready(
+    route: &Route,
+    is_wanted: bool,
+    is_free: bool,
+    may_begin: bool,
+    stage: Stage,
+) -> Stage
+    ensures { result ≡ ready_stage route.now is_wanted is_free may_begin stage }
+{
+    match stage {
+        Stage::Idle => {
+            if may_begin {
+                first_stage(route)
+            } else {
+                Stage::Idle
+            }
+        }
+        Stage::Showing => Stage::Stopping,
+        Stage::Ready => {
+            if is_wanted && is_free {
+                Stage::Showing
+            } else if is_wanted {
+                Stage::Ready
+            } else {
+                Stage::Hiding
+            }
+        }
+        other => {
+            if is_wanted {
+                other
+            } else {
+                turned_back(route, other)
+            }
+        }
+    }
+}
