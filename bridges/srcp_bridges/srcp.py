@@ -1,5 +1,6 @@
 """Sessions at an srcp_server, and a mirror of its registry, for programs that are one thread of asyncio."""
 import asyncio
+import contextlib
 import socket
 from collections import deque
 
@@ -22,27 +23,45 @@ class ServerIsFull(ConnectionError):
 class Session(asyncio.Protocol):
     """A session at the server. `ended` is done once its connection is closed."""
 
-    def __init__(self, take, port):
+    def __init__(self, port):
         loop = asyncio.get_running_loop()
-        self.take, self.port, self.begun, self.id, self.ended = take, port, b"", None, loop.create_future()
+        self.take, self.port, self.begun, self.id, self.ended = None, port, b"", None, loop.create_future()
         self.waiting = deque([loop.create_future()])  # for the welcome line
 
     @classmethod
     async def begin(cls, server, take=None, whose=""):
+        """Begins a session, as `go`."""
+        return await (await cls.connect(server)).go(take, whose)
+
+    @classmethod
+    async def connect(cls, server):
+        """Opens a connection, which has a place at the server, and no session until `go`."""
+        async with asyncio.timeout(ANSWER):
+            _, session = await asyncio.get_running_loop().create_connection(lambda: cls(server[1]), *server)
+        try:
+            welcome = await session.reply(session.waiting[0])
+        except asyncio.CancelledError:
+            session.transport.abort()
+            raise
+        except ConnectionError as fault:
+            is_full = session.ended.done() and not session.begun
+            raise ServerIsFull("the server is full") if is_full else fault
+        if "SRCP" in welcome:
+            return session
+        session.transport.abort()
+        raise ConnectionError("does not speak SRCP")
+
+    async def go(self, take=None, whose=""):
         """Begins a command session; or that of a panel, if there is a function to `take` its lines. `whose` names whom
         the session is for, if that is not this program."""
-        async with asyncio.timeout(ANSWER):
-            _, session = await asyncio.get_running_loop().create_connection(lambda: cls(take, server[1]), *server)
-        welcome = session.waiting[0]
+        self.take = take
         try:
-            await session.ask(f"SET CONNECTIONMODE SRCP {'INFO' if take else 'COMMAND'}")
-            session.id = int((await session.ask("GO")).removeprefix("OK GO "))
-            SELF.begins(session.port, session.id, whose)
-            return session
+            await self.ask(f"SET CONNECTIONMODE SRCP {'INFO' if take else 'COMMAND'}")
+            self.id = int((await self.ask("GO")).removeprefix("OK GO "))
+            SELF.begins(self.port, self.id, whose)
+            return self
         except BaseException as fault:
-            session.transport.abort()
-            if session.ended.done() and welcome.result() is None and not session.begun:
-                raise ServerIsFull("the server is full") from None
+            self.transport.abort()
             raise ConnectionError("does not speak SRCP") if isinstance(fault, ValueError) else fault
 
     def connection_made(self, transport):
@@ -71,22 +90,28 @@ class Session(asyncio.Protocol):
         line = command.encode("latin-1", "replace")
         if b"\n" in line:
             raise Refused("more than one line")
-        reply = asyncio.get_running_loop().create_future()
-        if not self.ended.done():
-            self.waiting.append(reply)
-            self.transport.write(line + b"\n")
-            await asyncio.wait([reply], timeout=ANSWER)  # a reply that came while this program slept is not late
-        if not reply.done() or reply.result() is None:
-            self.transport.abort()
-            raise ConnectionError("closed the connection" if self.ended.done() else "does not answer")
+        if self.ended.done():
+            raise ConnectionError("closed the connection")
+        self.waiting.append(asyncio.get_running_loop().create_future())
+        self.transport.write(line + b"\n")
+        reply = await self.reply(self.waiting[-1])
         try:
-            _, code, rest = reply.result().split(" ", 2)
+            _, code, rest = reply.split(" ", 2)
             if rest.startswith("ERROR"):
                 raise Refused(f"{code} {rest}")
-            return parse(reply.result())[1] if rest.startswith("INFO") else rest
+            return parse(reply)[1] if rest.startswith("INFO") else rest
         except NOT_SRCP:
             self.transport.abort()
             raise ConnectionError("does not speak SRCP") from None
+
+    async def reply(self, coming):
+        """Returns the line that comes; if none does, the connection is closed."""
+        await asyncio.wait([coming], timeout=ANSWER)  # a line that came while this program slept is not late
+        if not coming.done() or coming.result() is None:
+            why = "closed the connection" if self.ended.done() else "does not answer"
+            self.transport.abort()
+            raise ConnectionError(why)
+        return coming.result()
 
 
 class Mirror:
@@ -95,11 +120,13 @@ class Mirror:
     `told` is called with each Change, `joined` with whether the server was started anew, `left` when it is gone. After
     a restart all rows of before go; after an overrun those that the server has not. Rows listed as before are not told.
     `here`: its panel is open. `anew`: the server that it lists was started anew. `ways` has the direction that each
-    locomotive was told last, by (bus, address), and `stops` how often it was stopped.
+    locomotive was told last, by (bus, address), and `stops` how often it was stopped. With `keeps_place` it has a
+    connection more, for a panel that is lost while the server is full.
     """
 
-    def __init__(self, asked, told=lambda change: None, joined=lambda anew: None, left=lambda: None):
+    def __init__(self, asked, told=lambda change: None, joined=lambda anew: None, left=lambda: None, keeps_place=False):
         self.server, self.again, self.here, self.anew = (asked.host, asked.port), asked.again, False, True
+        self.keeps_place, self.spare = keeps_place, None
         self.told, self.joined, self.left = told, joined, left
         self.rows, self.ways, self.stops, self.stale = Rows(), {}, Stops(), {}
         self.session: Session | None = None
@@ -124,7 +151,7 @@ class Mirror:
                 return self.session
         except ConnectionError:
             pass  # that server is gone
-        self.anew, session = True, await Session.begin(self.server)
+        self.anew, session = True, await self.begin()
         for device in reversed(devices(self.rows)):  # so sessions go last, as at the server
             self.drop(device)
         self.session = session
@@ -134,7 +161,8 @@ class Mirror:
         """Joins, and follows until the panel is closed or the server does not answer."""
         session = await self.join()
         self.stale = dict.fromkeys(self.rows)
-        panel = await Session.begin(self.server, self.take)
+        panel = await self.begin(self.take)
+        keeping = asyncio.create_task(self.keep_place())
         try:
             await session.ask(f"GET 0 SESSION {panel.id}")  # so both are of one server
             say(f"server: joined, {'started anew' if self.anew else 'as before'}")
@@ -149,7 +177,26 @@ class Mirror:
                 await session.ask(f"GET 0 SESSION {session.id}")
             raise ConnectionError("closed the panel")
         finally:
+            keeping.cancel()
             panel.transport.abort()
+
+    async def begin(self, take=None):
+        """Begins a session, at a full server by the connection that was kept for that."""
+        try:
+            return await Session.begin(self.server, take)
+        except ServerIsFull:
+            spare, self.spare = self.spare, None
+            if not spare or spare.ended.done():
+                raise
+            return await spare.go(take)
+
+    async def keep_place(self):
+        """Keeps a connection, if this mirror is to have one. If the server closes it, another is opened."""
+        while self.keeps_place:
+            if not self.spare or self.spare.ended.done():
+                with contextlib.suppress(OSError):
+                    self.spare = await Session.connect(self.server)
+            await asyncio.sleep(BEAT)
 
     async def ask(self, command):
         """Carries out a command by the session beside the panel."""

@@ -218,13 +218,14 @@ class Way:
 
     `cut` closes them in the middle of a line and holds new ones back until `free`. Command sessions are passed on as
     they are. `listed`: that number of bytes of a listing passes, and half a second later it is cut. `late`: what a
-    panel is sent from this text on passes only after `free`.
+    panel is sent from this text on passes only after `free`. `shut` holds new connections back until `free`.
     """
 
     def __init__(self, server):
-        self.server, self.door, self.panels, self.open = server, listener(), [], threading.Event()
+        self.server, self.door, self.panels = server, listener(), []
+        self.open, self.enter = threading.Event(), threading.Event()
         self.port, self.listed, self.late, self.cuts = self.door.getsockname()[1], None, None, 0
-        self.open.set()
+        self.free()
         threading.Thread(target=self.accept, daemon=True).start()
 
     def accept(self):
@@ -236,6 +237,7 @@ class Way:
             threading.Thread(target=self.serve, args=(client,), daemon=True).start()
 
     def serve(self, client):
+        self.enter.wait()
         try:
             upstream = socket.create_connection(("127.0.0.1", self.server.port))
         except OSError:
@@ -290,12 +292,27 @@ class Way:
             self.close(panel)
         self.panels.clear()
 
+    def shut(self):
+        self.enter.clear()
+
     def free(self):
         self.open.set()
+        self.enter.set()
 
     def end(self):
         self.free()
         self.close(self.door)
+
+
+def is_full(port):
+    """Returns whether the server turns away who comes. One that it lets in has left its place at the end."""
+    with socket.create_connection(("127.0.0.1", port), WAIT) as one:
+        if not one.recv(1):
+            return True
+        one.shutdown(socket.SHUT_WR)
+        while one.recv(1000):
+            pass
+        return False
 
 
 class Case(unittest.TestCase):

@@ -6,7 +6,7 @@ import re
 import time
 from typing import Any
 
-from .common import WAIT, Case, Session, rows, until
+from .common import WAIT, Case, Session, is_full, rows, sessions, until
 
 STANDS = "100 INFO 1 GL 3 1 0 "
 QUIET = 0.4  # seconds for which nothing comes
@@ -196,6 +196,26 @@ class Losses(StationCase):
         time.sleep(0.2)
         self.assertEqual(self.station.cabs[3], (63, 1))
         self.track(lambda s: s.cabs[3] == (0, 1) and s.power == 0, "no server: it stands after a while")
+
+    def test_a_panel_that_is_lost_while_the_server_is_full(self):
+        """The driver has kept a place for that: it goes on, and all drive on, though another took the panel's place."""
+        self.restarts("--patience", WAIT)
+        others = sessions(self.server.port, 60)
+        until(lambda: is_full(self.server.port), "a throttle, the driver's three connections and 60 others are there")
+        for count in (1, 2):
+            begun = len(self.station.log)
+            self.way.shut(), self.way.cut()
+            others += sessions(self.server.port, 1)
+            self.way.free()
+            until(lambda: self.driver.told().count("server: joined, as before") == count, "it has joined again")
+            self.throttle.order("SET 1 GL 3 1 28 28")
+            self.track(lambda s: s.cabs[3] == (126, 1), "it drives as it is told")
+            self.assertEqual([text for text in self.commands("", begun) if text[0] in "t!01"], ["t 3 126 1"])
+            self.assertNotIn("the server is full", self.driver.told())
+            self.throttle.order("SET 1 GL 3 1 14 28")
+            self.track(lambda s: s.cabs[3] == (63, 1), "it drives as it did")
+            others.pop().close()
+            until(lambda: is_full(self.server.port), "the driver keeps a place again")
 
     def test_the_driver_is_ended(self):
         self.assertEqual(self.driver.end(), 0)

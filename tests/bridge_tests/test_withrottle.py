@@ -5,7 +5,8 @@ import socket
 import time
 from pathlib import Path
 
-from .common import PACKAGES, PROGRAMS, WAIT, Process, free_port, interpreter, new_folder, program, rows, until
+from .common import (PACKAGES, PROGRAMS, WAIT, Process, free_port, interpreter, is_full, new_folder, program, rows,
+                     until)
 from .phones import Panel, Phone, WiThrottleCase
 
 KINDS = "PTT]\\[Turnouts}|{Turnout]\\[Closed}|{2]\\[Thrown}|{4]\\[Unknown}|{1"
@@ -289,7 +290,7 @@ class WiThrottle(WiThrottleCase):
         phone.got("*1")
         for _ in range(70):
             others.append(socket.create_connection(("127.0.0.1", self.server.port), WAIT))
-        until(lambda: self.full(), "the server takes no more")
+        until(lambda: is_full(self.server.port), "the server takes no more")
         phone.send("M0+S3<;>S3")
         phone.got("HMthe server is full")
         other = self.starts("withrottle.py", "--listen", free_port())
@@ -298,10 +299,6 @@ class WiThrottle(WiThrottleCase):
             connection.close()
         until(lambda: "server: joined" in other.told(), "it is there")
         until(lambda: phone.told("M0+S3<;>") or phone.send("M0+S3<;>S3"), "there is a place for the phone too")
-
-    def full(self):
-        with socket.create_connection(("127.0.0.1", self.server.port), WAIT) as one:
-            return not one.recv(1)
 
     def test_announced(self):
         try:

@@ -19,7 +19,7 @@ class Bus:
 
     def __init__(self, asked, names, many_stop):
         self.number, self.patience, self.names, self.many_stop = asked.bus, asked.patience, names, many_stop
-        self.mirror = Mirror(asked, self.take, self.join, self.leave)
+        self.mirror = Mirror(asked, self.take, self.join, self.leave, keeps_place=True)
         self.orders = Orders(self.mirror)
         self.holds = Holds(self.number, self.mirror, self.orders)
         self.track = Track(self.number, self.mirror, self.holds, asked.turnout_pace, self.full)
