@@ -11,7 +11,7 @@ from . import common
 
 
 class Result(unittest.TestResult):
-    """The result of one test: `stop` is what it stopped at, with a note of each of its programs that had ended by then."""
+    """The result of one test: `stop` is what it stopped at, with notes of what its programs told, and how they ended."""
     stop = None
 
     def addError(self, test, fault):
@@ -25,8 +25,9 @@ class Result(unittest.TestResult):
     def take(self, test, stop):
         programs = {"server": test.server.process} if hasattr(test, "server") else {}
         for name, program in (programs | getattr(test, "started", {})).items():
-            if (status := program.process.poll()) is not None:
-                stop.add_note(f"its {name} ended with status {status}: {program.told()[-1000:]!r}")
+            status = program.process.poll()
+            ended = "" if status is None else f", which ended with status {status}"
+            stop.add_note(f"its {name}{ended}: {program.told()[-500:]!r}")
         self.stop = self.stop or stop
 
 
@@ -67,15 +68,15 @@ from .test_program import DccExWithPrograms, Programming, Z21WithPrograms  # noq
 from .test_readme import Readme  # noqa: E402
 from .test_srcp import Following, Parsing  # noqa: E402
 from .test_srcpd import Srcpd, SrcpdWithADriver  # noqa: E402
-from .test_web import Web, WebThatSleeps, WebWithSilentPages  # noqa: E402
+from .test_web import Web, WebThatSleeps, WebWithManyPages, WebWithSilentPages  # noqa: E402
 from .test_withrottle import WiThrottle  # noqa: E402
 from .test_z21 import Z21, Z21WithHands, Z21WithLosses  # noqa: E402
 
 BRIDGE_CASES = cases_of(Readme, Following, MqttWithAWrongBroker, Stopping, Mqtt, MqttForHomeAssistant,
                         MqttWithPersistence, MqttBesideOthers, MqttWithLimits, MqttWithTls, Orders, Payloads,
                         WebInChromium, WebByTouch, WebInGerman, WebWithBeats, Web, WebThatSleeps, WebWithAWord,
-                        WebWithSilentPages, WebBesideManyConnections, WebInTheNetwork, Entering, WiThrottle,
-                        WiThrottleStops, WiThrottleWithBeats, Srcpd, SrcpdWithADriver, DccEx, DccExWithLosses,
-                        DccExWithHands, Z21, Z21WithLosses, Z21WithHands, DccExWithPrograms, Z21WithPrograms,
-                        Programming, Doctor, Guard, Keep, Log, Parsing, Plans, PlanInChromium, LargePlanInChromium,
-                        PlanInGerman)
+                        WebWithManyPages, WebWithSilentPages, WebBesideManyConnections, WebInTheNetwork, Entering,
+                        WiThrottle, WiThrottleStops, WiThrottleWithBeats, Srcpd, SrcpdWithADriver, DccEx,
+                        DccExWithLosses, DccExWithHands, Z21, Z21WithLosses, Z21WithHands, DccExWithPrograms,
+                        Z21WithPrograms, Programming, Doctor, Guard, Keep, Log, Parsing, Plans, PlanInChromium,
+                        LargePlanInChromium, PlanInGerman)

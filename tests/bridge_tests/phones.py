@@ -3,7 +3,6 @@ import os
 import signal
 import socket
 import threading
-import time
 from pathlib import Path
 
 from .common import WAIT, Case, connects, free_port, new_folder, until
@@ -95,8 +94,15 @@ class WiThrottleCase(Case):
         """Has lines come in while the server sleeps, so that they wait."""
         self.server.process.send(signal.SIGSTOP)
         phone.send(*lines)
-        time.sleep(0.3)
+        until(lambda: self.has_read(phone), "the bridge has read all")
         self.server.process.send(signal.SIGCONT)
+
+    def has_read(self, phone):
+        """Returns whether the bridge has read all that a phone sent, and rests."""
+        ends = f"0100007F:{self.listen:04X} 0100007F:{phone.socket.getsockname()[1]:04X}"
+        unread, = [line.split()[4] for line in Path("/proc/net/tcp").read_text().splitlines() if ends in line]
+        state = Path(f"/proc/{self.bridge.pid}/stat").read_text().rpartition(")")[2].split()[0]
+        return unread.endswith(":00000000") and state == "S"
 
     def greeted(self, line):
         """A phone that is greeted with this line: the bridge knows what was told before."""

@@ -47,6 +47,15 @@ class StationCase(Case):
         time.sleep(QUIET)  # it may have told that there is no station yet
         self.lacks("100 INFO 1 POWER ON", "100 INFO 1 POWER OFF no station", "100 INFO 1 GL 3 1 14")
 
+    def joins_again(self):
+        """Has the driver lose its panel, and waits until it has taken in a new listing: what changes later comes behind."""
+        joined, lies = self.driver.told().count("server: joined"), 1 - self.station.turnouts.get(99, 0)
+        self.way.cut(), self.way.free()
+        until(lambda: self.driver.told().count("server: joined") > joined, "it has joined again")
+        self.throttle.ask("INIT 1 GA 99 N")
+        self.throttle.order(f"SET 1 GA 99 {lies} 1 -1")
+        self.track(lambda s: s.turnouts.get(99) == lies, "it goes on")
+
     def restarts(self, *words):
         """Starts the driver anew with these words too."""
         self.driver.end()
@@ -316,8 +325,8 @@ class Hands(StationCase):
             self.station.hand(3, speed=speed)
             time.sleep(QUIET)
             self.assertEqual(self.station.cabs[3], (speed, 1))
-            self.way.cut(), self.way.free()  # all is compared anew
-            time.sleep(2 * QUIET)
+            self.joins_again()  # all is compared anew
+            time.sleep(QUIET)
             self.assertLessEqual(self.station.cabs[3][0], 0)
             holder.order("SET 1 GL 3 1 14 28")
             self.track(lambda s: s.cabs[3] == (63, 1), "its holder commands it anew")

@@ -373,11 +373,6 @@ class Web(WebCase):
         until(lambda: page.here is False, "it is told that the server is away")
         self.assertEqual(page.post("SET 1 POWER ON"), "the server is away")
 
-    def test_more_pages_than_the_server_has_places(self):
-        pages = [Events(self.port, own=f"127.0.0.{2 + number % 4}") for number in range(80)]
-        self.assertEqual({page.post("SET 1 FB 4 1") for page in pages}, {"200 OK"})
-        until(lambda: self.same(*pages), "all have all")
-
     def test_a_server_that_is_full(self):
         page = Events(self.port)
         page.order("INIT 1 GL 3 N 1 28 5")
@@ -400,6 +395,15 @@ class Web(WebCase):
         self.assertEqual(self.web.end(), 0)
         self.has("100 INFO 1 GL 8 1 0 28", "100 INFO 1 GL 9 1 0 28")
         self.assertNotIn("Traceback", self.web.told())
+
+
+class WebWithManyPages(WebCase):
+    words = ("--silence", WAIT)
+
+    def test_more_pages_than_the_server_has_places(self):
+        pages = [Events(self.port, own=f"127.0.0.{2 + number % 4}") for number in range(80)]
+        self.assertEqual({page.post("SET 1 FB 4 1") for page in pages}, {"200 OK"})
+        until(lambda: self.same(*pages), "all have all")
 
 
 class WebWithSilentPages(WebCase):
