@@ -12,3 +12,4 @@ pub mod Clocking
 pub mod Delivered
 pub mod Doing
 pub mod Handing
+pub mod Flushing

@@ -1,4 +1,4 @@
--- What a door has done when it reports a moment, and what a read answers.
+-- What a door has done when it waits and reports a moment, and what a read answers.
 use Rattle.std.specs.Prelude.{⊤, ◌≡◌, ℕ, ◌≤◌, ◌&&◌, ◌||◌, Bool, true, false, not, List, ◌∷◌, ◌++◌, fold, length}
 use Rattle.std.specs.Prelude.{drop, min, take, Option, Some, None, Result, Ok, Err}
 use Rattle.std.proofs.Props.{props}
@@ -11,6 +11,7 @@ use Rattle.srcp_peers.specs.Accounts.{Account, Received, account, is_held}
 use Rattle.srcp_peers.specs.Steps.{Accepts, Answers, Clocks, Closes, Reads, Shuts, Step, Waits, Writes}
 use Rattle.srcp_peers.specs.Times.{times}
 use Rattle.srcp_peers.specs.Turns.{got_bytes, reports_end}
+use Rattle.srcp_sockets.specs.Waits.{IsWaitDone}
 
 -- ---- a moment
 
@@ -83,6 +84,7 @@ pub record IsReadDone (wall start : ℕ) (log : List Step) (who : ℕ) (answer :
 
 -- what is done when the step is made
 abbrev pub IsDone : (wall start : ℕ) → List Step → Step → Type 0
+IsDone wall start log (Waits most count ready) = IsWaitDone wall start log
 IsDone wall start log (Answers (NowCall answer)) = IsMomentDone log answer
 IsDone wall start log (Answers (ReadCall who answer buffer)) =
     (times wall start log).turn.late ≡ false → IsReadDone wall start log who answer buffer

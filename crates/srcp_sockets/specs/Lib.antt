@@ -7,4 +7,5 @@ pub mod Faults
 pub mod Follows
 pub mod KeptTimes
 pub mod Names
+pub mod Waits
 pub mod Work

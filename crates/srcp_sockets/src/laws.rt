@@ -2,7 +2,7 @@
 //! a law.
 
 ghost use Rattle.std.specs.Prelude.{◌≡◌, ◌++◌, ◌∷◌, ◌==◌, ◌&&◌, ◌||◌, ◌*◌, ◌<◌, ◌≤◌, ◌⊎◌, ℕ, List, length};
-ghost use Rattle.std.specs.Prelude.{slice_index_or, Option, Some, Ok, Err, Result, true, false};
+ghost use Rattle.std.specs.Prelude.{nat_lt, slice_index_or, Option, Some, Ok, Err, Result, true, false};
 ghost use Rattle.std.specs.Io.{StartsWith};
 ghost use Rattle.srcp_peers.specs.declared.peer.Peer.{Peer};
 ghost use Rattle.srcp_door.specs.declared.door.DoorFault.{DoorFault};
@@ -10,12 +10,13 @@ ghost use Rattle.srcp_door.specs.declared.door.Got.{Got};
 ghost use Rattle.srcp_peers.specs.declared.system.Ready.{Ready};
 ghost use Rattle.srcp_door.specs.Calls.{ReadCall, NowCall, WriteCall};
 ghost use Rattle.srcp_peers.specs.Accounts.{account, is_at_rest, is_held, is_short_wait, may_close, may_end, may_fail};
-ghost use Rattle.srcp_peers.specs.Accounts.{may_shut};
+ghost use Rattle.srcp_peers.specs.Accounts.{is_owed, may_shut};
 ghost use Rattle.srcp_peers.specs.Steps.{Closes, Shuts, Step, Answers, Waits};
 ghost use Rattle.srcp_sockets.specs.Asked.{AreAsked};
 ghost use Rattle.srcp_sockets.specs.Duties.{IsHandedOut, has_waited, held_piece, is_failing, is_fault, is_shown};
 ghost use Rattle.srcp_sockets.specs.Duties.{last_shown, takes_input};
 ghost use Rattle.srcp_sockets.specs.Doors.{IsThere};
+ghost use Rattle.srcp_sockets.specs.Waits.{closes, has_to_close, is_calm, is_written};
 ghost use Rattle.srcp_sockets.specs.KeptTimes.{AreKeptTimes, ArePaced};
 ghost use Rattle.srcp_peers.specs.Times.{times};
 ghost use Rattle.srcp_peers.specs.Turns.{got_bytes, reports_end};
@@ -148,6 +149,35 @@ pub fn turns_wait<S: System + Drop>(door: &SocketDoor<S>)
     ensures waits { (before after : List Step) (answer : Result ℕ DoorFault)
         → S.trace door.now.sockets.system ≡ Some (before ++ Answers (NowCall answer) ∷ after)
         → ((socket : ℕ) → takes_input (account socket before) ≡ false) → has_waited before ≡ true }
+{
+    let _sockets = &door.sockets;
+}
+
+/// A wait found no socket that lingers and has to be closed, unless 64 sockets were closed since the moment before. It
+/// has to be closed if a write found that it takes no more, or 10 seconds are over by the clock that was read. A
+/// socket that lingers and took all that was taken for it was shut down by then, unless a write found it so.
+pub fn gone_are_closed<S: System + Drop>(door: &SocketDoor<S>)
+    ensures closed { (before after : List Step) (most : Option ℕ) (count : ℕ) (ready : List Ready)
+        → S.trace door.now.sockets.system ≡ Some (before ++ Waits most count ready ∷ after)
+        → nat_lt (closes before) 64 ≡ true → (socket : ℕ) → has_to_close (account socket before) ≡ false }
+    ensures shut { (before after : List Step) (most : Option ℕ) (count : ℕ) (ready : List Ready)
+        → S.trace door.now.sockets.system ≡ Some (before ++ Waits most count ready ∷ after)
+        → (socket : ℕ) → may_shut (account socket before) ≡ true → (account socket before).sent.lost ≡ true }
+{
+    let _sockets = &door.sockets;
+}
+
+/// A wait of a turn in which nothing happened since the wait before, or without a panel, came behind a flush. Each
+/// socket that was not closed, and had not taken all that was taken for it, was written to since the door answered the
+/// call before; or a write had found that it takes nothing now, or no more.
+pub fn queued_is_offered<S: System + Drop>(door: &SocketDoor<S>)
+    ensures { (before after : List Step) (most : Option ℕ) (count : ℕ) (ready : List Ready)
+        → S.trace door.now.sockets.system ≡ Some (before ++ Waits most count ready ∷ after)
+        → is_calm door.now.sockets.turn.timekeeper.wall door.now.sockets.turn.timekeeper.start before ≡ true
+        → (socket : ℕ) → (account socket before).lingering.kept ≡ true
+        → is_owed (account socket before).sent ≡ true
+        → (((account socket before).sent.full || (account socket before).sent.lost) || is_written socket before)
+        ≡ true }
 {
     let _sockets = &door.sockets;
 }

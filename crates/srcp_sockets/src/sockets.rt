@@ -1,19 +1,20 @@
 //! The system's sockets, with their peers.
 
 ghost use Rattle.std.specs.Prelude.{not, cond, vec_capacity, All, false, true, ◌≡◌, ◌<◌, ◌≤◌, ◌-◌, ◌&&◌, ℕ, ◌⊎◌, Some};
-ghost use Rattle.std.specs.Prelude.{None, Ok, Err};
+ghost use Rattle.std.specs.Prelude.{Bool, None, Ok, Err};
 ghost use Rattle.std.specs.Prelude.{IfErr, IfNone, IfOk, IfSome, [], length, slice_index_or};
 ghost use Rattle.srcp_peers.specs.declared.peer.Peer.{Peer};
 ghost use Rattle.srcp_sockets.specs.Asked.{AreAsked, AreAsked-prop};
 ghost use Rattle.srcp_sockets.specs.Delivery.{HasEnded, HasWaited, linger_end};
 ghost use Rattle.srcp_sockets.specs.Duties.{AreDone, AreDone-prop, HasLooked, MayTell};
+ghost use Rattle.srcp_sockets.specs.Waits.{AreFlushed, MayWait};
 ghost use Rattle.srcp_sockets.specs.Work.{AreClosedUp, IsClocked, IsPeerRead, IsWaiting, goes_on, is_close};
 ghost use Rattle.srcp_sockets.specs.Facts.{Stands-prop};
 ghost use Rattle.std.specs.List.{list_any};
 ghost use Rattle.srcp_sockets.specs.Names.{IsNamed, IsNamed-prop};
 ghost use Rattle.srcp_sockets.specs.KeptTimes.{IsTimed, IsTimed-prop};
 ghost use Rattle.srcp_peers.specs.Accounts.{is_short_wait};
-ghost use Rattle.srcp_peers.specs.Peers.{Makes, is_resting, holds_input, is_closable, is_here};
+ghost use Rattle.srcp_peers.specs.Peers.{Makes, flushes_all, is_resting, holds_input, is_closable, is_here};
 ghost use Rattle.srcp_peers.specs.Times.{KeepsTimes};
 ghost use Rattle.srcp_peers.specs.Turns.{after_wait, first_turn, got_bytes, flushing, has_ticked, is_pending, room_of};
 ghost use Rattle.srcp_peers.specs.Turns.{time_left};
@@ -154,6 +155,7 @@ impl<S: System + Drop> Sockets<S> {
     /// Waits, but not while input is held.
     fn look(&mut self, held: bool, ready: &mut [Ready])
         requires ready { length ready.old ≡ 128 }
+        requires may { held ≡ false → MayWait self.old.turn (S.trace self.old.system) }
         ensures calls { SaysNothing (S.trace self.old.system) (S.trace self.new.system) }
         ensures waits { HasWaited (cond held 0 1) (S.trace self.old.system) (S.trace self.new.system) }
         ensures looked { held ≡ false → HasLooked (S.trace self.new.system) }
@@ -171,6 +173,7 @@ impl<S: System + Drop> Sockets<S> {
     fn flush(&mut self, what: Flush)
         ensures calls { SaysNothing (S.trace self.old.system) (S.trace self.new.system) }
         ensures offered { AreOffered what self.old.peers.items (S.trace self.old.system) (S.trace self.new.system) }
+        ensures out { AreFlushed (flushes_all what) (S.trace self.new.system) }
         ensures times { KeepsTimes (S.trace self.old.system) (S.trace self.new.system) }
         ensures keeps { (self.new.turn ≡ self.old.turn) × (self.new.refused ≡ self.old.refused) }
         ensures flushed { self.new.flushed ≡ self.old.turn.clock }
@@ -182,6 +185,7 @@ impl<S: System + Drop> Sockets<S> {
     /// Waits until a socket is ready, but no longer than until something else is to be done. Notes which are ready.
     fn wait(&mut self, ready: &mut [Ready])
         requires ready { length ready.old ≡ 128 }
+        requires may { MayWait self.old.turn (S.trace self.old.system) }
         ensures calls { SaysNothing (S.trace self.old.system) (S.trace self.new.system) }
         ensures waits { IsWaiting (longest_wait self.old.peers.items self.old.listening self.old.turn self.old.most)
             (S.trace self.old.system) (S.trace self.new.system) }
@@ -300,6 +304,8 @@ impl<S: System + Drop> Sockets<S> {
         ensures flushed { self.new.flushed ≡ self.old.flushed }
         ensures closed { AreClosedUp self.old.turn.clock self.new.peers.items
             (S.trace self.old.system) (S.trace self.new.system) }
+        ensures out { (all : Bool) → AreFlushed all (S.trace self.old.system)
+            → AreFlushed all (S.trace self.new.system) }
     {
         for _ in 0..MOST_LINGERING {
             let Some(index) = first_gone(self.peers.as_slice(), self.turn.clock) else {
@@ -320,6 +326,8 @@ impl<S: System + Drop> Sockets<S> {
         ensures keeps { (self.new.turn ≡ self.old.turn) × (self.new.refused ≡ self.old.refused) }
         ensures flushed { self.new.flushed ≡ self.old.flushed }
         ensures closed { Makes is_close 1 (S.trace self.old.system) (S.trace self.new.system) }
+        ensures out { (all : Bool) → AreFlushed all (S.trace self.old.system)
+            → AreFlushed all (S.trace self.new.system) }
         ensures one { (who : ℕ) × Tells (S.trace self.old.system) (Closes who) (S.trace self.new.system) }
     {
         let number = self.peers[index].number;

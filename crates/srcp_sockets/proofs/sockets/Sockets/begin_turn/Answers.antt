@@ -1,16 +1,20 @@
-use Rattle.std.proofs.Common.{◌≡◌, ◌∙◌, Bool, ap, subst, sym}
+use Rattle.std.proofs.Common.{◌≡◌, ◌∙◌, Bool, false, ap, subst, sym}
 use Rattle.std.specs.Prelude.{◌&&◌, cond, not}
 use Rattle.srcp_peers.specs.declared.readiness.Flush.{Flush}
+use Rattle.srcp_peers.specs.declared.turn.Turn.{Turn}
 use Rattle.srcp_peers.specs.AllPeers.{AreOffered}
+use Rattle.srcp_peers.specs.Peers.{flushes_all}
 use Rattle.srcp_peers.specs.Turns.{flushing, has_ticked}
 use Rattle.srcp_peers.proofs.Offering.{all_offered_then}
 use Rattle.srcp_peers.proofs.Resting.{and_right}
 use Rattle.srcp_peers.proofs.Saying.{keeps_then, says_then}
 use Rattle.srcp_sockets.specs.Delivery.{HasWaited}
 use Rattle.srcp_sockets.specs.Doors.{flushed_in}
-use Rattle.srcp_sockets.specs.Work.{goes_on}
+use Rattle.srcp_sockets.specs.Waits.{AreFlushed}
+use Rattle.srcp_sockets.specs.Work.{AreClosedUp, goes_on}
 use Rattle.srcp_sockets.proofs.Delivered.{waited_after, waited_keeps}
 use Rattle.srcp_sockets.proofs.Doing.{looked_silent, may_tell}
+use Rattle.srcp_sockets.proofs.Flushing.{all_closed, may_wait}
 use Rattle.srcp_sockets.proofs.sockets.Sockets.begin_turn.Goals as goal
 
 pub returns-clause-calls : goal.returns-clause-calls
@@ -71,3 +75,19 @@ returns-clause-may g c =
     (λ held. sym c.holds_input-holds.ensures
     ∙ and_right (not (has_ticked was.turn was.flushed)) c.holds_input-holds.result (sym c.goes_on-held.ensures ∙ held))
     (λ none. looked_silent looked new c.begin_visits.ensures.calls (c.look.ensures.looked none))
+
+pub look-requires-clause-may : goal.look-requires-clause-may
+look-requires-clause-may g c none =
+    let was = c.args.self.now in
+    let at = c.close_gone.new.self in
+    let flushed = g.S.System.trace c.flush.new.self.system in
+    let gone = g.S.System.trace at.system in
+    let ticked = has_ticked was.turn was.flushed in
+    let kept : at.turn ≡ was.turn = c.close_gone.ensures.keeps.0 ∙ c.flush.ensures.keeps.0 in
+    let what : c.flushing-what.result ≡ flushing ticked false at.turn = c.flushing-what.ensures
+    ∙ ap (λ held. flushing ticked held was.turn) none ∙ ap (flushing ticked false) (sym kept) in
+    may_wait gone at.turn ticked at.timed
+    (subst (λ (f : Flush). AreFlushed (flushes_all f) gone) what
+    (c.close_gone.ensures.out (flushes_all c.flushing-what.result) c.flush.ensures.out))
+    (all_closed flushed gone at.turn at.peers.items at.listening at.last at.stands at.timed c.close_gone.ensures.calls
+    (subst (λ (t : Turn). AreClosedUp t.clock at.peers.items flushed gone) (sym c.close_gone.ensures.keeps.0) c.close_gone.ensures.closed))

@@ -5,6 +5,7 @@ use Rattle.srcp_sockets.specs.Work.{is_close}
 use Rattle.srcp_peers.specs.Steps.{Closes}
 use Rattle.srcp_sockets.proofs.Asking.{asked_step}
 use Rattle.srcp_sockets.proofs.Doing.{done_step}
+use Rattle.srcp_sockets.proofs.Flushing.{flushed_close}
 use Rattle.srcp_sockets.proofs.Clocking.{clock_is}
 use Rattle.srcp_peers.proofs.Making.{makes_more, makes_none}
 use Rattle.srcp_peers.proofs.Saying.{says_step, keeps_step}
@@ -52,3 +53,8 @@ returns-clause-closed g c =
 
 pub returns-clause-one : goal.returns-clause-one
 returns-clause-one g c = (c.index.result.now.number, c.close.ensures)
+
+pub returns-clause-out : goal.returns-clause-out
+returns-clause-out g c all flushed =
+    flushed_close all (g.S.System.trace c.args.self.now.system) (g.S.System.trace c.close.new.self) c.index.result.now.number
+    c.close.ensures flushed

@@ -16,6 +16,7 @@ loop-init g c =
       refused = refl;
       flushed = refl;
       made = makes_none is_close old;
+      out = λ all flushed. flushed;
     }
 
 pub loop-preserved : goal.loop-preserved
@@ -33,6 +34,7 @@ loop-preserved g c =
       refused = now.keeps.1 ∙ was.refused;
       flushed = now.flushed ∙ was.flushed;
       made = makes_then is_close c.loop.counter 1 first old new was.made now.closed;
+      out = λ all flushed. now.out all (was.out all flushed);
     }
 
 pub returns-clause-closed : goal.returns-clause-closed

@@ -1,7 +1,8 @@
-use Rattle.std.proofs.Common.{◌≡◌}
+use Rattle.std.proofs.Common.{◌≡◌, Bool}
 use Rattle.srcp_peers.specs.Peers.{Makes}
 use Rattle.srcp_peers.specs.Steps.{SaysNothing}
 use Rattle.srcp_peers.specs.Times.{KeepsTimes}
+use Rattle.srcp_sockets.specs.Waits.{AreFlushed}
 use Rattle.srcp_sockets.specs.Work.{is_close}
 use Rattle.srcp_sockets.proofs.sockets.Sockets.close_gone.Given as goal
 
@@ -14,4 +15,5 @@ invariant-loop g l = record {
   refused : l.self.refused ≡ l.fn.self.refused;
   flushed : l.self.flushed ≡ l.fn.self.flushed;
   made : Makes is_close l.counter (g.S.System.trace l.fn.self.system) (g.S.System.trace l.self.system);
+  out : (all : Bool) → AreFlushed all (g.S.System.trace l.fn.self.system) → AreFlushed all (g.S.System.trace l.self.system);
 }

@@ -5,6 +5,7 @@ use Rattle.srcp_peers.specs.AllPeers.{AreOffered}
 use Rattle.srcp_sockets.specs.Doors.{Stands}
 use Rattle.srcp_sockets.proofs.Asking.{asked_silent}
 use Rattle.srcp_sockets.proofs.Doing.{done_silent}
+use Rattle.srcp_sockets.proofs.Flushing.{all_flushed}
 use Rattle.srcp_sockets.proofs.Naming.{named_silent}
 use Rattle.srcp_sockets.proofs.Standing.{stands_turned}
 use Rattle.srcp_sockets.proofs.Timing.{timed_kept}
@@ -35,3 +36,17 @@ returns-clause-offered g c =
     let old = g.S.System.trace c.args.self.now.system in
     let new = g.S.System.trace c.flush.new.system in
     subst (λ (ps : List Peer). AreOffered c.args.what ps old new) c.as_mut_slice.ensures.value c.flush.ensures.offered
+
+pub returns-clause-out : goal.returns-clause-out
+returns-clause-out g c =
+    let self = c.args.self.now in
+    let old = g.S.System.trace self.system in
+    let new = g.S.System.trace c.flush.new.system in
+    let before = c.as_mut_slice.result.now in
+    let after = c.flush.new.peers in
+    let now = c.flush.ensures in
+    let stood : Stands old before self.listening self.last =
+    subst (λ (ps : List Peer). Stands old ps self.listening self.last) (sym c.as_mut_slice.ensures.value) self.stands in
+    all_flushed c.args.what old new before after self.listening self.last self.turn.timekeeper.wall self.turn.timekeeper.start stood
+    (stands_turned old new before after self.listening self.last c.flush.auto.peers now.kept now.those now.others stood)
+    c.flush.auto.peers now.offered now.shut now.others now.calls now.times (λ log is. (self.timed log is).heard)

@@ -45,7 +45,7 @@ invariant_of-self g c =
       asked = asked_step old new (Waits most count ready) c.wait-count.ensures.trace refl c.args.self.now.asked;
       done = done_turn new c.args.self.now.turn c.wait.new.self (after_wait c.args.self.now.turn) c.wait.ensures refl refl
           (done_step c.args.self.now.turn.timekeeper.wall c.args.self.now.turn.timekeeper.start old new (Waits most count ready)
-          c.wait-count.ensures.trace (λ log is. tt) c.args.self.now.done);
+          c.wait-count.ensures.trace c.requires.may c.args.self.now.done);
       places = c.args.self.now.places;
     }
 

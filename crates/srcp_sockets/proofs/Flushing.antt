@@ -1,0 +1,477 @@
+-- What a door has written, shut down and closed when it waits.
+use Rattle.std.proofs.Common.{◌≡◌, ◌∙◌, ℕ, ◌<◌, ◌≤◌, ◌+◌, Bool, true, false, not, List, [], ◌∷◌, ◌++◌, length, refl, ap, sym, subst}
+use Rattle.std.proofs.Common.{arith, ⊎_elim, ◌⊎◌, inl, inr, ◌==◌, ◌&&◌, ◌||◌, cond, if◌then◌else◌, Option, Some, None, true≢false}
+use Rattle.std.specs.Prelude.{Result, count_by, fold, nat_lt, position, slice_index_or}
+use Rattle.std.specs.List.{list_all, position_or_len}
+use Rattle.std.proofs.lemmas.Bool.Decides.{nat_tests}
+use Rattle.std.proofs.lemmas.List.{append_cancel_left}
+use Rattle.std.proofs.lemmas.List.Sums.{fails_before_first, fold-append, sum_by-append}
+use Rattle.std.specs.declared.io.ErrorKind.{ErrorKind}
+use Rattle.srcp_door.specs.declared.door.DoorFault.{DoorFault}
+use Rattle.srcp_peers.specs.declared.peer.Peer.{Peer}
+use Rattle.srcp_peers.specs.declared.readiness.Flush.{Flush}
+use Rattle.srcp_peers.specs.declared.readiness.Flush.TheVariants as flush
+use Rattle.srcp_peers.specs.declared.readiness.Output.{Output}
+use Rattle.srcp_peers.specs.declared.readiness.Output.TheVariants as output
+use Rattle.srcp_peers.specs.declared.stay.Stay.{Stay}
+use Rattle.srcp_peers.specs.declared.stay.Stay.TheVariants as stay
+use Rattle.srcp_peers.specs.declared.turn.Listening.{Listening}
+use Rattle.srcp_peers.specs.declared.turn.Turn.{Turn}
+use Rattle.srcp_peers.specs.Accounts.{Account, Sent, account, account_step, closed, is_lingering, is_overdue, is_owed, may_shut}
+use Rattle.srcp_peers.specs.Accounts.{untouched, wrote}
+use Rattle.srcp_peers.specs.AllPeers.{AreOffered, AreShutDown, IsAbsent}
+use Rattle.srcp_peers.specs.Peers.{Agrees, IsFlushed, IsKept, IsOffered, Makes, OffersDue, Spares, StaysAs, WritesAs, flush_of, flushes_all, gone_as, is_gone}
+use Rattle.srcp_peers.specs.Peers.{has_ended, is_due, is_lost, stay_after, tries_again, woken_output}
+use Rattle.srcp_peers.specs.Steps.{Accepts, Answers, Clocks, Closes, Reads, SaysNothing, Shuts, Step, Tells, Waits, Writes, call_of, calls}
+use Rattle.srcp_peers.specs.Times.{KeepsTimes, Times, first_times, times, times_step}
+use Rattle.srcp_peers.specs.Turns.{flushing, is_pending, is_short}
+use Rattle.srcp_peers.proofs.AccountStreams.{if_same}
+use Rattle.srcp_peers.proofs.Keeping.{account_more, own}
+use Rattle.srcp_peers.proofs.Resting.{and_left, and_right, owed_is}
+use Rattle.srcp_sockets.specs.Doors.{IsThere, Stands}
+use Rattle.srcp_sockets.specs.Waits.{AreFlushed, IsFlushedOut, MayWait, closes, closes_after, has_to_close, is_written, written_after}
+use Rattle.srcp_sockets.specs.KeptTimes.{IsTimed}
+use Rattle.srcp_sockets.specs.Work.{AreClosedUp, is_accept, is_close}
+use Rattle.srcp_sockets.proofs.Clocking.{clock_is}
+use Rattle.srcp_sockets.proofs.Asking.{or_last}
+use Rattle.srcp_sockets.proofs.Doing.{free_came, is_free, no_call, no_calls, some_call}
+use Rattle.srcp_sockets.proofs.Handing.{lost_as}
+use Rattle.srcp_sockets.proofs.Standing.{find, nobody}
+
+-- ---- who is closed
+
+closes_one : (n : ℕ) (step : Step) → call_of step ≡ None → closes_after n step ≡ n + count_by is_close (step ∷ [])
+closes_one n (Accepts number answer) none = omega arith
+closes_one n (Reads who buffer answer) none = omega arith
+closes_one n (Writes who bytes answer) none = omega arith
+closes_one n (Waits most count ready) none = omega arith
+closes_one n (Shuts who) none = omega arith
+closes_one n (Closes who) none = omega arith
+closes_one n (Clocks answer) none = omega arith
+closes_one n (Answers call) none = absurd (some_call call none)
+
+closes_came : (n : ℕ) (came : List Step) → calls came ≡ [] → fold closes_after n came ≡ n + count_by is_close came
+closes_came n [] e = omega arith
+closes_came n (step ∷ came) e =
+    let none = no_calls step came e in
+    let one = closes_one n step none.0 in
+    let rest = closes_came (closes_after n step) came none.1 in
+    let all = sum_by-append (λ s. cond (is_close s) 1 0) (step ∷ []) came in
+    omega (arith, one, rest, all)
+
+many_closed : (old new : Option (List Step)) → SaysNothing old new → Makes is_close 64 old new → (log : List Step) → new ≡ Some log
+    → nat_lt (closes log) 64 ≡ false
+many_closed old new says made log is =
+    let s = says log is in
+    let m = made log is in
+    let both : Some s.0 ≡ Some m.0 = sym s.2 ∙ m.1 in
+    let same : s.0 ≡ m.0 = cc in
+    let now : closes log ≡ closes s.0 + count_by is_close s.1 = ap closes s.3 ∙ fold-append closes_after 0 s.0 s.1
+    ∙ closes_came (closes s.0) s.1 s.4 in
+    let all : count_by is_close log ≡ count_by is_close s.0 + count_by is_close s.1 = ap (count_by is_close) s.3
+    ∙ sum_by-append (λ x. cond (is_close x) 1 0) s.0 s.1 in
+    let before : count_by is_close s.0 ≡ count_by is_close m.0 = ap (count_by is_close) same in
+    let more : count_by is_close log ≡ count_by is_close m.0 + 64 = m.2 in
+    at_least (closes log) (omega (arith, now, all, before, more))
+  where
+    at_least : (n : ℕ) → 64 ≤ n → nat_lt n 64 ≡ false
+    at_least n le = grind (arith, nat_tests)
+
+none_first : (p : Peer → Bool) (xs : List Peer) (k : ℕ) (d : Peer) → position p xs ≡ None → k < length xs
+    → p (slice_index_or xs k d) ≡ false
+none_first p xs k d none lt = fails_before_first p xs k d (by (nat_lt (position_or_len p xs) (length xs)) refl none)
+  where
+    some : (n : ℕ) → Some n ≡ None → ⊥
+    some n e = cc
+
+    below : (n most : ℕ) → k < most → nat_lt n most ≡ false → k < n
+    below n most less e = grind (arith, nat_tests)
+
+    by : (b : Bool) → nat_lt (position_or_len p xs) (length xs) ≡ b → cond b (Some (position_or_len p xs)) None ≡ None
+        → k < position_or_len p xs
+    by true e f = absurd (some (position_or_len p xs) f)
+    by false e f = below (position_or_len p xs) (length xs) lt e
+
+-- nothing follows of what is false
+and_none : (a : Bool) → (a && false) ≡ false
+and_none true = refl
+and_none false = refl
+
+-- neither of two
+neither : (a b : Bool) → (a || b) ≡ false → (a ≡ false) × (b ≡ false)
+neither true b e = absurd (true≢false e)
+neither false b e = (refl, e)
+
+remains : (lingers lost over : Bool) → lost ≡ false → over ≡ false → (lingers && (lost || over)) ≡ false
+remains lingers lost over l o = ap (λ b. lingers && (b || over)) l ∙ ap (λ b. lingers && b) o ∙ and_none lingers
+
+not_gone : (a : Account) (p : Peer) (clock : ℕ) → Agrees a p → a.lingering.clock ≡ clock → is_gone clock p ≡ false
+    → has_to_close a ≡ false
+not_gone a p clock h shown stays = by p.stay h.stays stays
+  where
+    overdue : (since : ℕ) → a.lingering.since ≡ since
+        → is_overdue a.lingering.clock a.lingering.since ≡ is_overdue clock since
+    overdue since e = ap (λ n. is_overdue n a.lingering.since) shown ∙ ap (is_overdue clock) e
+
+    lost : a.sent.lost ≡ is_lost p.output
+    lost = sym (lost_as a.sent p.outgoing p.output h.writes)
+
+    by : (here : Stay) → StaysAs a.watched a.lingering p.outgoing here → gone_as clock p.input p.output here ≡ false
+        → has_to_close a ≡ false
+    by stay.Here s e = ap (λ w. (not w && a.lingering.kept) && (a.sent.lost || is_overdue a.lingering.clock a.lingering.since)) s.0
+    by (stay.Draining since) s e =
+        let n = neither (is_lost p.output) (is_overdue clock since) e in
+        remains (is_lingering a) a.sent.lost (is_overdue a.lingering.clock a.lingering.since) (lost ∙ n.0) (overdue since s.2 ∙ n.1)
+    by (stay.Shut since) s e =
+        let n = neither (is_lost p.output) (has_ended p.input || is_overdue clock since) e in
+        let o = neither (has_ended p.input) (is_overdue clock since) n.1 in
+        remains (is_lingering a) a.sent.lost (is_overdue a.lingering.clock a.lingering.since) (lost ∙ n.0) (overdue since s.2 ∙ o.1)
+
+pub all_closed : (old new : Option (List Step)) (turn : Turn) (peers : List Peer) (l : Listening) (last : ℕ) → Stands new peers l last
+    → IsTimed new turn → SaysNothing old new → AreClosedUp turn.clock peers old new → (log : List Step) → new ≡ Some log
+    → nat_lt (closes log) 64 ≡ true → (socket : ℕ) → has_to_close (account socket log) ≡ false
+all_closed old new turn peers l last stands timed says closed log is few socket = ⊎_elim
+    (λ (none : position (is_gone turn.clock) peers ≡ None). ⊎_elim
+    (λ (there : IsThere socket peers).
+    let p : Peer = slice_index_or peers there.index nobody in
+    subst (λ (n : ℕ). has_to_close (account n log) ≡ false) (there.same nobody)
+    (not_gone (account p.number log) p turn.clock (stands.kept there.index nobody there.within log is)
+    (clock_is new turn p.number timed log is) (none_first (is_gone turn.clock) peers there.index nobody none there.within)))
+    (λ (absent : IsAbsent socket peers).
+    let a = account socket log in
+    ap (λ k. (not a.watched && k) && (a.sent.lost || is_overdue a.lingering.clock a.lingering.since))
+    (stands.closed log is socket absent).kept
+    ∙ ap (λ b. b && (a.sent.lost || is_overdue a.lingering.clock a.lingering.since)) (and_none (not a.watched)))
+    (find socket peers))
+    (λ (made : Makes is_close 64 old new). absurd (true≢false (sym few ∙ many_closed old new says made log is)))
+    closed
+
+-- ---- who is written to
+
+written_one : (socket : ℕ) (written : Bool) (step : Step) → call_of step ≡ None → written ≡ true
+    → written_after socket written step ≡ true
+written_one socket written (Accepts number answer) none e = e
+written_one socket written (Reads who buffer answer) none e = e
+written_one socket written (Writes who bytes answer) none e = ap (λ b. (who == socket) || b) e ∙ or_last (who == socket)
+written_one socket written (Waits most count ready) none e = e
+written_one socket written (Shuts who) none e = e
+written_one socket written (Closes who) none e = e
+written_one socket written (Clocks answer) none e = e
+written_one socket written (Answers call) none e = absurd (some_call call none)
+
+written_came : (socket : ℕ) (written : Bool) (came : List Step) → calls came ≡ [] → written ≡ true
+    → fold (written_after socket) written came ≡ true
+written_came socket written [] e w = w
+written_came socket written (step ∷ came) e w =
+    let none = no_calls step came e in
+    written_came socket (written_after socket written step) came none.1 (written_one socket written step none.0 w)
+
+written_in : (socket : ℕ) (written : Bool) (bytes : List ℕ) (answer : Result ℕ ErrorKind) (before after : List Step)
+    → calls (before ++ Writes socket bytes answer ∷ after) ≡ []
+    → fold (written_after socket) written (before ++ Writes socket bytes answer ∷ after) ≡ true
+written_in socket written bytes answer [] after e =
+    written_came socket ((socket == socket) || written) after (no_calls (Writes socket bytes answer) after e).1
+    (ap (λ b. b || written) (own socket))
+written_in socket written bytes answer (step ∷ before) after e =
+    written_in socket (written_after socket written step) bytes answer before after
+    (no_calls step (before ++ Writes socket bytes answer ∷ after) e).1
+
+offered_written : (socket : ℕ) (bytes : List ℕ) (old new : Option (List Step)) → SaysNothing old new → IsOffered socket bytes old new
+    → (log : List Step) → new ≡ Some log → is_written socket log ≡ true
+offered_written socket bytes old new says offered log is =
+    let s = says log is in
+    let o = offered log is in
+    let both : Some s.0 ≡ Some o.0 = sym s.2 ∙ o.4 in
+    let same : s.0 ≡ o.0 = cc in
+    let rest = o.1 ++ Writes socket bytes o.2 ∷ o.3 in
+    let came : s.1 ≡ rest = append_cancel_left s.0 s.1 rest (sym s.3 ∙ o.5 ∙ ap (λ (xs : List Step). xs ++ rest) (sym same)) in
+    ap (is_written socket) s.3 ∙ fold-append (written_after socket) false s.0 s.1
+    ∙ ap (fold (written_after socket) (is_written socket s.0)) came
+    ∙ written_in socket (is_written socket s.0) bytes o.2 o.1 o.3 (ap calls (sym came) ∙ s.4)
+
+-- no connection was accepted among them
+abbrev is_some : Option (Result (Option ℕ) DoorFault) → Bool
+is_some None = false
+is_some (Some said) = true
+
+heard_one : (t : Times) (step : Step) → call_of step ≡ None → is_some t.heard ≡ true → is_some (times_step t step).heard ≡ true
+heard_one t (Accepts number answer) none e = refl
+heard_one t (Reads who buffer answer) none e = e
+heard_one t (Writes who bytes answer) none e = e
+heard_one t (Waits most count ready) none e = e
+heard_one t (Shuts who) none e = e
+heard_one t (Closes who) none e = e
+heard_one t (Clocks (Some time)) none e = e
+heard_one t (Clocks None) none e = e
+heard_one t (Answers call) none e = absurd (some_call call none)
+
+heard_came : (t : Times) (came : List Step) → calls came ≡ [] → is_some t.heard ≡ true → is_some (fold times_step t came).heard ≡ true
+heard_came t [] e h = h
+heard_came t (step ∷ came) e h =
+    let none = no_calls step came e in
+    heard_came (times_step t step) came none.1 (heard_one t step none.0 h)
+
+unasked : (t : Times) (came : List Step) → calls came ≡ [] → is_some (fold times_step t came).heard ≡ false
+    → list_all (λ s. not (is_accept s)) came ≡ true
+unasked t [] e none = refl
+unasked t (Accepts number answer ∷ came) e none =
+    absurd (true≢false (sym (heard_came (times_step t (Accepts number answer)) came e refl) ∙ none))
+unasked t (Reads who buffer answer ∷ came) e none = unasked t came e none
+unasked t (Writes who bytes answer ∷ came) e none = unasked t came e none
+unasked t (Waits most count ready ∷ came) e none = unasked (times_step t (Waits most count ready)) came e none
+unasked t (Shuts who ∷ came) e none = unasked t came e none
+unasked t (Closes who ∷ came) e none = unasked t came e none
+unasked t (Clocks (Some time) ∷ came) e none = unasked (times_step t (Clocks (Some time))) came e none
+unasked t (Clocks None ∷ came) e none = unasked t came e none
+unasked t (Answers call ∷ came) e none = absurd (no_call call (calls came) e)
+
+-- each step writes to a socket, or leaves alone what was sent to it
+sent_one : (socket : ℕ) (a : Account) (written : Bool) (step : Step) → is_free step ≡ true → not (is_accept step) ≡ true
+    → (written_after socket written step ≡ true) ⊎ ((account_step socket a step).sent ≡ a.sent)
+sent_one socket a written (Accepts number answer) free none = absurd (true≢false (sym none))
+sent_one socket a written (Reads who buffer answer) free none = inr (if_same (λ (x : Account). x.sent) (who == socket) _ a refl)
+sent_one socket a written (Writes who bytes answer) free none = by (who == socket)
+  where
+    by : (b : Bool) → ((b || written) ≡ true) ⊎ ((if b then record a { sent = wrote a.sent bytes answer } else a).sent ≡ a.sent)
+    by true = inl refl
+    by false = inr refl
+sent_one socket a written (Waits most count ready) free none = absurd (true≢false (sym free))
+sent_one socket a written (Shuts who) free none = inr (if_same (λ (x : Account). x.sent) (who == socket) _ a refl)
+sent_one socket a written (Closes who) free none = inr (if_same (λ (x : Account). x.sent) (who == socket) _ a refl)
+sent_one socket a written (Clocks answer) free none = inr refl
+sent_one socket a written (Answers call) free none = absurd (true≢false (sym free))
+
+sent_came : (socket : ℕ) (a : Account) (written : Bool) (came : List Step) → calls came ≡ [] → list_all is_free came ≡ true
+    → list_all (λ s. not (is_accept s)) came ≡ true
+    → (fold (written_after socket) written came ≡ true) ⊎ ((fold (account_step socket) a came).sent ≡ a.sent)
+sent_came socket a written [] e free none = inr refl
+sent_came socket a written (step ∷ came) e free none =
+    let silent = no_calls step came e in
+    ⊎_elim
+    (λ (w : written_after socket written step ≡ true). inl (written_came socket (written_after socket written step) came silent.1 w))
+    (λ (same : (account_step socket a step).sent ≡ a.sent). ⊎_elim
+    (λ (w : fold (written_after socket) (written_after socket written step) came ≡ true). inl w)
+    (λ (later : (fold (account_step socket) (account_step socket a step) came).sent ≡ (account_step socket a step).sent).
+    inr (later ∙ same))
+    (sent_came socket (account_step socket a step) (written_after socket written step) came silent.1
+    (and_right (is_free step) (list_all is_free came) free)
+    (and_right (not (is_accept step)) (list_all (λ s. not (is_accept s)) came) none)))
+    (sent_one socket a written step (and_left (is_free step) (list_all is_free came) free)
+    (and_left (not (is_accept step)) (list_all (λ s. not (is_accept s)) came) none))
+
+-- ---- after a flush
+
+-- its socket takes nothing, or it is offered what is queued
+due_or_none : (a : Account) (p : Peer) (what : Flush) → Agrees a p → flushes_all what ≡ true
+    → IsFlushed (flush_of what p.stay) p ⊎ ((not (is_owed a.sent) || (a.sent.full || a.sent.lost)) ≡ true)
+due_or_none a p what h all = by p.output refl h.writes
+  where
+    flushes : (here : Stay) → flushes_all (flush_of what here) ≡ true
+    flushes stay.Here = all
+    flushes (stay.Draining since) = refl
+    flushes (stay.Shut since) = refl
+
+    due : is_due (flush_of what p.stay) p ≡ true
+    due = ap (λ b. b || (nat_lt 3160 (length p.outgoing) || (p.asked && (p.cut || (length p.incoming == 0))))) (flushes p.stay)
+
+    queued : (outgoing : List ℕ) → p.outgoing ≡ outgoing → p.output ≡ output.Open → a.sent.written ≡ a.sent.took ++ p.outgoing
+        → IsFlushed (flush_of what p.stay) p ⊎ ((not (is_owed a.sent) || (a.sent.full || a.sent.lost)) ≡ true)
+    queued [] none is_open is = inr (ap (λ b. not b || (a.sent.full || a.sent.lost))
+        (owed_is a.sent p.outgoing is ∙ ap (λ (xs : List ℕ). not (length xs == 0)) none))
+    queued (byte ∷ more) some is_open is = inl (
+      ap (λ (o : Output). woken_output o (tries_again (flush_of what p.stay))) is_open,
+      λ none. (let bad : byte ∷ more ≡ [] = sym some ∙ none in not_empty byte more bad),
+      due,
+    )
+      where
+        not_empty : (x : ℕ) (xs : List ℕ) → x ∷ xs ≡ [] → ⊥
+        not_empty x xs e = cc
+
+    by : (state : Output) → p.output ≡ state → WritesAs a.sent p.outgoing state
+        → IsFlushed (flush_of what p.stay) p ⊎ ((not (is_owed a.sent) || (a.sent.full || a.sent.lost)) ≡ true)
+    by output.Open is w = queued p.outgoing refl is w.0
+    by output.Full is w = inr (ap (λ b. not (is_owed a.sent) || (b || a.sent.lost)) w.2 ∙ or_last (not (is_owed a.sent)))
+    by output.Lost is w = inr (ap (λ b. not (is_owed a.sent) || (a.sent.full || b)) w.1
+        ∙ ap (λ b. not (is_owed a.sent) || b) (or_last a.sent.full) ∙ or_last (not (is_owed a.sent)))
+
+or_written : (none stuck written : Bool) → written ≡ true → (none || (stuck || written)) ≡ true
+or_written none stuck written e = ap (λ b. none || (stuck || b)) e ∙ ap (λ b. none || b) (or_last stuck) ∙ or_last none
+
+or_none : (none stuck written : Bool) → (none || stuck) ≡ true → (none || (stuck || written)) ≡ true
+or_none true stuck written e = refl
+or_none false stuck written e = ap (λ b. b || written) e
+
+offered_all : (what : Flush) (old new : Option (List Step)) (peers : List Peer) (l : Listening) (last wall start : ℕ)
+    → Stands old peers l last → AreOffered what peers old new → ((other : ℕ) → IsAbsent other peers → Spares other old new)
+    → SaysNothing old new → KeepsTimes old new → ((log : List Step) → old ≡ Some log → (times wall start log).heard ≡ None)
+    → flushes_all what ≡ true → (log : List Step) → new ≡ Some log → (socket : ℕ) → (account socket log).lingering.kept ≡ true
+    → (let a = account socket log in
+    (not (is_owed a.sent) || ((a.sent.full || a.sent.lost) || is_written socket log)) ≡ true)
+offered_all what old new peers l last wall start stands offered others says keeps heard all log is socket kept = ⊎_elim
+    (λ (there : IsThere socket peers).
+    let p : Peer = slice_index_or peers there.index nobody in
+    subst (λ (n : ℕ). (not (is_owed (account n log).sent)
+    || (((account n log).sent.full || (account n log).sent.lost) || is_written n log)) ≡ true) (there.same nobody)
+    (each p (stands.kept there.index nobody there.within) (offered there.index nobody there.within)))
+    (λ (absent : IsAbsent socket peers).
+    let s = others socket absent log is in
+    absurd (true≢false (sym kept ∙ ap (λ (a : Account). a.lingering.kept) s.2 ∙ (stands.closed s.0 s.1 socket absent).kept)))
+    (find socket peers)
+  where
+    each : (p : Peer) → IsKept old p → OffersDue what p old new
+        → (not (is_owed (account p.number log).sent)
+        || (((account p.number log).sent.full || (account p.number log).sent.lost) || is_written p.number log)) ≡ true
+    each p agrees due =
+        let f = free_came old new says keeps log is in
+        let c = says log is in
+        let both : Some f.0 ≡ Some c.0 = sym f.2 ∙ c.2 in
+        let one : f.0 ≡ c.0 = cc in
+        let k = keeps log is in
+        let both_times : Some k.0 ≡ Some c.0 = sym k.1 ∙ c.2 in
+        let two : k.0 ≡ c.0 = cc in
+        let came : f.1 ≡ c.1 = append_cancel_left c.0 f.1 c.1
+        (ap (λ (xs : List Step). xs ++ f.1) (sym one) ∙ sym f.3 ∙ c.3) in
+        let a = account p.number c.0 in
+        let now = account p.number log in
+        let free : list_all is_free c.1 ≡ true = ap (list_all is_free) (sym came) ∙ f.4 in
+        let quiet : is_some (fold times_step (times wall start c.0) c.1).heard ≡ false =
+        ap (λ (t : Times). is_some t.heard) (sym (fold-append times_step (first_times wall start) c.0 c.1))
+        ∙ ap (λ l. is_some (times wall start l).heard) (sym c.3) ∙ ap (λ (t : Times). is_some t.heard) (k.2 wall start)
+        ∙ ap (λ l. is_some (times wall start l).heard) two ∙ ap is_some (heard c.0 c.2) in
+        let none = unasked (times wall start c.0) c.1 c.4 quiet in
+        ⊎_elim
+        (λ (flushed : IsFlushed (flush_of what p.stay) p).
+        or_written (not (is_owed now.sent)) (now.sent.full || now.sent.lost) (is_written p.number log)
+        (offered_written p.number p.outgoing old new says (due flushed) log is))
+        (λ (stuck : (not (is_owed a.sent) || (a.sent.full || a.sent.lost)) ≡ true). ⊎_elim
+        (λ (w : fold (written_after p.number) (is_written p.number c.0) c.1 ≡ true).
+        or_written (not (is_owed now.sent)) (now.sent.full || now.sent.lost) (is_written p.number log)
+        (ap (is_written p.number) c.3 ∙ fold-append (written_after p.number) false c.0 c.1 ∙ w))
+        (λ (same : (fold (account_step p.number) a c.1).sent ≡ a.sent).
+        let sent : now.sent ≡ a.sent = ap (λ l. (account p.number l).sent) c.3
+        ∙ ap (λ (x : Account). x.sent) (fold-append (account_step p.number) untouched c.0 c.1) ∙ same in
+        or_none (not (is_owed now.sent)) (now.sent.full || now.sent.lost) (is_written p.number log)
+        (ap (λ (s : Sent). not (is_owed s) || (s.full || s.lost)) sent ∙ stuck))
+        (sent_came p.number a (is_written p.number c.0) c.1 c.4 free none))
+        (due_or_none a p what (agrees c.0 c.2) all)
+
+-- it is there, shut down, or owed something, or lost
+shut_none : (watched kept shut owed lost : Bool) → ((watched ≡ true) ⊎ ((shut ≡ true) ⊎ ((owed ≡ true) ⊎ (lost ≡ true))))
+    → (((not watched && kept) && (not shut && not owed)) && not lost) ≡ false
+shut_none true kept shut owed lost e = refl
+shut_none false false shut owed lost e = refl
+shut_none false true true owed lost e = refl
+shut_none false true false true lost e = refl
+shut_none false true false false true e = refl
+shut_none false true false false false e = ⊎_elim (λ f. absurd (true≢false (sym f))) (⊎_elim (λ f. absurd (true≢false (sym f)))
+    (⊎_elim (λ f. absurd (true≢false (sym f))) (λ f. absurd (true≢false (sym f))))) e
+
+was_shut : (a : Account) (p : Peer) (before : Stay) → Agrees a p → p.stay ≡ stay_after before p.outgoing p.output
+    → (may_shut a && not a.sent.lost) ≡ false
+was_shut a p before h is = shut_none a.watched a.lingering.kept a.lingering.shut (is_owed a.sent) a.sent.lost (by before is)
+  where
+    here : (s : Stay) → p.stay ≡ s → StaysAs a.watched a.lingering p.outgoing s
+    here s e = subst (StaysAs a.watched a.lingering p.outgoing) e h.stays
+
+    alone : (b : Bool) → (b && true) ≡ false → b ≡ false
+    alone true f = f
+    alone false f = refl
+
+    owed : (state : Output) → WritesAs a.sent p.outgoing state → ((length p.outgoing == 0) && not (is_lost state)) ≡ false
+        → (is_owed a.sent ≡ true) ⊎ (a.sent.lost ≡ true)
+    owed output.Open w e = inl (owed_is a.sent p.outgoing w.0 ∙ ap not (alone (length p.outgoing == 0) e))
+    owed output.Full w e = inl (owed_is a.sent p.outgoing w.0 ∙ ap not (alone (length p.outgoing == 0) e))
+    owed output.Lost w e = inr w.1
+
+    by : (s : Stay) → p.stay ≡ stay_after s p.outgoing p.output
+        → (a.watched ≡ true) ⊎ ((a.lingering.shut ≡ true) ⊎ ((is_owed a.sent ≡ true) ⊎ (a.sent.lost ≡ true)))
+    by stay.Here e = inl (here stay.Here e).0
+    by (stay.Draining since) e = on ((length p.outgoing == 0) && not (is_lost p.output)) refl e
+      where
+        on : (b : Bool) → ((length p.outgoing == 0) && not (is_lost p.output)) ≡ b
+            → p.stay ≡ cond b (stay.Shut since) (stay.Draining since)
+            → (a.watched ≡ true) ⊎ ((a.lingering.shut ≡ true) ⊎ ((is_owed a.sent ≡ true) ⊎ (a.sent.lost ≡ true)))
+        on true c f = inr (inl (here (stay.Shut since) f).3)
+        on false c f = inr (inr (owed p.output h.writes c))
+    by (stay.Shut since) e = inr (inl (here (stay.Shut since) e).3)
+
+pub all_flushed : (what : Flush) (old new : Option (List Step)) (before after : List Peer) (l : Listening) (last wall start : ℕ)
+    → Stands old before l last → Stands new after l last → length after ≡ length before → AreOffered what before old new
+    → AreShutDown before after → ((other : ℕ) → IsAbsent other before → Spares other old new) → SaysNothing old new → KeepsTimes old new
+    → ((log : List Step) → old ≡ Some log → (times wall start log).heard ≡ None) → AreFlushed (flushes_all what) new
+all_flushed what old new before after l last wall start stood stands long offered down others says keeps heard log is socket = record {
+  shut = ⊎_elim
+      (λ (there : IsThere socket after).
+      let p : Peer = slice_index_or after there.index nobody in
+      let within : there.index < length after = there.within in
+      subst (λ (n : ℕ). (may_shut (account n log) && not (account n log).sent.lost) ≡ false) (there.same nobody)
+      (was_shut (account p.number log) p (slice_index_or before there.index nobody).stay
+      (stands.kept there.index nobody there.within log is) (down there.index nobody (omega (arith, within, long)))))
+      (λ (absent : IsAbsent socket after).
+      let a = account socket log in
+      ap (λ k. ((not a.watched && k) && (not a.lingering.shut && not (is_owed a.sent))) && not a.sent.lost)
+      (stands.closed log is socket absent).kept
+      ∙ ap (λ b. (b && (not a.lingering.shut && not (is_owed a.sent))) && not a.sent.lost) (and_none (not a.watched)))
+      (find socket after);
+  offered = λ all kept. offered_all what old new before l last wall start stood offered others says keeps heard all log is socket kept;
+}
+
+-- one was closed behind that
+pub flushed_close : (all : Bool) (old new : Option (List Step)) (who : ℕ) → Tells old (Closes who) new → AreFlushed all old
+    → AreFlushed all new
+flushed_close all old new who tells flushed log is socket =
+    let t = tells log is in
+    let a = account socket t.0 in
+    let more : account socket log ≡ account_step socket a (Closes who) = ap (account socket) t.2 ∙ account_more socket t.0 (Closes who) in
+    let same : is_written socket log ≡ is_written socket t.0 = ap (is_written socket) t.2
+    ∙ fold-append (written_after socket) false t.0 (Closes who ∷ []) in
+    subst (λ (x : Account). IsFlushedOut all x (is_written socket log)) (sym more)
+    (subst (IsFlushedOut all (account_step socket a (Closes who))) (sym same)
+    (by a (is_written socket t.0) (who == socket) (flushed t.0 t.1 socket)))
+  where
+    by : (a : Account) (written b : Bool) → IsFlushedOut all a written → IsFlushedOut all (if b then closed a else a) written
+    by a written true h = record {
+      shut = ap (λ x. (x && (not a.lingering.shut && not (is_owed a.sent))) && not a.sent.lost) (and_none (not a.watched));
+      offered = λ every kept. absurd (true≢false (sym kept));
+    }
+    by a written false h = h
+
+-- ---- a wait
+
+every : (ticked : Bool) (turn : Turn) → is_pending turn.slack turn.busy ≡ false → flushes_all (flushing ticked false turn) ≡ true
+every true turn none = by (is_short turn.slack)
+  where
+    by : (b : Bool) → flushes_all (cond b flush.Again flush.All) ≡ true
+    by true = refl
+    by false = refl
+every false turn none = ap (λ b. flushes_all (cond b flush.Answers flush.All)) none
+
+quiet_is : (pending : Bool) → not pending ≡ true → pending ≡ false
+quiet_is true e = absurd (true≢false (sym e))
+quiet_is false e = refl
+
+pub may_wait : (trace : Option (List Step)) (turn : Turn) (ticked : Bool) → IsTimed trace turn
+    → AreFlushed (flushes_all (flushing ticked false turn)) trace
+    → ((log : List Step) → trace ≡ Some log → nat_lt (closes log) 64 ≡ true → (socket : ℕ) → has_to_close (account socket log) ≡ false)
+    → MayWait turn trace
+may_wait trace turn ticked timed flushed closed log is = record {
+  closed = closed log is;
+  flushed = λ socket. record {
+    shut = (flushed log is socket).shut;
+    offered = λ quiet kept. (flushed log is socket).offered
+        (every ticked turn (ap (λ (t : Turn). is_pending t.slack t.busy) (sym (timed log is).same)
+        ∙ quiet_is (is_pending (times turn.timekeeper.wall turn.timekeeper.start log).turn.slack
+        (times turn.timekeeper.wall turn.timekeeper.start log).turn.busy) quiet)) kept;
+  };
+}
+
+-- ---- the laws in their own words
+
+pub unless_lost : (may lost : Bool) → (may && not lost) ≡ false → may ≡ true → lost ≡ true
+unless_lost may true e m = refl
+unless_lost true false e m = absurd (true≢false e)
+unless_lost false false e m = absurd (true≢false (sym m))
+
+pub if_owed : (owed rest : Bool) → (not owed || rest) ≡ true → owed ≡ true → rest ≡ true
+if_owed true rest e o = e
+if_owed false rest e o = absurd (true≢false (sym o))

@@ -1,0 +1,57 @@
+-- What a door has done when it waits.
+use Rattle.std.specs.Prelude.{◌≡◌, ℕ, ◌+◌, ◌==◌, ◌&&◌, ◌||◌, nat_lt, Bool, true, false, not, List, fold, Option, Some}
+use Rattle.srcp_door.specs.Calls.{NowCall}
+use Rattle.srcp_peers.specs.declared.turn.Turn.{Turn}
+use Rattle.srcp_peers.specs.Accounts.{Account, account, is_lingering, is_overdue, is_owed, may_shut}
+use Rattle.srcp_peers.specs.Steps.{Answers, Closes, Step, Writes}
+use Rattle.srcp_peers.specs.Times.{times}
+use Rattle.srcp_peers.specs.Turns.{is_pending}
+
+-- how many sockets were closed since a moment was reported
+abbrev pub closes_after : ℕ → Step → ℕ
+closes_after count (Closes who) = count + 1
+closes_after count (Answers (NowCall answer)) = 0
+closes_after count other = count
+
+abbrev pub closes : List Step → ℕ
+closes log = fold closes_after 0 log
+
+-- it lingers, and a write found that its socket takes no more, or its time is over
+abbrev pub has_to_close : Account → Bool
+has_to_close a = is_lingering a && (a.sent.lost || is_overdue a.lingering.clock a.lingering.since)
+
+-- a socket was written to since the door answered a call
+abbrev pub written_after : ℕ → Bool → Step → Bool
+written_after socket written (Writes who bytes answer) = (who == socket) || written
+written_after socket written (Answers call) = false
+written_after socket written other = written
+
+abbrev pub is_written : ℕ → List Step → Bool
+is_written socket log = fold (written_after socket) false log
+
+-- what was done for a socket, if it was written to or not. It was shut down if it lingers and took all. With `all` it
+-- was offered what is queued: it took all, or takes nothing now or any more, or was written to
+pub record IsFlushedOut (all : Bool) (a : Account) (written : Bool) : Type 0 where
+  pub shut : (may_shut a && not a.sent.lost) ≡ false
+  pub offered : all ≡ true → a.lingering.kept ≡ true
+      → (not (is_owed a.sent) || ((a.sent.full || a.sent.lost) || written)) ≡ true
+
+-- so it is for each socket
+abbrev pub AreFlushed : (all : Bool) → Option (List Step) → Type 0
+AreFlushed all trace = (log : List Step) → trace ≡ Some log → (socket : ℕ)
+    → IsFlushedOut all (account socket log) (is_written socket log)
+
+-- nothing happened since the last wait, or there is no panel
+abbrev pub is_calm : (wall start : ℕ) → List Step → Bool
+is_calm wall start log = let turn = (times wall start log).turn in not (is_pending turn.slack turn.busy)
+
+-- nobody is left that has to be closed, or 64 were since a moment was reported; and each was shut down and offered what
+-- is queued
+pub record IsWaitDone (wall start : ℕ) (log : List Step) : Type 0 where
+  pub closed : nat_lt (closes log) 64 ≡ true → (socket : ℕ) → has_to_close (account socket log) ≡ false
+  pub flushed : (socket : ℕ) → IsFlushedOut (is_calm wall start log) (account socket log) (is_written socket log)
+
+-- so it is before a wait
+abbrev pub MayWait : Turn → Option (List Step) → Type 0
+MayWait turn trace = (log : List Step) → trace ≡ Some log
+    → IsWaitDone turn.timekeeper.wall turn.timekeeper.start log
