@@ -162,7 +162,8 @@ class Z21:
     def rubbish(self):
         """It sends what is not in its protocol: what is cut, too long, of no kind, and with a wrong check byte."""
         whole = bytes([7, 0, 0x40, 0, 0x61, 0, 0x61])
-        for data in (b"", b"\0" * 9, whole[:5], whole[:6] + b"\0", bytes([4, 0, 0x40, 0]), bytes([255, 255]) + whole[2:],
+        for data in (b"", b"\0" * 9, whole[:5], whole[:6] + b"\0", bytes([4, 0, 0x40, 0]),
+                     bytes([255, 255]) + whole[2:],
                      bytes([6, 0, 0x40, 0, 0xEF, 0xEF]), bytes([15, 0, 0x80, 0, 9]) + b"\xff" * 10):
             for client in self.clients:
                 self.socket.sendto(data, client)

@@ -10,9 +10,9 @@ CRATES = TOP / "crates"
 CODE = {".rt", ".antt", ".py", ".c", ".h"}
 PLACEHOLDERS = {"F", "X", "NAME"}  # stand for any name, as srcp_X for any crate
 # What others define and pages name: words of Rattle, of Rust's library, of systems and of git.
-OTHERS = {"BTreeMap", "Drop", "IfErr", "IfSome", "OnErr", "SO_KEEPALIVE", "SO_LINGER", "SO_SNDBUF", "TCP_USER_TIMEOUT",
-          "VecDeque", "circular_buffer", "console", "ensures", "nc", "requires", "result", "return", "ssh",
-          "SHA256SUMS"}
+OTHERS = {"BTreeMap", "Drop", "IfErr", "IfSome", "Net", "OnErr", "SO_KEEPALIVE", "SO_LINGER", "SO_SNDBUF",
+          "TCP_USER_TIMEOUT", "VecDeque", "circular_buffer", "console", "ensures", "nc", "requires", "result", "return",
+          "ssh", "SHA256SUMS"}
 # These name words of the protocol and of systems.
 FOR_USERS = {TOP / "README.md", TOP / "CHANGELOG.md", TOP / "bridges" / "README.md", *(
     TOP / "docs" / f"{name}.md" for name in ("protocol", "configuration", "install", "replay"))}
@@ -99,7 +99,7 @@ def names_of_places(_):
 def names_that_pages_say(_):
     """A single name on a page for those who change the program is defined in the code, or is a crate that is used."""
     defined = OTHERS.union(*map(names_defined, code_files()))
-    defined |= set(re.findall(r"\w+", (TOP / "crates.txt").read_text()))
+    defined |= set(re.findall(r"\w+", (TOP / "crates.txt").read_text())) | {file.name for file in TOP.iterdir()}
     of_the_gate = "".join((TOP / name).read_text() for name in ("test", "tests/run_cases.py"))
     defined |= set(re.findall(r"\b[A-Z_]{3,}\b", of_the_gate))
     count = 0

@@ -32,6 +32,7 @@ from doctor import DOCTOR_CASES
 from door import DOOR_CASES
 from faults import FAULT_CASES
 from front_page import FRONT_PAGE_CASES
+from house import HOUSE_CASES
 from inputs import INPUT_CASES
 from installed import INSTALLED_CASES
 from lingering import LINGERING_CASES
@@ -249,8 +250,8 @@ STREAM_CASES = (input_past_its_limit, input_at_its_limit, input_that_cannot_be_r
                 run_in_little_memory, full_bus_that_stalls_nobody)
 ALL_CASES = (STREAM_CASES + TABLE_CASES + INPUT_CASES + SERVING_CASES + DOOR_CASES + FAULT_CASES + CLIENT_CASES
              + FRONT_PAGE_CASES + PAGE_CASES + NAME_CASES + RUN_SCRIPT_CASES + SAFETY_CASES + LOOKING_CASES
-             + DOCTOR_CASES + PACKAGE_CASES + INSTALLED_CASES + RELEASE_CASES + ARM64_CASES + LINGERING_CASES
-             + VANISHING_CASES + PACING_CASES + RATE_CASES + BRIDGE_CASES)
+             + DOCTOR_CASES + HOUSE_CASES + PACKAGE_CASES + INSTALLED_CASES + RELEASE_CASES + ARM64_CASES
+             + LINGERING_CASES + VANISHING_CASES + PACING_CASES + RATE_CASES + BRIDGE_CASES)
 BESIDE = 10  # cases of bridges/ at once
 
 

@@ -14,7 +14,7 @@ from serving import SECONDS
 
 TOP = Path(__file__).resolve().parent.parent
 TOOLS = ("bash", "cat", "dirname", "env", "find", "mktemp", "nproc", "rm", "tac", "touch")
-KIT = re.search('^kit="(.*)"$', (TOP / "run").read_text(), re.M)[1]
+KIT = re.findall('^kit="(.*)"$', (TOP / "run").read_text(), re.M)[0]
 # Stands in for the kit: a crate takes half a second, and the log tells when each began and ended.
 RT = """#!/bin/sh
 [ "$1" != version ] || {{ echo '{kit}'; exit; }}

@@ -130,7 +130,8 @@ def stops_of_all(evening, count):
     traffic.end()
     evening.throttle.order(*[f"TERM 1 GL {train}" for train in trains])
     for name, times in (("first", sorted(first)), ("last", sorted(last))):
-        print(f"| STOP ALL to the {name} of {count} trains, beside 200 commands a second | {times[ROUNDS // 2]:.1f} ms; "
+        print(f"| STOP ALL to the {name} of {count} trains, beside 200 commands a second | "
+              f"{times[ROUNDS // 2]:.1f} ms; "
               f"{times[ROUNDS * 99 // 100 - 1]:.0f} ms at the 99th of {ROUNDS} |", flush=True)
 
 

@@ -1,10 +1,11 @@
 #!/usr/bin/env python3
-"""bench_latency.py PROGRAM [SECONDS]: how long a lone command waits beside a panel that stops reading, and how late a fall is.
+"""bench_latency.py PROGRAM [SECONDS]: how long a lone command waits beside a panel that stops reading, and how late a
+fall is.
 
-One session sends without end, and one panel reads nothing, until the server closes it. A third session sends one command at
-a time meanwhile and for a second more, in turn a question, which brings no change, and a change. It prints the median, the 99th
-percentile and the greatest of the waits of each.
-Then a port is set for SECONDS, 60 if not given, and it prints how late a panel is told of its fall.
+One session sends without end, and one panel reads nothing, until the server closes it. A third session sends one
+command at a time meanwhile and for a second more, in turn a question, which brings no change, and a change. It prints
+the median, the 99th percentile and the greatest of the waits of each. Then a port is set for SECONDS, 60 if not given,
+and it prints how late a panel is told of its fall.
 """
 import sys
 import threading
@@ -19,9 +20,11 @@ SECONDS_AT_MOST = 60
 
 
 def waits_beside(port: int, panel: Client) -> tuple[dict[str, list[float]], float]:
-    """Returns how long each question and change of a lone session waits for its reply, until a second after the panel's session
-    has ended, and when that was."""
-    lone, waits, begun, closed = Client(port, "COMMAND"), {"question": [], "change": []}, time.monotonic(), 0.0
+    """Returns how long each question and change of a lone session waits for its reply, until a second after the panel's
+    session has ended, and when that was."""
+    lone = Client(port, "COMMAND")
+    waits: dict[str, list[float]] = {"question": [], "change": []}
+    begun, closed = time.monotonic(), 0.0
     while not closed or time.monotonic() < begun + closed + 1:
         for name, command in (("question", f"GET 0 SESSION {panel.session}"), ("change", "SET 1 FB 2 1")):
             sent = time.monotonic()
@@ -48,7 +51,8 @@ def panel_that_stops(program: str):
     for name, of_name in waits.items():
         of_name.sort()
         middle, high = (of_name[len(of_name) * part // 100] * 1e3 for part in (50, 99))
-        print(f"a lone {name} beside it waits: median {middle:.2f} ms, 99 of 100 {high:.2f} ms, at most {of_name[-1] * 1e3:.2f} ms, "
+        print(f"a lone {name} beside it waits: median {middle:.2f} ms, 99 of 100 {high:.2f} ms, "
+              f"at most {of_name[-1] * 1e3:.2f} ms, "
               f"of {len(of_name):,}", flush=True)
 
 

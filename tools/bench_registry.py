@@ -1,9 +1,9 @@
 #!/usr/bin/env python3
 """bench_registry.py PROGRAM: how the cost of commands and of a listing grows with the registry, in replays.
 
-A throttle makes devices, locks each, sets each once, and a panel is listed them all: 1,000 devices, 10,000, and all that
-one bus may have. It fails where a reply is none of acceptance or a row is not listed. And what stalls a server for a
-while: a moment at which a port falls back, and the end of the session that holds all the locks.
+A throttle makes devices, locks each, sets each once, and a panel is listed them all: 1,000 devices, 10,000, and all
+that one bus may have. It fails where a reply is none of acceptance or a row is not listed. And what stalls a server for
+a while: a moment at which a port falls back, and the end of the session that holds all the locks.
 """
 import os
 import random
@@ -99,10 +99,12 @@ def main():
             lines = len(re.findall(rb"^\d+\.\d{3} 10[01] INFO 1 ", told, re.M))
             wanted = sum(ROWS[group] + 1 for group, _ in devices(count))
             if accepted != 3 * count or lines != wanted:
-                sys.exit(f"{count} devices: {accepted} commands accepted of {3 * count}, {lines} rows listed of {wanted}")
+                sys.exit(f"{count} devices: {accepted} commands accepted of {3 * count}, "
+                         f"{lines} rows listed of {wanted}")
             moments, _ = replayed(program, room, list(driven(count)) + list(falling(count)))
             ending, _ = replayed(program, room, list(driven(count)) + [b"shut 1"])
-            print(f"{count:,} devices: {3 * count:,} commands in {driving:.2f} s, {driving / count / 3 * 1e6:.1f} us each; "
+            print(f"{count:,} devices: {3 * count:,} commands in {driving:.2f} s, "
+                  f"{driving / count / 3 * 1e6:.1f} us each; "
                   f"{lines:,} rows listed in {max(whole - driving, 0):.2f} s; {peak} KiB at most; "
                   f"a port back in {max(moments - driving, 0) / MOMENTS * 1e3:.2f} ms; "
                   f"{count:,} locks gone in {max(ending - driving, 0):.2f} s")

@@ -64,7 +64,8 @@ def idle(program, devices):
             begun = time.monotonic()
             throttle.asks("GET 1 POWER")
             took.append((time.monotonic() - begun) * 1000)
-        print(f"idle with {len(clients)} connections and {devices:,} locomotives: {share * 100:.2f} % of a processor; a command is answered in "
+        print(f"idle with {len(clients)} connections and {devices:,} locomotives: {share * 100:.2f} % of a processor; "
+              "a command is answered in "
               f"{statistics.median(took):.2f} ms (median), {max(took):.2f} ms (most)")
 
 
@@ -79,7 +80,8 @@ def switch_off(program):
             while not panel.line().endswith(b" 1 GA 5 0 0\n"):
                 pass
             late.append((time.monotonic() - begun) * 1000 - 40)
-        print(f"a switch-off after 40 ms comes {statistics.median(late):.2f} ms late (median), {max(late):.2f} ms (most)")
+        print(f"a switch-off after 40 ms comes {statistics.median(late):.2f} ms late (median), "
+              f"{max(late):.2f} ms (most)")
 
 
 def stream(client, count):

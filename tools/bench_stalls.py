@@ -1,9 +1,10 @@
 #!/usr/bin/env python3
 """bench_stalls.py PROGRAM [LOCKS]: what a pulse costs, and how long the end of a session holds up another client.
 
-A pulse is a SET of an accessory's port with a time, and the moment at which the port falls back. It prints the processor
-time of one beside few accessories and locks and beside many, and their ratio. The session that ends holds LOCKS locks,
-5,000 if not given, behind as many of another session. It prints how long a third session waits for a reply at most.
+A pulse is a SET of an accessory's port with a time, and the moment at which the port falls back. It prints the
+processor time of one beside few accessories and locks and beside many, and their ratio. The session that ends holds
+LOCKS locks, 5,000 if not given, behind as many of another session. It prints how long a third session waits for a reply
+at most.
 """
 import sys
 import time
@@ -20,7 +21,8 @@ GONE = "416 ERROR no data"
 
 
 def pulse_seconds(program: str, accessories: int, locks: int) -> float:
-    """The processor time of a pulse and of telling one panel of it, without that of waiting as long with nothing to do."""
+    """The processor time of a pulse and of telling one panel of it, without that of waiting as long with nothing to
+    do."""
     with served(program, layout=LAYOUT + "ga_ports = 8\n") as (port, server):
         throttle = Client(port, "COMMAND")
         pipelined(throttle, [b"INIT 1 GA %d N\n" % address for address in range(1, accessories + 1)])
@@ -67,7 +69,8 @@ def session_end(program: str, locks: int):
         waits = waits_until_gone(asker, holder.session)
         elapsed, spent = time.monotonic() - begun, processor_seconds(server) - before
         assert asker.asks(f"GET 1 LOCK GL {2 * locks}") == GONE
-        print(f"the end of a session with {locks:,} locks behind {locks:,} of another: {spent * 1e3:,.1f} ms of processor, "
+        print(f"the end of a session with {locks:,} locks behind {locks:,} of another: "
+              f"{spent * 1e3:,.1f} ms of processor, "
               f"{elapsed * 1e3:,.1f} ms in all; of {len(waits)} commands of a third session "
               f"one waits {max(waits) * 1e3:,.1f} ms at most")
 

@@ -39,9 +39,11 @@ def collected(errors: bytes) -> int:
 
 @contextmanager
 def counted_server(program: str):
-    """A server under callgrind: its port, its process, and a list that holds the count of its instructions in the end."""
+    """A server under callgrind: its port, its process, and a list that holds the count of its instructions in the
+    end."""
     with tempfile.TemporaryDirectory() as room:
-        counting, count = Path(room, "counting"), []
+        counting = Path(room, "counting")
+        count: list[int] = []
         counting.write_text(f'#!/bin/sh\nexec {" ".join(CALLGRIND)} "{program}" "$@"\n')
         counting.chmod(0o755)
         with served(str(counting)) as (port, server):
@@ -85,7 +87,8 @@ def commanding(program: str, panels: int, commands: int) -> int:
         throttle = Client(port, "COMMAND")
         throttle.asks("INIT 1 GL 3 N 1 28 18")
         listeners = listening(port, panels)
-        stop, counted = threading.Event(), []
+        stop = threading.Event()
+        counted: list[int] = []
         drains = [threading.Thread(target=drain, args=(listener, stop, counted)) for listener in listeners]
         for thread in drains:
             thread.start()

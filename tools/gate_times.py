@@ -2,8 +2,8 @@
 """gate_times.py COMMAND [WORD ..]: runs a gate, as ./test, and prints the processor minutes of each crate's proof, its
 tests and its must-fail edits, as a table for docs/gate.md.
 
-Each second it looks at the provers that run below the command. The last row has all that the command used, the cases and
-the builds included. It prints the table to standard error once the command has ended, and ends with its status.
+Each second it looks at the provers that run below the command. The last row has all that the command used, the cases
+and the builds included. It prints the table to standard error once the command has ended, and ends with its status.
 """
 import os
 import resource

@@ -2,9 +2,9 @@
 """soak.py PROGRAM [EVENTS]: replays a million events (or EVENTS) of a long evening and says how fast that went.
 
 Throttles come and go, command locomotives, accessories, sensors, power and locks; panels come and go and read at
-different speeds, some of them too slowly. The events are drawn from a fixed seed and replayed in scripts that stay below
-the input's limit, each a run of its own, and once more to see how much memory it holds. It fails where a run fails or prints
-something that is no record.
+different speeds, some of them too slowly. The events are drawn from a fixed seed and replayed in scripts that stay
+below the input's limit, each a run of its own, and once more to see how much memory it holds. It fails where a run
+fails or prints something that is no record.
 """
 import os
 import random
@@ -16,7 +16,14 @@ from bench_mirror import measured
 
 SCRIPT_BYTES = 16_000_000
 EVENTS_A_SCRIPT = 250_000
-CONFIG = b'[[bus]]\nnumber = 1\ngroups = ["POWER", "GL", "GA", "FB"]\ngl_max = 200\nga_max = 200\nga_ports = 4\nfb_ports = 40\n'
+CONFIG = b"""[[bus]]
+number = 1
+groups = ["POWER", "GL", "GA", "FB"]
+gl_max = 200
+ga_max = 200
+ga_ports = 4
+fb_ports = 40
+"""
 
 
 class Evening:

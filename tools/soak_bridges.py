@@ -287,7 +287,8 @@ class Evening:
 
 
 def main():
-    program, seconds, seed = [*sys.argv[1:], *["600", "40"][len(sys.argv) - 2:]]
+    program = sys.argv[1]
+    seconds, seed = sys.argv[2:] + ["600", "40"][len(sys.argv) - 2:]
     evening = Evening(os.path.abspath(program), int(seed))
     try:
         evening.run(float(seconds))

@@ -1,11 +1,10 @@
 #!/usr/bin/env python3
 """soak_panels.py PROGRAM [SECONDS]: whether panels that read are kept beside sessions that send without end.
 
-It runs each of these loads, and prints how many panels were closed. It fails if one was. On a busy machine a panel may stand
-still for longer than the server waits for it.
-- examples/panel.py, beside a session that sends 1,000,000 commands in one go.
-- For SECONDS, 60 if not given: 31 panels that read, beside 32 sessions.
-- As long: a panel that pauses once for 150 ms and one that pauses for 50 ms each second, beside one session and beside 32.
+It runs each of these loads, and prints how many panels were closed. It fails if one was. On a busy machine a panel may
+stand still for longer than the server waits for it. - examples/panel.py, beside a session that sends 1,000,000 commands
+in one go. - For SECONDS, 60 if not given: 31 panels that read, beside 32 sessions. - As long: a panel that pauses once
+for 150 ms and one that pauses for 50 ms each second, beside one session and beside 32.
 """
 import subprocess
 import sys
@@ -54,7 +53,8 @@ def main():
     closed += reading
     for senders in (1, 32):
         pauses = panels_closed_by_pauses(program, senders, seconds)
-        print(f"of 2 panels that pause in {seconds:.0f} s beside {senders} sessions {len(pauses)} are closed: {pauses}", flush=True)
+        print(f"of 2 panels that pause in {seconds:.0f} s beside {senders} sessions {len(pauses)} are closed: {pauses}",
+              flush=True)
         closed += len(pauses)
     sys.exit(1 if closed else 0)
 

@@ -217,8 +217,8 @@ class Mirror:
         return self.ways.get((bus, address), FORWARD)
 
     async def way_by(self, bus, address, row):
-        """Returns the direction of a locomotive whose row the server has just told. After an emergency stop it is that of
-        before: the panel may be late, so it is waited for until it has told that row too."""
+        """Returns the direction of a locomotive whose row the server has just told. After an emergency stop it is that
+        of before: the panel may be late, so it is waited for until it has told that row too."""
         ends = asyncio.get_running_loop().time() + ANSWER
         while row.mode == EMERGENCY_STOP and self.here and asyncio.get_running_loop().time() < ends:
             told = self.rows.get((bus, "GL", address, "does"))

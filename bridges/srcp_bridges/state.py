@@ -17,7 +17,8 @@ def folder() -> Path:
 
 
 class State:
-    """`sessions` has whose each session is, by the server's port and its id; `station` what a driver tells of itself."""
+    """`sessions` has whose each session is, by the server's port and its id; `station` what a driver tells of
+    itself."""
 
     def __init__(self) -> None:
         self.sessions: dict[int, dict[int, str]] = {}

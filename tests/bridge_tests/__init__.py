@@ -11,7 +11,8 @@ from . import common
 
 
 class Result(unittest.TestResult):
-    """The result of one test: `stop` is what it stopped at, with notes of what its programs told, and how they ended."""
+    """The result of one test: `stop` is what it stopped at, with notes of what its programs told, and how they
+    ended."""
     stop = None
 
     def addError(self, test, fault):

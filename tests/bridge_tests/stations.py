@@ -48,7 +48,8 @@ class StationCase(Case):
         self.lacks("100 INFO 1 POWER ON", "100 INFO 1 POWER OFF no station", "100 INFO 1 GL 3 1 14")
 
     def joins_again(self):
-        """Has the driver lose its panel, and waits until it has taken in a new listing: what changes later comes behind."""
+        """Has the driver lose its panel, and waits until it has taken in a new listing: what changes later comes
+        behind."""
         joined, lies = self.driver.told().count("server: joined"), 1 - self.station.turnouts.get(99, 0)
         self.way.cut(), self.way.free()
         until(lambda: self.driver.told().count("server: joined") > joined, "it has joined again")

@@ -295,4 +295,3 @@ class DccExWithHands(Hands, DccExCase):
         self.assertEqual(self.commands("t", begun), told)
         self.station.hand(3, speed=7)
         self.has("100 INFO 1 GL 3 1 7 126 1 0 1")
-

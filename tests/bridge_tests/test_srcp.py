@@ -65,7 +65,8 @@ class Parsing(unittest.TestCase):
         from srcp_bridges.stop import driven
         for command, locomotive in [("set 01 gl 3 1 9 28 1", (1, 3)), ("SET 1 GL 3 0 1 0", (1, 3)),
                                     ("SET 1 GL 3 1 0 28", None), ("SET 1 GL 3 2 9 28", None),
-                                    ("SET 1 GA 3 1 9 28", None), ("GET 1 GL 3", None), ("SET 1 GL x 1 9", None), ("", None)]:
+                                    ("SET 1 GA 3 1 9 28", None), ("GET 1 GL 3", None), ("SET 1 GL x 1 9", None),
+                                    ("", None)]:
             self.assertEqual(driven(command), locomotive, command)
 
 

@@ -17,7 +17,8 @@ class Orders:
         self.due: dict[tuple, tuple[Act, Callable[[], None] | None]] = {}
 
     def put(self, part, act, refused=None):
-        """Has `act` carried out, which sends commands by the mirror's session. `refused` is called if one is refused."""
+        """Has `act` carried out, which sends commands by the mirror's session. `refused` is called if one is
+        refused."""
         self.due[part] = act, refused
         self.more.set()
 
