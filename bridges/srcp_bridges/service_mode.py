@@ -1,6 +1,7 @@
 """The group SM of SRCP 0.8.4: reads and writes the CVs of a decoder, by the driver that this machine has for a bus."""
 import asyncio
 import json
+import socket
 from pathlib import Path
 
 from srcp_bridges.old_words import NO_DATA, SHORT, UNSUPPORTED, WRONG, fault
@@ -8,6 +9,13 @@ from srcp_bridges.state import folder
 
 PATIENCE = 60.0  # seconds for a CV: others may have asked before
 TEXTS = {"412": WRONG, "413": "413 ERROR temporarily prohibited", "416": NO_DATA, "417": "417 ERROR timeout"}
+
+
+def is_open(door: str) -> bool:
+    """Returns whether a driver listens at its socket: one that was killed has left its own there."""
+    with socket.socket(socket.AF_UNIX) as trial:
+        trial.setblocking(False)
+        return trial.connect_ex(door) == 0
 
 
 def doors(port: int, bus: int) -> list[str]:
@@ -20,7 +28,7 @@ def doors(port: int, bus: int) -> list[str]:
                 found.append(told["station"]["door"])
         except (OSError, ValueError, KeyError):
             pass  # it ended meanwhile, or is somebody else's
-    return sorted(set(found))
+    return [door for door in set(found) if is_open(door)]
 
 
 async def ask(door: str, request: str) -> tuple[str, str]:

@@ -285,6 +285,11 @@ BREAKS = [  # the file, whose cases, what is wrong, the text, what stands in its
     ("srcpd", "srcpd", "a panel is answered as a command session is",
      "self.id, self.is_panel = int(words[4]), self.mode == \"INFO\"", "self.id, self.is_panel = int(words[4]), False"),
     ("srcpd", "srcpd", "messages go to all", "lambda client: to in (0, client.id))", "lambda client: True)"),
+    ("service_mode", "srcpd", "SM is answered without INIT", "if bus not in self.begun:", "if False:"),
+    ("service_mode", "srcpd", "what the decoder has is not compared", "if told == str(value) else WRONG", ""),
+    ("service_mode", "srcpd", "a driver that was killed counts",
+     "for door in set(found) if is_open(door)]", "for door in set(found)]"),
+    ("service_mode", "srcpd", "the driver of another bus programs", "if told[\"station\"].get(\"bus\") == bus and", "if"),
     ("old_words", "srcpd", "a sensor that has the value for a moment is missed",
      "                    change = await changes.get()\n", "                    change = await changes.get()\n"
      "                    await asyncio.sleep(0.2)\n                    change = change._replace("

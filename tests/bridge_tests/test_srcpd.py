@@ -265,10 +265,10 @@ class SrcpdWithADriver(DccExCase):
 
     def start(self, station=None, *words):
         """Starts the driver and the proxy at the server's own port, by which the one finds the other."""
-        environment = os.environ | {"XDG_RUNTIME_DIR": new_folder()}  # other cases have drivers too
-        self.driver = self.starts("dcc_ex.py", "--station", self.link, *self.words, env=environment)
+        self.environment = os.environ | {"XDG_RUNTIME_DIR": new_folder()}  # other cases have drivers too
+        self.driver = self.starts("dcc_ex.py", "--station", self.link, *self.words, env=self.environment)
         self.listen = free_port()
-        self.proxy = self.starts("srcpd.py", "--listen", self.listen, env=environment)
+        self.proxy = self.starts("srcpd.py", "--listen", self.listen, env=self.environment)
         until(lambda: connects(self.listen) and "server: joined" in self.proxy.told(), "the proxy is there")
         self.joins()
 
@@ -294,6 +294,8 @@ class SrcpdWithADriver(DccExCase):
         self.driver.end(signal.SIGKILL)
         self.assertEqual(client.ask("GET 1 SM 0 CV 1"), ["421 ERROR unsupported device"])
         self.station.open()
+        self.starts("dcc_ex.py", "--station", self.link, *self.words, env=self.environment)
+        until(lambda: client.ask("GET 1 SM 0 CV 1") == ["100 INFO 1 SM 0 CV 1 7"], "another driver")
 
 
 def line(draw):
