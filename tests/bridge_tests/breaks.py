@@ -289,7 +289,8 @@ BREAKS = [  # the file, whose cases, what is wrong, the text, what stands in its
     ("service_mode", "srcpd", "what the decoder has is not compared", "if told == str(value) else WRONG", ""),
     ("service_mode", "srcpd", "a driver that was killed counts",
      "for door in set(found) if is_open(door)]", "for door in set(found)]"),
-    ("service_mode", "srcpd", "the driver of another bus programs", "if told[\"station\"].get(\"bus\") == bus and", "if"),
+    ("service_mode", "srcpd", "the driver of another bus programs", "if told[\"station\"].get(\"bus\") == bus and",
+     "if"),
     ("old_words", "srcpd", "a sensor that has the value for a moment is missed",
      "                    change = await changes.get()\n", "                    change = await changes.get()\n"
      "                    await asyncio.sleep(0.2)\n                    change = change._replace("
