@@ -22,11 +22,13 @@ from srcp_bridges.plan import read_plan
 from srcp_bridges.program import arguments, names, run, say
 from srcp_bridges.request import ARRIVE, IDLE, LONGEST_HEAD, NO_REQUEST, TEXT, answer, read_request
 from srcp_bridges.srcp import Mirror
+from srcp_bridges.state import stations
 from srcp_bridges.stop import stop_all
 
 AT_ONCE = 4  # pages of one browser: it has 6 connections, and STOP ALL needs one that is free
 MOST, MOST_OF_ONE = 400, 100  # connections, in all and of one address
 KEPT, KEPT_OF_ONE = 40, 4  # further ones, for stops alone
+LOOK = 1.0  # seconds until it is looked again at what drivers tell
 FOLDER = pathlib.Path(__file__).resolve().parent / "srcp_bridges"
 HTML, JSON = "text/html; charset=utf-8", "application/json"
 KINDS = {".css": "text/css; charset=utf-8", ".js": "text/javascript; charset=utf-8"}
@@ -69,6 +71,17 @@ class Web:
         self.word = asked.word or (None if address and address.is_loopback else secrets.token_hex(4))
         self.entrance = Entrance(self.word, asked.web) if self.word else None
         self.places, self.kept, self.turned_away = Places(MOST, MOST_OF_ONE), Places(KEPT, KEPT_OF_ONE), None
+        self.left_out: dict[str, str] = {}
+
+    async def look_at_drivers(self):
+        """Tells pages what the drivers of this machine cannot drive, and why; of each bus its own driver counts."""
+        while True:
+            told = [(name, why) for station in stations(self.asked.port) for name, why in station["left_out"].items()
+                    if name.split(" ")[0] == str(station["bus"])]
+            if self.left_out != (found := dict(told)):
+                self.left_out = found
+                self.tell(event("leftOut", found))
+            await asyncio.sleep(LOOK)
 
     def told(self, change):
         self.tell(row_event(self.mirror, change.key, change.row))
@@ -166,6 +179,7 @@ class Web:
         page, key = Page(self.mirror, browser), secrets.token_hex(16)
         first = event("page", {"key": key, "names": self.names, "functions": self.plan.functions,
                                "plan": self.plan.drawing}) + event("here", self.mirror.here)
+        first += event("leftOut", self.left_out)
         rows = [row_event(self.mirror, *item) for item in self.mirror.rows.items()]
         writer.write("".join([EVENTS, first, *rows]).encode())
         self.pages[key], peer, why = page, writer.get_extra_info("peername")[0], "gone"
@@ -207,7 +221,9 @@ class Web:
         async with await listen(self.serve, self.asked.bind, self.asked.web, limit=LONGEST_HEAD):
             asks = f" and asks for the word {self.word}" if self.word and not self.asked.word else ""
             say(f"the page is at http://{to_type(self.asked.bind)}:{self.asked.web}/{asks}")
+            looking = asyncio.create_task(self.look_at_drivers())
             await self.mirror.run()
+            looking.cancel()
 
 
 async def begin(asked):

@@ -1,5 +1,5 @@
 // Turnouts and signals, sensors, and power.
-import { $, button, isNamed, make, name, paint, place } from "./layout.js";
+import { $, button, isNamed, make, name, paint, paintWhy, place } from "./layout.js";
 import { lockClass } from "./locomotives.js";
 import { ask, order, session } from "./server.js";
 import { text } from "./texts.js";
@@ -25,6 +25,7 @@ function makeAccessory(key, accessory) {
     () => put(key, accessory.ports, port))]));
   accessory.card = make("li", words,
     make("div", { className: "name" }, name(key) + " ", make("small", { textContent: key })),
+    accessory.why = make("p", { className: "why" }),
     make("div", { className: "row" }, ...accessory.buttons.values()));
   place($("GA"), accessory.card, key);
 }
@@ -37,6 +38,7 @@ paint.GA = (key, accessory) => {
     each.disabled = !!accessory.lock && accessory.lock.session !== session;
   }
   accessory.card.className = "card" + lockClass(accessory);
+  paintWhy(key, accessory);
 };
 
 // ---- a sensor

@@ -18,6 +18,16 @@ export function button(text, label, onclick) {
   return element;
 }
 
+// Why devices are not driven, by their keys, as the drivers of web.py's machine tell.
+let leftOut = {};
+export function leaveOut(reasons) { leftOut = reasons; redraw(); }
+export function paintWhy(key, device) {
+  const why = leftOut[key], [, protocol] = why?.match(/^protocol (.+)/) ?? [];
+  const [, slots] = why?.match(/^the station has (\d+) slots/) ?? [];
+  device.why.textContent = !why ? "" : protocol ? text("noDecoder", { protocol })
+    : slots ? text("noSlot", { slots }) : text("notDriven", { why });
+}
+
 export function called(given, functions) { [names, labels] = [given, functions]; }
 export const labelOf = (key, n) => labels[key]?.[n];  // of a function of a locomotive
 export const isNamed = key => key in names;

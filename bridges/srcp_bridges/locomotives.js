@@ -1,5 +1,5 @@
 // Throttles, and the list of all locomotives.
-import { $, button, devices, labelOf, make, name, paint, place, redraw } from "./layout.js";
+import { $, button, devices, labelOf, make, name, paint, paintWhy, place, redraw } from "./layout.js";
 import { ask, order, session } from "./server.js";
 import { Slider } from "./slider.js";
 import { text } from "./texts.js";
@@ -104,6 +104,7 @@ function makeCard(key, loco) {
   loco.commands = [loco.back, loco.forth, stand, halts, removes, loco.take, ...loco.functions];
   loco.card = make("li", { className: "card" },
     make("div", { className: "row" }, make("h3", { className: "name" }, named + " ", loco.about), loco.shown),
+    loco.why = make("p", { className: "why" }),
     make("div", { className: "row throttle" }, slower, loco.slider.rail, faster),
     make("div", { className: "row drive" }, loco.back, stand, loco.forth, halts),
     make("div", { className: "row functions" }, ...loco.functions),
@@ -145,5 +146,6 @@ paint.GL = (key, loco) => {
   if (!loco.card) makeCard(key, loco);
   paintSpeed(key, loco);
   paintLock(key, loco);
+  paintWhy(key, loco);
   loco.functions.forEach((each, n) => each.ariaPressed = loco.does.functions[n] === 1);
 };

@@ -16,6 +16,23 @@ def folder() -> Path:
     return Path(os.environ.get("XDG_RUNTIME_DIR") or Path.home() / ".local" / "state", "srcp_bridges")
 
 
+def stations(port: int) -> list[dict]:
+    """Returns what the drivers of this machine tell of their stations, if they are at the server of that port.
+
+    The folder of a unit goes as it ends. Another program may have been killed, and its file be left.
+    """
+    own = [file for file in folder().glob("*.json") if Path("/proc", file.stem).exists()]
+    found = []
+    for file in [*Path("/run").glob("srcp_bridge_*/*.json"), *own]:
+        try:
+            told = json.loads(file.read_text())
+            if told["station"] and told["sessions"].get(str(port)):
+                found.append(told["station"])
+        except (OSError, ValueError):
+            pass  # it ended meanwhile, or belongs to somebody else
+    return found
+
+
 class State:
     """`sessions` has whose each session is, by the server's port and its id; `station` what a driver tells of
     itself."""

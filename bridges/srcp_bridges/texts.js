@@ -93,6 +93,12 @@ export const TEXTS = {
   occupied: ["occupied", "besetzt"],
   free: ["free", "frei"],
 
+  noDecoder: ["Not driven: the station has no commands for the protocol {protocol}.",
+    "Fährt nicht: Die Zentrale hat keine Befehle für das Protokoll {protocol}."],
+  noSlot: ["Not driven: the station has {slots} slots, and all were taken.",
+    "Fährt nicht: Die Zentrale hat {slots} Plätze, und alle waren belegt."],
+  notDriven: ["Not driven: {why}.", "Fährt nicht: {why}."],
+
   addLocomotive: ["Add a locomotive", "Lokomotive hinzufügen"],
   addTurnout: ["Add a turnout", "Weiche hinzufügen"],
   bus: ["Bus", "Bus"],

@@ -1,6 +1,6 @@
 // The page: what web.py tells it, and its head and forms.
 import { stopSent, tell } from "./bar.js";
-import { $, called, devices, forget, name, redraw, remake, whenDrawn } from "./layout.js";
+import { $, called, devices, forget, leaveOut, name, redraw, remake, whenDrawn } from "./layout.js";
 import { halt, isOpen, open } from "./locomotives.js";
 import "./devices.js";
 import { drawPlan } from "./plan.js";
@@ -42,6 +42,7 @@ on("page", ({ key, names, functions, plan }) => {  // this page has joined, or j
   for (const key of [...devices.keys()]) forget(key);
 });
 on("here", here => shown(here ? "layout" : "serverAway", here));
+on("leftOut", leaveOut);
 on("row", apply);
 on("beat", () => post("/alive"));
 on("stop", counts => {                          // a STOP ALL, whoever pressed it

@@ -58,6 +58,7 @@ from .test_entrance import Entering, WebBesideManyConnections, WebInTheNetwork, 
 from .test_doctor import Doctor  # noqa: E402
 from .test_guard import Guard  # noqa: E402
 from .test_keep import Keep  # noqa: E402
+from .test_left_out import WebBesideADriver  # noqa: E402
 from .test_log import Log  # noqa: E402
 from .test_mqtt import (Mqtt, MqttForHomeAssistant, MqttWithAWrongBroker, MqttWithPersistence,  # noqa: E402
                         Payloads)
@@ -80,4 +81,4 @@ BRIDGE_CASES = cases_of(Readme, Following, MqttWithAWrongBroker, Stopping, Mqtt,
                         WiThrottle, WiThrottleStops, WiThrottleWithBeats, Srcpd, SrcpdWithADriver, DccEx,
                         DccExWithLosses, DccExWithHands, Z21, Z21WithLosses, Z21WithHands, DccExWithPrograms,
                         Z21WithPrograms, Programming, Doctor, Guard, Keep, Log, Parsing, Plans, PlanInChromium,
-                        LargePlanInChromium, PlanInGerman)
+                        LargePlanInChromium, PlanInGerman, WebBesideADriver)

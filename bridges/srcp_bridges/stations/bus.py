@@ -23,8 +23,9 @@ class Bus:
         self.orders = Orders(self.mirror)
         self.holds = Holds(self.number, self.mirror, self.orders)
         self.track = Track(self.number, self.mirror, self.holds, asked.turnout_pace, self.full)
-        self.left_out: dict[str, str] = {}
+        self.told_of: set[str] = set()  # devices that cannot be driven
         self.untold: list[str] = []
+        self.slotless: set[int] = set()  # locomotives for which there was no slot as they were to drive
         self.patience_ends, self.joined = None, asyncio.Event()
 
     # ---- rows
@@ -76,30 +77,46 @@ class Bus:
     def gone(self, address):
         self.holds.held.discard(("cab", address))
         self.track.stops.discard(address)
+        self.slotless.discard(address)
         self.track.mark_locomotive(address)
 
     # ---- what cannot be driven
 
     def look_at(self, bus, group, address, row):
+        if why := self.fault_of(bus, group, address, row):
+            self.leave_out(f"{bus} {group} {address}", why)
+
+    def fault_of(self, bus, group, address, row):
+        """Returns why a device is not driven, or None."""
         if bus != self.number:
-            self.leave_out(f"{bus} {group} {address}", f"not on bus {self.number}")
-        elif row.protocol not in "NP":
-            self.leave_out(f"{bus} {group} {address}", f"protocol {row.protocol}")
+            return f"not on bus {self.number}"
+        if row.protocol not in "NP":
+            return f"protocol {row.protocol}"
+        return f"the station has {self.track.slots} slots" if group == "GL" and address in self.slotless else None
+
+    def left_out(self):
+        """Returns why devices are not driven, by their names."""
+        self.slotless -= self.track.known
+        made = [(key, row) for key, row in self.mirror.rows.items() if key[1] in ("GL", "GA") and key[3] == "is"]
+        faults = {f"{bus} {group} {address}": self.fault_of(bus, group, address, row)
+                  for (bus, group, address, _), row in made}
+        return {name: why for name, why in faults.items() if why}
 
     def full(self, address):
         """The station has no slot left for a locomotive: it stands, and its row says so."""
-        self.leave_out(f"{self.number} GL {address}", f"the station has {self.track.slots} slots")
+        self.slotless.add(address)
+        self.look_at(self.number, "GL", address, self.mirror.rows[self.number, "GL", address, "is"])
         row = self.mirror.rows[self.number, "GL", address, "does"]
         if row.v:
             self.holds.hold(("cab", address), row, "")
 
     def leave_out(self, name, why):
         """Tells of a device that is not driven, once; those of one moment together."""
-        if name in self.left_out:
+        if name in self.told_of:
             return
         if not self.untold:
             asyncio.get_running_loop().call_later(TOGETHER, self.tell_left_out)
-        self.left_out[name] = why
+        self.told_of.add(name)
         called = f" {self.names[name]}" if name in self.names else ""
         self.untold.append(f"{name}{called} ({why})")
 

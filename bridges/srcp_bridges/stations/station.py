@@ -214,7 +214,7 @@ class Station:
         """Tells doctor.py how the station is, what is not driven, and what was told last of each locomotive."""
         while True:
             SELF.tell_station(bus=self.bus.number, name=self.name, here=self.ready.is_set(), slots=self.track.slots,
-                              taken=len(self.track.known), left_out=dict(self.bus.left_out), told=dict(self.driven),
+                              taken=len(self.track.known), left_out=self.bus.left_out(), told=dict(self.driven),
                               door=self.programming.path)
             await asyncio.sleep(MOMENT)
 
