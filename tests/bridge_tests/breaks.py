@@ -11,6 +11,8 @@ import sys
 import tempfile
 from pathlib import Path
 
+from plan_breaks import PLAN_BREAKS
+
 TOP = Path(__file__).resolve().parent.parent.parent
 BREAKS = [  # the file, whose cases, what is wrong, the text, what stands in its place
     ("srcp", "srcp", "a cut last line is taken",
@@ -437,6 +439,7 @@ BREAKS = [  # the file, whose cases, what is wrong, the text, what stands in its
      "    if unknown := given.keys()", "    if None and given.keys()"),
     ("topics", "mqtt", "a topic of a session is a command", "|(GL|GA)/{NUMBER}/is", "|(GL|GA|SESSION)/{NUMBER}/is"),
     ("mqtt", "mqtt", "what is below all topics is not heard", "range(1, 7)]", "range(1, 5)]"),
+    *PLAN_BREAKS,
 ]
 
 

@@ -127,9 +127,11 @@ class Plans(unittest.TestCase):
         one, two = (self.corners(drawing, each["tracks"]) for each in drawing["routes"])
         self.assertEqual(one, [((0.5, 0.5), (2.0, 0.5), (3.5, 1.5)), ((3.5, 1.5), (5.0, 2.5), (6.5, 2.5))])
         self.assertEqual([track[-1] for track in two], [(3.5, 1.5), (0.5, 2.5)])
-        for end in "bc":
+        flat = cross.replace("a=\\ /=b\n   +\nc=/ \\=d", "    /=b\na==+==d\nc=/   ")
+        plan_of(flat + route.format(1, "a", "d") + route.format(2, "c", "b"))
+        for text, end in [(cross, "b"), (cross, "c"), (flat, "b"), (flat, "c")]:
             with self.assertRaisesRegex(ValueError, f"line 12: no track leads from a to {end}"):
-                plan_of(cross + route.format(1, "a", end))
+                plan_of(text + route.format(1, "a", end))
         [y, *_] = self.of("    /=\n ==y\n    \\=", "y = { turnout = [1, 1, 1] }")["elements"]
         self.assertEqual(y["ends"], [(5.0, 0.5), (5.0, 2.5)])
 
