@@ -174,6 +174,8 @@ BREAKS = [  # the file, whose cases, what is wrong, the text, what stands in its
     ("track", "z21", "all are driven in 126 steps", "if made and made.steps <= top), self", "if False), self"),
     ("programming", "z21", "a decoder is programmed while a train drives",
      "if not self.beside and (driving := self.station.track.driving()):", "if driving := []:"),
+    ("programming", "programming", "a train that starts while a decoder is programmed is stopped",
+     "                if why := self.refusal():  #", "                if not told and (why := self.refusal()):  #"),
     ("hands", "z21", "a train that a hand drives counts for nothing",
      "            self.track.others[address] = speed\n", "            pass\n"),
     ("track", "z21", "what stands in the dark drives", "if self.told.get(POWER) else []", ""),

@@ -11,7 +11,7 @@ import types
 import unittest
 from unittest import mock
 
-from .common import TOP, WAIT, folder, new_folder, until
+from .common import TOP, WAIT, folder, until
 from .stations import QUIET, StationCase
 from .test_dcc_ex import DccExCase
 from .test_z21 import Z21Case
@@ -196,15 +196,17 @@ class Programming(unittest.TestCase):
     """What a driver makes of what its station says, without one."""
     program = "programming"
 
+    def setUp(self):
+        self.driving: list[int] = []
+
     def station(self, says):
         """A station: `says` is called with each command, and with what takes its answers."""
         from srcp_bridges.stations import programming
-        self.door = os.path.join(new_folder(), "door")
-        track = types.SimpleNamespace(driving=lambda: [])
+        track = types.SimpleNamespace(driving=lambda: self.driving)
         line = types.SimpleNamespace(write=lambda command: says(command, made.take))
         ready = types.SimpleNamespace(is_set=lambda: True)
         station = types.SimpleNamespace(track=track, line=line, ready=ready, encode_cv=lambda *asked: asked)
-        made = programming.Programming(station, True, 0.1)
+        made = programming.Programming(station, False, 0.1)
         limit = mock.patch.object(programming, "LIMIT", 0.5)
         limit.start()
         self.addCleanup(limit.stop)
@@ -222,6 +224,17 @@ class Programming(unittest.TestCase):
                          ["417 the station does not answer"])
         self.assertEqual(set(told), {(7, None)})
         self.assertGreater(len(told), 2)
+
+    def test_a_train_that_starts_meanwhile(self):
+        """The station is not told again then: it would stop the train."""
+        told = []
+
+        def says(command, take):
+            told.append(command)
+            self.driving.append(3)
+
+        self.assertEqual(self.answers(says, "READ 7")[0][:24], "413 locomotive 3 drives,")
+        self.assertEqual(told, [(7, None)])
 
     def test_what_is_of_another_command_is_passed_over(self):
         def says(command, take):

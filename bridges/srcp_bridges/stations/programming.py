@@ -46,17 +46,20 @@ class Programming:
         if self.said and not self.said.done():
             self.said.set_exception(ConnectionError("the station is away"))
 
-    async def carry_out(self, cv: int, value: int | None) -> str:
-        """Has the station read a CV, or write a value into it; returns the reply."""
+    def refusal(self) -> str | None:
+        """Returns why the station is told nothing at this moment, or None."""
         if not self.station.ready.is_set():
             return "417 the station is away"
         if not self.beside and (driving := self.station.track.driving()):
             return f"413 locomotive {driving[0]} drives, and the station stops all to program"
+        return None
+
+    async def carry_out(self, cv: int, value: int | None) -> str:
+        """Has the station read a CV, or write a value into it; returns the reply."""
         self.asked, self.said = (cv, value), asyncio.get_running_loop().create_future()
         try:
             async with asyncio.timeout(LIMIT):
-                result = await self.tell(self.said, self.station.encode_cv(cv, value))
-            return f"416 {WHY[result]}" if result in WHY else f"200 {result}"
+                return await self.tell(self.said, self.station.encode_cv(cv, value))
         except TimeoutError:
             return "417 the station does not answer"
         except OSError as fault:
@@ -64,15 +67,18 @@ class Programming:
         finally:
             self.said = None
 
-    async def tell(self, said: asyncio.Future[int], command: bytes) -> int:
-        """Tells the station a command, again and again if it has to be; returns its answer."""
+    async def tell(self, said: asyncio.Future[int], command: bytes) -> str:
+        """Tells the station a command, again and again if it has to be; returns the reply."""
         told = 0
         try:
             while not said.done():
+                if why := self.refusal():  # a train may have started since the last time
+                    return why
                 self.station.line.write(command)
                 told += 1
                 await asyncio.wait([said], timeout=self.repeats)
-            return said.result()
+            result = said.result()
+            return f"416 {WHY[result]}" if result in WHY else f"200 {result}"
         finally:
             if self.repeats and told > 1:
                 self.doubtful = asyncio.get_running_loop().time() + 2 * self.repeats
