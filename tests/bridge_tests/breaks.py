@@ -46,9 +46,9 @@ BREAKS = [  # the file, whose cases, what is wrong, the text, what stands in its
     ("rows", "srcp", "what was thrown during an overrun lies as before",
      "if (row.value or unseen) and", "if row.value and"),
     ("srcp", "srcp", "the reply to a cancelled question goes to the next",
-     "            await asyncio.wait([reply], timeout=ANSWER)",
-     "            try:\n                await asyncio.wait([reply], timeout=ANSWER)\n            except "
-     "asyncio.CancelledError:\n                self.waiting.remove(reply)\n                raise"),
+     "        await asyncio.wait([coming], timeout=ANSWER)",
+     "        try:\n            await asyncio.wait([coming], timeout=ANSWER)\n        except "
+     "asyncio.CancelledError:\n            self.waiting.remove(coming)\n            raise"),
     ("srcp", "srcp", "a line without an end is kept", "if len(self.begun) > LONGEST:", "if False:"),
     ("guard", "guard", "a lock that was given back counts",
      "if stamp == change.stamp or None in (stamp, change.stamp):", "if True:"),

@@ -34,6 +34,10 @@ def started(**settings):
             return None
 
 
+class Navigated(LookupError):
+    """The page was left meanwhile: what it was asked is not there yet, or is done."""
+
+
 class Chromium:
     """The process: it is ended as the tests end."""
 
@@ -61,6 +65,8 @@ class Chromium:
             done = answer.get(timeout=WAIT)
         except queue.Empty:
             raise OSError("the browser has ended, or does not answer") from None
+        if "navigated" in str(done.get("error")):
+            raise Navigated(f"{method}: {done['error']}")
         if "error" in done:
             raise RuntimeError(f"{method}: {done['error']}")
         return done["result"]
