@@ -16,11 +16,9 @@ from contextlib import contextmanager
 from functools import cache
 from pathlib import Path
 
-sys.path.insert(0, str(Path(__file__).resolve().parent.parent / "tests"))
-from serving import Client, served  # noqa: E402
+from loads import COMMAND, LONG_RUN, drain, pipelined, replays, script_of_a_long_run
 
-from bench_serve import COMMAND, drain, pipelined  # noqa: E402
-from soak import CONFIG, script  # noqa: E402
+from serving import Client, served
 
 PANELS = 31
 SECONDS_WITHOUT_A_LINE = 30
@@ -112,15 +110,13 @@ def listing(program: str, rows: int) -> int:
 
 def replaying(program: str, events: int) -> int:
     """Returns the instructions of the replay of the first events of a long run."""
-    with tempfile.TemporaryDirectory() as room:
-        config, source = Path(room, "layout.toml"), Path(room, "script")
-        config.write_bytes(CONFIG)
-        text, count = script(SEED, events)
-        assert count == events, f"a script holds {count} events at most"
+    text, count = script_of_a_long_run(SEED, events)
+    assert count == events, f"a script holds {count} events at most"
+    with replays(program, LONG_RUN) as (words, source, _):
         source.write_bytes(text)
         with open(source, "rb") as given:
-            done = subprocess.run([*CALLGRIND, program, "replay", "--config", str(config)], stdin=given,
-                                  stdout=subprocess.DEVNULL, stderr=subprocess.PIPE, check=True)
+            done = subprocess.run([*CALLGRIND, *words], stdin=given, stdout=subprocess.DEVNULL, stderr=subprocess.PIPE,
+                                  check=True)
     return collected(done.stderr)
 
 

@@ -1,130 +1,121 @@
 #!/usr/bin/env python3
-"""soak.py PROGRAM [EVENTS]: replays a million events (or EVENTS) of a long evening and says how fast that went.
+"""soak.py WHAT PROGRAM [NUMBER ..]: has a built server or its replay run for long, and fails at what is wrong. WHAT is
 
-Throttles come and go, command locomotives, accessories, sensors, power and locks; panels come and go and read at
-different speeds, some of them too slowly. The events are drawn from a fixed seed and replayed in scripts that stay
-below the input's limit, each a run of its own, and once more to see how much memory it holds. It fails where a run
-fails or prints something that is no record.
+replay [EVENTS]: replays a million events, or EVENTS, of a long evening, and says how fast that went. Throttles come and
+go, command locomotives, accessories, sensors, power and locks; panels come and go and read at different speeds, some of
+them too slowly. The events are drawn from a fixed seed and replayed in scripts that stay below the input's limit, each
+a run of its own, and once more to see how much memory it holds. It fails if a run prints something that is no record.
+panels [SECONDS]: whether panels that read are kept beside sessions that send without end. It prints how many were
+closed of each load, and fails if one was. On a busy machine a panel may stand still for longer than the server waits
+for it. - examples/panel.py, beside a session that sends 1,000,000 commands in one go. - For SECONDS, 60 if not given:
+31 panels that read, beside 32 sessions. - As long: a panel that pauses once for 150 ms and one that pauses for 50 ms
+each second, beside one session and beside 32.
+bridges [SECONDS [SEED]]: all programs of bridges/ beside a server, for ten minutes or SECONDS. At the end it says
+whether the station, the page, the file of keep.py, the topics that the broker retains and examples/panel.py all say
+what a fresh panel is sent, and whether anything moved that no client had commanded since the last loss. It needs
+mosquitto and paho-mqtt.
 """
-import os
-import random
 import re
+import subprocess
 import sys
 import tempfile
+import threading
+import time
+from pathlib import Path
 
-from bench_mirror import measured
+from loads import LONG_RUN, measured, replays, script_of_a_long_run
 
-SCRIPT_BYTES = 16_000_000
+from bridge_tests.common import TOP, until
+from door import closed_panels, reads_to_the_end
+from evening import QUIET, Evening
+from pacing import panels_closed_by_pauses, running, send_all, shut
+from serving import Client, served
+
 EVENTS_A_SCRIPT = 250_000
-CONFIG = b"""[[bus]]
-number = 1
-groups = ["POWER", "GL", "GA", "FB"]
-gl_max = 200
-ga_max = 200
-ga_ports = 4
-fb_ports = 40
-"""
+PANELS = 31
+SETS = 1_000_000
+LAST = b" 100 INFO 1 POWER ON last\n"
 
 
-class Evening:
-    """Draws events, and remembers which connections are open and of which kind."""
-
-    def __init__(self, seed):
-        self.draw = random.Random(seed)
-        self.opened = 0
-        self.throttles, self.panels = [], []
-        self.moment = 0
-
-    def number(self, most):
-        return self.draw.randint(1, most)
-
-    def arrive(self):
-        """A throttle or a panel connects and begins its session."""
-        self.opened += 1
-        conn = self.opened
-        yield b"open"
-        yield b"room %d 1000" % conn
-        if self.draw.random() < 0.5:
-            self.throttles.append(conn)
-        else:
-            self.panels.append(conn)
-            yield b"bytes %d SET CONNECTIONMODE SRCP INFO\\n" % conn
-            yield b"room %d 1000" % conn
-        yield b"bytes %d GO\\n" % conn
-        yield b"room %d 18" % conn
-
-    def leave(self):
-        among = self.throttles if self.draw.random() < 0.5 else self.panels
-        if among:
-            yield b"shut %d" % among.pop(self.draw.randrange(len(among)))
-
-    def command(self):
-        address, draw = self.number(60), self.draw
-        return draw.choice([
-            b"SET 1 GL %d %d %d 28 1 0 1" % (address, draw.randint(0, 2), draw.randint(0, 28)),
-            b"INIT 1 GL %d N 1 28 %d" % (address, draw.randint(0, 4)),
-            b"TERM 1 GL %d" % address, b"GET 1 GL %d" % address,
-            b"INIT 1 GA %d M" % address, b"SET 1 GA %d %d 1 %d" % (address, draw.randint(0, 3), draw.randint(-1, 900)),
-            b"TERM 1 GA %d" % address, b"SET 1 FB %d %d" % (self.number(40), draw.randint(0, 1)),
-            b"SET 1 LOCK GL %d %d" % (address, draw.randint(0, 5)), b"TERM 1 LOCK GA %d" % address,
-            b"SET 1 LOCK GA %d 0" % address, b"SET 1 POWER ON a long evening", b"GET 0 SESSION %d" % address,
-        ])
-
-    def drive(self):
-        """A throttle sends one to four commands and takes the replies."""
-        if self.throttles:
-            conn = self.draw.choice(self.throttles)
-            yield b"bytes %d %s" % (conn, b"".join(self.command() + b"\\n" for _ in range(self.number(4))))
-            yield b"room %d 1000" % conn
-
-    def watch(self):
-        """A panel takes some bytes, few or many."""
-        if self.panels:
-            yield b"room %d %d" % (self.draw.choice(self.panels), self.draw.choice([0, 7, 60, 400, 20_000]))
-
-    def wait(self):
-        self.moment += self.number(400)
-        yield b"at %d" % self.moment
-
-    def events(self):
-        while True:
-            open_now = len(self.throttles) + len(self.panels)
-            step = self.draw.choices([self.drive, self.watch, self.wait, self.arrive, self.leave],
-                                     [50, 40, 8, 3 if open_now < 40 else 0, 1 if open_now > 4 else 0])[0]
-            yield from step()
-
-
-def script(seed, count):
-    """A script of that many events."""
-    lines, size = [], 0
-    for event in Evening(seed).events():
-        lines.append(event)
-        size += len(event) + 1
-        if len(lines) == count or size > SCRIPT_BYTES:
-            return b"\n".join(lines) + b"\n", len(lines)
-
-
-def main():
-    program = os.path.abspath(sys.argv[1])
-    wanted = int(sys.argv[2]) if len(sys.argv) > 2 else 1_000_000
+def replay(program: str, wanted: int = 1_000_000) -> int:
     done, seconds, peak, seed = 0, 0.0, 0, 1
-    with tempfile.TemporaryDirectory() as room:
-        config, source, printed = (os.path.join(room, name) for name in ("layout.toml", "script", "record"))
-        with open(config, "wb") as file:
-            file.write(CONFIG)
+    with replays(program, LONG_RUN) as (words, source, printed):
         while done < wanted:
-            text, count = script(seed, min(EVENTS_A_SCRIPT, wanted - done))
-            with open(source, "wb") as file:
-                file.write(text)
-            took, held = measured([program, "replay", "--config", config], source, printed)
-            with open(printed, "rb") as file:
-                record = file.read()
+            text, count = script_of_a_long_run(seed, min(EVENTS_A_SCRIPT, wanted - done))
+            source.write_bytes(text)
+            took, held = measured(words, source, printed)
+            record = printed.read_bytes()
             if not re.search(rb"^rows \d+\n", record, re.M):
                 sys.exit(f"script {seed}: {len(record)} bytes printed, which are no record")
             overruns = len(re.findall(rb"^connection \d+ \d+ overrun\n", record, re.M))
-            print(f"script {seed}: {count} events, {len(record)} bytes printed, {overruns} panels overran")
+            print(f"script {seed}: {count} events, {len(record)} bytes printed, {overruns} panels overran", flush=True)
             done, seconds, peak, seed = done + count, seconds + took, max(peak, held), seed + 1
     print(f"{done} events in {seconds:.1f} s: {done / seconds:.0f} events a second, peak {peak} KiB")
+    return 0
+
+
+def closings_of_the_example(program: str) -> int:
+    """Returns how often examples/panel.py says that it was closed until it has printed the last of many changes."""
+    with served(program) as (port, _), tempfile.NamedTemporaryFile() as out:
+        throttle = Client(port, "COMMAND")
+        throttle.asks("INIT 1 GL 3 N 1 28 5")
+        commands = b"".join(b"SET 1 GL 3 1 %d 28\n" % (turn % 29) for turn in range(SETS)) + b"SET 1 POWER ON last\n"
+        panel = subprocess.Popen([sys.executable, TOP / "examples" / "panel.py", "--port", str(port)], stdout=out)
+        time.sleep(1)
+        with running([threading.Thread(target=reads_to_the_end, args=(throttle, [])),
+                      threading.Thread(target=send_all, args=(throttle, commands))]):
+            while LAST not in (told := Path(out.name).read_bytes()):
+                time.sleep(1)
+            shut([throttle])
+        panel.kill()
+        panel.wait()
+    print(f"examples/panel.py prints {told.count(b' 100 INFO 1 GL 3 1 ') - 1:,} of {SETS:,} changes", flush=True)
+    return told.count(b"-- closed")
+
+
+def panels(program: str, seconds: int = 60) -> int:
+    closed = closings_of_the_example(program)
+    print(f"and it is closed {closed} times", flush=True)
+    reading = closed_panels(program, PANELS, seconds)
+    print(f"of {PANELS} panels that read for {seconds} s beside 32 sessions {reading} are closed", flush=True)
+    closed += reading
+    for senders in (1, 32):
+        pauses = panels_closed_by_pauses(program, senders, seconds)
+        print(f"of 2 panels that pause in {seconds} s beside {senders} sessions {len(pauses)} are closed: {pauses}",
+              flush=True)
+        closed += len(pauses)
+    return closed
+
+
+def bridges(program: str, seconds: int = 600, seed: int = 40) -> int:
+    def rested():
+        time.sleep(QUIET)
+        return not list(evening.differences())
+
+    evening = Evening(program, seed)
+    try:
+        evening.run(seconds)
+        until(rested, "all say the same", 60)
+        differences = []
+    except AssertionError:
+        differences = list(evening.differences())
+    finally:
+        evening.ends()
+    print(f"{evening.count} changes, {len(evening.troubles)} troubles")
+    for difference in differences:
+        print(f"DIFFERS: {difference}")
+    for fault in evening.wrong:
+        print(f"MOVED: {fault}")
+    print("all say the same" if not differences else f"{len(differences)} differ")
+    print("nothing moved that nobody commanded" if not evening.wrong else f"{len(evening.wrong)} moved")
+    return len(differences) + len(evening.wrong)
+
+
+def main():
+    soaks = {soak.__name__: soak for soak in (replay, panels, bridges)}
+    if len(sys.argv) < 3 or sys.argv[1] not in soaks:
+        sys.exit(__doc__)
+    sys.exit(min(1, soaks[sys.argv[1]](str(Path(sys.argv[2]).resolve()), *map(int, sys.argv[3:]))))
 
 
 if __name__ == "__main__":

@@ -6,7 +6,7 @@ import threading
 try:
     import paho.mqtt.client as paho  # type: ignore[import]
 except ImportError:
-    paho = None
+    paho = None  # type: ignore[assignment]
 
 from srcp_bridges.program import Wrong
 

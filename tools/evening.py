@@ -1,16 +1,14 @@
-#!/usr/bin/env python3
-"""soak_bridges.py PROGRAM [SECONDS [SEED]]: all programs of bridges/ beside a built server, for ten minutes or SECONDS.
+"""An evening of all programs of bridges/ beside one server, and an account of what was commanded.
 
 Throttles, a phone, a page, an MQTT client and a simulated station change things at random. Now and then a program is
 killed, or sleeps until its panel is closed; the station is reset, or its cable comes off; the server hangs, and once it
-is killed. At the end it says whether the station, the page, the file of keep.py, the topics that the broker retains and
-examples/panel.py all say what a fresh panel is sent, and whether anything moved that no client had commanded since the
-last loss. It needs mosquitto and paho-mqtt.
+is killed.
 """
 import contextlib
 import json
 import os
 import random
+import re
 import signal
 import socket
 import subprocess
@@ -19,10 +17,55 @@ import time
 from functools import partial
 from pathlib import Path
 
-sys.path.insert(0, str(Path(__file__).resolve().parent.parent / "tests"))
-from bridge_tests import common, test_mqtt, test_web, test_withrottle  # noqa: E402
-from bridge_tests.common import until  # noqa: E402
-from soak_account import Account, starts  # noqa: E402
+from bridge_tests import common, test_mqtt, test_web, test_withrottle
+from bridge_tests.common import until
+
+DRIVES = re.compile(r"SET 1 GL (\d+) [01] [1-9]\d* ")  # V above 0
+POWERS = re.compile(r"SET 1 POWER ON\b")
+STARTS = re.compile(r"t \d+ [1-9]\d* [01]|1")  # what a station is told that moves a train, or turns its power on
+
+
+class Account:
+    """`driven` has the locomotives that somebody had drive since the last loss; `powered`: whether power was put on."""
+
+    def __init__(self):
+        self.driven, self.taken, self.powered = set(), set(), False
+
+    def lost(self):
+        """The station, its driver or the server was lost: all that was commanded before is over."""
+        self.driven.clear()
+        self.powered = False
+
+    def sends(self, command):
+        """A throttle or a page sends a command. It may be refused: then nothing drives by it."""
+        if found := DRIVES.match(command):
+            self.driven.add(int(found[1]))
+        self.powered |= bool(POWERS.match(command))
+
+    def sends_speed(self, locomotive, v):
+        """A topic, or a throttle at the station, is sent a speed."""
+        if v:
+            self.driven.add(locomotive)
+
+    def phone_says(self, line):
+        """A phone says a line: it drives all that it has taken, by one line."""
+        if found := re.match(r"M0\+[SL](\d+)", line):
+            self.taken.add(int(found[1]))
+        elif re.match(r"M0A\*<;>V[1-9]", line):
+            self.driven |= self.taken
+
+    def faults(self, station):
+        """Yields what moves at the station, and that nobody commanded."""
+        if moving := [cab for cab, (speed, _) in station.cabs.copy().items() if speed > 0 and cab not in self.driven]:
+            yield f"drives, and nobody commanded it since its last loss: {moving}"
+        if station.power and not self.powered:
+            yield "power is on, and nobody switched it on since its last loss"
+
+
+def starts(station, since):
+    """Returns what a station was told since a moment that moves a train or turns its power on."""
+    return [text for moment, text in station.log if moment > since and STARTS.fullmatch(text)]
+
 
 PACE = 0.01  # seconds between two changes
 SETTLED = 1.5  # seconds until what was sent is carried out
@@ -38,6 +81,8 @@ def moment():
 
 
 class Evening:
+    """A server, the programs beside it, a simulated station, and the clients of all."""
+
     def __init__(self, program, seed):
         from simulated_station import Station
         common.SERVER, self.draw = program, random.Random(seed)
@@ -284,29 +329,3 @@ class Evening:
         self.display.close()
         self.broker.stop()
         self.server.stop()
-
-
-def main():
-    program = sys.argv[1]
-    seconds, seed = sys.argv[2:] + ["600", "40"][len(sys.argv) - 2:]
-    evening = Evening(os.path.abspath(program), int(seed))
-    try:
-        evening.run(float(seconds))
-        until(lambda: (time.sleep(QUIET), not list(evening.differences()))[1], "all say the same", 60)
-        differences = []
-    except AssertionError:
-        differences = list(evening.differences())
-    finally:
-        evening.ends()
-    print(f"{evening.count} changes, {len(evening.troubles)} troubles")
-    for difference in differences:
-        print(f"DIFFERS: {difference}")
-    for fault in evening.wrong:
-        print(f"MOVED: {fault}")
-    print("all say the same" if not differences else f"{len(differences)} differ")
-    print("nothing moved that nobody commanded" if not evening.wrong else f"{len(evening.wrong)} moved")
-    return 1 if differences or evening.wrong else 0
-
-
-if __name__ == "__main__":
-    sys.exit(main())
