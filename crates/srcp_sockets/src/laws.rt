@@ -73,8 +73,8 @@ pub fn faults_are_true<S: System + Drop>(door: &SocketDoor<S>)
     let _sockets = &door.sockets;
 }
 
-/// No peer goes unread. A wait may leave a peer that is there with less than a piece held, and something that a read
-/// might find. Then the peer was read before the next moment was reported.
+/// A wait may leave a peer that is there with less than a piece held, and something that a read might find. Then the
+/// peer was read before the next moment was reported.
 pub fn peers_are_read<S: System + Drop>(door: &SocketDoor<S>)
     ensures { (before after : List Step) (socket : ℕ) (answer : Result ℕ DoorFault)
         → S.trace door.now.sockets.system ≡ Some (before ++ Answers (NowCall answer) ∷ after)
