@@ -1,5 +1,5 @@
-//! The system as it is: mio's sockets and a clock. It keeps no trace. It finds the socket of a number, makes the call, and
-//! rests after a wait that failed or was ended early.
+//! The system as it is: mio's sockets and a clock. It keeps no trace. It finds the socket of a number and makes the
+//! call, and it rests after a wait that failed or was ended early.
 
 ghost use Rattle.std.specs.Prelude.{◌≡◌, IfOk, ◌<◌, IfSome, length};
 
