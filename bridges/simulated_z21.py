@@ -53,6 +53,7 @@ class Z21:
         self.status, self.cabs, self.functions, self.turnouts, self.log = 0, {}, {}, {}, []
         self.commanded, self.asked = 0.0, 0
         self.steps, self.clients, self.heard, self.outputs, self.pulses, self.last = {}, {}, {}, {}, {}, {}
+        self.taken = set()  # locomotives that a hand drove last: reports of them have three bits more
 
     restart = reset
 
@@ -115,8 +116,9 @@ class Z21:
         step = speed * count // 126 if speed > 0 else speed
         code = SPEEDS[28].index(step) if count == 28 else step + 1 if step > 0 else -step
         on = sum(1 << number for (address, number), value in self.functions.copy().items() if address == cab and value)
-        return (0xEF, cab >> 8 | (0xC0 if cab > 127 else 0), cab & 255, form, way << 7 | code,
-                (on & 1) << 4 | on >> 1 & 15, on >> 5 & 255, on >> 13 & 255, on >> 21 & 255)
+        taken, double = (8, 0x60) if cab in self.taken else (0, 0)
+        return (0xEF, cab >> 8 | (0xC0 if cab > 127 else 0), cab & 255, taken | form, way << 7 | code,
+                double | (on & 1) << 4 | on >> 1 & 15, on >> 5 & 255, on >> 13 & 255, on >> 21 & 255)
 
     def sense(self, client, group):
         bits = sum(1 << number - group * 80 - 1 for number in self.sensors if group * 80 < number <= group * 80 + 80)
@@ -134,6 +136,7 @@ class Z21:
         """A throttle at the station drives a locomotive, or switches functions: f0=1."""
         if speed is not None:
             self.cabs[cab] = speed, way
+            self.taken.add(cab)
             self.last.pop(("cab", cab), None)
         for name, on in functions.items():
             self.functions[cab, int(name[1:])] = on
@@ -254,6 +257,7 @@ class Z21:
         drives = (-(-step * 126 // count) if step > 0 else step), way
         self.changes(("cab", cab), f"t {cab} {drives[0]} {way}")
         self.cabs[cab], self.steps[cab] = drives, form
+        self.taken.discard(cab)
         self.tell(TO_HANDS, *self.cab(cab))
 
     def take_function(self, cab, number, on):

@@ -128,7 +128,7 @@ class Drives(StationCase):
             self.track(lambda s: s.turnouts.get(5) == lies, commands)
             time.sleep(0.08)
         self.assertEqual(self.commands("a "), ["a 5 1", "a 5 0", "a 5 1", "a 5 0"])
-        self.station.sensor(99, 1)  # the bus has no such sensor
+        self.station.sensor(150, 1)  # the bus has no such sensor
         for value in (1, 0, 1):
             self.station.sensor(7, value)
             self.has(f"100 INFO 1 FB 7 {value}")

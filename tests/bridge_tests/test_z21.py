@@ -4,13 +4,14 @@ import subprocess
 import sys
 import time
 
-from .common import PROGRAMS, WAIT, free_port, rows
-from .stations import QUIET, Drives, Hands, Losses, StationCase
+from .common import LAYOUT, PROGRAMS, WAIT, free_port, rows
+from .stations import QUIET, STANDS, Drives, Hands, Losses, StationCase
 
 
 class Z21Case(StationCase):
     program, greeting, top, slowest = "z21", "Z21, serial number 123456", 28, 5
     words = ("--patience", 0.5, "--silence", 5, "--turnout-pace", 20)  # a busy machine may not hear for a while
+    layout = LAYOUT.replace("fb_ports = 32", "fb_ports = 100")
 
     def opens(self):
         from simulated_z21 import Z21
@@ -25,6 +26,14 @@ class Z21Case(StationCase):
 
 
 class Z21(Drives, Z21Case):
+    def test_turnouts_and_sensors(self):
+        """Its sensors are reported in two halves of 80."""
+        super().test_turnouts_and_sensors()
+        for number in (80, 81, 100):
+            self.station.sensor(number, 1)
+        self.has(*[f"100 INFO 1 FB {number} 1" for number in (80, 81, 100)])
+        self.assertEqual(len([row for row in rows(self.server.port) if " FB " in row and row.endswith(" 1")]), 4)
+
     def test_many_emergency_stops_are_one_command_first(self):
         self.station.loses = 0
         super().test_many_emergency_stops_are_one_command_first()
@@ -52,6 +61,7 @@ class Z21(Drives, Z21Case):
         self.throttle.order("INIT 1 GA 5 N", "SET 1 GA 5 1 1 20")
         self.track(lambda s: (5, 1) in s.pulses, "it has gone off")
         self.assertGreater(self.station.pulses[5, 1], 0.08)
+        self.track(lambda s: time.monotonic() - s.commanded > 2 * QUIET, "and is not told so again and again")
 
     def test_who_says_nothing_is_told_nothing_and_the_driver_does(self):
         """The station logs off who was silent: after 60 s, here after 3. What a hand does then is told."""
@@ -81,11 +91,26 @@ class Z21(Drives, Z21Case):
 
 
 class Z21WithLosses(Losses, Z21Case):
-    def test_a_station_that_stops_all(self):
-        """Power counts as off, and switching it on ends that."""
-        self.station.stop()
-        self.rests("station says off")
-        self.drives()
+    def goes_off(self, act, why):
+        """The station cuts its power, and somebody switches it on again, which ends also a stop of all."""
+        act()
+        self.station.loses = 0
+        self.has(f"100 INFO 1 POWER OFF {why}", STANDS)
+        StationCase.drives(self)
+
+    def test_what_a_station_reports_without_a_question(self):
+        self.restarts("--silence", 10 * WAIT)
+        self.station.loses = 0
+        for act, why in ((self.station.stop, "station says off"), (lambda: self.station.switch(0), "station says off"),
+                         (self.station.overload, "overload"), (self.station.program, "programming")):
+            self.goes_off(act, why)
+
+    def test_what_a_station_reports_in_vain(self):
+        """The driver asks for it."""
+        for act, why in ((self.station.stop, "station says off"), (self.station.overload, "overload"),
+                         (self.station.program, "programming")):
+            self.station.loses = 1
+            self.goes_off(act, why)
 
     def test_a_station_that_programs_a_decoder(self):
         """Power counts as off. The station is told nothing that would end the programming, until somebody does."""

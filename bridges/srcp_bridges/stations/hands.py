@@ -57,13 +57,13 @@ class Hands:
                 self.orders.put(("function", address, number), act)
 
     def drives(self, address, speed, way, drive):
-        """A hand throttle drives a locomotive. If its row may not be changed, the station is told the row again, but a
-        stop stays."""
+        """A hand throttle drives a locomotive. If its row may not be changed, or was stopped meanwhile, the station is
+        told the row again, but a stop stays."""
         part, command = ("cab", address), f"SET {self.bus.number} GL {address} {way}"
-        stays = partial(self.bus.holds.keep, part)
+        stays, stops = partial(self.bus.holds.keep, part), self.mirror.stops
         if speed > 0:
-            top = self.track.top_of(address)
-            self.orders.command(part, f"{command} {speed} {top}", partial(self.track.mark, part))
+            command, seen = f"{command} {speed} {self.track.top_of(address)}", stops.count(self.bus.number, address)
+            self.orders.put(part, partial(send, stops, self.mirror, command, seen), partial(self.track.mark, part))
         elif drive.v and speed < 0:
             self.orders.put(part, partial(stop_one, self.mirror, self.mirror.ask, self.bus.number, address), stays)
         elif drive.v or way != self.mirror.way(self.bus.number, address):
