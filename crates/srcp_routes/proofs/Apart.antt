@@ -43,12 +43,12 @@ stage_at-start [] n = refl
 stage_at-start (route ∷ routes) zero = lost_not_held route.signal
 stage_at-start (route ∷ routes) (suc n) = stage_at-start routes n
 
-stage_at-set_same : (stages : List Stage) (k : ℕ) (s : Stage) → k < length stages → stage_at (slice_set stages k s) k ≡ s
+pub stage_at-set_same : (stages : List Stage) (k : ℕ) (s : Stage) → k < length stages → stage_at (slice_set stages k s) k ≡ s
 stage_at-set_same [] k s lt = absurd (omega (arith, lt))
 stage_at-set_same (x ∷ xs) zero s lt = refl
 stage_at-set_same (x ∷ xs) (suc k) s lt = stage_at-set_same xs k s (omega (arith, lt))
 
-length-written_below : (value : ℕ → Stage) (m : ℕ) (xs : List Stage) → length (written_below value m xs) ≡ length xs
+pub length-written_below : (value : ℕ → Stage) (m : ℕ) (xs : List Stage) → length (written_below value m xs) ≡ length xs
 length-written_below value zero xs = refl
 length-written_below value (suc m) xs =
     length-set (written_below value m xs) m (value m) ∙ length-written_below value m xs
@@ -79,7 +79,7 @@ lost_below routes stages (suc m) n le which =
     (lost_which m n (is_held (stage_at stages n) ≡ false) (is_held (stage_at (written_below (lost_at routes) m stages) n) ≡ false)
     which (lost_below routes stages m n (omega (arith, le))))
 
-lost_all : (routes : List Route) (stages : List Stage) (n : ℕ)
+pub lost_all : (routes : List Route) (stages : List Stage) (n : ℕ)
     → is_held (stage_at (written_below (lost_at routes) (length stages) stages) n) ≡ false
 lost_all routes stages n = lost_below routes stages (length stages) n (omega arith) (elim (cases_lt n (length stages)) [
   | inl lt ↦ inl lt
@@ -168,7 +168,7 @@ kept routes stages k s held idle apart n m differ clash h =
     idle_after stages k m s (stage_at (slice_set stages k s) m) idle (stage_at-set stages k s m)
     (apart n m differ clash (held_before stages k n s (stage_at (slice_set stages k s) n) held (stage_at-set stages k s n) h))
 
-idle_not_held : (s : Stage) → is_idle s ≡ true → is_held s ≡ false
+pub idle_not_held : (s : Stage) → is_idle s ≡ true → is_held s ≡ false
 idle_not_held stage.Idle h = refl
 idle_not_held other h = absurd (cc)
 
@@ -286,7 +286,7 @@ heard_apart t Lost apart = λ n m differ clash h.
     lost_all t.routes t.stages n in
     absurd (cc)
 
-after_apart : (t : Table) (event : Event) → AreApart t → AreApart (after t event)
+pub after_apart : (t : Table) (event : Event) → AreApart t → AreApart (after t event)
 after_apart t event apart =
     next_of (heard t event) (is_some (heard t event).waiting) (due (heard t event)) (heard_apart t event apart)
 
@@ -294,6 +294,9 @@ course_apart : (t : Table) (events : List Event) → AreApart t → AreApart (fo
 course_apart t [] apart = apart
 course_apart t (event ∷ events) apart = course_apart (after t event) events (after_apart t event apart)
 
+pub start_apart : (routes : List Route) → AreApart (start routes)
+start_apart routes n m differ clash h =
+    let not : is_held (stage_at (map lost_stage routes) n) ≡ false = stage_at-start routes n in absurd (cc)
+
 pub held_stand_alone : HeldStandAlone
-held_stand_alone routes events = course_apart (start routes) events
-    (λ n m differ clash h. let not : is_held (stage_at (map lost_stage routes) n) ≡ false = stage_at-start routes n in absurd (cc))
+held_stand_alone routes events = course_apart (start routes) events (start_apart routes)

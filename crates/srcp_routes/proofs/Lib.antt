@@ -1,2 +1,5 @@
 pub mod Apart
+pub mod Locks
 pub mod Loops
+pub mod Pending
+pub mod Throws

@@ -1,9 +1,17 @@
 //! Laws of every list of events. Each function does nothing: its `ensures` is the law.
 
 ghost use Rattle.srcp_routes.specs.Laws.{HeldStandAlone};
+ghost use Rattle.srcp_routes.specs.Runs.{ThrowsAreLocked};
 
 /// States for any plan and any list of events: while a route is held, each other that conflicts with it is idle. So no
 /// two routes that conflict are held at once.
 pub fn held_stand_alone()
     ensures { HeldStandAlone }
+{}
+
+/// States for any plan and any list of events: a turnout is thrown only to the port that the route wants which throws
+/// it, and while that route holds its lock. A lock is held from the reply that grants it until the order that gives it
+/// up, and no longer than its session.
+pub fn throws_are_locked()
+    ensures { ThrowsAreLocked }
 {}
