@@ -17,6 +17,8 @@ pub mod AcceptedPeersConnect
 pub mod SlotsFollow
 pub mod TurnsFollow
 pub mod ServingFollows
+mod CarriageReturns
+pub mod PiecesWeighEnough
 pub mod PacedTurnsSparePanels
 pub mod Settling
 mod OneCallFollows

@@ -1,9 +1,13 @@
 -- To be believed: which turns make no panel overrun, by how many changes they bring and what the door was told.
-use Rattle.std.specs.Prelude.{ℕ, ◌+◌, ◌≤◌, List, [], ◌∷◌, drop, length}
+use Rattle.std.specs.Prelude.{◌≡◌, ℕ, ◌+◌, ◌≤◌, List, [], ◌∷◌, ◌++◌, drop, length}
+use Rattle.std.specs.List.{sum_by}
 use Rattle.srcp_grammar.specs.declared.layout.Bus.{Bus}
 use Rattle.srcp_core.specs.Connection.{Connection}
-use Rattle.srcp_core.specs.Course.{course}
-use Rattle.srcp_core.specs.Waits.{IsOverrun, brought_besides, changes_since, option_or_256, weighs}
+use Rattle.srcp_core.specs.Course.{course, new_marks}
+use Rattle.srcp_core.specs.Waits.{IsOverrun, brought_besides, changes_since, option_or_256, weighs, weight_of_mark}
+use Rattle.srcp_door.specs.Pacing.{line_after, weight_of}
+use Rattle.srcp_door.specs.declared.pacing.Line.{Line}
+use Rattle.srcp_door.specs.declared.pacing.Line.TheVariants.{Ended}
 use Rattle.srcp_serve.specs.Given.{Call, ExpectCall}
 use Rattle.srcp_serve.specs.Serving.{Stand, IsServed, OfEachTurn, empty_stand, events_of, turned, turns}
 
@@ -14,7 +18,18 @@ trace_room [] = 256
 trace_room (ExpectCall due slack ∷ calls) = option_or_256 slack
 trace_room (other ∷ calls) = 256
 
+-- what the door knows of a peer's bytes is the same, whether they were handed out in two pieces or in one
+abbrev pub LinesGoOn : Type 0
+LinesGoOn = (line : Line) (first second : List ℕ)
+    → line_after (line_after line first) second ≡ line_after line (first ++ second)
+
 module _ (buses : List Bus) where
+  -- the lines that end in a piece weigh no more than the door weighs the piece; of the bytes that were fed before, the
+  -- door knows only whether they end within a line
+  abbrev pub PiecesWeighEnough : Type 0
+  PiecesWeighEnough = (fed piece : List ℕ)
+      → sum_by weight_of_mark (new_marks buses fed piece) ≤ weight_of (line_after Ended fed) piece
+
   -- how many changes the turn brought
   abbrev pub brought_in : Stand → List Call → ℕ
   brought_in stand calls = changes_since buses (length (course buses stand.events).steps)

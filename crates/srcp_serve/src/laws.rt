@@ -6,7 +6,7 @@ ghost use Rattle.srcp_grammar.specs.declared.layout.Bus.{Bus};
 ghost use Rattle.srcp_serve.specs.Given.{GivesUnlessCounted};
 ghost use Rattle.srcp_serve.specs.Serving.{FedIsHanded, SentIsTaken};
 ghost use Rattle.srcp_serve.specs.Settling.{SettlesSoon, WaitsAreGoneAfterAVisit};
-ghost use Rattle.srcp_serve.specs.Pacing.{IsLight, IsPaced, ServingSparesAll, TurnsSpare};
+ghost use Rattle.srcp_serve.specs.Pacing.{IsLight, IsPaced, LinesGoOn, PiecesWeighEnough, ServingSparesAll, TurnsSpare};
 
 /// States that each peer took, to the byte, what the course of the calls sends its connection. The calls are those of
 /// some turns, no peer was accepted twice, and each answer is one that a door may give.
@@ -41,6 +41,14 @@ pub fn paced_turns()
 pub fn light_turns()
     ensures each { (buses : List Bus) → IsLayout buses → TurnsSpare buses (IsLight buses) }
     ensures all { (buses : List Bus) → IsLayout buses → ServingSparesAll buses (IsLight buses) }
+{}
+
+/// States that the lines that end in a piece weigh no more than the door weighs the piece (`weigh`). The door knows of
+/// the bytes before it only whether a line began in them, and counts the greatest weight then. That is the same, whether
+/// the bytes were handed out in two pieces or in one (`line`).
+pub fn pieces_weigh_enough()
+    ensures weigh { (buses : List Bus) → PiecesWeighEnough buses }
+    ensures line { LinesGoOn }
 {}
 
 /// States that an information session is settled after enough turns that bring no change. In each of them its peer
