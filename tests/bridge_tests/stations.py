@@ -224,7 +224,9 @@ class Losses(StationCase):
             self.assertNotIn("the server is full", self.driver.told())
             self.throttle.order("SET 1 GL 3 1 14 28")
             self.track(lambda s: s.cabs[3] == (63, 1), "it drives as it did")
-            others.pop().close()
+            gone = others.pop()
+            gone.close()
+            until(lambda: "416" in self.throttle.ask(f"GET 0 SESSION {gone.id}"), "another has left its place")
             until(lambda: is_full(self.server.port), "the driver keeps a place again")
 
     def test_the_driver_is_ended(self):

@@ -403,6 +403,7 @@ class WebInGerman(ChromiumCase):
         until(lambda: "STOP ALL" in self.js(words) and "Loco 5" in self.js(words), "English")
         self.has("100 INFO 1 GL 5 1 9 28")
         self.opens("1 GL 5")
+        self.has("100 INFO 1 GL 5 1 0 28")  # a page that is loaded again leaves no train driving
         self.assertEqual(self.js("document.documentElement.lang"), "en")  # the choice is kept
         self.assertEqual(self.js(LACKING), [])
         self.assertEqual(self.browser.faults, [])

@@ -242,6 +242,9 @@ class DccExWithLosses(Losses, DccExCase):
         self.throttle.order("INIT 1 GL 9 N 1 28 5", "SET 1 GL 9 1 7 28", "INIT 1 GA 5 N")
         self.track(lambda s: s.cabs.get(9) == (32, 1), "drives")
         self.driver.end(signal.SIGKILL)
+        time.sleep(QUIET)
+        self.has("100 INFO 1 POWER ON", "100 INFO 1 GL 3 1 14 28")
+        self.assertEqual((self.station.power, self.station.cabs[3]), (1, (63, 1)))  # it drives on
         self.throttle.order("TERM 1 GL 9", "SET 1 GA 5 1 1 20")
         self.start()
         self.track(lambda s: s.turnouts == {5: 1}, "a turnout that was put meanwhile")

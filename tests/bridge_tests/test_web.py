@@ -4,6 +4,7 @@ import asyncio
 import http.client
 import json
 import re
+import signal
 import socket
 import threading
 from pathlib import Path
@@ -387,6 +388,16 @@ class Web(WebCase):
         pages.append(Events(self.port, Cookie="srcp_browser=one"))
         until(lambda: "elsewhere" in pages[0].events, "the first is told to close")
         self.assertFalse([page for page in [*pages[1:], other] if "elsewhere" in page.events])
+
+    def test_killed_beside_a_guard(self):
+        """What pages have taken stands, and what they drive without that drives on."""
+        guard = self.starts("guard.py")
+        until(lambda: "server: joined" in guard.told(), "the guard has joined")
+        page = Events(self.port)
+        page.order("INIT 1 GL 3 N 1 28 0", "INIT 1 GL 4 N 1 28 0", "SET 1 LOCK GL 3 0", "SET 1 GL 3 0 9 28",
+                   "SET 1 GL 4 1 9 28")
+        self.web.end(signal.SIGKILL)
+        self.has("100 INFO 1 GL 3 0 0 28", "100 INFO 1 GL 4 1 9 28")
 
     def test_sigterm(self):
         page = Events(self.port)
