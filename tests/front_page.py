@@ -24,6 +24,8 @@ NUMBERS = (("At most {:,} clients are connected", "MOST_CONNECTIONS", lambda mos
            ("for {:,} seconds after its end", "LINGER", lambda milliseconds: milliseconds // 1000))
 NUMERALS = ("no", "one", "two", "three", "four", "five", "six", "seven", "eight", "nine", "ten", "eleven", "twelve")
 HOUR = 3600
+MOST_LINES = 170
+TIMES = {15: "a quarter of an hour", 30: "half an hour"}  # the other times are told in minutes
 
 
 def words_of_the_readme():
@@ -95,6 +97,23 @@ def numbers_of_the_readme(_):
     return None if sentence in page else f"the page does not say {sentence!r}"
 
 
+def time_of_the_first_build(_):
+    """The pages and ./run tell the time that the first build was measured to take, rounded up to five minutes."""
+    row = re.search(r"^\| the first build, .*? with (\w+ processors).*?\| (\d+) minutes, ",
+                    (TOP / "docs" / "performance.md").read_text(), re.M)
+    minutes = -(-int(row[2]) // 5) * 5
+    time_told = TIMES.get(minutes, f"{minutes} minutes")
+    said = {"README.md": f"proves and builds it, in [{time_told}]", "run": f"{time_told} the first time, on {row[1]}",
+            "docs/install.md": f"bout {time_told} on {row[1]}"}
+    wrong = [name for name, text in said.items() if text not in " ".join((TOP / name).read_text().split())]
+    return f"it takes {time_told} on {row[1]}: not so in {wrong}" if wrong else None
+
+
+def readme_is_short(_):
+    lines = len(README.read_text().splitlines())
+    return None if lines <= MOST_LINES else f"{lines} lines"
+
+
 def programs_that_the_readme_names(_):
     """Each is there, is tried by cases of its own, and no program of bridges/ is left out but the simulated
     stations."""
@@ -146,5 +165,6 @@ def holder_of_a_port(program):
 
 
 FRONT_PAGE_CASES = (first_screen_of_the_readme, commands_of_the_readme, size_that_the_readme_tells,
-                    numbers_of_the_readme, programs_that_the_readme_names, stamps_by_the_clock_of_the_start,
+                    numbers_of_the_readme, time_of_the_first_build, readme_is_short,
+                    programs_that_the_readme_names, stamps_by_the_clock_of_the_start,
                     holder_of_a_port)
