@@ -112,6 +112,18 @@ class Z21WithLosses(Losses, Z21Case):
             self.station.loses = 1
             self.goes_off(act, why)
 
+    def test_a_short_circuit_that_is_over(self):
+        """What the station says of it before it has heard that power is to be on does not take that off again."""
+        self.station.overload()
+        self.rests("overload")
+        self.station.deaf, asked = True, self.station.asked
+        self.throttle.order("SET 1 POWER ON")
+        self.track(lambda s: s.asked > asked + 5, "it has told its status again and again")
+        time.sleep(QUIET)
+        self.has("100 INFO 1 POWER ON")
+        self.station.deaf = False
+        self.track(lambda s: s.power == 1, "power is on")
+
     def test_a_station_that_programs_a_decoder(self):
         """Power counts as off. The station is told nothing that would end the programming, until somebody does."""
         self.station.program()
