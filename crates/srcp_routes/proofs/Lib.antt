@@ -1,5 +1,11 @@
 pub mod Apart
+pub mod Free
+pub mod Holds
 pub mod Locks
 pub mod Loops
 pub mod Pending
+pub mod Shown
+pub mod Signals
+pub mod Thrown
 pub mod Throws
+pub mod Touched

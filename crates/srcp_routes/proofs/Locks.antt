@@ -6,13 +6,13 @@ use Rattle.std.proofs.lemmas.Bool.{or_left, or_right}
 use Rattle.std.proofs.lemmas.Option.{slice_get_within}
 use Rattle.std.specs.List.{list_any}
 use Rattle.std.specs.Option.{option_map, option_map_or}
-use Rattle.std.specs.Prelude.{fold, if◌then◌else◌, is_some, map, nat_lt, slice_get, slice_set}
+use Rattle.std.specs.Prelude.{if◌then◌else◌, nat_lt, slice_get, slice_set}
 use Rattle.srcp_routes.specs.Conflicts.{are_free, conflicts, has_turnout, is_same, is_signal, meets, turnouts_meet, uses}
 use Rattle.srcp_routes.specs.Conflicts.{signal_meets, blocks_meet}
 use Rattle.srcp_routes.specs.Laws.{AreApart}
 use Rattle.srcp_routes.specs.Plan.{Table, conflict_at, lost_at, stage_at, wanted_at, written_below}
-use Rattle.srcp_routes.specs.Runs.{Locks, Run, granted, locked_heard, locked_sent, run, run_after, run_start}
-use Rattle.srcp_routes.specs.Stages.{after_reply, count_of, is_held, is_idle, lost_stage, order_of, ready_stage, retried_stage, turnout_at}
+use Rattle.srcp_routes.specs.Runs.{Locks, Run, granted, locked_heard, locked_sent}
+use Rattle.srcp_routes.specs.Stages.{after_reply, count_of, is_held, is_idle, order_of, ready_stage, retried_stage, turnout_at}
 use Rattle.srcp_routes.specs.Steps.{Stepped, answered, due, heard, may_begin, ready_at, sent, stage_replied}
 use Rattle.srcp_routes.specs.declared.interlocking.Event.{Event}
 use Rattle.srcp_routes.specs.declared.interlocking.Event.TheVariants.{Ask, Give, Told, Reply, Lost}
@@ -24,8 +24,8 @@ use Rattle.srcp_routes.specs.declared.route.Setting.{Setting}
 use Rattle.srcp_routes.specs.declared.route.Signal.{Signal}
 use Rattle.srcp_routes.specs.declared.stage.Stage.{Stage}
 use Rattle.srcp_routes.specs.declared.stage.Stage.TheVariants as stage
-use Rattle.srcp_routes.proofs.Apart.{lost_all, stage_at-set, stage_at-set_same, stage_at-start, idle_not_held, after_apart, start_apart}
-use Rattle.srcp_routes.proofs.Pending.{Fits, Pends, PendsAt, Sends, after_fits, heard_fits, start_fits, step_pends, due_sends}
+use Rattle.srcp_routes.proofs.Apart.{lost_all, stage_at-set, stage_at-set_same, idle_not_held}
+use Rattle.srcp_routes.proofs.Pending.{Fits, Pends, PendsAt, Sends, due_sends}
 
 -- at this stage the turnout at a place is locked
 abbrev pub has_lock : Stage → ℕ → Bool
@@ -43,7 +43,7 @@ AllLocked routes stages locked = (n : ℕ) (route : Route) (k : ℕ) (turnout : 
     → turnout_at route k ≡ Some turnout → has_lock (stage_at stages n) k ≡ true → locked n turnout.device ≡ true
 
 -- what a stage locks
-locks_held : (s : Stage) (k : ℕ) → has_lock s k ≡ true → is_held s ≡ true
+pub locks_held : (s : Stage) (k : ℕ) → has_lock s k ≡ true → is_held s ≡ true
 locks_held stage.Idle k h = absurd (cc)
 locks_held stage.Clearing k h = absurd (cc)
 locks_held stage.Blocked k h = absurd (cc)
@@ -56,10 +56,10 @@ retried_locks stage.Stuck k h = refl
 retried_locks other k h = h
 
 -- one more turnout is locked
-locked_next : (k done : ℕ) → nat_lt k (done + 1) ≡ true → (nat_lt k done ≡ true) ⊎ (k ≡ done)
+pub locked_next : (k done : ℕ) → nat_lt k (done + 1) ≡ true → (nat_lt k done ≡ true) ⊎ (k ≡ done)
 locked_next k done h = grind (arith, ltb-true k (done + 1), lt-ltb k done)
 
-locked_last : (k done count : ℕ) → nat_lt (done + 1) count ≡ false → k < count → (nat_lt k done ≡ true) ⊎ (k ≡ done)
+pub locked_last : (k done count : ℕ) → nat_lt (done + 1) count ≡ false → k < count → (nat_lt k done ≡ true) ⊎ (k ≡ done)
 locked_last k done count h lt = grind (arith, ltb-false (done + 1) count, lt-ltb k done)
 
 locking_locks : (done k count : ℕ) (more : Bool) → nat_lt (done + 1) count ≡ more → k < count
@@ -77,7 +77,7 @@ granted_lock route k done turnout o e at orders =
     subst (λ (x : Option Setting). option_map (λ (setting : Setting). order.Lock setting.device) x ≡ Some o) here orders in
     cc
 
-left_locks : (left k : ℕ) (X : Type 0) (none : Bool)
+pub left_locks : (left k : ℕ) (X : Type 0) (none : Bool)
     → has_lock (if none then stage.Idle else stage.Unlocking left) k ≡ true → X
 left_locks left k X true h = absurd (cc)
 left_locks left k X false h = absurd (cc)
@@ -105,7 +105,7 @@ reply_locks route other o ok k turnout orders at h = inl refl
 
 -- as a route becomes ready no turnout is locked that was not
 back_locks : (route : Route) (k : ℕ) (count : ℕ) (none : Bool) (signal : Option Signal) → (count == 0) ≡ none → k < count
-    → has_lock (if none then option_map_or (λ x. stage.Ready) signal stage.Reporting else stage.Locking 0) k ≡ true
+    → has_lock (if none then option_map_or (λ x. stage.Showing) signal stage.Reporting else stage.Locking 0) k ≡ true
     → false ≡ true
 back_locks route k count true signal none lt h = let e : count ≡ 0 = eqb-true count 0 none in absurd (omega arith)
 back_locks route k count false signal none lt h = absurd (omega (arith, ltb-true k 0 h))
@@ -150,10 +150,10 @@ more_granted : (locked : Locks) (n : ℕ) (o : Order) (m : ℕ) (x : Device) →
 more_granted locked n (order.Lock device) m x h = or_right ((m == n) && is_same x device) (locked m x) h
 more_granted locked n other m x h = h
 
-same_self : (x : Device) → is_same x x ≡ true
+pub same_self : (x : Device) → is_same x x ≡ true
 same_self x = and_from (x.bus == x.bus) (x.address == x.address) (eq-eqb x.bus x.bus refl) (eq-eqb x.address x.address refl)
 
-same_back : (x y : Device) → is_same x y ≡ true → is_same y x ≡ true
+pub same_back : (x y : Device) → is_same x y ≡ true → is_same y x ≡ true
 same_back x y h =
     let both : ((x.bus == y.bus) ≡ true) × ((x.address == y.address) ≡ true) =
     and_parts (x.bus == y.bus) (x.address == y.address) h in
@@ -165,7 +165,7 @@ now_granted locked n o x e = subst (λ (y : Order). granted locked n y n x ≡ t
     (or_left ((n == n) && is_same x x) (locked n x) (and_from (n == n) (is_same x x) (eq-eqb n n refl) (same_self x)))
 
 -- the locks after the reply to the order of a route
-abbrev replied_locks : Locks → ℕ → Order → Bool → Locks
+abbrev pub replied_locks : Locks → ℕ → Order → Bool → Locks
 replied_locks locked n o ok = if ok then granted locked n o else locked
 
 more_replied : (locked : Locks) (n : ℕ) (o : Order) (ok : Bool) (m : ℕ) (x : Device) → locked m x ≡ true
@@ -248,7 +248,7 @@ pub record Unlocks (route : Route) (s : Stage) (device : Device) : Type 0 where
   pub held : is_held s ≡ true
   pub none : (k : ℕ) → has_lock s k ≡ false
 
-no_unlock : {X : Type 0} → (f : X → Order) (x : Option X) (device : Device) (P : Type 0)
+pub no_unlock : {X : Type 0} → (f : X → Order) (x : Option X) (device : Device) (P : Type 0)
     → ((y : X) → f y ≢ order.Unlock device) → option_map f x ≡ Some (order.Unlock device) → P
 no_unlock f None device P other e = absurd (cc)
 no_unlock f (Some y) device P other e = let same : f y ≡ order.Unlock device = cc in absurd (other y same)
@@ -272,7 +272,7 @@ unlocks route stage.Stopping device e = no_unlock _ route.signal device _ (λ y 
 unlocks route other device e = absurd (cc)
 
 -- routes that share a turnout conflict
-any_at : {X : Type 0} → (test : X → Bool) (xs : List X) (k : ℕ) (x : X) → slice_get xs k ≡ Some x → test x ≡ true
+pub any_at : {X : Type 0} → (test : X → Bool) (xs : List X) (k : ℕ) (x : X) → slice_get xs k ≡ Some x → test x ≡ true
     → list_any test xs ≡ true
 any_at test [] k x at h = absurd (cc)
 any_at test (y ∷ ys) zero x at h = let same : y ≡ x = cc in or_left (test y) (list_any test ys) (ap test same ∙ h)
@@ -352,44 +352,9 @@ sent_locked routes t locked n fits apart sends all =
     (ap (order_of sends.route) (stage_at-set_same t.stages n (ready_at t n) within) ∙ sends.orders)
     (ready_locked t n sends locked all))
 
-next_locked : (routes : List Route) (t : Table) (locked : Locks) (waits : Bool) (d : Option ℕ) → Fits routes t → due t ≡ d
+pub next_locked : (routes : List Route) (t : Table) (locked : Locks) (waits : Bool) (d : Option ℕ) → Fits routes t → due t ≡ d
     → AreApart (if waits then record { table = t; order = None } else sent t d).table → AllLocked t.routes t.stages locked
     → StepLocked locked (if waits then record { table = t; order = None } else sent t d)
 next_locked routes t locked true d fits is apart all = all
 next_locked routes t locked false None fits is apart all = all
 next_locked routes t locked false (Some n) fits is apart all = sent_locked routes t locked n fits apart (due_sends t n is) all
-
--- what holds of a run
-pub record Holds (routes : List Route) (r : Run) : Type 0 where
-  pub fits : Fits routes r.table
-  pub apart : AreApart r.table
-  pub pends : Pends r.table r.order r.table.waiting
-  pub locked : AllLocked r.table.routes r.table.stages r.locked
-
-after_holds : (routes : List Route) (r : Run) (event : Event) → Holds routes r → Holds routes (run_after r event)
-after_holds routes r event holds = record {
-  fits = after_fits routes r.table event holds.fits;
-  apart = after_apart r.table event holds.apart;
-  pends = step_pends routes r.table r.order event holds.fits holds.pends;
-  locked = next_locked routes (heard r.table event) (locked_heard r event) (is_some (heard r.table event).waiting)
-      (due (heard r.table event)) (heard_fits routes r.table event holds.fits) refl (after_apart r.table event holds.apart)
-      (heard_locked r event holds.pends holds.locked);
-}
-
-start_holds : (routes : List Route) → Holds routes (run_start routes)
-start_holds routes = record {
-  fits = start_fits routes;
-  apart = start_apart routes;
-  pends = refl;
-  locked = λ n route k turnout is at h.
-      let not : is_held (stage_at (map lost_stage routes) n) ≡ false = stage_at-start routes n in
-      let held : is_held (stage_at (map lost_stage routes) n) ≡ true = locks_held _ k h in
-      absurd (cc);
-}
-
-fold_holds : (routes : List Route) (r : Run) (events : List Event) → Holds routes r → Holds routes (fold run_after r events)
-fold_holds routes r [] holds = holds
-fold_holds routes r (event ∷ events) holds = fold_holds routes (run_after r event) events (after_holds routes r event holds)
-
-pub run_holds : (routes : List Route) (events : List Event) → Holds routes (run routes events)
-run_holds routes events = fold_holds routes (run_start routes) events (start_holds routes)

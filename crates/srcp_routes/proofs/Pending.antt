@@ -137,10 +137,12 @@ pends_as t last x y e pends = subst (λ (z : Option ℕ). Pends t last z) (sym e
 pub heard_pends : (t : Table) (last : Option Order) (event : Event) → Pends t last t.waiting
     → Pends (heard t event) (order_heard last event) (heard t event).waiting
 heard_pends t last (Ask n) pends =
-    pends_as (heard t (Ask n)) last _ t.waiting (if_waits (nat_lt n (length t.routes)) _ _ ∙ if_same (nat_lt n (length t.routes)) t.waiting)
+    pends_as (heard t (Ask n)) last _ t.waiting
+    (if_waits (nat_lt n (length t.routes)) _ _ ∙ if_same (nat_lt n (length t.routes)) t.waiting)
     (if_pends (nat_lt n (length t.routes)) _ _ last t.waiting (other_pends t _ last t.waiting refl refl pends) pends)
 heard_pends t last (Give n) pends =
-    pends_as (heard t (Give n)) last _ t.waiting (if_waits (nat_lt n (length t.routes)) _ _ ∙ if_same (nat_lt n (length t.routes)) t.waiting)
+    pends_as (heard t (Give n)) last _ t.waiting
+    (if_waits (nat_lt n (length t.routes)) _ _ ∙ if_same (nat_lt n (length t.routes)) t.waiting)
     (if_pends (nat_lt n (length t.routes)) _ _ last t.waiting
     (given_pends t n (slice_set t.wanted n false) last t.waiting pends) pends)
 heard_pends t last (Told sensor on) pends = other_pends t (heard t (Told sensor on)) last t.waiting refl refl pends

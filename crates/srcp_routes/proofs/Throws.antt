@@ -11,7 +11,8 @@ use Rattle.srcp_routes.specs.declared.route.Route.{Route}
 use Rattle.srcp_routes.specs.declared.route.Setting.{Setting}
 use Rattle.srcp_routes.specs.declared.stage.Stage.{Stage}
 use Rattle.srcp_routes.specs.declared.stage.Stage.TheVariants as stage
-use Rattle.srcp_routes.proofs.Locks.{Holds, has_lock, run_holds}
+use Rattle.srcp_routes.proofs.Locks.{has_lock}
+use Rattle.srcp_routes.proofs.Holds.{Holds, run_holds}
 use Rattle.srcp_routes.proofs.Pending.{Pends, PendsAt}
 
 -- a route throws one of its turnouts

@@ -2,5 +2,6 @@ pub mod Conflicts
 pub mod Laws
 pub mod Plan
 pub mod Runs
+pub mod Signals
 pub mod Stages
 pub mod Steps

@@ -60,9 +60,13 @@ thrown_stage route = option_map_or (λ signal. stage.Ready) route.signal stage.R
 abbrev pub lost_stage : Route → Stage
 lost_stage route = option_map_or (λ signal. stage.Clearing) route.signal stage.Closing
 
+-- a route without turnouts, whose blocks are free: the signal, if it has one, is shown at once
+abbrev pub shown_stage : Route → Stage
+shown_stage route = option_map_or (λ signal. stage.Showing) route.signal stage.Reporting
+
 -- a route begins
 abbrev pub first_stage : Route → Stage
-first_stage route = if count_of route == 0 then thrown_stage route else stage.Locking 0
+first_stage route = if count_of route == 0 then shown_stage route else stage.Locking 0
 
 -- the order was accepted
 abbrev pub accepted_stage : Route → Stage → Stage

@@ -2,8 +2,8 @@
 
 ghost use Rattle.std.specs.Prelude.{◌≡◌, ◌++◌, IfOk, OnOk, map};
 ghost use Rattle.srcp_routes.specs.Conflicts.{is_same, is_signal, has_turnout, uses, has_block, signal_meets};
-ghost use Rattle.srcp_routes.specs.Conflicts.{turnouts_meet, blocks_meet, meets, conflicts, is_free, are_free, told_sensor};
-ghost use Rattle.srcp_routes.specs.Conflicts.{unknown, route_sensors, sensors_of};
+ghost use Rattle.srcp_routes.specs.Conflicts.{turnouts_meet, blocks_meet, meets, conflicts, is_free, are_free};
+ghost use Rattle.srcp_routes.specs.Conflicts.{told_sensor, unknown, route_sensors, sensors_of};
 
 use crate::{Device, Route};
 use std::alloc::{AllocError, Global};

@@ -2,6 +2,7 @@
 
 ghost use Rattle.srcp_routes.specs.Laws.{HeldStandAlone};
 ghost use Rattle.srcp_routes.specs.Runs.{ThrowsAreLocked};
+ghost use Rattle.srcp_routes.specs.Signals.{ShownAreKept, ShownStand, ShowsAreFree};
 
 /// States for any plan and any list of events: while a route is held, each other that conflicts with it is idle. So no
 /// two routes that conflict are held at once.
@@ -14,4 +15,13 @@ pub fn held_stand_alone()
 /// up, and no longer than its session.
 pub fn throws_are_locked()
     ensures { ThrowsAreLocked }
+{}
+
+/// States for any plan and any list of events what a signal that shows "go" stands over. Each turnout of its route is
+/// locked, and was thrown since as the route wants it (`stand`). Each block was free as the signal was shown (`free`).
+/// Until the signal was stopped, also in the session after, no order locks, throws or unlocks one of them (`kept`).
+pub fn shown_are_safe()
+    ensures stand { ShownStand }
+    ensures free { ShowsAreFree }
+    ensures kept { ShownAreKept }
 {}

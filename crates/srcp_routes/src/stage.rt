@@ -1,8 +1,8 @@
 //! The stages of one route: its order at each, and what comes after it.
 
 ghost use Rattle.std.specs.Prelude.{◌≡◌};
-ghost use Rattle.srcp_routes.specs.Stages.{left_stage, leaving_stage, thrown_stage, first_stage, lost_stage};
-ghost use Rattle.srcp_routes.specs.Stages.{retried_stage, order_of, accepted_stage, refused_stage, after_reply};
+ghost use Rattle.srcp_routes.specs.Stages.{left_stage, leaving_stage, thrown_stage, shown_stage, first_stage};
+ghost use Rattle.srcp_routes.specs.Stages.{lost_stage, retried_stage, order_of, accepted_stage, refused_stage, after_reply};
 ghost use Rattle.srcp_routes.specs.Stages.{turned_back, ready_stage, show_setting, stop_setting, is_idle, is_held};
 
 use crate::{Order, Route, Setting, Signal};
@@ -110,12 +110,22 @@ fn thrown_stage(route: &Route) -> Stage
     }
 }
 
+/// Returns the stage in which a route without turnouts begins, whose blocks are free.
+fn shown_stage(route: &Route) -> Stage
+    ensures { result ≡ shown_stage route.now }
+{
+    match route.signal {
+        Some(_) => Stage::Showing,
+        None => Stage::Reporting,
+    }
+}
+
 /// Returns the stage in which a route begins.
 fn first_stage(route: &Route) -> Stage
     ensures { result ≡ first_stage route.now }
 {
     if route.turnouts.is_empty() {
-        thrown_stage(route)
+        shown_stage(route)
     } else {
         Stage::Locking(0)
     }

@@ -1,0 +1,128 @@
+-- A sensor that the table has as free was last told to be 0.
+use Rattle.std.proofs.Common.{◌≡◌, ◌⊎◌, inl, inr, ◌++◌, ◌==◌, ℕ, Bool, true, false, not, ◌&&◌, Option, Some, None, List, [], ◌∷◌}
+use Rattle.std.proofs.Common.{length, refl, sym, ◌∙◌, subst}
+use Rattle.std.proofs.lemmas.Bool.{and_from, and_parts, eq-eqb, eqb-true, or_cases, or_from, or_left, or_right}
+use Rattle.std.proofs.lemmas.List.Folds.{list_any-append}
+use Rattle.std.specs.Option.{option_map_or}
+use Rattle.std.specs.Prelude.{if◌then◌else◌, is_some, map, nat_lt}
+use Rattle.srcp_routes.specs.Conflicts.{is_free, is_same, route_sensors, sensors_of, told_sensor, unknown}
+use Rattle.srcp_routes.specs.Laws.{after}
+use Rattle.srcp_routes.specs.Plan.{Table}
+use Rattle.srcp_routes.specs.Runs.{free_heard}
+use Rattle.srcp_routes.specs.Steps.{answered, due, heard, sent}
+use Rattle.srcp_routes.specs.declared.conflict.Sensed.{Sensed}
+use Rattle.srcp_routes.specs.declared.interlocking.Event.{Event}
+use Rattle.srcp_routes.specs.declared.interlocking.Event.TheVariants.{Ask, Give, Told, Reply, Lost}
+use Rattle.srcp_routes.specs.declared.route.Device.{Device}
+use Rattle.srcp_routes.specs.declared.route.Route.{Route}
+use Rattle.srcp_routes.proofs.Locks.{same_back}
+
+-- what is known to be free is free
+abbrev pub IsFreeRightly : List Sensed → (Device → Bool) → Type 0
+IsFreeRightly sensors free = (x : Device) → is_free sensors x ≡ true → free x ≡ true
+
+same_through : (x y z : Device) → is_same x y ≡ true → is_same y z ≡ true → is_same x z ≡ true
+same_through x y z h g =
+    let one : ((x.bus == y.bus) ≡ true) × ((x.address == y.address) ≡ true) =
+    and_parts (x.bus == y.bus) (x.address == y.address) h in
+    let two : ((y.bus == z.bus) ≡ true) × ((y.address == z.address) ≡ true) =
+    and_parts (y.bus == z.bus) (y.address == z.address) g in
+    and_from (x.bus == z.bus) (x.address == z.address)
+    (eq-eqb x.bus z.bus (eqb-true x.bus y.bus one.0 ∙ eqb-true y.bus z.bus two.0))
+    (eq-eqb x.address z.address (eqb-true x.address y.address one.1 ∙ eqb-true y.address z.address two.1))
+
+-- what is known of one sensor after a telling
+told_one : (known : Sensed) (sensor x : Device) (on here there : Bool) → is_same known.sensor sensor ≡ here
+    → is_same x sensor ≡ there
+    → ((if here then record known { is_free = not on } else known).is_free
+    && is_same (if here then record known { is_free = not on } else known).sensor x) ≡ true
+    → ((there ≡ true) × (not on ≡ true)) ⊎ ((there ≡ false) × ((known.is_free && is_same known.sensor x) ≡ true))
+told_one known sensor x on true true at is h = inl (refl, (and_parts (not on) (is_same known.sensor x) h).0)
+told_one known sensor x on true false at is h =
+    let both : (not on ≡ true) × (is_same known.sensor x ≡ true) = and_parts (not on) (is_same known.sensor x) h in
+    let same : is_same x sensor ≡ true = same_through x known.sensor sensor (same_back known.sensor x both.1) at in
+    absurd (cc)
+told_one known sensor x on false true at is h =
+    let both : (known.is_free ≡ true) × (is_same known.sensor x ≡ true) =
+    and_parts known.is_free (is_same known.sensor x) h in
+    let same : is_same known.sensor sensor ≡ true = same_through known.sensor x sensor both.1 is in
+    absurd (cc)
+told_one known sensor x on false false at is h = inr (refl, h)
+
+told_free : (sensors : List Sensed) (sensor x : Device) (on there : Bool) → is_same x sensor ≡ there
+    → is_free (map (told_sensor sensor on) sensors) x ≡ true
+    → ((there ≡ true) × (not on ≡ true)) ⊎ ((there ≡ false) × (is_free sensors x ≡ true))
+told_free [] sensor x on there is h = absurd (cc)
+told_free (known ∷ sensors) sensor x on there is h =
+    elim (or_cases ((told_sensor sensor on known).is_free && is_same (told_sensor sensor on known).sensor x)
+    (is_free (map (told_sensor sensor on) sensors) x) h) [
+      | inl here ↦ elim (told_one known sensor x on (is_same known.sensor sensor) there refl is here) [
+        | inl p ↦ inl p
+        | inr p ↦ inr (p.0, or_left (known.is_free && is_same known.sensor x) (is_free sensors x) p.1)
+      ]
+      | inr later ↦ elim (told_free sensors sensor x on there is later) [
+        | inl p ↦ inl p
+        | inr p ↦ inr (p.0, or_right (known.is_free && is_same known.sensor x) (is_free sensors x) p.1)
+      ]
+    ]
+
+if_told : (test : Bool) (x y : Bool) (P : Type 0) → ((test ≡ true) × (x ≡ true)) ⊎ ((test ≡ false) × P) → (P → y ≡ true)
+    → (if test then x else y) ≡ true
+if_told true x y P (inl p) so = p.1
+if_told true x y P (inr p) so = absurd (cc)
+if_told false x y P (inl p) so = absurd (cc)
+if_told false x y P (inr p) so = so p.1
+
+if_sensors : (test : Bool) (t u : Table) → t.sensors ≡ u.sensors → (if test then t else u).sensors ≡ u.sensors
+if_sensors true t u e = e
+if_sensors false t u e = refl
+
+answer_sensors : (t : Table) (ok : Bool) (x : Option ℕ) → (option_map_or (answered t ok) x t).sensors ≡ t.sensors
+answer_sensors t ok None = refl
+answer_sensors t ok (Some n) = if_sensors (nat_lt n (length t.routes)) _ _ refl
+
+as_before : (sensors later : List Sensed) (free : Device → Bool) → later ≡ sensors → IsFreeRightly sensors free
+    → IsFreeRightly later free
+as_before sensors later free e all = subst (λ (l : List Sensed). IsFreeRightly l free) (sym e) all
+
+pub heard_free : (t : Table) (event : Event) (free : Device → Bool) → IsFreeRightly t.sensors free
+    → IsFreeRightly (heard t event).sensors (free_heard free event)
+heard_free t (Ask n) free all = as_before t.sensors _ free (if_sensors (nat_lt n (length t.routes)) _ t refl) all
+heard_free t (Give n) free all = as_before t.sensors _ free (if_sensors (nat_lt n (length t.routes)) _ t refl) all
+heard_free t (Told sensor on) free all = λ x h. if_told (is_same x sensor) (not on) (free x) (is_free t.sensors x ≡ true)
+    (told_free t.sensors sensor x on (is_same x sensor) refl h) (all x)
+heard_free t (Reply ok) free all = as_before t.sensors _ free (answer_sensors t ok t.waiting) all
+heard_free t Lost free all = all
+
+next_free : (t : Table) (waits : Bool) (d : Option ℕ) (free : Device → Bool) → IsFreeRightly t.sensors free
+    → IsFreeRightly (if waits then record { table = t; order = None } else sent t d).table.sensors free
+next_free t true d free all = all
+next_free t false None free all = all
+next_free t false (Some n) free all = all
+
+pub after_free : (t : Table) (event : Event) (free : Device → Bool) → IsFreeRightly t.sensors free
+    → IsFreeRightly (after t event).sensors (free_heard free event)
+after_free t event free all = next_free (heard t event) (is_some (heard t event).waiting) (due (heard t event))
+    (free_heard free event) (heard_free t event free all)
+
+-- before any event nothing is known to be free
+none_free : (xs ys : List Sensed) (x : Device) → is_free xs x ≡ false → is_free ys x ≡ false → is_free (xs ++ ys) x ≡ false
+none_free xs ys x one two = list_any-append _ xs ys ∙ or_from (is_free xs x) (is_free ys x) one two
+
+unknown_free : (devices : List Device) (x : Device) → is_free (map unknown devices) x ≡ false
+unknown_free [] x = refl
+unknown_free (device ∷ devices) x = unknown_free devices x
+
+frees_free : (frees : Option Device) (x : Device)
+    → is_free (option_map_or (λ sensor. unknown sensor ∷ []) frees []) x ≡ false
+frees_free None x = refl
+frees_free (Some sensor) x = refl
+
+sensors_free : (routes : List Route) (x : Device) → is_free (sensors_of routes) x ≡ false
+sensors_free [] x = refl
+sensors_free (route ∷ routes) x = none_free (route_sensors route) (sensors_of routes) x
+    (none_free (map unknown route.blocks.items) (option_map_or (λ sensor. unknown sensor ∷ []) route.frees []) x
+    (unknown_free route.blocks.items x) (frees_free route.frees x)) (sensors_free routes x)
+
+pub start_free : (routes : List Route) → IsFreeRightly (sensors_of routes) (λ x. false)
+start_free routes x h = let no : is_free (sensors_of routes) x ≡ false = sensors_free routes x in absurd (cc)

@@ -1,0 +1,69 @@
+-- What holds of each run.
+use Rattle.std.proofs.Common.{◌≡◌, true, false, List, [], ◌∷◌, refl}
+use Rattle.std.specs.Prelude.{fold, is_some, map}
+use Rattle.srcp_routes.specs.Laws.{AreApart}
+use Rattle.srcp_routes.specs.Plan.{stage_at}
+use Rattle.srcp_routes.specs.Runs.{Run, locked_heard, may_go_heard, run, run_after, run_start, shown_heard, thrown_heard}
+use Rattle.srcp_routes.specs.Stages.{is_held, lost_stage}
+use Rattle.srcp_routes.specs.Steps.{due, heard}
+use Rattle.srcp_routes.specs.declared.interlocking.Event.{Event}
+use Rattle.srcp_routes.specs.declared.route.Route.{Route}
+use Rattle.srcp_routes.proofs.Apart.{after_apart, stage_at-start, start_apart}
+use Rattle.srcp_routes.proofs.Free.{IsFreeRightly, after_free, start_free}
+use Rattle.srcp_routes.proofs.Locks.{AllLocked, heard_locked, locks_held, next_locked}
+use Rattle.srcp_routes.proofs.Pending.{Fits, Pends, after_fits, heard_fits, start_fits, step_pends}
+use Rattle.srcp_routes.proofs.Signals.{AllGo, heard_may_go, heard_shown, next_goes, start_may_go}
+use Rattle.srcp_routes.proofs.Thrown.{AllThrown, heard_thrown, start_thrown}
+use Rattle.srcp_routes.proofs.Touched.{next_thrown}
+
+pub record Holds (routes : List Route) (r : Run) : Type 0 where
+  pub fits : Fits routes r.table
+  pub apart : AreApart r.table
+  pub pends : Pends r.table r.order r.table.waiting
+  pub locked : AllLocked r.table.routes r.table.stages r.locked
+  pub thrown : AllThrown r.table.routes r.table.stages r.thrown
+  pub shown : AllGo false r.table.routes r.table.stages r.shown
+  pub may_go : AllGo true r.table.routes r.table.stages r.may_go
+  pub free : IsFreeRightly r.table.sensors r.free
+
+after_holds : (routes : List Route) (r : Run) (event : Event) → Holds routes r → Holds routes (run_after r event)
+after_holds routes r event holds = record {
+  fits = after_fits routes r.table event holds.fits;
+  apart = after_apart r.table event holds.apart;
+  pends = step_pends routes r.table r.order event holds.fits holds.pends;
+  locked = next_locked routes (heard r.table event) (locked_heard r event) (is_some (heard r.table event).waiting)
+      (due (heard r.table event)) (heard_fits routes r.table event holds.fits) refl (after_apart r.table event holds.apart)
+      (heard_locked r event holds.pends holds.locked);
+  thrown = next_thrown routes (heard r.table event) (thrown_heard r event) (is_some (heard r.table event).waiting)
+      (due (heard r.table event)) (heard_fits routes r.table event holds.fits) refl (after_apart r.table event holds.apart)
+      (heard_thrown r event holds.pends holds.thrown);
+  shown = next_goes false routes (heard r.table event) (shown_heard r event) (is_some (heard r.table event).waiting)
+      (due (heard r.table event)) (heard_fits routes r.table event holds.fits) refl
+      (heard_shown r event holds.pends holds.shown);
+  may_go = next_goes true routes (heard r.table event) (may_go_heard r event) (is_some (heard r.table event).waiting)
+      (due (heard r.table event)) (heard_fits routes r.table event holds.fits) refl
+      (heard_may_go routes r event holds.fits holds.pends holds.may_go);
+  free = after_free r.table event r.free holds.free;
+}
+
+start_holds : (routes : List Route) → Holds routes (run_start routes)
+start_holds routes = record {
+  fits = start_fits routes;
+  apart = start_apart routes;
+  pends = refl;
+  locked = λ n route k turnout is at h.
+      let not : is_held (stage_at (map lost_stage routes) n) ≡ false = stage_at-start routes n in
+      let held : is_held (stage_at (map lost_stage routes) n) ≡ true = locks_held _ k h in
+      absurd (cc);
+  thrown = start_thrown routes;
+  shown = λ n route is h. absurd (cc);
+  may_go = start_may_go routes;
+  free = start_free routes;
+}
+
+fold_holds : (routes : List Route) (r : Run) (events : List Event) → Holds routes r → Holds routes (fold run_after r events)
+fold_holds routes r [] holds = holds
+fold_holds routes r (event ∷ events) holds = fold_holds routes (run_after r event) events (after_holds routes r event holds)
+
+pub run_holds : (routes : List Route) (events : List Event) → Holds routes (run routes events)
+run_holds routes events = fold_holds routes (run_start routes) events (start_holds routes)
