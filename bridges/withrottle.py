@@ -31,6 +31,7 @@ def main():
     add_arguments(words, "--listen", 12090, "phones")
     words.add_argument("--bus", type=BUS, default=1, help="the bus that they drive (%(default)s)")
     words.add_argument("--names", metavar="FILE", help="names of devices")
+    words.add_argument("--plan", metavar="FILE", help="names, and the routes of a track plan")
     words.add_argument("--heartbeat", type=float, default=10.0, metavar="SECONDS",
                        help="of silence until an emergency stop (%(default)s)")
     words.add_argument("--patience", type=float, default=60.0, metavar="SECONDS",

@@ -6,7 +6,9 @@ import contextlib
 import re
 from typing import TYPE_CHECKING
 
+from srcp_bridges.phone_routes import NO_ROUTES, Routes
 from srcp_bridges.places import Places
+from srcp_bridges.plan import read_plan
 from srcp_bridges.program import names
 from srcp_bridges.rows import position
 from srcp_bridges.srcp import Mirror
@@ -17,6 +19,7 @@ if TYPE_CHECKING:
 PHONES, OF_ONE = 40, 8  # phones that are served: in all, and of one address
 MOMENT = 0.3  # seconds for which changes of a list are gathered
 STAND_EVERY = "M*A*<;>V0"  # as a phone says that all stands that it has taken
+ROUTES = "routes"  # a list, beside those of the groups GL and GA
 UNKNOWN, CLOSED, THROWN = "1", "2", "4"
 KINDS = "PTT]\\[Turnouts}|{Turnout]\\[Closed}|{2]\\[Thrown}|{4]\\[Unknown}|{1"
 
@@ -25,14 +28,19 @@ class Layout:
     """The rows of the bus, and the phones that follow them."""
 
     def __init__(self, asked):
-        self.asked, self.bus, self.names, self.places = asked, asked.bus, names(asked.names), Places(PHONES, OF_ONE)
+        plan = read_plan(asked.plan)
+        self.asked, self.bus, self.places = asked, asked.bus, Places(PHONES, OF_ONE)
+        self.names = plan.names | names(asked.names)
         self.phones: set[Phone] = set()
-        self.due: set[str] = set()  # the groups whose lists are about to be told anew
+        self.due: set[str] = set()  # the lists that are about to be told anew
         self.joined = asyncio.Event()
         self.mirror = Mirror(asked, self.told, lambda anew: self.joined.set())
+        self.routes = Routes(self.mirror, plan)
 
     def told(self, change):
         bus, group, address, part = change.key
+        if bus == self.routes.bus and address in self.routes.names:
+            self.told_of_route(group, address, part)
         if bus != self.bus or part == "lock":
             return
         if part == "is" and not (change.row and change.before):
@@ -42,6 +50,13 @@ class Layout:
                 self.power_went_off(change.row.text)
             for phone in self.phones:
                 phone.view.changed(group, address)
+
+    def told_of_route(self, group: str, number: int, part):
+        if (group, part) == ("GA", "is"):
+            self.list_anew(ROUTES)
+        elif group == "FB":
+            for phone in self.phones:
+                phone.view.route(number)
 
     def power_went_off(self, why: str):
         """Refuses what phones sent before. If there is a reason, it was a loss, or a STOP ALL that could not stop what
@@ -67,9 +82,14 @@ class Layout:
 
     def tell_list(self, group: str):
         self.due.discard(group)
-        text = self.roster() if group == "GL" else self.turnouts()
+        if group == "GL":
+            texts = [self.roster()]
+        else:
+            texts = [self.turnouts()] if group == "GA" else self.routes.told() or [NO_ROUTES]
         for phone in self.phones:
-            phone.say(text)
+            phone.view.shown |= self.routes.shown() if group == ROUTES else {}
+            for text in texts:
+                phone.say(text)
 
     def row(self, group, address, part):
         return self.mirror.rows.get((self.bus, group, address, part))
@@ -111,7 +131,8 @@ class Layout:
         return f"*{self.asked.heartbeat:g}"
 
     def greeting(self) -> list[str]:
-        return ["VN2.0", "HTsrcp", self.roster(), self.power()[0], KINDS, self.turnouts(), self.beat()]
+        lists = [self.roster(), self.power()[0], KINDS, self.turnouts(), *self.routes.told()]
+        return ["VN2.0", "HTsrcp", *lists, self.beat()]
 
     def holder(self, address: int) -> Phone | None:
         """Returns the phone that has taken a locomotive."""

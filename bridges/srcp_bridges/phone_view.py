@@ -16,6 +16,7 @@ class View:
         """Tells a phone that has come what there is."""
         for text in self.layout.greeting():
             self.say(text)
+        self.shown |= self.layout.routes.shown()
         self.shown["power"] = self.layout.power()[0]
         self.power()
 
@@ -27,6 +28,10 @@ class View:
         elif group == "GL" and (drive := self.layout.row("GL", address, "does")):
             for which in [which for which, taken in self.taken.items() if taken == address]:
                 self.drive(which, drive)
+
+    def route(self, number):
+        if text := self.layout.routes.shown().get(part := ("route", number)):
+            self.show(part, text)
 
     def show(self, part, text):
         if self.shown.get(part) != text:

@@ -66,7 +66,7 @@ class Words:
             elif found := re.fullmatch(r"PTA([TC2])(.*)", line.text):
                 await self.turnout(*found.groups())
             elif line.text.startswith("PRA"):
-                raise Refused("this layout has no routes")
+                await self.route(line.text[4:])
         except Refused as reply:
             self.say(f"HM{reply}")
 
@@ -196,6 +196,15 @@ class Words:
         except Refused:
             self.view.again("power", "POWER", 0)
             raise
+
+    async def route(self, name: str):
+        """Asks for a route, or gives back one that is set or waits."""
+        routes = self.layout.routes
+        if not name.isdecimal() or not routes.is_there(int(name)):
+            raise Refused(f"no route {name}" if routes.told() else "this layout has no routes")
+        port = int(not routes.is_wanted(int(name)))
+        await self.driver.ask(f"SET {routes.bus} GA {int(name)} {1 - port} 0 -1")
+        await self.driver.ask(f"SET {routes.bus} GA {int(name)} {port} 1 {PULSE}")
 
     async def turnout(self, what: str, name: str):
         """T throws, C closes, 2 does the other. A name is a number, or one of JMRI's, as LT5."""

@@ -64,6 +64,7 @@ from .test_log import Log  # noqa: E402
 from .test_mqtt import (Mqtt, MqttForHomeAssistant, MqttWithAWrongBroker, MqttWithPersistence,  # noqa: E402
                         Payloads)
 from .test_orders import Orders, Stopping  # noqa: E402
+from .test_phone_routes import WiThrottleWithRoutes  # noqa: E402
 from .test_phone_stops import WiThrottleStops, WiThrottleWithBeats  # noqa: E402
 from .test_plan import Plans  # noqa: E402
 from .test_plan_in_chromium import LargePlanInChromium, PlanInChromium, PlanInGerman  # noqa: E402
@@ -79,7 +80,7 @@ BRIDGE_CASES = cases_of(Readme, Following, MqttWithAWrongBroker, Stopping, Mqtt,
                         MqttWithPersistence, MqttBesideOthers, MqttWithLimits, MqttWithTls, Orders, Payloads,
                         WebInChromium, WebByTouch, WebInGerman, WebWithBeats, Web, WebThatSleeps, WebWithAWord,
                         WebWithManyPages, WebWithSilentPages, WebBesideManyConnections, WebInTheNetwork, Entering,
-                        WiThrottle, WiThrottleStops, WiThrottleWithBeats, Srcpd, SrcpdWithADriver, DccEx,
-                        DccExWithLosses, DccExWithHands, HandsBeforeStops, Z21, Z21WithLosses, Z21WithHands,
+                        WiThrottle, WiThrottleStops, WiThrottleWithBeats, WiThrottleWithRoutes, Srcpd, SrcpdWithADriver,
+                        DccEx, DccExWithLosses, DccExWithHands, HandsBeforeStops, Z21, Z21WithLosses, Z21WithHands,
                         DccExWithPrograms, Z21WithPrograms, Programming, Doctor, Guard, Keep, Log, Parsing, Plans,
                         PlanInChromium, LargePlanInChromium, PlanInGerman, WebBesideADriver)
