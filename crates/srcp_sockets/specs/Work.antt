@@ -1,6 +1,6 @@
 -- What a door does in a turn, whatever it answers.
 use Rattle.std.specs.Prelude.{◌≡◌, ◌⊎◌, ℕ, ◌<◌, ◌∷◌, ◌++◌, Bool, true, false, ◌&&◌, ◌||◌, not, nat_le, List, []}
-use Rattle.std.specs.Prelude.{filter, length, position, slice_index_or, Option, Some, None, Result, Ok, Err}
+use Rattle.std.specs.Prelude.{filter, fold, length, position, slice_index_or, take, Option, Some, None, Result, Ok, Err}
 use Rattle.std.specs.List.{list_any}
 use Rattle.srcp_door.specs.Calls.{NowCall}
 use Rattle.srcp_door.specs.declared.door.DoorFault.{DoorFault}
@@ -11,7 +11,8 @@ use Rattle.srcp_peers.specs.declared.system.Ready.{Ready}
 use Rattle.srcp_peers.specs.declared.turn.Listening.{Listening}
 use Rattle.srcp_peers.specs.declared.turn.Listening.TheVariants as listening
 use Rattle.srcp_peers.specs.declared.turn.Turn.{Turn}
-use Rattle.srcp_peers.specs.Peers.{Makes, holds_input, is_gone, is_here}
+use Rattle.srcp_peers.specs.Listeners.{woken_listening}
+use Rattle.srcp_peers.specs.Peers.{Makes, holds_input, is_gone, is_here, is_shut}
 use Rattle.srcp_peers.specs.Reports.{IsAnswered}
 use Rattle.srcp_peers.specs.Steps.{Accepts, Answers, Clocks, Closes, Step, Tells, Waits}
 use Rattle.srcp_peers.specs.Turns.{has_ticked, moment_at}
@@ -34,9 +35,11 @@ AreClosedUp clock peers old new = (position (is_gone clock) peers ≡ None) ⊎ 
 abbrev pub goes_on : Turn → (flushed : ℕ) → List Peer → Bool
 goes_on turn flushed peers = not (has_ticked turn flushed) && list_any holds_input peers
 
--- the step that came is a wait of that length
-abbrev pub IsWaiting : (most : Option ℕ) → Option (List Step) → Option (List Step) → Type 0
-IsWaiting most old new = (count : ℕ) × (ready : List Ready) × Tells old (Waits most count ready) new
+-- the step that came is a wait of that length, and the listener is heard as that found it
+abbrev pub IsWaiting : (most : Option ℕ) → (before after : Listening) → Option (List Step) → Option (List Step)
+    → Type 0
+IsWaiting most before after old new = (count : ℕ) × (ready : List Ready) × Tells old (Waits most count ready) new
+    × (after ≡ fold woken_listening before (take count ready))
 
 -- the moment that is reported, if the clock shows this
 abbrev pub moment_of : Turn → (shown : Option ℕ) → Result ℕ DoorFault
@@ -70,6 +73,11 @@ is_accept other = false
 -- the next pending connection may be accepted
 abbrev pub may_accept : Listening → (places : ℕ) → List Peer → Bool
 may_accept heard places peers = not (is_quiet heard) && not (is_crowded places peers)
+
+-- a place is made: the first peer that lingers and is owed nothing is closed. Without one nobody comes in for now
+pub record MakesRoom (peers : List Peer) (heard : Listening) (old new : Option (List Step)) : Type 0 where
+  pub none : position (λ peer. is_shut peer.stay) peers ≡ None → heard ≡ listening.Refused
+  pub one : (index : ℕ) → position (λ peer. is_shut peer.stay) peers ≡ Some index → Makes is_close 1 old new
 
 -- ---- who is read
 

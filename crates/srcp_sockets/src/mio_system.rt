@@ -1,7 +1,8 @@
 //! The system as it is: mio's sockets and a clock. It keeps no trace. It finds the socket of a number and makes the
 //! call, and it rests after a wait that failed or was ended early.
 
-ghost use Rattle.std.specs.Prelude.{◌≡◌, IfOk, ◌<◌, IfSome, length};
+ghost use Rattle.std.specs.Prelude.{◌≡◌, ◌/◌, IfOk, ◌<◌, IfSome, length, min};
+ghost use Rattle.std.specs.Duration.{as_nanos};
 
 use crate::door::MOST_READY;
 use crate::options::set_options;
@@ -34,6 +35,10 @@ struct Socket {
 pub struct MioSystem<C: Clock + Drop> {
     /// The address at which it listens.
     pub address: SocketAddr,
+    /// What the wall clock showed before it listened, in milliseconds; 0 if it could not be read.
+    pub wall: u64,
+    /// What the monotonic clock showed then.
+    pub start: u64,
     listener: TcpListener,
     poll: Poll,
     events: Events<Global>,
@@ -59,6 +64,8 @@ impl<C: Clock + Drop> MioSystem<C> {
     ) -> io::Result<MioSystem<C>>
         ensures { IfOk result (λ system. system.address ≡ address) }
     {
+        let wall = clock.since_1970().map_or(0, milliseconds);
+        let start = clock.monotonic().map_or(0, milliseconds);
         let mut listener = TcpListener::bind(net, address)?;
         set_options(&listener)?;
         let poll = Poll::new(net)?;
@@ -66,6 +73,8 @@ impl<C: Clock + Drop> MioSystem<C> {
             .register(&mut listener, LISTENER, Interest::READABLE)?;
         Ok(MioSystem {
             address,
+            wall,
+            start,
             listener,
             poll,
             events: Events::with_capacity(alloc, MOST_READY)?,
@@ -89,8 +98,7 @@ impl<C: Clock + Drop> MioSystem<C> {
     }
 
     fn read_clock(&self) -> Option<u64> {
-        let time = self.clock.monotonic().ok()?;
-        Some(u64::try_from(time.as_millis()).unwrap_or(u64::MAX))
+        self.clock.monotonic().ok().map(milliseconds)
     }
 
     /// Returns whether a wait of at most `most` milliseconds that found no socket ready was ended by something else
@@ -208,4 +216,11 @@ impl<C: Clock + Drop> System for MioSystem<C> {
     fn note_write(&mut self, _peer: u32, _bytes: &[u8], _answer: Result<usize, DoorFault>) {}
 
     fn note_close(&mut self, _peer: u32, _answer: Result<(), DoorFault>) {}
+}
+
+/// Returns a time in milliseconds.
+fn milliseconds(time: Duration) -> u64
+    ensures { result ≡ min (as_nanos time / 1000000) 18446744073709551615 }
+{
+    u64::try_from(time.as_millis()).unwrap_or(u64::MAX)
 }

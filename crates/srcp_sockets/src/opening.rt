@@ -1,6 +1,7 @@
 //! Opening a door at a port of the machine itself.
 
 ghost use Rattle.std.specs.Prelude.{◌≡◌, IfOk};
+ghost use Rattle.srcp_peers.specs.Turns.{first_turn};
 ghost use Rattle.srcp_sockets.specs.Faults.{IsLocal};
 
 use crate::door::SocketDoor;
@@ -9,7 +10,7 @@ use crate::mio_system::MioSystem;
 use std::alloc::Global;
 use std::io;
 use std::net::{IpAddr, Ipv4Addr, Net, SocketAddr};
-use std::time::{Clock, Duration};
+use std::time::Clock;
 
 impl<C: Clock + Drop> SocketDoor<MioSystem<C>> {
     /// Opens a door at the port, at 127.0.0.1. Its moments begin with the wall clock as it stands now, and go on with
@@ -26,6 +27,8 @@ impl<C: Clock + Drop> SocketDoor<MioSystem<C>> {
     ) -> Result<SocketDoor<MioSystem<C>>, ListenFault>
         ensures faults { IfOk result (λ door. door.faults ≡ 0) }
         ensures address { IfOk result (λ door. IsLocal door.sockets.system.address port) }
+        ensures moments { IfOk result (λ door. door.sockets.turn
+            ≡ first_turn door.sockets.system.wall door.sockets.system.start) }
     {
         match open(net, alloc, local_address(port), clock) {
             Ok(door) => Ok(door),
@@ -42,10 +45,11 @@ fn open<N: Net, C: Clock + Drop>(
 ) -> io::Result<SocketDoor<MioSystem<C>>>
     ensures faults { IfOk result (λ door. door.faults ≡ 0) }
     ensures address { IfOk result (λ door. door.sockets.system.address ≡ address) }
+    ensures moments { IfOk result (λ door. door.sockets.turn
+        ≡ first_turn door.sockets.system.wall door.sockets.system.start) }
 {
-    let wall = clock.since_1970().map_or(0, milliseconds);
-    let start = clock.monotonic().map_or(0, milliseconds);
     let system = MioSystem::listen(net, alloc, address, clock)?;
+    let (wall, start) = (system.wall, system.start);
     match SocketDoor::open(system, alloc, wall, start) {
         Ok(door) => Ok(door),
         Err(error) => Err(io::Error::from(error)),
@@ -57,8 +61,4 @@ fn local_address(port: u16) -> SocketAddr
     ensures { IsLocal result port }
 {
     SocketAddr::new(IpAddr::V4(Ipv4Addr::LOCALHOST), port)
-}
-
-fn milliseconds(time: Duration) -> u64 {
-    u64::try_from(time.as_millis()).unwrap_or(u64::MAX)
 }

@@ -159,6 +159,10 @@ impl<S: System + Drop> Sockets<S> {
         ensures calls { SaysNothing (S.trace self.old.system) (S.trace self.new.system) }
         ensures waits { HasWaited (cond held 0 1) (S.trace self.old.system) (S.trace self.new.system) }
         ensures looked { held ≡ false → HasLooked (S.trace self.new.system) }
+        ensures rests { held ≡ true → self.new.listening ≡ self.old.listening }
+        ensures heard { held ≡ false
+            → IsWaiting (longest_wait self.old.peers.items self.old.listening self.old.turn self.old.most)
+            self.old.listening self.new.listening (S.trace self.old.system) (S.trace self.new.system) }
         ensures slack { self.new.turn.slack ≡ self.old.turn.slack }
         ensures flushed { self.new.flushed ≡ self.old.flushed }
         ensures refused { self.new.refused ≡ self.old.refused }
@@ -188,7 +192,7 @@ impl<S: System + Drop> Sockets<S> {
         requires may { MayWait self.old.turn (S.trace self.old.system) }
         ensures calls { SaysNothing (S.trace self.old.system) (S.trace self.new.system) }
         ensures waits { IsWaiting (longest_wait self.old.peers.items self.old.listening self.old.turn self.old.most)
-            (S.trace self.old.system) (S.trace self.new.system) }
+            self.old.listening self.new.listening (S.trace self.old.system) (S.trace self.new.system) }
         ensures looked { HasLooked (S.trace self.new.system) }
         ensures turn { self.new.turn ≡ after_wait self.old.turn }
         ensures flushed { self.new.flushed ≡ self.old.flushed }

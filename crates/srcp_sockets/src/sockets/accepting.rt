@@ -4,7 +4,7 @@ ghost use Rattle.std.specs.Prelude.{false, true, ◌≡◌, ◌<◌, ◌+◌, �
 ghost use Rattle.std.specs.Prelude.{ℕ, OnErr, Some, position};
 ghost use Rattle.srcp_peers.specs.Peers.{Makes, is_shut};
 ghost use Rattle.srcp_sockets.specs.Asked.{MayRefuse};
-ghost use Rattle.srcp_sockets.specs.Work.{is_accept, is_close, is_crowded, may_accept};
+ghost use Rattle.srcp_sockets.specs.Work.{MakesRoom, is_accept, is_close, is_crowded, is_quiet, may_accept};
 ghost use Rattle.srcp_peers.specs.Times.{refused_accept};
 ghost use Rattle.srcp_door.specs.Calls.{AcceptCall};
 ghost use Rattle.srcp_peers.specs.Steps.{Closes, SaysNothing, SaysOne, Tells};
@@ -29,6 +29,10 @@ impl<S: System + Drop> Sockets<S> {
         ensures asks { may_accept self.old.listening (vec_capacity self.old.peers) self.old.peers.items ≡ true
             → (result ≡ Err DoorFault.Accept)
             ⊎ Makes is_accept 1 (S.trace self.old.system) (S.trace self.new.system) }
+        ensures full { is_quiet self.old.listening ≡ false
+            → is_crowded (vec_capacity self.old.peers) self.old.peers.items ≡ true
+            → position (λ peer. is_shut peer.stay) self.old.peers.items ≡ None
+            → self.new.listening ≡ Listening.Refused }
     {
         if !self.may_accept() {
             return self.note_nobody(Ok(None));
@@ -50,6 +54,9 @@ impl<S: System + Drop> Sockets<S> {
         ensures is { result ≡ may_accept self.old.listening (vec_capacity self.old.peers) self.old.peers.items }
         ensures same { result ≡ true → S.trace self.new.system ≡ S.trace self.old.system }
         ensures excused { result ≡ false → MayRefuse (S.trace self.new.system) }
+        ensures makes { is_quiet self.old.listening ≡ false
+            → is_crowded (vec_capacity self.old.peers) self.old.peers.items ≡ true
+            → MakesRoom self.old.peers.items self.new.listening (S.trace self.old.system) (S.trace self.new.system) }
     {
         if self.listening.is_quiet() {
             return false;

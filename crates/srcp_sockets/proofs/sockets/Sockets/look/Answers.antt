@@ -25,3 +25,12 @@ returns-clause-waits g c =
 
 pub returns-then-held-clause-looked : goal.returns-then-held-clause-looked
 returns-then-held-clause-looked g c none = absurd (true≢false (sym c.if-held.true ∙ none))
+
+pub returns-then-held-clause-heard : goal.returns-then-held-clause-heard
+returns-then-held-clause-heard g c none = absurd (true≢false (sym c.if-held.true ∙ none))
+
+pub returns-clause-heard : goal.returns-clause-heard
+returns-clause-heard g c none = c.wait.ensures.waits
+
+pub returns-clause-rests : goal.returns-clause-rests
+returns-clause-rests g c held = absurd (true≢false (sym held ∙ c.if-held.false))

@@ -59,6 +59,7 @@ returns-clause-waits g c = (
   c.wait-count.new.ready,
   subst (λ (most : Option ℕ). Tells (g.S.System.trace c.args.self.now.system) (Waits most c.wait-count.result c.wait-count.new.ready)
       (g.S.System.trace c.wait-count.new.self)) c.longest_wait-most.ensures.exact c.wait-count.ensures.trace,
+  c.listen-self.ensures,
 )
 
 pub returns-clause-looked : goal.returns-clause-looked
