@@ -4,8 +4,10 @@ pub mod Holds
 pub mod Locks
 pub mod Loops
 pub mod Pending
+pub mod Rest
 pub mod Shown
 pub mod Signals
 pub mod Thrown
 pub mod Throws
 pub mod Touched
+pub mod Well

@@ -173,7 +173,7 @@ given_goes lost t n going all = if_goes lost (nat_lt n (length t.routes)) _ _ go
     record { signal = at.signal; goes = retried_goes lost (stage_at t.stages n) at.goes }) all) all
 
 -- as a session begins
-written_at : (value : ℕ → Stage) (m : ℕ) (xs : List Stage) (n : ℕ) → m ≤ length xs → n < m
+pub written_at : (value : ℕ → Stage) (m : ℕ) (xs : List Stage) (n : ℕ) → m ≤ length xs → n < m
     → stage_at (written_below value m xs) n ≡ value n
 written_at value zero xs n le lt = absurd (omega (arith, lt))
 written_at value (suc m) xs n le lt =
@@ -306,7 +306,7 @@ next_goes lost routes t going false None fits is all = all
 next_goes lost routes t going false (Some n) fits is all = sent_goes lost routes t going n fits (due_sends t n is) all
 
 -- before any event
-start_stage : (routes : List Route) (n : ℕ) (route : Route) → slice_get routes n ≡ Some route
+pub start_stage : (routes : List Route) (n : ℕ) (route : Route) → slice_get routes n ≡ Some route
     → stage_at (map lost_stage routes) n ≡ lost_stage route
 start_stage [] n route is = absurd (cc)
 start_stage (first ∷ routes) zero route is = let same : first ≡ route = cc in ap lost_stage same

@@ -1,6 +1,7 @@
 //! Laws of every list of events. Each function does nothing: its `ensures` is the law.
 
 ghost use Rattle.srcp_routes.specs.Laws.{HeldStandAlone};
+ghost use Rattle.srcp_routes.specs.Rest.{WantedAreServed};
 ghost use Rattle.srcp_routes.specs.Runs.{ThrowsAreLocked};
 ghost use Rattle.srcp_routes.specs.Signals.{ShownAreKept, ShownStand, ShowsAreFree};
 
@@ -24,4 +25,11 @@ pub fn shown_are_safe()
     ensures stand { ShownStand }
     ensures free { ShowsAreFree }
     ensures kept { ShownAreKept }
+{}
+
+/// States for any plan and any list of events: once no order waits for its reply, each route that is asked for is set, or
+/// waits for a reason. One of its blocks is not free, or its own signal could not be stopped; or it is behind a route
+/// that conflicts with it, and that is asked for and held, or has a signal that could not be stopped.
+pub fn wanted_are_served()
+    ensures { WantedAreServed }
 {}

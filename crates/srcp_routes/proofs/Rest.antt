@@ -1,0 +1,286 @@
+-- Once no order waits for its reply, each route that is asked for is set, or waits for a reason.
+use Rattle.std.proofs.Common.{◌≡◌, ◌≢◌, ◌⊎◌, inl, inr, ℕ, zero, suc, ◌-◌, ◌==◌, ◌<◌, ◌≤◌, Bool, true, false, not, ◌&&◌, ◌||◌}
+use Rattle.std.proofs.Common.{Option, Some, None, List, [], ◌∷◌, length, refl, sym, ◌∙◌, ap, arith, subst}
+use Rattle.std.proofs.Math.Nat.{eq-or-lt_of_le}
+use Rattle.std.proofs.lemmas.Bool.{and_cases, and_parts, eqb-false, eqb-true, not-true}
+use Rattle.std.proofs.lemmas.Option.{slice_get_within}
+use Rattle.std.specs.Option.{option_and_then, option_map, option_map_or, option_or}
+use Rattle.std.specs.Prelude.{if◌then◌else◌, is_some, slice_get}
+use Rattle.srcp_routes.specs.Conflicts.{are_free}
+use Rattle.srcp_routes.specs.Laws.{after, course}
+use Rattle.srcp_routes.specs.Plan.{Table, all_below, conflict_at, first_below, is_clear, lets, stage_at, wanted_at}
+use Rattle.srcp_routes.specs.Rest.{IsBehind, IsServed, WantedAreServed, is_unstopped, stays}
+use Rattle.srcp_routes.specs.Stages.{count_of, is_idle, order_of, ready_stage, turnout_at}
+use Rattle.srcp_routes.specs.Steps.{due, heard, may_begin, order_at, sent}
+use Rattle.srcp_routes.specs.declared.interlocking.Event.{Event}
+use Rattle.srcp_routes.specs.declared.route.Order.{Order}
+use Rattle.srcp_routes.specs.declared.route.Order.TheVariants as order
+use Rattle.srcp_routes.specs.declared.route.Route.{Route}
+use Rattle.srcp_routes.specs.declared.route.Setting.{Setting}
+use Rattle.srcp_routes.specs.declared.route.Signal.{Signal}
+use Rattle.srcp_routes.specs.declared.stage.Stage.{Stage}
+use Rattle.srcp_routes.specs.declared.stage.Stage.TheVariants as stage
+use Rattle.srcp_routes.proofs.Pending.{Fits, heard_fits}
+use Rattle.srcp_routes.proofs.Well.{AllSent, AllWell, IsSound, below, course_sound, fresh, heard_sent, heard_well, well}
+
+-- at this stage a route has no order to send
+abbrev pub rests : Bool → Bool → Bool → Stage → Bool
+rests wanted free begins stage.Idle = not begins
+rests wanted free begins stage.Ready = wanted && not free
+rests wanted free begins stage.Set = wanted
+rests wanted free begins stage.Blocked = true
+rests wanted free begins stage.Stuck = true
+rests wanted free begins other = false
+
+mapped : {X : Type 0} → (f : X → Order) (x : Option X) → is_some x ≡ true → is_some (option_map f x) ≡ true
+mapped f None h = absurd (cc)
+mapped f (Some y) h = refl
+
+past_route : (xs : List Route) (k : ℕ) → slice_get xs k ≡ None → k < length xs → zero ≡ suc zero
+past_route [] k none lt = absurd (omega (arith, lt))
+past_route (x ∷ xs) zero none lt = absurd (cc)
+past_route (x ∷ xs) (suc k) none lt = past_route xs k none (omega (arith, lt))
+
+past_of : (xs : List Setting) (k : ℕ) → slice_get xs k ≡ None → k < length xs → zero ≡ suc zero
+past_of [] k none lt = absurd (omega (arith, lt))
+past_of (x ∷ xs) zero none lt = absurd (cc)
+past_of (x ∷ xs) (suc k) none lt = past_of xs k none (omega (arith, lt))
+
+turnout_is : (route : Route) (k : ℕ) (x : Option Setting) → turnout_at route k ≡ x → k < count_of route → is_some x ≡ true
+turnout_is route k None is lt =
+    let no : zero ≡ suc zero = past_of route.turnouts.items k is lt in absurd (cc)
+turnout_is route k (Some turnout) is lt = refl
+
+some_turnout : (route : Route) (k : ℕ) → k < count_of route → is_some (turnout_at route k) ≡ true
+some_turnout route k lt = turnout_is route k (turnout_at route k) refl lt
+
+unlocking_sends : (route : Route) (left : ℕ) (none : Bool) → (left == 0) ≡ none → left ≢ 0 → left ≤ count_of route
+    → is_some (order_of route (if none then stage.Idle else stage.Unlocking (left - 1))) ≡ true
+unlocking_sends route left true is some le = absurd (some (eqb-true left 0 is))
+unlocking_sends route left false is some le = mapped (λ (setting : Setting). order.Unlock setting.device)
+    (turnout_at route (left - 1)) (some_turnout route (left - 1) (grind arith))
+
+leaving_sends : (route : Route) (x : Option Signal) → route.signal ≡ x
+    → is_some (order_of route (option_map_or (λ signal. stage.Stopping) x stage.Hiding)) ≡ true
+leaving_sends route None is = refl
+leaving_sends route (Some signal) is = mapped _ route.signal (ap (λ (x : Option Signal). is_some x) is)
+
+showing_sends : (route : Route) (x : Option Signal) → route.signal ≡ x
+    → is_some (order_of route (option_map_or (λ signal. stage.Showing) x stage.Reporting)) ≡ true
+showing_sends route None is = refl
+showing_sends route (Some signal) is = mapped _ route.signal (ap (λ (x : Option Signal). is_some x) is)
+
+first_sends : (route : Route) (none : Bool) → (count_of route == 0) ≡ none
+    → is_some (order_of route (if none then option_map_or (λ signal. stage.Showing) route.signal stage.Reporting
+    else stage.Locking 0)) ≡ true
+first_sends route true is = showing_sends route route.signal refl
+first_sends route false is = mapped (λ (setting : Setting). order.Lock setting.device) (turnout_at route 0)
+    (some_turnout route 0 (grind (arith, eqb-false (count_of route) 0 is)))
+
+must_rest : (route : Route) (wanted free begins : Bool) (s : Stage) → well route s ≡ true → fresh s ≡ false
+    → is_some (order_of route (ready_stage route wanted free begins s)) ≡ false → rests wanted free begins s ≡ true
+must_rest route wanted free true stage.Idle good old none =
+    let sends : is_some (order_of route (ready_stage route wanted free true stage.Idle)) ≡ true =
+    first_sends route (count_of route == 0) refl in
+    absurd (cc)
+must_rest route wanted free false stage.Idle good old none = refl
+must_rest route true true begins stage.Ready good old none =
+    let sends : is_some (order_of route stage.Showing) ≡ true = mapped _ route.signal good in absurd (cc)
+must_rest route true false begins stage.Ready good old none = refl
+must_rest route false free begins stage.Ready good old none = absurd (cc)
+must_rest route wanted free begins stage.Showing good old none = absurd (cc)
+must_rest route true free begins stage.Set good old none = refl
+must_rest route false free begins stage.Set good old none =
+    let sends : is_some (order_of route (ready_stage route false free begins stage.Set)) ≡ true =
+    leaving_sends route route.signal refl in absurd (cc)
+must_rest route wanted free begins stage.Blocked good old none = refl
+must_rest route wanted free begins stage.Stuck good old none = refl
+must_rest route true free begins stage.Clearing good old none =
+    let sends : is_some (order_of route stage.Clearing) ≡ true = mapped _ route.signal good in absurd (cc)
+must_rest route false free begins stage.Clearing good old none =
+    let sends : is_some (order_of route stage.Clearing) ≡ true = mapped _ route.signal good in absurd (cc)
+must_rest route true free begins stage.Closing good old none = absurd (cc)
+must_rest route false free begins stage.Closing good old none = absurd (cc)
+must_rest route true free begins (stage.Locking done) good old none =
+    let sends : is_some (order_of route (stage.Locking done)) ≡ true =
+    mapped (λ (setting : Setting). order.Lock setting.device) (turnout_at route done)
+    (some_turnout route done (below done (count_of route) good)) in absurd (cc)
+must_rest route false free begins (stage.Locking done) good old none =
+    let sends : is_some (order_of route (ready_stage route false free begins (stage.Locking done))) ≡ true =
+    unlocking_sends route done (done == 0) refl (eqb-false done 0 old) (omega (arith, below done (count_of route) good)) in
+    absurd (cc)
+must_rest route true free begins (stage.Throwing done) good old none =
+    let sends : is_some (order_of route (stage.Throwing done)) ≡ true =
+    mapped order.Throw (turnout_at route done) (some_turnout route done (below done (count_of route) good)) in absurd (cc)
+must_rest route false free begins (stage.Throwing done) good old none = absurd (cc)
+must_rest route true free begins stage.Reporting good old none = absurd (cc)
+must_rest route false free begins stage.Reporting good old none =
+    let sends : is_some (order_of route (ready_stage route false free begins stage.Reporting)) ≡ true =
+    leaving_sends route route.signal refl in absurd (cc)
+must_rest route true free begins stage.Stopping good old none =
+    let sends : is_some (order_of route stage.Stopping) ≡ true = mapped _ route.signal good in absurd (cc)
+must_rest route false free begins stage.Stopping good old none =
+    let sends : is_some (order_of route stage.Stopping) ≡ true = mapped _ route.signal good in absurd (cc)
+must_rest route true free begins stage.Hiding good old none = absurd (cc)
+must_rest route false free begins stage.Hiding good old none = absurd (cc)
+must_rest route true free begins (stage.Unlocking left) good old none =
+    let sends : is_some (order_of route (stage.Unlocking left)) ≡ true =
+    mapped (λ (setting : Setting). order.Unlock setting.device) (turnout_at route left)
+    (some_turnout route left (below left (count_of route) good)) in absurd (cc)
+must_rest route false free begins (stage.Unlocking left) good old none =
+    let sends : is_some (order_of route (stage.Unlocking left)) ≡ true =
+    mapped (λ (setting : Setting). order.Unlock setting.device) (turnout_at route left)
+    (some_turnout route left (below left (count_of route) good)) in absurd (cc)
+
+-- if no number is found the test fails at each
+none_found_of : (test : ℕ → Bool) (k i : ℕ) (here : Bool) (x : Option ℕ) → test k ≡ here → (i ≡ k) ⊎ (i < k)
+    → (i < k → x ≡ None → test i ≡ false) → option_or x (if here then Some k else None) ≡ None → test i ≡ false
+none_found_of test k i here (Some n) is which so none = absurd (cc)
+none_found_of test k i true None is which so none = absurd (cc)
+none_found_of test k i false None is (inl same) so none = ap test same ∙ is
+none_found_of test k i false None is (inr lower) so none = so lower refl
+
+none_found : (test : ℕ → Bool) (k i : ℕ) → i < k → first_below test k ≡ None → test i ≡ false
+none_found test zero i lt none = absurd (omega (arith, lt))
+none_found test (suc k) i lt none = none_found_of test k i (test k) (first_below test k) refl
+    (eq-or-lt_of_le (omega (arith, lt))) (none_found test k i) none
+
+-- a test that does not hold of all fails at one
+record Fails (test : ℕ → Bool) (k : ℕ) : Type 0 where
+  at : ℕ
+  lt : at < k
+  fails : test at ≡ false
+
+fails_below : (test : ℕ → Bool) (k : ℕ) → all_below test k ≡ false → Fails test k
+fails_below test zero h = absurd (cc)
+fails_below test (suc k) h = elim (and_cases (all_below test k) (test k) h) [
+  | inl lower ↦
+      let one : Fails test k = fails_below test k lower in
+      record { at = one.at; lt = omega (arith, one.lt); fails = one.fails }
+  | inr here ↦ record { at = k; lt = omega arith; fails = here }
+]
+
+-- what holds of a table at rest
+pub record IsResting (routes : List Route) (t : Table) : Type 0 where
+  pub fits : Fits routes t
+  pub well : AllWell t.routes t.stages
+  pub sent : AllSent t.stages t.waiting
+  pub waits : t.waiting ≡ None
+  pub due : due t ≡ None
+
+not_fresh : (stages : List Stage) (waiting : Option ℕ) (n : ℕ) (f : Bool) → fresh (stage_at stages n) ≡ f → waiting ≡ None
+    → AllSent stages waiting → f ≡ false
+not_fresh stages waiting n true is waits all = let both : None ≡ Some n = sym waits ∙ all n is in absurd (cc)
+not_fresh stages waiting n false is waits all = refl
+
+rests_at : (routes : List Route) (t : Table) (n : ℕ) (route : Route) → IsResting routes t
+    → slice_get t.routes n ≡ Some route
+    → rests (wanted_at t.wanted n) (are_free t.sensors route.blocks.items)
+    (may_begin t n (are_free t.sensors route.blocks.items)) (stage_at t.stages n) ≡ true
+rests_at routes t n route resting is =
+    must_rest route (wanted_at t.wanted n) (are_free t.sensors route.blocks.items)
+    (may_begin t n (are_free t.sensors route.blocks.items)) (stage_at t.stages n) (resting.well n route is)
+    (not_fresh t.stages t.waiting n (fresh (stage_at t.stages n)) refl resting.waits resting.sent)
+    (subst (λ (x : Option Route). is_some (option_and_then (λ (a : Route). order_of a (option_map_or
+    (λ (route : Route). let free = are_free t.sensors route.blocks.items in
+    ready_stage route (wanted_at t.wanted n) free (may_begin t n free) (stage_at t.stages n)) x stage.Idle)) x) ≡ false) is
+    (none_found (λ n. is_some (order_at t n)) (length t.routes) n (slice_get_within t.routes n route is) resting.due))
+
+stays_of : (wanted free begins : Bool) (s : Stage) → rests wanted free begins s ≡ true → is_idle s ≡ false
+    → stays wanted s ≡ true
+stays_of wanted free begins stage.Idle rest busy = absurd (cc)
+stays_of true free begins stage.Ready rest busy = refl
+stays_of false free begins stage.Ready rest busy = absurd (cc)
+stays_of wanted free begins stage.Set rest busy = rest
+stays_of wanted free begins stage.Blocked rest busy = refl
+stays_of wanted free begins stage.Stuck rest busy = refl
+stays_of wanted free begins other rest busy = absurd (cc)
+
+lets_not : (clash idle : Bool) → (not clash || idle) ≡ false → (clash ≡ true) × (idle ≡ false)
+lets_not true idle h = (refl, h)
+lets_not false idle h = absurd (cc)
+
+behind_at : (routes : List Route) (t : Table) (n m : ℕ) (x : Option Route) → IsResting routes t → m < length t.routes
+    → slice_get t.routes m ≡ x → conflict_at t.routes n m ≡ true → is_idle (stage_at t.stages m) ≡ false
+    → IsBehind t.routes t n
+behind_at routes t n m None resting lt is clash busy =
+    let no : zero ≡ suc zero = past_route t.routes m is lt in absurd (cc)
+behind_at routes t n m (Some route) resting lt is clash busy = record {
+  other = m;
+  conflict = clash;
+  stays = stays_of (wanted_at t.wanted m) (are_free t.sensors route.blocks.items)
+      (may_begin t m (are_free t.sensors route.blocks.items)) (stage_at t.stages m) (rests_at routes t m route resting is) busy;
+}
+
+behind : (routes : List Route) (t : Table) (n : ℕ) → IsResting routes t → is_clear t.routes t.stages n ≡ false
+    → IsBehind t.routes t n
+behind routes t n resting h =
+    let one : Fails (lets t.routes t.stages n) (length t.routes) =
+    fails_below (lets t.routes t.stages n) (length t.routes) h in
+    let two : (conflict_at t.routes n one.at ≡ true) × (is_idle (stage_at t.stages one.at) ≡ false) =
+    lets_not (conflict_at t.routes n one.at) (is_idle (stage_at t.stages one.at)) one.fails in
+    behind_at routes t n one.at (slice_get t.routes one.at) resting one.lt refl two.0 two.1
+
+idle_served : (routes : List Route) (t : Table) (n : ℕ) (route : Route) (free clear : Bool) → IsResting routes t
+    → are_free t.sensors route.blocks.items ≡ free → is_clear t.routes t.stages n ≡ clear → (free && clear) ≡ false
+    → IsServed t.routes t n route
+idle_served routes t n route false clear resting free is none = inr (inl (record { taken = free }))
+idle_served routes t n route true true resting free is none = absurd (cc)
+idle_served routes t n route true false resting free is none = inr (inr (inr (behind routes t n resting is)))
+
+served_of : (routes : List Route) (t : Table) (n : ℕ) (route : Route) (wanted free begins : Bool) (s : Stage)
+    → IsResting routes t → stage_at t.stages n ≡ s → wanted ≡ true → are_free t.sensors route.blocks.items ≡ free
+    → (is_idle s && (wanted && (free && is_clear t.routes t.stages n))) ≡ begins
+    → rests wanted free begins s ≡ true → IsServed t.routes t n route
+served_of routes t n route true free false stage.Idle resting is wants blocks may rest =
+    idle_served routes t n route free (is_clear t.routes t.stages n) resting blocks refl may
+served_of routes t n route false free begins stage.Idle resting is wants blocks may rest = absurd (cc)
+served_of routes t n route wanted free true stage.Idle resting is wants blocks may rest = absurd (cc)
+served_of routes t n route wanted free begins stage.Ready resting is wants blocks may rest =
+    inr (inl (record { taken = blocks ∙ not-true free (and_parts wanted (not free) rest).1 }))
+served_of routes t n route wanted free begins stage.Set resting is wants blocks may rest = inl is
+served_of routes t n route wanted free begins stage.Blocked resting is wants blocks may rest =
+    inr (inr (inl (ap is_unstopped is)))
+served_of routes t n route wanted free begins stage.Stuck resting is wants blocks may rest =
+    inr (inr (inl (ap is_unstopped is)))
+served_of routes t n route wanted free begins other resting is wants blocks may rest = absurd (cc)
+
+pub resting_served : (routes : List Route) (t : Table) (n : ℕ) (route : Route) → IsResting routes t
+    → slice_get t.routes n ≡ Some route → wanted_at t.wanted n ≡ true → IsServed t.routes t n route
+resting_served routes t n route resting is wants =
+    served_of routes t n route (wanted_at t.wanted n) (are_free t.sensors route.blocks.items)
+    (may_begin t n (are_free t.sensors route.blocks.items)) (stage_at t.stages n) resting refl wants refl refl
+    (rests_at routes t n route resting is)
+
+-- a table in which no order waits after a step is at rest
+heard_resting : (routes : List Route) (t : Table) (event : Event) → IsSound routes t → (heard t event).waiting ≡ None
+    → due (heard t event) ≡ None → IsResting routes (heard t event)
+heard_resting routes t event sound waits none = record {
+  fits = heard_fits routes t event sound.fits;
+  well = heard_well routes t event sound.fits sound.well;
+  sent = heard_sent routes t sound.last event sound.fits sound.pends sound.sent;
+  waits = waits;
+  due = none;
+}
+
+next_resting : (routes : List Route) (t : Table) (x d : Option ℕ) → t.waiting ≡ x → due t ≡ d
+    → (t.waiting ≡ None → due t ≡ None → IsResting routes t)
+    → (if is_some x then record { table = t; order = None } else sent t d).table.waiting ≡ None
+    → IsResting routes (if is_some x then record { table = t; order = None } else sent t d).table
+next_resting routes t (Some n) d waits is so none = let both : Some n ≡ None = sym waits ∙ none in absurd (cc)
+next_resting routes t None None waits is so none = so waits is
+next_resting routes t None (Some n) waits is so none = absurd (cc)
+
+pub after_resting : (routes : List Route) (t : Table) (event : Event) → IsSound routes t → (after t event).waiting ≡ None
+    → IsResting routes (after t event)
+after_resting routes t event sound none = next_resting routes (heard t event) (heard t event).waiting (due (heard t event))
+    refl refl (heard_resting routes t event sound) none
+
+in_plan : (routes : List Route) (t : Table) (n : ℕ) (route : Route) → IsResting routes t → slice_get routes n ≡ Some route
+    → wanted_at t.wanted n ≡ true → IsServed routes t n route
+in_plan routes t n route resting is wants = subst (λ (x : List Route). IsServed x t n route) resting.fits.plan
+    (resting_served routes t n route resting (ap (λ (x : List Route). slice_get x n) resting.fits.plan ∙ is) wants)
+
+pub wanted_are_served : WantedAreServed
+wanted_are_served routes events event n route is none wants = in_plan routes (after (course routes events) event) n route
+    (after_resting routes (course routes events) event (course_sound routes events) none) is wants
