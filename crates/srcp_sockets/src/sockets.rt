@@ -65,7 +65,8 @@ pub(crate) struct Sockets<S: System + Drop> {
 impl<S: System + Drop> Sockets<S> {
     /// Notes what falls due next, and how much the panels can still take.
     pub(crate) fn expect(&mut self, due: Option<u64>, slack: Option<usize>)
-        ensures { SaysOne (S.trace self.old.system) (ExpectCall due slack) (S.trace self.new.system) }
+        ensures trace { SaysOne (S.trace self.old.system) (ExpectCall due slack) (S.trace self.new.system) }
+        ensures keeps { (self.new.flushed ≡ self.old.flushed) × (self.new.refused ≡ self.old.refused) }
     {
         self.system.note_expect(due, slack);
         self.turn.expect(due, slack);
@@ -73,7 +74,8 @@ impl<S: System + Drop> Sockets<S> {
 
     /// Limits how long a turn waits, in milliseconds.
     pub(crate) fn wait_at_most(&mut self, milliseconds: u64)
-        ensures { self.new.most ≡ Some milliseconds }
+        ensures most { self.new.most ≡ Some milliseconds }
+        ensures keeps { (self.new.flushed ≡ self.old.flushed) × (self.new.refused ≡ self.old.refused) }
     {
         self.most = Some(milliseconds);
     }
@@ -286,6 +288,7 @@ impl<S: System + Drop> Sockets<S> {
     /// Closes a peer. It lingers until its socket took what is queued and its input ended, 10 seconds at most.
     pub(crate) fn close(&mut self, number: u32) -> Result<(), DoorFault>
         ensures trace { SaysOne (S.trace self.old.system) (CloseCall number result) (S.trace self.new.system) }
+        ensures keeps { (self.new.flushed ≡ self.old.flushed) × (self.new.refused ≡ self.old.refused) }
         ensures fault { IfErr result (λ fault. fault ≡ DoorFault.Close) }
     {
         let Some(index) = self.index_of(number) else {
@@ -416,6 +419,7 @@ impl<S: System + Drop> Sockets<S> {
         ensures trace { SaysOne (S.trace self.old.system) (ReadCall number result buffer.now)
             (S.trace self.new.system) }
         ensures nothing { result ≡ Ok Got.Nothing }
+        ensures keeps { (self.new.flushed ≡ self.old.flushed) × (self.new.refused ≡ self.old.refused) }
     {
         let answer = Ok(Got::Nothing);
         self.system.note_read(number, answer, buffer);
@@ -434,6 +438,8 @@ impl<S: System + Drop> Sockets<S> {
         ensures fault { IfErr result (λ fault. fault ≡ DoorFault.Read) }
         ensures answered { IsPeerRead self.old.turn self.old.peers.items number (length buffer.old) result
             (got_bytes result buffer.new) self.old.refused self.new.refused }
+        ensures flushed { self.new.flushed ≡ self.old.flushed }
+        ensures stays { self.old.refused ≡ true → self.new.refused ≡ true }
     {
         let Some(index) = self.index_of(number) else {
             return self.read_nobody(number, buffer);
@@ -453,6 +459,7 @@ impl<S: System + Drop> Sockets<S> {
         ensures trace { SaysOne (S.trace self.old.system) (ReadCall number result buffer.now)
             (S.trace self.new.system) }
         ensures nothing { (result ≡ Ok Got.Nothing) ⊎ (result ≡ Err DoorFault.Read) }
+        ensures keeps { (self.new.flushed ≡ self.old.flushed) × (self.new.refused ≡ self.old.refused) }
     {
         let answer = self.turn.report_fault();
         self.system.note_read(number, answer, buffer);
@@ -465,6 +472,7 @@ impl<S: System + Drop> Sockets<S> {
             (S.trace self.new.system) }
         ensures count { IfOk result (λ n. n ≤ length bytes.now) }
         ensures fault { IfErr result (λ fault. fault ≡ DoorFault.Write) }
+        ensures keeps { (self.new.flushed ≡ self.old.flushed) × (self.new.refused ≡ self.old.refused) }
     {
         let Some(index) = self.index_of(number) else {
             self.system.note_write(number, bytes, Err(DoorFault::Write));

@@ -29,6 +29,7 @@ impl<S: System + Drop> Sockets<S> {
         ensures asks { may_accept self.old.listening (vec_capacity self.old.peers) self.old.peers.items ≡ true
             → (result ≡ Err DoorFault.Accept)
             ⊎ Makes is_accept 1 (S.trace self.old.system) (S.trace self.new.system) }
+        ensures keeps { (self.new.flushed ≡ self.old.flushed) × (self.new.refused ≡ self.old.refused) }
         ensures full { is_quiet self.old.listening ≡ false
             → is_crowded (vec_capacity self.old.peers) self.old.peers.items ≡ true
             → position (λ peer. is_shut peer.stay) self.old.peers.items ≡ None
@@ -54,6 +55,7 @@ impl<S: System + Drop> Sockets<S> {
         ensures is { result ≡ may_accept self.old.listening (vec_capacity self.old.peers) self.old.peers.items }
         ensures same { result ≡ true → S.trace self.new.system ≡ S.trace self.old.system }
         ensures excused { result ≡ false → MayRefuse (S.trace self.new.system) }
+        ensures keeps { (self.new.flushed ≡ self.old.flushed) × (self.new.refused ≡ self.old.refused) }
         ensures makes { is_quiet self.old.listening ≡ false
             → is_crowded (vec_capacity self.old.peers) self.old.peers.items ≡ true
             → MakesRoom self.old.peers.items self.new.listening (S.trace self.old.system) (S.trace self.new.system) }
@@ -73,6 +75,7 @@ impl<S: System + Drop> Sockets<S> {
     fn put_off(&mut self) -> Result<Option<u32>, DoorFault>
         ensures trace { SaysOne (S.trace self.old.system) (AcceptCall result) (S.trace self.new.system) }
         ensures fault { result ≡ Err DoorFault.Accept }
+        ensures keeps { (self.new.flushed ≡ self.old.flushed) × (self.new.refused ≡ self.old.refused) }
         ensures rests { self.new.listening ≡ Listening.Refused }
     {
         self.listening = Listening::Refused;
@@ -89,6 +92,7 @@ impl<S: System + Drop> Sockets<S> {
         ensures trace { SaysOne (S.trace self.old.system) (AcceptCall result) (S.trace self.new.system) }
         ensures same { result ≡ answer }
         ensures listening { self.new.listening ≡ self.old.listening }
+        ensures keeps { (self.new.flushed ≡ self.old.flushed) × (self.new.refused ≡ self.old.refused) }
     {
         self.system.note_accept(answer);
         self.turn.note_accept(answer);
@@ -103,6 +107,7 @@ impl<S: System + Drop> Sockets<S> {
         ensures fault { IfErr result (λ fault. fault ≡ DoorFault.Accept) }
         ensures rests { OnErr result (self.new.listening ≡ Listening.Refused) }
         ensures asks { Makes is_accept 1 (S.trace self.old.system) (S.trace self.new.system) }
+        ensures keeps { (self.new.flushed ≡ self.old.flushed) × (self.new.refused ≡ self.old.refused) }
     {
         match self.system.accept(number) {
             Ok(()) => {
@@ -138,6 +143,7 @@ impl<S: System + Drop> Sockets<S> {
     fn make_room(&mut self)
         ensures calls { SaysNothing (S.trace self.old.system) (S.trace self.new.system) }
         ensures last { self.new.last ≡ self.old.last }
+        ensures keeps { (self.new.flushed ≡ self.old.flushed) × (self.new.refused ≡ self.old.refused) }
         ensures closes { (S.trace self.new.system ≡ S.trace self.old.system)
             ⊎ ((who : ℕ) × Tells (S.trace self.old.system) (Closes who) (S.trace self.new.system)) }
         ensures none { position (λ peer. is_shut peer.stay) self.old.peers.items ≡ None

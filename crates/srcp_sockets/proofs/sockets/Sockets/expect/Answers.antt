@@ -29,6 +29,6 @@ invariant_of-self g c =
       places = c.args.self.now.places;
     }
 
-pub returns : goal.returns
-returns g c = says_call (g.S.System.trace c.args.self.now.system) (g.S.System.trace c.note_expect.new.self)
+pub returns-clause-trace : goal.returns-clause-trace
+returns-clause-trace g c = says_call (g.S.System.trace c.args.self.now.system) (g.S.System.trace c.note_expect.new.self)
     (ExpectCall c.args.due c.args.slack) c.note_expect.ensures
