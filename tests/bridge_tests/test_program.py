@@ -11,7 +11,7 @@ import types
 import unittest
 from unittest import mock
 
-from .common import TOP, WAIT, folder, until
+from .common import TOP, WAIT, folder, free_port, until
 from .stations import QUIET, StationCase
 from .test_dcc_ex import DccExCase
 from .test_z21 import Z21Case
@@ -108,6 +108,7 @@ class DccExWithPrograms(Programs, DccExCase):
         out, wrong, status = self.programs("--bus", 2, "read", 1)
         self.assertEqual((out, status), ("", 1))
         self.assertRegex(wrong, "^no drivers of bus 2 are joined here")
+        self.assertRegex(self.programs("--port", free_port(), "read", 1)[1], "^no drivers of bus 1 are joined here")
         self.assertTrue(os.path.exists(self.door()))
         self.driver.end(signal.SIGKILL)
         self.assertRegex(self.programs("read", 1)[1], "^no drivers of bus 1 are joined here")

@@ -1,12 +1,14 @@
 """srcpd.py, with lines as old clients send them: from memory, since no such client could be had."""
+import json
 import os
 import random
 import signal
 import socket
 import threading
 import time
+from pathlib import Path
 
-from .common import WAIT, Case, Server, Session, connects, free_port, new_folder, until
+from .common import WAIT, Case, Server, Session, connects, folder, free_port, new_folder, until
 from .test_dcc_ex import DccExCase
 
 HELLO = "SET PROTOCOL SRCP 0.8.4", "201 OK PROTOCOL SRCP"
@@ -177,14 +179,19 @@ class Srcpd(Case):
         listing = [line for line in silent.lines_until(last) if " SESSION " not in line]
         self.assertEqual(listing, [line for line in direct if " SESSION " not in line])
         asks.lines_until(last)
+        file = Path(folder.name, "srcp_bridges", f"{self.proxy.pid}.json")  # by which status.py names it
+        until(lambda: json.loads(file.read_text())["sessions"][str(self.server.port)].get(str(silent.id))
+              == "srcpd.py: client 127.0.0.1", "whose the session is")
         for sent, told in (("GET 0 SERVER", "100 INFO 0 SERVER RUNNING"),
                            ("GET 2 DESCRIPTION", "100 INFO 2 DESCRIPTION GA FB LOCK DESCRIPTION"),
                            ("GET 1 DESCRIPTION GL 3", "101 INFO 1 GL 3 N 1 28 2")):
             asks.send(sent)
             asks.lines_until(told)
-        for sent in ("GET 0 TIME", "GET 3 DESCRIPTION", "GET 1 GL 3", "SET 1 POWER ON", "WAIT 1 FB 3 1 9", "x"):
+        for sent in ("GET 0 TIME", "INIT 0 TIME 60 1", "SET 0 GM 0 0 TEXT of a panel", "GET 3 DESCRIPTION", "GET 1 GL 3",
+                     "SET 1 POWER ON", "WAIT 1 FB 3 1 9", "x"):
             asks.send(sent)  # of which nothing is told
         client = self.client()
+        self.assertEqual(client.ask(f"SET 0 GM {client.id} 7 TEXT x"), [NO_DATA])  # it is no information session
         self.assertEqual(client.ask("INIT 0 TIME 120 1", "SET 0 TIME 1 23 58 30", f"SET 0 GM {silent.id} 7 TEXT a  b",
                                     "SET 0 GM 0 7 TEXT all"), [OK] * 4)
         told = asks.lines_until("100 INFO 0 TIME 2 0 1 0")
@@ -199,6 +206,24 @@ class Srcpd(Case):
                           "100 INFO 1 GL 3 1 10 28 0 0"])
         silent.socket.shutdown(socket.SHUT_WR)
         self.assertEqual(silent.rest(), "")
+        self.assertEqual(client.ask("INIT 0 TIME 0 1", "SET 0 TIME 3 0 0 59"), [OK] * 2)
+        time.sleep(1.2)  # for a clock that stands no minute begins
+        self.assertEqual(client.ask("SET 1 GL 3 1 11 28"), [OK])
+        told = asks.lines_until("100 INFO 1 GL 3 1 11 28 0 0")
+        self.assertEqual([line for line in told if " SESSION " not in line],
+                         ["101 INFO 0 TIME 0 1", "100 INFO 0 TIME 3 0 0 59", "100 INFO 1 GL 3 1 11 28 0 0"])
+
+    def test_a_panel_that_is_late(self):
+        """What it tells then, of before a WAIT, does not end that WAIT."""
+        listen, self.way.late = free_port(), b"100 INFO 1 FB 7 1"
+        proxy = self.starts("srcpd.py", "--listen", listen, port=self.way.port)
+        until(lambda: connects(listen) and "server: joined" in proxy.told(), "the proxy is there")
+        client = Client(listen, "COMMAND")
+        self.throttle.order("SET 1 FB 7 1", "SET 1 FB 7 0")
+        client.send("WAIT 1 FB 7 1 1")
+        time.sleep(0.3)
+        self.way.free()
+        self.assertEqual(client.line(), "417 ERROR timeout")
 
     def test_waits(self):
         """What a client sends behind a WAIT is carried out after it; others are served meanwhile."""
@@ -208,6 +233,7 @@ class Srcpd(Case):
         thread.start()
         time.sleep(0.3)
         self.assertEqual(other.ask("GET 1 FB 8", "SET 1 FB 7 0", "SET 1 FB 6 1"), ["100 INFO 1 FB 8 0", OK, OK])
+        time.sleep(0.3)
         self.assertEqual(replies, [])
         self.assertEqual(other.ask("SET 1 FB 7 1", "SET 1 FB 7 0"), [OK, OK])  # for a moment alone
         thread.join(WAIT)
@@ -286,6 +312,11 @@ class SrcpdWithADriver(DccExCase):
                 ("TERM 1 SM", OK), ("TERM 1 SM", NO_DATA)]:
             self.assertEqual((sent, *client.ask(sent)), (sent, reply))
         self.assertEqual(self.commands("W "), ["W 29 38"])
+        other, listen = Server(), free_port()  # another layout on this machine, whose bus 1 has no driver
+        self.addCleanup(other.stop)
+        proxy = self.starts("srcpd.py", "--listen", listen, port=other.port, env=self.environment)
+        until(lambda: connects(listen) and "server: joined" in proxy.told(), "the proxy is there")
+        self.assertEqual(Client(listen, "COMMAND").ask("INIT 1 SM NMRA"), ["421 ERROR unsupported device"])
         self.assertEqual(client.ask("INIT 1 SM NMRA", "SET 1 SM 0 CV 1 7", "GET 1 SM 0 CV 1", "GET 1 POWER"),
                          [OK, OK, "100 INFO 1 SM 0 CV 1 7", "100 INFO 1 POWER ON"])
         self.station.unplug()
