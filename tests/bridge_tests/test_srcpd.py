@@ -187,8 +187,8 @@ class Srcpd(Case):
                            ("GET 1 DESCRIPTION GL 3", "101 INFO 1 GL 3 N 1 28 2")):
             asks.send(sent)
             asks.lines_until(told)
-        for sent in ("GET 0 TIME", "INIT 0 TIME 60 1", "SET 0 GM 0 0 TEXT of a panel", "GET 3 DESCRIPTION", "GET 1 GL 3",
-                     "SET 1 POWER ON", "WAIT 1 FB 3 1 9", "x"):
+        for sent in ("GET 0 TIME", "INIT 0 TIME 60 1", "SET 0 GM 0 0 TEXT of a panel", "GET 3 DESCRIPTION",
+                     "GET 1 GL 3", "SET 1 POWER ON", "WAIT 1 FB 3 1 9", "x"):
             asks.send(sent)  # of which nothing is told
         client = self.client()
         self.assertEqual(client.ask(f"SET 0 GM {client.id} 7 TEXT x"), [NO_DATA])  # it is no information session
