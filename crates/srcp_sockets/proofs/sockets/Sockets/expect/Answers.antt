@@ -32,3 +32,6 @@ invariant_of-self g c =
 pub returns-clause-trace : goal.returns-clause-trace
 returns-clause-trace g c = says_call (g.S.System.trace c.args.self.now.system) (g.S.System.trace c.note_expect.new.self)
     (ExpectCall c.args.due c.args.slack) c.note_expect.ensures
+
+pub returns-clause-keeps : goal.returns-clause-keeps
+returns-clause-keeps g c = (refl, refl)
