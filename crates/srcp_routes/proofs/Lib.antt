@@ -1,10 +1,12 @@
 pub mod Apart
+pub mod Costs
 pub mod Free
 pub mod Holds
 pub mod Locks
 pub mod Loops
 pub mod Pending
 pub mod Rest
+pub mod Settling
 pub mod Shown
 pub mod Signals
 pub mod Thrown

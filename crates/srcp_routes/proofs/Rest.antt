@@ -168,7 +168,7 @@ pub record IsResting (routes : List Route) (t : Table) : Type 0 where
   pub waits : t.waiting ≡ None
   pub due : due t ≡ None
 
-not_fresh : (stages : List Stage) (waiting : Option ℕ) (n : ℕ) (f : Bool) → fresh (stage_at stages n) ≡ f → waiting ≡ None
+pub not_fresh : (stages : List Stage) (waiting : Option ℕ) (n : ℕ) (f : Bool) → fresh (stage_at stages n) ≡ f → waiting ≡ None
     → AllSent stages waiting → f ≡ false
 not_fresh stages waiting n true is waits all = let both : None ≡ Some n = sym waits ∙ all n is in absurd (cc)
 not_fresh stages waiting n false is waits all = refl

@@ -3,6 +3,7 @@
 ghost use Rattle.srcp_routes.specs.Laws.{HeldStandAlone};
 ghost use Rattle.srcp_routes.specs.Rest.{WantedAreServed};
 ghost use Rattle.srcp_routes.specs.Runs.{ThrowsAreLocked};
+ghost use Rattle.srcp_routes.specs.Settling.{RepliesSettle};
 ghost use Rattle.srcp_routes.specs.Signals.{ShownAreKept, ShownStand, ShowsAreFree};
 
 /// States for any plan and any list of events: while a route is held, each other that conflicts with it is idle. So no
@@ -27,9 +28,15 @@ pub fn shown_are_safe()
     ensures kept { ShownAreKept }
 {}
 
-/// States for any plan and any list of events: once no order waits for its reply, each route that is asked for is set, or
-/// waits for a reason. One of its blocks is not free, or its own signal could not be stopped; or it is behind a route
-/// that conflicts with it, and that is asked for and held, or has a signal that could not be stopped.
+/// States for any plan and any list of events: once no order waits for its reply, each route that is asked for is set,
+/// or waits for a reason. One of its blocks is not free, or its own signal could not be stopped. Or it is behind a
+/// route that conflicts with it, and that is asked for and held, or has a signal that could not be stopped.
 pub fn wanted_are_served()
     ensures { WantedAreServed }
+{}
+
+/// States for any plan and any list of events: if nothing but replies comes then, a number of them is enough for no
+/// order to wait, whichever accept and whichever refuse.
+pub fn replies_settle()
+    ensures { RepliesSettle }
 {}

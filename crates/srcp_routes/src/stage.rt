@@ -3,7 +3,8 @@
 ghost use Rattle.std.specs.Prelude.{◌≡◌};
 ghost use Rattle.srcp_routes.specs.Stages.{left_stage, leaving_stage, thrown_stage, shown_stage, first_stage};
 ghost use Rattle.srcp_routes.specs.Stages.{lost_stage, retried_stage, order_of, accepted_stage, refused_stage};
-ghost use Rattle.srcp_routes.specs.Stages.{after_reply, turned_back, ready_stage, show_setting, stop_setting, is_idle, is_held};
+ghost use Rattle.srcp_routes.specs.Stages.{after_reply, turned_back, ready_stage, show_setting, stop_setting};
+ghost use Rattle.srcp_routes.specs.Stages.{is_idle, is_held};
 
 use crate::{Order, Route, Setting, Signal};
 

@@ -1,0 +1,234 @@
+-- With each reply the routes have one order less to send, until none waits.
+use Rattle.std.proofs.Common.{◌≡◌, ◌≢◌, ◌⊎◌, inl, inr, ℕ, zero, suc, ◌+◌, ◌<◌, ◌≤◌, Bool, true, false, ◌&&◌}
+use Rattle.std.proofs.Common.{Option, Some, None, List, [], ◌∷◌, length, refl, sym, ◌∙◌, ap, arith, subst}
+use Rattle.std.proofs.lemmas.Bool.{and_parts, cases_eq, lt-ltb}
+use Rattle.std.proofs.lemmas.Option.{slice_get_within}
+use Rattle.std.specs.Option.{option_map_or}
+use Rattle.std.specs.Prelude.{fold, if◌then◌else◌, is_some, map, nat_lt, slice_get, slice_set}
+use Rattle.srcp_routes.specs.Conflicts.{are_free}
+use Rattle.srcp_routes.specs.Laws.{after, course}
+use Rattle.srcp_routes.specs.Plan.{Table, is_clear, stage_at, wanted_at}
+use Rattle.srcp_routes.specs.Settling.{RepliesSettle}
+use Rattle.srcp_routes.specs.Stages.{after_reply, count_of, is_idle, order_of, ready_stage}
+use Rattle.srcp_routes.specs.Steps.{answered, due, heard, may_begin, ready_at, sent, stage_replied}
+use Rattle.srcp_routes.specs.declared.interlocking.Event.TheVariants.{Reply}
+use Rattle.srcp_routes.specs.declared.route.Order.{Order}
+use Rattle.srcp_routes.specs.declared.route.Route.{Route}
+use Rattle.srcp_routes.specs.declared.stage.Stage.{Stage}
+use Rattle.srcp_routes.specs.declared.stage.Stage.TheVariants as stage
+use Rattle.srcp_routes.proofs.Apart.{stage_at-set, stage_at-set_same}
+use Rattle.srcp_routes.proofs.Costs.{accepted_cost, cost, cost_at, ready_cost, refused_cost, total_le, total_less, work}
+use Rattle.srcp_routes.proofs.Pending.{Fits, Pends, PendsAt, heard_fits}
+use Rattle.srcp_routes.proofs.Rest.{IsResting, after_resting, not_fresh}
+use Rattle.srcp_routes.proofs.Well.{AllSent, AllWell, IsSound, after_sound, course_sound, fresh, heard_sent, heard_well, well}
+
+-- what is asked for after one route is not
+wanted_off : (wanted : List Bool) (k : ℕ) → wanted_at (slice_set wanted k false) k ≡ false
+wanted_off [] k = refl
+wanted_off (x ∷ xs) zero = refl
+wanted_off (x ∷ xs) (suc k) = wanted_off xs k
+
+wanted_else : (wanted : List Bool) (k n : ℕ) (b : Bool) → n ≢ k → wanted_at (slice_set wanted k b) n ≡ wanted_at wanted n
+wanted_else [] k n b differ = refl
+wanted_else (x ∷ xs) zero zero b differ = absurd (differ refl)
+wanted_else (x ∷ xs) zero (suc n) b differ = refl
+wanted_else (x ∷ xs) (suc k) zero b differ = refl
+wanted_else (x ∷ xs) (suc k) (suc n) b differ = wanted_else xs k n b (λ e. differ (ap suc e))
+
+stage_else : (stages : List Stage) (k n : ℕ) (s : Stage) → n ≢ k → stage_at (slice_set stages k s) n ≡ stage_at stages n
+stage_else stages k n s differ = elim (stage_at-set stages k s n) [ inl p ↦ absurd (differ p.0) | inr e ↦ e ]
+
+-- the cost of a route by its wanted and its stage
+abbrev cost_by : Option Route → Bool → Stage → ℕ
+cost_by x wanted s = option_map_or (λ (route : Route). cost (count_of route) wanted s) x 0
+
+-- what is asked for after a reply
+abbrev wanted_after : Table → Bool → ℕ → List Bool
+wanted_after t ok n = if ok then t.wanted else slice_set t.wanted n false
+
+abbrev answered_table : Table → Bool → ℕ → Table
+answered_table t ok n = record t {
+  stages = slice_set t.stages n (stage_replied t n ok);
+  wanted = wanted_after t ok n;
+  waiting = None;
+}
+
+wanted_after_else : (t : Table) (ok : Bool) (k n : ℕ) → n ≢ k → wanted_at (wanted_after t ok k) n ≡ wanted_at t.wanted n
+wanted_after_else t true k n differ = refl
+wanted_after_else t false k n differ = wanted_else t.wanted k n false differ
+
+reply_cost : (t : Table) (route : Route) (o : Order) (ok : Bool) (n : ℕ) → order_of route (stage_at t.stages n) ≡ Some o
+    → well route (stage_at t.stages n) ≡ true
+    → cost (count_of route) (wanted_at (wanted_after t ok n) n) (after_reply route (stage_at t.stages n) ok) + 1
+    ≤ cost (count_of route) (wanted_at t.wanted n) (stage_at t.stages n)
+reply_cost t route o true n orders good = accepted_cost route (wanted_at t.wanted n) (stage_at t.stages n) o orders good
+reply_cost t route o false n orders good =
+    subst (λ (w : Bool). cost (count_of route) w (after_reply route (stage_at t.stages n) false) + 1
+    ≤ cost (count_of route) (wanted_at t.wanted n) (stage_at t.stages n)) (sym (wanted_off t.wanted n))
+    (refused_cost route (wanted_at t.wanted n) (stage_at t.stages n) o orders good)
+
+-- the route whose reply came has less to send
+replied_less : (routes : List Route) (t : Table) (last : Option Order) (ok : Bool) (n : ℕ) → Fits routes t
+    → AllWell t.routes t.stages → PendsAt t last n → cost_at (answered_table t ok n) n + 1 ≤ cost_at t n
+replied_less routes t last ok n fits good pends =
+    let within : n < length t.stages =
+    omega (arith, slice_get_within t.routes n pends.route pends.is, fits.stages, ap length fits.plan) in
+    let now : stage_at (slice_set t.stages n (stage_replied t n ok)) n ≡ after_reply pends.route (stage_at t.stages n) ok =
+    stage_at-set_same t.stages n (stage_replied t n ok) within
+    ∙ ap (λ (x : Option Route). option_map_or (λ (a : Route). after_reply a (stage_at t.stages n) ok) x stage.Idle) pends.is in
+    let one : cost_at (answered_table t ok n) n
+    ≡ cost (count_of pends.route) (wanted_at (wanted_after t ok n) n) (after_reply pends.route (stage_at t.stages n) ok) =
+    ap (λ (x : Option Route). cost_by x (wanted_at (wanted_after t ok n) n)
+    (stage_at (slice_set t.stages n (stage_replied t n ok)) n)) pends.is
+    ∙ ap (cost (count_of pends.route) (wanted_at (wanted_after t ok n) n)) now in
+    let two : cost_at t n ≡ cost (count_of pends.route) (wanted_at t.wanted n) (stage_at t.stages n) =
+    ap (λ (x : Option Route). cost_by x (wanted_at t.wanted n) (stage_at t.stages n)) pends.is in
+    let less : cost (count_of pends.route) (wanted_at (wanted_after t ok n) n) (after_reply pends.route (stage_at t.stages n) ok) + 1
+    ≤ cost (count_of pends.route) (wanted_at t.wanted n) (stage_at t.stages n) =
+    reply_cost t pends.route pends.order ok n pends.orders (good n pends.route pends.is) in
+    omega (arith, one, two, less)
+
+same_cost : (x : Option Route) (w v : Bool) (s z : Stage) → w ≡ v → s ≡ z → cost_by x w s ≡ cost_by x v z
+same_cost x w v s z e d = ap (λ (y : Bool). cost_by x y s) e ∙ ap (cost_by x v) d
+
+replied_le_of : (t : Table) (ok : Bool) (k n : ℕ) → (n ≡ k) ⊎ (n ≢ k)
+    → cost_at (answered_table t ok k) k + 1 ≤ cost_at t k → cost_at (answered_table t ok k) n ≤ cost_at t n
+replied_le_of t ok k n (inl same) less =
+    subst (λ (i : ℕ). cost_at (answered_table t ok k) i ≤ cost_at t i) (sym same) (omega (arith, less))
+replied_le_of t ok k n (inr differ) less =
+    let one : cost_at (answered_table t ok k) n ≡ cost_at t n =
+    same_cost (slice_get t.routes n) (wanted_at (wanted_after t ok k) n) (wanted_at t.wanted n)
+    (stage_at (slice_set t.stages k (stage_replied t k ok)) n) (stage_at t.stages n)
+    (wanted_after_else t ok k n differ) (stage_else t.stages k n (stage_replied t k ok) differ) in
+    omega (arith, one)
+
+replied_work : (routes : List Route) (t : Table) (last : Option Order) (ok : Bool) (n : ℕ) → Fits routes t
+    → AllWell t.routes t.stages → PendsAt t last n → work (answered_table t ok n) + 1 ≤ work t
+replied_work routes t last ok n fits good pends =
+    let less : cost_at (answered_table t ok n) n + 1 ≤ cost_at t n = replied_less routes t last ok n fits good pends in
+    total_less (cost_at (answered_table t ok n)) (cost_at t) (length t.routes) n
+    (slice_get_within t.routes n pends.route pends.is) less (λ m. replied_le_of t ok n m (cases_eq m n) less)
+
+-- no route has more to send once the next order is sent
+begins_wanted : (t : Table) (n : ℕ) (free : Bool) → may_begin t n free ≡ true → wanted_at t.wanted n ≡ true
+begins_wanted t n free h =
+    let one : (wanted_at t.wanted n && (free && is_clear t.routes t.stages n)) ≡ true =
+    (and_parts (is_idle (stage_at t.stages n)) (wanted_at t.wanted n && (free && is_clear t.routes t.stages n)) h).1 in
+    (and_parts (wanted_at t.wanted n) (free && is_clear t.routes t.stages n) one).0
+
+sent_le_some : (t : Table) (n : ℕ) (route : Route) → AllWell t.routes t.stages → AllSent t.stages t.waiting
+    → t.waiting ≡ None → slice_get t.routes n ≡ Some route
+    → cost (count_of route) (wanted_at t.wanted n) (ready_at t n)
+    ≤ cost (count_of route) (wanted_at t.wanted n) (stage_at t.stages n)
+sent_le_some t n route good all waits is =
+    let now : ready_at t n ≡ ready_stage route (wanted_at t.wanted n) (are_free t.sensors route.blocks.items)
+    (may_begin t n (are_free t.sensors route.blocks.items)) (stage_at t.stages n) =
+    ap (λ (x : Option Route). option_map_or
+    (λ (route : Route). let free = are_free t.sensors route.blocks.items in
+    ready_stage route (wanted_at t.wanted n) free (may_begin t n free) (stage_at t.stages n)) x stage.Idle) is in
+    subst (λ (s : Stage). cost (count_of route) (wanted_at t.wanted n) s
+    ≤ cost (count_of route) (wanted_at t.wanted n) (stage_at t.stages n)) (sym now)
+    (ready_cost route (wanted_at t.wanted n) (are_free t.sensors route.blocks.items)
+    (may_begin t n (are_free t.sensors route.blocks.items)) (stage_at t.stages n)
+    (begins_wanted t n (are_free t.sensors route.blocks.items))
+    (not_fresh t.stages t.waiting n (fresh (stage_at t.stages n)) refl waits all) (good n route is))
+
+abbrev sent_table : Table → ℕ → Table
+sent_table t k = record t { stages = slice_set t.stages k (ready_at t k); waiting = Some k }
+
+sent_le_here : (routes : List Route) (t : Table) (n : ℕ) (x : Option Route) → Fits routes t → AllWell t.routes t.stages
+    → AllSent t.stages t.waiting → t.waiting ≡ None → slice_get t.routes n ≡ x
+    → cost_by x (wanted_at t.wanted n) (stage_at (slice_set t.stages n (ready_at t n)) n)
+    ≤ cost_by x (wanted_at t.wanted n) (stage_at t.stages n)
+sent_le_here routes t n None fits good all waits is = omega arith
+sent_le_here routes t n (Some route) fits good all waits is =
+    let within : n < length t.stages =
+    omega (arith, slice_get_within t.routes n route is, fits.stages, ap length fits.plan) in
+    subst (λ (s : Stage). cost (count_of route) (wanted_at t.wanted n) s
+    ≤ cost (count_of route) (wanted_at t.wanted n) (stage_at t.stages n))
+    (sym (stage_at-set_same t.stages n (ready_at t n) within)) (sent_le_some t n route good all waits is)
+
+sent_le_of : (routes : List Route) (t : Table) (k n : ℕ) → (n ≡ k) ⊎ (n ≢ k) → Fits routes t → AllWell t.routes t.stages
+    → AllSent t.stages t.waiting → t.waiting ≡ None → cost_at (sent_table t k) n ≤ cost_at t n
+sent_le_of routes t k n (inl same) fits good all waits =
+    subst (λ (i : ℕ). cost_at (sent_table t k) i ≤ cost_at t i) (sym same)
+    (sent_le_here routes t k (slice_get t.routes k) fits good all waits refl)
+sent_le_of routes t k n (inr differ) fits good all waits =
+    let one : cost_at (sent_table t k) n ≡ cost_at t n =
+    same_cost (slice_get t.routes n) (wanted_at t.wanted n) (wanted_at t.wanted n)
+    (stage_at (slice_set t.stages k (ready_at t k)) n) (stage_at t.stages n) refl
+    (stage_else t.stages k n (ready_at t k) differ) in
+    omega (arith, one)
+
+next_work : (routes : List Route) (t : Table) (x d : Option ℕ) → Fits routes t → AllWell t.routes t.stages
+    → AllSent t.stages t.waiting → t.waiting ≡ x
+    → work (if is_some x then record { table = t; order = None } else sent t d).table ≤ work t
+next_work routes t (Some n) d fits good all waits = omega arith
+next_work routes t None None fits good all waits = omega arith
+next_work routes t None (Some k) fits good all waits =
+    total_le (cost_at (sent_table t k)) (cost_at t) (length t.routes)
+    (λ n. sent_le_of routes t k n (cases_eq n k) fits good all waits)
+
+-- the table once the reply to the order of a route came
+if_true : {X : Type 0} → (test : Bool) (x y : X) → test ≡ true → (if test then x else y) ≡ x
+if_true true x y h = refl
+if_true false x y h = absurd (cc)
+
+heard_is : (t : Table) (ok : Bool) (n : ℕ) → t.waiting ≡ Some n → n < length t.routes
+    → heard t (Reply ok) ≡ answered_table t ok n
+heard_is t ok n waits lt = ap (λ (x : Option ℕ). option_map_or (answered t ok) x t) waits
+    ∙ if_true (nat_lt n (length t.routes)) _ _ (lt-ltb n (length t.routes) lt)
+
+after_work : (routes : List Route) (t : Table) (ok : Bool) (n : ℕ) → IsSound routes t → t.waiting ≡ Some n
+    → work (after t (Reply ok)) + 1 ≤ work t
+after_work routes t ok n sound waits =
+    let pends : PendsAt t sound.last n = subst (λ (x : Option ℕ). Pends t sound.last x) waits sound.pends in
+    let is : heard t (Reply ok) ≡ answered_table t ok n = heard_is t ok n waits
+    (slice_get_within t.routes n pends.route pends.is) in
+    let one : work (heard t (Reply ok)) ≡ work (answered_table t ok n) = ap work is in
+    let two : work (answered_table t ok n) + 1 ≤ work t =
+    replied_work routes t sound.last ok n sound.fits sound.well pends in
+    let three : work (after t (Reply ok)) ≤ work (heard t (Reply ok)) =
+    next_work routes (heard t (Reply ok)) (heard t (Reply ok)).waiting (due (heard t (Reply ok)))
+    (heard_fits routes t (Reply ok) sound.fits) (heard_well routes t (Reply ok) sound.fits sound.well)
+    (heard_sent routes t sound.last (Reply ok) sound.fits sound.pends sound.sent) refl in
+    omega (arith, one, two, three)
+
+-- at rest a reply changes nothing
+next_none : (t : Table) (x d : Option ℕ) → d ≡ None
+    → (if is_some x then record { table = t; order = None } else sent t d).table ≡ t
+next_none t (Some n) d none = refl
+next_none t None None none = refl
+next_none t None (Some n) none = absurd (cc)
+
+rest_after : (routes : List Route) (t : Table) (ok : Bool) → IsResting routes t → after t (Reply ok) ≡ t
+rest_after routes t ok resting =
+    let is : heard t (Reply ok) ≡ t = ap (λ (x : Option ℕ). option_map_or (answered t ok) x t) resting.waits in
+    next_none (heard t (Reply ok)) (heard t (Reply ok)).waiting (due (heard t (Reply ok))) (ap due is ∙ resting.due) ∙ is
+
+rest_stays : (routes : List Route) (t : Table) (replies : List Bool) → IsResting routes t
+    → (fold after t (map Reply replies)).waiting ≡ None
+rest_stays routes t [] resting = resting.waits
+rest_stays routes t (ok ∷ replies) resting =
+    subst (λ (u : Table). (fold after u (map Reply replies)).waiting ≡ None) (sym (rest_after routes t ok resting))
+    (rest_stays routes t replies resting)
+
+-- so many replies bring all routes to rest
+settle : (routes : List Route) (t : Table) (replies : List Bool) (x : Option ℕ) → t.waiting ≡ x → IsSound routes t
+    → (t.waiting ≡ None → IsResting routes t) → work t ≤ length replies
+    → (fold after t (map Reply replies)).waiting ≡ None
+settle routes t replies None waits sound rest le = rest_stays routes t replies (rest waits)
+settle routes t [] (Some n) waits sound rest le =
+    absurd (omega (arith, le, after_work routes t true n sound waits))
+settle routes t (ok ∷ replies) (Some n) waits sound rest le =
+    settle routes (after t (Reply ok)) replies (after t (Reply ok)).waiting refl (after_sound routes t (Reply ok) sound)
+    (after_resting routes t (Reply ok) sound) (omega (arith, le, after_work routes t ok n sound waits))
+
+pub replies_settle : RepliesSettle
+replies_settle routes events event = record {
+  within = work (after (course routes events) event);
+  settled = λ replies le. settle routes (after (course routes events) event) replies
+      (after (course routes events) event).waiting refl
+      (after_sound routes (course routes events) event (course_sound routes events))
+      (after_resting routes (course routes events) event (course_sound routes events)) le;
+}
