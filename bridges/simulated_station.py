@@ -130,13 +130,16 @@ class Station:
                     time.sleep(1 / self.rate)
 
     def take(self, text):
-        """Carries out a command `<text>`."""
+        """Carries out a command `<text>`. The log has it before the track shows it."""
         for name, syntax in SYNTAX.items():
-            if (found := re.fullmatch("<" + syntax, text)) and self.obey(name, *found.groups()):
-                self.log.append((time.monotonic(), text[1:]))
-                if name not in ("status", "cabs", "sensors"):
-                    self.show(text + ">")
-                return
+            if found := re.fullmatch("<" + syntax, text):
+                log = self.log
+                log.append((time.monotonic(), text[1:]))
+                if self.obey(name, *found.groups()):
+                    if name not in ("status", "cabs", "sensors"):
+                        self.show(text + ">")
+                    return
+                log.pop()
         self.faults.append(text)
         self.say("<X>\r\n")
 

@@ -85,8 +85,8 @@ class DccEx(Drives, DccExCase):
         self.assertEqual(self.station.turnouts, {1: 0})
 
     def test_a_slow_line_has_the_urgent_first(self):
-        """20 commands a second are taken and 100 asked for; then functions that take 4 seconds, and a stop."""
-        self.station.rate = 20
+        """40 commands a second are taken and 100 asked for; then functions that take 2 seconds, and a stop."""
+        self.station.rate = 40  # so that 8 commands take far less than the second for which their answer is waited for
         for v in range(200):
             self.throttle.order(f"SET 1 GL 3 1 {v % 100} 100")
             time.sleep(0.01)
