@@ -67,6 +67,7 @@ impl<S: System + Drop> SocketDoor<S> {
     /// Limits how long `now` waits if nothing happens, in milliseconds; 0 is no wait.
     pub fn wait_at_most(&mut self, milliseconds: u64)
         ensures wait { self.new.sockets.most ≡ Some milliseconds }
+        ensures system { self.new.sockets.system ≡ self.old.sockets.system }
         ensures faults { self.new.faults ≡ self.old.faults }
     {
         self.sockets.wait_at_most(milliseconds);

@@ -76,6 +76,7 @@ impl<S: System + Drop> Sockets<S> {
     pub(crate) fn wait_at_most(&mut self, milliseconds: u64)
         ensures most { self.new.most ≡ Some milliseconds }
         ensures keeps { (self.new.flushed ≡ self.old.flushed) × (self.new.refused ≡ self.old.refused) }
+        ensures system { self.new.system ≡ self.old.system }
     {
         self.most = Some(milliseconds);
     }
