@@ -115,6 +115,8 @@ STATION_BREAKS = [  # the file, whose cases, what is wrong, the text, what stand
      "                if why := self.refusal():  #", "                if not told and (why := self.refusal()):  #"),
     ("hands", "z21", "a train that a hand drives counts for nothing",
      "            self.track.others[address] = speed\n", "            pass\n"),
+    ("hands", "z21", "a train that a hand drove counts when the registry has it",
+     "        self.track.others.pop(address, None)\n", ""),
     ("track", "z21", "what stands in the dark drives", "if self.told.get(POWER) else []", ""),
     ("programming", "z21", "a command for a CV that is lost is not told again", "timeout=self.repeats", "timeout=None"),
     ("programming", "programming", "a late answer is that of the next command",

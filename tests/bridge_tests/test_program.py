@@ -172,6 +172,9 @@ class Z21WithPrograms(Programs, Z21Case):
         self.station.loses = 0
         self.station.hand(77, speed=40)
         until(lambda: self.asks("READ 1")[0].startswith("413 locomotive 77 drives"), "that of a hand")
+        self.station.hand(76, speed=40)
+        until(lambda: self.asks("READ 1")[0].startswith("413 locomotive 76 drives"), "another one")
+        self.throttle.order("INIT 1 GL 76 N 1 28 0")  # the registry has it now, and has it stand
         self.station.hand(77, speed=0)
         until(lambda: self.asks("READ 1") == ["200 3"], "all stand")
         self.has("100 INFO 1 POWER OFF programming", "100 INFO 1 GL 3 1 0 28")
