@@ -21,7 +21,8 @@ on_last (text ∷ next ∷ texts) = text ∷ on_last (next ∷ texts)
 
 -- the words with a CR at the end: it is a word of its own, or ends the last one
 record EndsInReturn (words later : List (List ℕ)) : Type 0 where
-  is : (later ≡ words ++ (13 ∷ []) ∷ []) ⊎ ((word : List ℕ) × (more : List (List ℕ)) × (words ≡ word ∷ more) × (later ≡ on_last (word ∷ more)))
+  is : (later ≡ words ++ (13 ∷ []) ∷ [])
+      ⊎ ((word : List ℕ) × (more : List (List ℕ)) × (words ≡ word ∷ more) × (later ≡ on_last (word ∷ more)))
 
 -- ---- the words
 
@@ -49,7 +50,8 @@ filled_more byte part parts = grind (arith, nat_tests)
 ends_more : (text : List ℕ) (words later : List (List ℕ)) → EndsInReturn words later → EndsInReturn (text ∷ words) (text ∷ later)
 ends_more text words later ends = by ends.is
   where
-    by : (later ≡ words ++ (13 ∷ []) ∷ []) ⊎ ((word : List ℕ) × (more : List (List ℕ)) × (words ≡ word ∷ more) × (later ≡ on_last (word ∷ more)))
+    by : (later ≡ words ++ (13 ∷ []) ∷ [])
+        ⊎ ((word : List ℕ) × (more : List (List ℕ)) × (words ≡ word ∷ more) × (later ≡ on_last (word ∷ more)))
         → EndsInReturn (text ∷ words) (text ∷ later)
     by (inl e) = record { is = inl (ap (λ ws. text ∷ ws) e) }
     by (inr e) = rw (e.2, e.3) (record { is = inr (text, e.0 ∷ e.1, refl, refl) })
@@ -126,7 +128,8 @@ one_more_weighs (word ∷ bus ∷ group ∷ words) = le_refl _
 ends_weigh : (words later : List (List ℕ)) → weight_of words ≤ 11 → EndsInReturn words later → weight_of words ≤ weight_of later
 ends_weigh words later small ends = by ends.is
   where
-    by : (later ≡ words ++ (13 ∷ []) ∷ []) ⊎ ((word : List ℕ) × (more : List (List ℕ)) × (words ≡ word ∷ more) × (later ≡ on_last (word ∷ more)))
+    by : (later ≡ words ++ (13 ∷ []) ∷ [])
+        ⊎ ((word : List ℕ) × (more : List (List ℕ)) × (words ≡ word ∷ more) × (later ≡ on_last (word ∷ more)))
         → weight_of words ≤ weight_of later
     by (inl e) = rw e (one_more_weighs words)
     by (inr e) = rw (e.2, e.3) (last_weighs e.0 e.1 (rw e.2 at small))

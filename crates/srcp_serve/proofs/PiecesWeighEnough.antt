@@ -1,6 +1,6 @@
 -- The lines of a piece weigh no more than the door weighs the piece.
-use Rattle.std.proofs.Common.{◌≡◌, ◌∙◌, ℕ, ◌+◌, ◌≤◌, Bool, true, false, List, [], ◌∷◌, ◌++◌, length, drop, refl, ap, sym, subst, arith, ◌==◌}
-use Rattle.std.proofs.Common.{append-nil, append_assoc, cond}
+use Rattle.std.proofs.Common.{◌≡◌, ◌∙◌, ℕ, ◌+◌, ◌≤◌, Bool, true, false, List, [], ◌∷◌, ◌++◌, length, drop, refl, ap, sym, subst, arith}
+use Rattle.std.proofs.Common.{◌==◌, append-nil, append_assoc, cond}
 use Rattle.std.specs.Prelude.{⊤, fold, nat_lt}
 use Rattle.std.specs.List.{list_any, sum_by}
 use Rattle.std.proofs.lemmas.Bool.{cond_both}
@@ -58,7 +58,8 @@ lines_weigh (byte ∷ piece) line text bytes before none sees =
     (λ no_end. lines_weigh piece line (text ++ byte ∷ []) (bytes ++ byte ∷ []) before no_end (sees_more line text bytes byte sees))
   where
     by : (ends : Bool) → (byte == 10) ≡ ends
-        → before + line_weight line text + weigh piece ≤ said (record { line = Ended; text = []; weight = before + line_weight line text }) piece
+        → before + line_weight line text + weigh piece
+        ≤ said (record { line = Ended; text = []; weight = before + line_weight line text }) piece
         → (list_any is_lf (bytes ++ byte ∷ []) ≡ false
         → before + weigh ((bytes ++ byte ∷ []) ++ piece) ≤ said (record { line = line; text = text ++ byte ∷ []; weight = before }) piece)
         → before + weigh (bytes ++ byte ∷ piece) ≤ said (seen_after (record { line = line; text = text; weight = before }) byte) piece
