@@ -136,6 +136,20 @@ set_stays first peers i p q within stays rest below k d lt = ⊎_elim
     (below k d (omega (arith, lt, ne))))
     (cases_eq k i)
 
+-- what holds between each that was gone through and what it was
+pub set_each : (Holds : Peer → Peer → Type 0) (first peers : List Peer) (i : ℕ) (p q : Peer) → i < length peers
+    → Holds (get_or peers i p) q → ((k : ℕ) (d : Peer) → i ≤ k → slice_index_or peers k d ≡ slice_index_or first k d)
+    → ((k : ℕ) (d : Peer) → k < i → Holds (slice_index_or first k d) (slice_index_or peers k d))
+    → (k : ℕ) (d : Peer) → k < i + 1 → Holds (slice_index_or first k d) (slice_index_or (set peers i q) k d)
+set_each Holds first peers i p q within holds rest below k d lt = ⊎_elim
+    (λ (e : k ≡ i). subst (Holds (slice_index_or first k d))
+    (sym (ap (λ n. get_or (set peers i q) n d) e ∙ get_or-set_same peers i q d within))
+    (subst (λ (x : Peer). Holds x q)
+    (get_or_default peers i p d within ∙ rest i d (omega arith) ∙ ap (λ n. get_or first n d) (sym e)) holds))
+    (λ (ne : k ≡ i → ⊥). subst (Holds (slice_index_or first k d)) (sym (get_or-set_other peers i k q d ne))
+    (below k d (omega (arith, lt, ne))))
+    (cases_eq k i)
+
 pub set_rest : (first peers : List Peer) (i : ℕ) (q : Peer)
     → ((k : ℕ) (d : Peer) → i ≤ k → slice_index_or peers k d ≡ slice_index_or first k d)
     → (k : ℕ) (d : Peer) → i + 1 ≤ k → slice_index_or (set peers i q) k d ≡ slice_index_or first k d

@@ -3,7 +3,8 @@ use Rattle.std.specs.Prelude.{◌&&◌, ◌≡◌, ◌≢◌, ℕ, ◌<◌, ◌�
 use Rattle.srcp_peers.specs.declared.peer.Peer.{Peer}
 use Rattle.srcp_peers.specs.Steps.{Step}
 use Rattle.srcp_peers.specs.declared.readiness.Flush.{Flush}
-use Rattle.srcp_peers.specs.Peers.{IsKept, OffersDue, stay_after}
+use Rattle.srcp_peers.specs.Ends.{begun}
+use Rattle.srcp_peers.specs.Peers.{IsKept, OffersDue, is_over, stay_after}
 
 -- each is what its account says
 abbrev pub AreKept : Option (List Step) → List Peer → Type 0
@@ -42,3 +43,14 @@ AreOffered what peers old new = (k : ℕ) (d : Peer) → k < length peers
 abbrev pub AreShutDown : (old new : List Peer) → Type 0
 AreShutDown old new = (k : ℕ) (d : Peer) → k < length old
     → (let p = slice_index_or new k d in p.stay ≡ stay_after (slice_index_or old k d).stay p.outgoing p.output)
+
+-- each is as far on the way to its end as before
+abbrev pub KeepEndings : (old new : List Peer) → Type 0
+KeepEndings old new = (k : ℕ) (d : Peer) → k < length old → (slice_index_or new k d).ending
+    ≡ (slice_index_or old k d).ending
+
+-- each stays, and goes on on that way as a visit begins
+abbrev pub AreBegun : (old new : List Peer) → Type 0
+AreBegun old new = (k : ℕ) (d : Peer) → k < length old
+    → (let p = slice_index_or new k d in (p.stay ≡ (slice_index_or old k d).stay)
+    × (p.ending ≡ begun (slice_index_or old k d).ending (is_over p.incoming p.input)))

@@ -42,6 +42,7 @@ impl Peer {
         ensures number { self.new.number ≡ self.old.number }
         ensures offered { OffersDue what self.old (S.trace system.old) (S.trace system.new) }
         ensures stay { self.new.stay ≡ stay_after self.old.stay self.new.outgoing self.new.output }
+        ensures ending { self.new.ending ≡ self.old.ending }
         ensures drained { IsDrained self.old self.new (S.trace system.old) (S.trace system.new) }
     {
         if self.stay.is_here() {
@@ -64,6 +65,7 @@ impl Peer {
         ensures offered { is_here self.old.stay ≡ false
             → OffersDue Flush.All self.old (S.trace system.old) (S.trace system.new) }
         ensures stay { self.new.stay ≡ stay_after self.old.stay self.new.outgoing self.new.output }
+        ensures ending { self.new.ending ≡ self.old.ending }
         ensures drained { IsDrained self.old self.new (S.trace system.old) (S.trace system.new) }
     {
         match self.stay {
@@ -85,6 +87,7 @@ impl Peer {
         ensures number { self.new.number ≡ self.old.number }
         ensures offered { OffersDue Flush.All self.old (S.trace system.old) (S.trace system.new) }
         ensures stay { self.new.stay ≡ stay_after self.old.stay self.new.outgoing self.new.output }
+        ensures ending { self.new.ending ≡ self.old.ending }
     {
         self.flush(system, Flush::All);
         if self.outgoing.is_empty() && !self.output.is_lost() {
@@ -121,6 +124,7 @@ impl Peer {
         ensures times { KeepsTimes (S.trace system.old) (S.trace system.new) }
         ensures number { self.new.number ≡ self.old.number }
         ensures stay { self.new.stay ≡ self.old.stay }
+        ensures ending { self.new.ending ≡ self.old.ending }
         ensures drained { (may_have self.new.input ≡ false)
             ⊎ Makes (is_read_of self.old.number) 64 (S.trace system.old) (S.trace system.new) }
     {
@@ -143,6 +147,7 @@ impl Peer {
         ensures times { KeepsTimes (S.trace system.old) (S.trace system.new) }
         ensures number { self.new.number ≡ self.old.number }
         ensures stay { self.new.stay ≡ self.old.stay }
+        ensures ending { self.new.ending ≡ self.old.ending }
         ensures asked { may_have self.old.input ≡ true
             → Asks (record self.old { incoming = [] }) self.new (S.trace system.old) (S.trace system.new) }
     {

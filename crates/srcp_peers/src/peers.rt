@@ -5,7 +5,8 @@ ghost use Rattle.srcp_peers.specs.declared.peer.Peer.{Peer};
 ghost use Rattle.srcp_peers.specs.Steps.{SaysNothing};
 ghost use Rattle.srcp_peers.specs.Times.{KeepsTimes};
 ghost use Rattle.srcp_peers.specs.Peers.{Spares, IsRead, after_wake};
-ghost use Rattle.srcp_peers.specs.AllPeers.{AreApart, AreKept, AreMarked, AreOffered, AreShutDown, AreThose, IsAbsent};
+ghost use Rattle.srcp_peers.specs.AllPeers.{AreApart, AreBegun, AreKept, AreMarked, AreOffered, AreShutDown, AreThose};
+ghost use Rattle.srcp_peers.specs.AllPeers.{IsAbsent, KeepEndings};
 ghost use Rattle.srcp_peers.specs.Listeners.{woken_listening};
 
 use crate::peer::Peer;
@@ -24,6 +25,7 @@ pub fn flush<S: System>(system: &mut S, peers: &mut [Peer], what: Flush)
     ensures times { KeepsTimes (S.trace system.old) (S.trace system.new) }
     ensures offered { AreOffered what peers.old (S.trace system.old) (S.trace system.new) }
     ensures shut { AreShutDown peers.old peers.new }
+    ensures endings { KeepEndings peers.old peers.new }
 {
     for peer in peers.iter_mut() {
         peer.hand_over(system, what);
@@ -43,6 +45,7 @@ pub fn begin_visits<S: System>(system: &mut S, peers: &mut [Peer], clear: bool, 
     ensures read { (k : ℕ) (d : Peer) → k < length peers.new
         → IsRead (S.trace system.new) (slice_index_or peers.new k d).number }
     ensures marks { AreMarked clear peers.old peers.new }
+    ensures begun { AreBegun peers.old peers.new }
     ensures rooms { All (λ peer. peer.room ≡ room) peers.new }
 {
     for peer in peers.iter_mut() {

@@ -2,7 +2,8 @@ use Rattle.std.specs.Prelude.{◌≡◌, ℕ, ◌<◌, ◌≤◌, ◌&&◌, not,
 use Rattle.srcp_peers.specs.declared.peer.Peer.{Peer}
 use Rattle.srcp_peers.specs.Steps.{SaysNothing}
 use Rattle.srcp_peers.specs.Times.{KeepsTimes}
-use Rattle.srcp_peers.specs.Peers.{Spares, IsRead}
+use Rattle.srcp_peers.specs.Ends.{begun}
+use Rattle.srcp_peers.specs.Peers.{Spares, IsRead, is_over}
 use Rattle.srcp_peers.specs.AllPeers.{AreApart, AreKept, AreThose, IsAbsent}
 use Rattle.srcp_peers.proofs.peers.begin_visits.Given as goal
 
@@ -18,5 +19,7 @@ invariant-loop-peer g l = record {
   marked : (k : ℕ) (d : Peer) → k < l.peer-index
       → (slice_index_or l.peers k d).share.mark ≡ (not l.clear && (slice_index_or l.fn.peers k d).share.mark);
   rooms : (k : ℕ) (d : Peer) → k < l.peer-index → (slice_index_or l.peers k d).room ≡ l.room;
+  begun : (k : ℕ) (d : Peer) → k < l.peer-index → (let p = slice_index_or l.peers k d in
+      (p.stay ≡ (slice_index_or l.fn.peers k d).stay) × (p.ending ≡ begun (slice_index_or l.fn.peers k d).ending (is_over p.incoming p.input)));
   rest : (k : ℕ) (d : Peer) → l.peer-index ≤ k → slice_index_or l.peers k d ≡ slice_index_or l.fn.peers k d;
 }

@@ -1,7 +1,8 @@
-use Rattle.std.proofs.Common.{arith, refl}
+use Rattle.std.proofs.Common.{◌≡◌, arith, refl}
+use Rattle.srcp_peers.specs.declared.peer.Peer.{Peer}
 use Rattle.srcp_peers.proofs.Saying.{says_none, says_then, keeps_none, keeps_then}
 use Rattle.srcp_peers.proofs.Keeping.{spares_none, spares_then}
-use Rattle.srcp_peers.proofs.Lists.{absent_there, set_apart, set_kept, set_rest, set_stays, set_those}
+use Rattle.srcp_peers.proofs.Lists.{absent_there, set_apart, set_each, set_kept, set_rest, set_stays, set_those}
 use Rattle.srcp_peers.proofs.Offering.{set_offered}
 use Rattle.srcp_peers.proofs.peers.flush.Goals as goal
 
@@ -15,6 +16,7 @@ loop-peer-init g c = record {
   times = keeps_none (g.S.System.trace c.args.system.now);
   offered = λ k d lt. absurd (omega (arith, lt));
   shut = λ k d lt. absurd (omega (arith, lt));
+  endings = λ k d lt. absurd (omega (arith, lt));
   rest = λ k d late. refl;
 }
 
@@ -42,5 +44,7 @@ loop-peer-preserved g c = record {
       c.loop-peer.invariant.calls c.hand_over.ensures.calls c.hand_over.ensures.offered c.loop-peer.invariant.offered;
   shut = set_stays c.args.peers.now c.loop-peer.peers c.loop-peer.peer-index c.peer-item.result c.hand_over.new.self (omega arith)
       c.hand_over.ensures.stay c.loop-peer.invariant.rest c.loop-peer.invariant.shut;
+  endings = set_each (λ (p q : Peer). q.ending ≡ p.ending) c.args.peers.now c.loop-peer.peers c.loop-peer.peer-index c.peer-item.result
+      c.hand_over.new.self (omega arith) c.hand_over.ensures.ending c.loop-peer.invariant.rest c.loop-peer.invariant.endings;
   rest = set_rest c.args.peers.now c.loop-peer.peers c.loop-peer.peer-index c.hand_over.new.self c.loop-peer.invariant.rest;
 }

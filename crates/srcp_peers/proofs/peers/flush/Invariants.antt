@@ -18,5 +18,6 @@ invariant-loop-peer g l = record {
       → OffersDue l.fn.what (slice_index_or l.fn.peers k d) (g.S.System.trace l.fn.system) (g.S.System.trace l.system);
   shut : (k : ℕ) (d : Peer) → k < l.peer-index → (let p = slice_index_or l.peers k d in
       p.stay ≡ stay_after (slice_index_or l.fn.peers k d).stay p.outgoing p.output);
+  endings : (k : ℕ) (d : Peer) → k < l.peer-index → (slice_index_or l.peers k d).ending ≡ (slice_index_or l.fn.peers k d).ending;
   rest : (k : ℕ) (d : Peer) → l.peer-index ≤ k → slice_index_or l.peers k d ≡ slice_index_or l.fn.peers k d;
 }

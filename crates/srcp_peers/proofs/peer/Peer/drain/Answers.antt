@@ -15,6 +15,7 @@ loop-init g c = record {
   number = refl;
   made = makes_none (is_read_of c.args.self.now.number) (g.S.System.trace c.args.system.now);
   stay = refl;
+  ending = refl;
 }
 
 pub loop-preserved : goal.loop-preserved
@@ -36,6 +37,7 @@ loop-preserved g c =
           (subst (λ (n : ℕ). Makes (is_read_of n) c.loop.counter first old) (sym was.number) was.made)
           (c.skip.ensures.asked (sym c.is_ready.ensures ∙ c.if-not-is_ready.false)));
       stay = c.skip.ensures.stay ∙ was.stay;
+      ending = c.skip.ensures.ending ∙ was.ending;
     }
 
 pub returns-clause-drained : goal.returns-clause-drained

@@ -14,4 +14,5 @@ invariant-loop g l = record {
   number : l.self.number ≡ l.fn.self.number;
   made : Makes (is_read_of l.fn.self.number) l.counter (g.S.System.trace l.fn.system) (g.S.System.trace l.system);
   stay : l.self.stay ≡ l.fn.self.stay;
+  ending : l.self.ending ≡ l.fn.self.ending;
 }
