@@ -15,6 +15,7 @@ use Rattle.srcp_door.specs.declared.pacing.Line.{Line}
 use Rattle.srcp_door.specs.declared.pacing.Pace.{Pace}
 use Rattle.srcp_door.specs.declared.pacing.Pace.TheVariants.{Paced, OneLine}
 use Rattle.srcp_door.specs.declared.pacing.Share.{Share}
+use Rattle.srcp_peers.specs.declared.ending.Ending.{Ending}
 use Rattle.srcp_peers.specs.declared.peer.Peer.{Peer}
 use Rattle.srcp_peers.specs.declared.readiness.Input.{Input}
 use Rattle.srcp_peers.specs.declared.readiness.Input.TheVariants as input
@@ -22,16 +23,18 @@ use Rattle.srcp_peers.specs.declared.readiness.Output.{Output}
 use Rattle.srcp_peers.specs.declared.readiness.Output.TheVariants as output
 use Rattle.srcp_peers.specs.declared.stay.Stay.TheVariants as stay
 use Rattle.srcp_peers.specs.declared.turn.Turn.{Turn}
-use Rattle.srcp_peers.specs.Accounts.{Account, Received, Sent, account, is_held}
-use Rattle.srcp_peers.specs.Peers.{Agrees, IsKept, ReadsAs, StaysAs, WritesAs, is_lost}
-use Rattle.srcp_peers.specs.Reports.{IsAnswered, has_failed, is_ended, is_failed, piece_of}
+use Rattle.srcp_peers.specs.Accounts.{Account, Received, Sent, account, is_held, is_owed, may_end}
+use Rattle.srcp_peers.specs.Peers.{Agrees, IsKept, ReadsAs, StaysAs, WritesAs, is_lost, is_over}
+use Rattle.srcp_peers.specs.Reports.{IsAnswered, has_failed, is_ended, is_failed, is_settled, piece_of}
 use Rattle.srcp_peers.specs.Steps.{Step}
 use Rattle.srcp_peers.specs.Turns.{got_bytes}
-use Rattle.srcp_peers.proofs.Resting.{and_right, held_is}
+use Rattle.srcp_peers.proofs.Resting.{and_left, and_right, held_is, owed_is}
 use Rattle.srcp_peers.proofs.States.{reads_here}
-use Rattle.srcp_sockets.specs.Duties.{IsHandedOut, IsReadDone, held_piece, is_fault}
+use Rattle.srcp_sockets.specs.Duties.{IsHandedOut, IsReadDone, held_piece, is_end, is_failing, is_fault, is_leaving}
+use Rattle.srcp_sockets.specs.Endings.{ending_of, is_all_read, is_as_far}
 use Rattle.srcp_sockets.specs.KeptTimes.{IsTimedFrom}
 use Rattle.srcp_sockets.proofs.Doing.{gave_as}
+use Rattle.srcp_sockets.proofs.Ending.{over_as, settled_so}
 use Rattle.srcp_sockets.proofs.Timing.{line_kept}
 
 -- ---- what is handed out
@@ -87,14 +90,70 @@ watched_fails : (watched rest : Bool) → watched ≡ true → (not watched || r
 watched_fails true rest w e = e
 watched_fails false rest w e = absurd (true≢false (sym w))
 
+-- ---- who ended
+
+not_so : (b : Bool) → not b ≡ true → b ≡ false
+not_so true e = absurd (true≢false (sym e))
+not_so false e = refl
+
+-- one of which nothing is held, and that is not failing
+sound_so : (watched held lost failed : Bool) → watched ≡ true → held ≡ false → (not watched || (not held && (lost || failed))) ≡ false
+    → (lost ≡ false) × (failed ≡ false)
+sound_so true true lost failed w h e = absurd (true≢false h)
+sound_so true false true failed w h e = absurd (true≢false e)
+sound_so true false false failed w h e = (refl, e)
+sound_so false held lost failed w h e = absurd (true≢false (sym w))
+
+all_taken : (none : Bool) → not none ≡ false → none ≡ true
+all_taken true e = refl
+all_taken false e = absurd (true≢false e)
+
+-- its socket took all
+none_queued : (sent : Sent) (outgoing : List ℕ) (state : Output) → WritesAs sent outgoing state → sent.lost ≡ false
+    → is_owed sent ≡ false → (length outgoing == 0) ≡ true
+none_queued sent outgoing output.Open h lost owed = all_taken (length outgoing == 0) (sym (owed_is sent outgoing h.0) ∙ owed)
+none_queued sent outgoing output.Full h lost owed = all_taken (length outgoing == 0) (sym (owed_is sent outgoing h.0) ∙ owed)
+none_queued sent outgoing output.Lost h lost owed = absurd (true≢false (sym h.1 ∙ lost))
+
+three : (a b c : Bool) → a ≡ true → b ≡ true → c ≡ true → (a && (b && c)) ≡ true
+three a b c e f g = rw (e, f, g) refl
+
+all_read : (received : Received) → received.ended ≡ true → received.failed ≡ false → is_held received ≡ false
+    → is_all_read received ≡ true
+all_read received e f h = three received.ended (not received.failed) (not (is_held received)) e (ap not f) (ap not h)
+
+-- a peer that is what its account says
+leaves : (a : Account) (p : Peer) (wanted : Ending) → Agrees a p → p.stay ≡ stay.Here → is_as_far wanted p.ending ≡ true
+    → may_end a ≡ true → is_failing a ≡ false → is_settled wanted ≡ true → (p.incoming ≡ []) × (is_failed p ≡ false) × (is_ended p ≡ true)
+leaves a p wanted h here far may sound settled =
+    let reads : ReadsAs a.received p.incoming p.input = reads_here a.received p.incoming p.input p.stay here h.reads in
+    let stays : StaysAs a.watched a.lingering p.outgoing stay.Here = subst (StaysAs a.watched a.lingering p.outgoing) here h.stays in
+    let ended : a.received.ended ≡ true = and_left a.received.ended (not (is_held a.received) && not (is_owed a.sent)) may in
+    let rest : (not (is_held a.received) && not (is_owed a.sent)) ≡ true =
+    and_right a.received.ended (not (is_held a.received) && not (is_owed a.sent)) may in
+    let held : is_held a.received ≡ false = not_so (is_held a.received) (and_left (not (is_held a.received)) (not (is_owed a.sent)) rest) in
+    let owed : is_owed a.sent ≡ false = not_so (is_owed a.sent) (and_right (not (is_held a.received)) (not (is_owed a.sent)) rest) in
+    let is : is_held a.received ≡ not (length p.incoming == 0) =
+    held_is a.received p.incoming (gave_as a.received p.incoming p.input reads) in
+    let none : p.incoming ≡ [] = none_held p.incoming (sym is ∙ held) in
+    let both = sound_so a.watched (is_held a.received) a.sent.lost a.received.failed stays.0 held sound in
+    let over : is_over [] p.input ≡ true = ap (λ xs. is_over xs p.input) (sym none)
+    ∙ over_as a.received p.incoming p.input reads ∙ all_read a.received ended both.1 held in (
+      none,
+      ap (λ b. b || has_failed p.input) (lost_as a.sent p.outgoing p.output h.writes ∙ both.0)
+          ∙ failed_as a.received p.incoming p.input reads ∙ both.1,
+      three (is_over [] p.input) (is_settled p.ending) (length p.outgoing == 0) over (settled_so wanted p.ending far settled)
+          (none_queued a.sent p.outgoing p.output h.writes both.0 owed),
+    )
+
 -- ---- the answer
 
 -- of a peer that is there
 pub read_done : (wall start : ℕ) (trace : Option (List Step)) (turn : Turn) (p : Peer) (answer : Result Got DoorFault) (buffer : List ℕ)
     (room : ℕ) (kept : Bool) (log : List Step) → trace ≡ Some log → IsTimedFrom wall start trace turn → IsKept trace p
-    → p.stay ≡ stay.Here → length buffer ≡ room → IsAnswered turn p room answer (got_bytes answer buffer) kept
+    → p.stay ≡ stay.Here → is_as_far (ending_of p.number log) p.ending ≡ true → length buffer ≡ room → IsAnswered turn p room answer (got_bytes answer buffer) kept
     → IsReadDone wall start log p.number answer buffer
-read_done wall start trace turn p answer buffer room kept log is timed agrees here long answered =
+read_done wall start trace turn p answer buffer room kept log is timed agrees here far long answered =
     let a : Account = account p.number log in
     let h : Agrees a p = agrees log is in
     let reads : ReadsAs a.received p.incoming p.input = reads_here a.received p.incoming p.input p.stay here h.reads in
@@ -117,6 +176,17 @@ read_done wall start trace turn p answer buffer room kept log is timed agrees he
           let end : Result Got DoorFault = cond (is_ended p) (Ok got.Ended) (Ok got.Nothing) in
           ap is_fault (answered.end none ∙ ap (λ b. cond b (cond (is_failed p) (Err fault.Read) end) (Ok got.Nothing)) may
           ∙ ap (λ b. cond b (Err fault.Read) end) fails);
+      ended = λ ends leaving.
+          let settled : is_settled (ending_of p.number log) ≡ true =
+          and_right (may_end a && not (is_failing a)) (is_settled (ending_of p.number log)) leaving in
+          let sound : (may_end a && not (is_failing a)) ≡ true =
+          and_left (may_end a && not (is_failing a)) (is_settled (ending_of p.number log)) leaving in
+          let l = leaves a p (ending_of p.number log) h here far (and_left (may_end a) (not (is_failing a)) sound)
+          (not_so (is_failing a) (and_right (may_end a) (not (is_failing a)) sound)) settled in
+          let may : turn.ends ≡ true = ap (λ (t : Turn). t.ends) (sym (timed log is).same) ∙ ends in
+          let end : Result Got DoorFault = cond (is_ended p) (Ok got.Ended) (Ok got.Nothing) in
+          ap is_end (answered.end l.0 ∙ ap (λ b. cond b (cond (is_failed p) (Err fault.Read) end) (Ok got.Nothing)) may
+          ∙ ap (λ b. cond b (Err fault.Read) end) l.1 ∙ ap (λ b. cond b (Ok got.Ended) (Ok got.Nothing)) l.2);
       held = λ watched e. (answered.some (some e)).0;
       handed = λ watched e.
           subst (λ (l : Line). IsHandedOut l (held_piece a.received (length buffer)) (length (got_bytes answer buffer)))
@@ -133,6 +203,12 @@ missing_done wall start trace turn who answer buffer log is timed missing answer
   told = λ ends failing.
       let may : turn.ends ≡ true = ap (λ (t : Turn). t.ends) (sym (timed log is).same) ∙ ends in
       ap is_fault (answered ∙ ap (λ b. cond b (Err fault.Read) (Ok got.Nothing)) may);
+  ended = λ ends leaving.
+      let a : Account = account who log in
+      let sound : (may_end a && not (is_failing a)) ≡ true =
+      and_left (may_end a && not (is_failing a)) (is_settled (ending_of who log)) leaving in
+      let fails : is_failing a ≡ true = ap (λ w. not w || (not (is_held a.received) && (a.sent.lost || a.received.failed))) missing in
+      absurd (true≢false (sym fails ∙ not_so (is_failing a) (and_right (may_end a) (not (is_failing a)) sound)));
   held = λ watched e. absurd (true≢false (sym watched ∙ missing));
   handed = λ watched e. absurd (true≢false (sym watched ∙ missing));
 }

@@ -11,5 +11,6 @@ pub mod Timing
 pub mod Clocking
 pub mod Delivered
 pub mod Doing
+pub mod Ending
 pub mod Handing
 pub mod Flushing

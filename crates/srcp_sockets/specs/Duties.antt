@@ -6,11 +6,14 @@ use Rattle.srcp_door.specs.Calls.{ExpectCall, NowCall, AcceptCall, ReadCall, Wri
 use Rattle.srcp_door.specs.Pacing.{lines, weight_of}
 use Rattle.srcp_door.specs.declared.door.DoorFault.{DoorFault}
 use Rattle.srcp_door.specs.declared.door.Got.{Got}
+use Rattle.srcp_door.specs.declared.door.Got.TheVariants as got
 use Rattle.srcp_door.specs.declared.pacing.Line.{Line}
-use Rattle.srcp_peers.specs.Accounts.{Account, Received, account, is_held}
+use Rattle.srcp_peers.specs.Accounts.{Account, Received, account, is_held, may_end}
+use Rattle.srcp_peers.specs.Reports.{is_settled}
 use Rattle.srcp_peers.specs.Steps.{Accepts, Answers, Clocks, Closes, Reads, Shuts, Step, Waits, Writes}
 use Rattle.srcp_peers.specs.Times.{times}
 use Rattle.srcp_peers.specs.Turns.{got_bytes, reports_end}
+use Rattle.srcp_sockets.specs.Endings.{ending_of}
 use Rattle.srcp_sockets.specs.Waits.{IsWaitDone}
 
 -- ---- a moment
@@ -70,11 +73,22 @@ abbrev pub is_fault : Result Got DoorFault → Bool
 is_fault (Ok got) = false
 is_fault (Err fault) = true
 
--- a read in a turn that is not late. It reports a fault of who is failing, if the turn reported no other end. If input
--- of it is held, that is handed out, and no end is reported
+-- the end of a peer
+abbrev pub is_end : Result Got DoorFault → Bool
+is_end (Ok got.Ended) = true
+is_end other = false
+
+-- it is there and sound; its end was found, all that came was handed out, its socket took all, and a whole visit behind
+-- that had no more for it
+abbrev pub is_leaving : ℕ → List Step → Bool
+is_leaving who log = (may_end (account who log) && not (is_failing (account who log))) && is_settled (ending_of who log)
+
+-- a read in a turn that is not late. It reports a fault of who is failing, and the end of who is leaving, if the turn
+-- reported no other end. If input of it is held, that is handed out, and no end is reported
 pub record IsReadDone (wall start : ℕ) (log : List Step) (who : ℕ) (answer : Result Got DoorFault) (buffer : List ℕ)
     : Type 0 where
   pub told : (times wall start log).turn.ends ≡ true → is_failing (account who log) ≡ true → is_fault answer ≡ true
+  pub ended : (times wall start log).turn.ends ≡ true → is_leaving who log ≡ true → is_end answer ≡ true
   pub held : (account who log).watched ≡ true → is_held (account who log).received ≡ true → reports_end answer ≡ false
   pub handed : (account who log).watched ≡ true → is_held (account who log).received ≡ true
       → IsHandedOut ((times wall start log).lines who) (held_piece (account who log).received (length buffer))

@@ -13,8 +13,8 @@ ghost use Rattle.srcp_peers.specs.Accounts.{account, is_at_rest, is_held, is_sho
 ghost use Rattle.srcp_peers.specs.Accounts.{is_owed, may_shut};
 ghost use Rattle.srcp_peers.specs.Steps.{Closes, Shuts, Step, Answers, Waits};
 ghost use Rattle.srcp_sockets.specs.Asked.{AreAsked};
-ghost use Rattle.srcp_sockets.specs.Duties.{IsHandedOut, has_waited, held_piece, is_failing, is_fault, is_shown};
-ghost use Rattle.srcp_sockets.specs.Duties.{last_shown, takes_input};
+ghost use Rattle.srcp_sockets.specs.Duties.{IsHandedOut, has_waited, held_piece, is_end, is_failing, is_fault};
+ghost use Rattle.srcp_sockets.specs.Duties.{is_leaving, is_shown, last_shown, takes_input};
 ghost use Rattle.srcp_sockets.specs.Doors.{IsThere};
 ghost use Rattle.srcp_sockets.specs.Waits.{closes, has_to_close, is_calm, is_written};
 ghost use Rattle.srcp_sockets.specs.KeptTimes.{AreKeptTimes, ArePaced};
@@ -205,6 +205,20 @@ pub fn faults_are_told<S: System + Drop>(door: &SocketDoor<S>)
         → is_failing (account socket before) ≡ true
         → (let t = times door.now.sockets.turn.timekeeper.wall door.now.sockets.turn.timekeeper.start before in
         t.turn.late ≡ false → t.turn.ends ≡ true → is_fault answer ≡ true) }
+{
+    let _sockets = &door.sockets;
+}
+
+/// A read of a peer that was leaving reported its end. It was leaving if it was there and had not failed, a read of its
+/// socket had found the end, all before that was handed out, its socket had taken all that was taken for it, and a visit
+/// behind the end had no more for it: fewer than 300 writes, of which none was cut. The exceptions are a turn that was
+/// late, and one that had reported another end.
+pub fn ends_are_told<S: System + Drop>(door: &SocketDoor<S>)
+    ensures { (before after : List Step) (socket : ℕ) (answer : Result Got DoorFault) (buffer : List ℕ)
+        → S.trace door.now.sockets.system ≡ Some (before ++ Answers (ReadCall socket answer buffer) ∷ after)
+        → is_leaving socket before ≡ true
+        → (let t = times door.now.sockets.turn.timekeeper.wall door.now.sockets.turn.timekeeper.start before in
+        t.turn.late ≡ false → t.turn.ends ≡ true → is_end answer ≡ true) }
 {
     let _sockets = &door.sockets;
 }

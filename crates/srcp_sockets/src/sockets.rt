@@ -7,6 +7,7 @@ ghost use Rattle.srcp_peers.specs.declared.peer.Peer.{Peer};
 ghost use Rattle.srcp_sockets.specs.Asked.{AreAsked, AreAsked-prop};
 ghost use Rattle.srcp_sockets.specs.Delivery.{HasEnded, HasWaited, linger_end};
 ghost use Rattle.srcp_sockets.specs.Duties.{AreDone, AreDone-prop, HasLooked, MayTell};
+ghost use Rattle.srcp_sockets.specs.Endings.{AreAsFar, AreAsFar-prop, AreVisited};
 ghost use Rattle.srcp_sockets.specs.Waits.{AreFlushed, MayWait};
 ghost use Rattle.srcp_sockets.specs.Work.{AreClosedUp, IsClocked, IsPeerRead, IsWaiting, goes_on, is_close};
 ghost use Rattle.srcp_sockets.specs.Facts.{Stands-prop};
@@ -59,6 +60,7 @@ pub(crate) struct Sockets<S: System + Drop> {
     ghost timed: { IsTimed (S.trace system) turn } by { IsTimed-prop (S.trace system) turn },
     ghost asked: { AreAsked (S.trace system) } by { AreAsked-prop (S.trace system) },
     ghost done: { AreDone turn.timekeeper.wall turn.timekeeper.start (S.trace system) } by { AreDone-prop turn.timekeeper.wall turn.timekeeper.start (S.trace system) },
+    ghost ending: { AreAsFar (S.trace system) peers.items } by { AreAsFar-prop (S.trace system) peers.items },
     ghost places: { 129 ≤ vec_capacity peers },
 }
 
@@ -89,6 +91,7 @@ impl<S: System + Drop> Sockets<S> {
         ensures calls { SaysNothing (S.trace self.old.system) (S.trace self.new.system) }
         ensures read { AreRead (S.trace self.new.system) }
         ensures may { MayTell (S.trace self.new.system) }
+        ensures visited { AreVisited (S.trace self.new.system) self.new.peers.items }
         ensures offered { AreOffered (flushed_in self.old.turn self.old.flushed self.old.peers.items)
             self.old.peers.items (S.trace self.old.system) (S.trace self.new.system) }
         ensures waits { HasWaited (cond (goes_on self.old.turn self.old.flushed self.old.peers.items) 0 1)
@@ -213,6 +216,7 @@ impl<S: System + Drop> Sockets<S> {
     fn begin_visits(&mut self, holds: bool)
         ensures calls { SaysNothing (S.trace self.old.system) (S.trace self.new.system) }
         ensures read { AreRead (S.trace self.new.system) }
+        ensures visited { AreVisited (S.trace self.new.system) self.new.peers.items }
         ensures marks { AreMarked (not self.old.refused) self.old.peers.items self.new.peers.items }
         ensures rooms { All (λ peer. peer.room ≡ room_of holds self.old.turn.slack) self.new.peers.items }
         ensures times { KeepsTimes (S.trace self.old.system) (S.trace self.new.system) }
@@ -350,6 +354,7 @@ impl<S: System + Drop> Sockets<S> {
     pub(crate) fn now(&mut self) -> Result<u64, DoorFault>
         requires read { AreRead (S.trace self.old.system) }
         requires may { MayTell (S.trace self.old.system) }
+        requires visited { AreVisited (S.trace self.old.system) self.old.peers.items }
         ensures trace { SaysOne (S.trace self.old.system) (NowCall result) (S.trace self.new.system) }
         ensures fault { IfErr result (λ fault. fault ≡ DoorFault.Now) }
         ensures clock { IsClocked self.old.turn result (S.trace self.old.system) (S.trace self.new.system) }

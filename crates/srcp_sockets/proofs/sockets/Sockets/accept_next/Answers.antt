@@ -18,6 +18,7 @@ use Rattle.srcp_sockets.proofs.Naming.{named_call, named_come, named_silent, nob
 use Rattle.srcp_sockets.proofs.Coming.{stands_came, stands_refused}
 use Rattle.srcp_sockets.proofs.Standing.{stands_answered}
 use Rattle.srcp_sockets.proofs.Timing.{timed_asked}
+use Rattle.srcp_sockets.proofs.Ending.{far_pushed, far_same}
 use Rattle.srcp_sockets.proofs.sockets.Sockets.accept_next.Goals as goal
 
 pub invariant_of-self : goal.invariant_of-self
@@ -45,6 +46,9 @@ invariant_of-self g c =
           (done_step self.turn.timekeeper.wall self.turn.timekeeper.start mid new (Answers call) c.note_accept.ensures (λ log is. tt)
           (done_step self.turn.timekeeper.wall self.turn.timekeeper.start old mid (Accepts number said) c.in-Ok.ensures (λ log is. tt)
           self.done));
+      ending = far_same mid new c.push.new.self.items (Answers call) c.note_accept.ensures (λ s x. refl)
+          (far_pushed old mid self.peers.items c.push.new.self.items c.new.result number c.in-Ok.field-0 pushed c.new.ensures
+          c.in-Ok.ensures self.ending);
       places = le_trans self.places c.push.ensures.capacity;
     }
 
@@ -93,6 +97,8 @@ invariant_of-self-in-Err g c =
           (λ log is. tt)
           (done_step self.turn.timekeeper.wall self.turn.timekeeper.start old mid (Accepts number said) c.in-Err.ensures (λ log is. tt)
           self.done));
+      ending = far_same mid new self.peers.items (Answers call) c.note_accept-in-Err.ensures (λ s x. refl)
+          (far_same old mid self.peers.items (Accepts number said) c.in-Err.ensures (λ s x. refl) self.ending);
       places = self.places;
     }
 

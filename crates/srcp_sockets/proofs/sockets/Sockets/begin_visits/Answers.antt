@@ -11,6 +11,8 @@ use Rattle.srcp_sockets.proofs.Naming.{named_silent}
 use Rattle.srcp_sockets.proofs.Serving.{all_read}
 use Rattle.srcp_sockets.proofs.Standing.{stands_turned}
 use Rattle.srcp_sockets.proofs.Timing.{timed_kept}
+use Rattle.srcp_sockets.specs.Endings.{AreAsFar, AreVisited}
+use Rattle.srcp_sockets.proofs.Ending.{far_visited, visited_all}
 use Rattle.srcp_sockets.proofs.sockets.Sockets.begin_visits.Goals as goal
 
 pub invariant_of-self : goal.invariant_of-self
@@ -30,6 +32,11 @@ invariant_of-self g c =
       asked = asked_silent old new c.begin_visits.ensures.calls c.args.self.now.asked;
       done = done_silent c.args.self.now.turn.timekeeper.wall c.args.self.now.turn.timekeeper.start old new c.begin_visits.ensures.calls
           c.begin_visits.ensures.times c.args.self.now.done;
+      ending = subst (AreAsFar new)
+          (sym (with_items_is c.args.self.now.peers c.begin_visits.new.peers (c.begin_visits.auto.peers ∙ search rules)))
+          (far_visited old new c.as_mut_slice.result.now c.begin_visits.new.peers c.begin_visits.auto.peers c.begin_visits.ensures.calls
+          c.begin_visits.ensures.those c.begin_visits.ensures.begun
+          (subst (AreAsFar old) (sym c.as_mut_slice.ensures.value) c.args.self.now.ending));
       places = c.args.self.now.places;
     }
 
@@ -44,6 +51,16 @@ returns-clause-read g c =
     c.begin_visits.auto.peers c.begin_visits.ensures.kept c.begin_visits.ensures.those c.begin_visits.ensures.others
     (subst (λ (ps : List Peer). Stands old ps listening last) (sym c.as_mut_slice.ensures.value) c.args.self.now.stands))
     c.begin_visits.ensures.read
+
+pub returns-clause-visited : goal.returns-clause-visited
+returns-clause-visited g c =
+    let old = g.S.System.trace c.args.self.now.system in
+    let new = g.S.System.trace c.begin_visits.new.system in
+    subst (AreVisited new)
+    (sym (with_items_is c.args.self.now.peers c.begin_visits.new.peers (c.begin_visits.auto.peers ∙ search rules)))
+    (visited_all old new c.as_mut_slice.result.now c.begin_visits.new.peers c.begin_visits.auto.peers c.begin_visits.ensures.calls
+    c.begin_visits.ensures.those c.begin_visits.ensures.kept c.begin_visits.ensures.begun
+    (subst (AreAsFar old) (sym c.as_mut_slice.ensures.value) c.args.self.now.ending))
 
 pub returns-clause-marks : goal.returns-clause-marks
 returns-clause-marks g c =

@@ -11,6 +11,7 @@ use Rattle.srcp_peers.proofs.Saying.{says_call}
 use Rattle.srcp_sockets.proofs.Naming.{named_call}
 use Rattle.srcp_sockets.proofs.Parting.{stands_left, stands_missing}
 use Rattle.srcp_sockets.proofs.Timing.{timed_close}
+use Rattle.srcp_sockets.proofs.Ending.{far_left, far_same, slackens_step}
 use Rattle.srcp_sockets.proofs.sockets.Sockets.close.Goals as goal
 
 pub returns-in_default-clause-trace : goal.returns-in_default-clause-trace
@@ -34,6 +35,7 @@ invariant_of-self g c =
           (c.note_close-in_default.ensures c.args.number (Err Close)) refl refl
           (done_step c.args.self.now.turn.timekeeper.wall c.args.self.now.turn.timekeeper.start old new (Answers call) c.note_close.ensures
           (λ log is. tt) c.args.self.now.done);
+      ending = far_same old new c.args.self.now.peers.items (Answers call) c.note_close.ensures (λ s x. refl) c.args.self.now.ending;
       places = c.args.self.now.places;
     }
 
@@ -59,6 +61,8 @@ invariant_of-self-2 g c =
           (c.note_close-3.ensures c.args.number (Ok tt)) refl refl
           (done_step c.args.self.now.turn.timekeeper.wall c.args.self.now.turn.timekeeper.start old new (Answers call) c.note_close-2.ensures
           (λ log is. tt) c.args.self.now.done);
+      ending = far_left old new c.args.self.now.peers.items c.in-Some.index x c.linger.new.self c.args.self.now.turn.clock there.0
+          c.linger.ensures (slackens_step old new (Answers call) c.note_close-2.ensures (λ s x. refl)) c.args.self.now.ending;
       places = c.args.self.now.places;
     }
 

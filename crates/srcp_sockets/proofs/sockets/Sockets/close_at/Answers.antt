@@ -12,6 +12,9 @@ use Rattle.srcp_peers.proofs.Saying.{says_step, keeps_step}
 use Rattle.srcp_sockets.proofs.Naming.{named_silent}
 use Rattle.srcp_sockets.proofs.Parting.{stands_closed_at}
 use Rattle.srcp_sockets.proofs.Timing.{timed_kept}
+use Rattle.std.specs.List.{remove}
+use Rattle.srcp_sockets.specs.Endings.{AreAsFar}
+use Rattle.srcp_sockets.proofs.Ending.{far_goes, removed_of, slackens_step}
 use Rattle.srcp_sockets.proofs.sockets.Sockets.close_at.Goals as goal
 
 pub invariant_of-self : goal.invariant_of-self
@@ -30,6 +33,10 @@ invariant_of-self g c =
       asked = asked_step old new (Closes peer.number) c.close.ensures refl self.asked;
       done = done_step self.turn.timekeeper.wall self.turn.timekeeper.start old new (Closes peer.number) c.close.ensures (λ log is. tt)
           self.done;
+      ending = subst (AreAsFar new) (sym c.remove.ensures.items)
+          (far_goes old new self.peers.items (remove self.peers.items c.args.index)
+          (slackens_step old new (Closes peer.number) c.close.ensures (λ s x. refl))
+          (removed_of self.peers.items c.args.index peer c.requires.within (sym c.index.ensures) self.stands.apart) self.ending);
       places = search rules;
     }
 

@@ -8,6 +8,7 @@ use Rattle.srcp_sockets.proofs.Doing.{done_step, done_turn}
 use Rattle.srcp_sockets.proofs.Naming.{named_call}
 use Rattle.srcp_sockets.proofs.Standing.{stands_step}
 use Rattle.srcp_sockets.proofs.Timing.{timed_expect}
+use Rattle.srcp_sockets.proofs.Ending.{far_same}
 use Rattle.srcp_sockets.proofs.sockets.Sockets.expect.Goals as goal
 
 pub invariant_of-self : goal.invariant_of-self
@@ -26,6 +27,7 @@ invariant_of-self g c =
       done = done_turn new c.args.self.now.turn c.expect.new.self (after_call c.args.self.now.turn call) c.expect.ensures refl refl
           (done_step c.args.self.now.turn.timekeeper.wall c.args.self.now.turn.timekeeper.start old new (Answers call) c.note_expect.ensures
           (λ log is. tt) c.args.self.now.done);
+      ending = far_same old new c.args.self.now.peers.items (Answers call) c.note_expect.ensures (λ s x. refl) c.args.self.now.ending;
       places = c.args.self.now.places;
     }
 

@@ -9,6 +9,8 @@ use Rattle.srcp_sockets.proofs.Flushing.{all_flushed}
 use Rattle.srcp_sockets.proofs.Naming.{named_silent}
 use Rattle.srcp_sockets.proofs.Standing.{stands_turned}
 use Rattle.srcp_sockets.proofs.Timing.{timed_kept}
+use Rattle.srcp_sockets.specs.Endings.{AreAsFar}
+use Rattle.srcp_sockets.proofs.Ending.{far_goes, flushed_of, slackens_silent}
 use Rattle.srcp_sockets.proofs.sockets.Sockets.flush.Goals as goal
 
 pub invariant_of-self : goal.invariant_of-self
@@ -28,6 +30,12 @@ invariant_of-self g c =
       asked = asked_silent old new c.flush.ensures.calls c.args.self.now.asked;
       done = done_silent c.args.self.now.turn.timekeeper.wall c.args.self.now.turn.timekeeper.start old new c.flush.ensures.calls
           c.flush.ensures.times c.args.self.now.done;
+      ending = subst (AreAsFar new)
+          (sym (with_items_is c.args.self.now.peers c.flush.new.peers (c.flush.auto.peers ∙ search rules)))
+          (far_goes old new c.as_mut_slice.result.now c.flush.new.peers (slackens_silent old new c.flush.ensures.calls)
+          (flushed_of c.as_mut_slice.result.now c.flush.new.peers c.flush.auto.peers c.flush.ensures.those c.flush.ensures.shut
+          c.flush.ensures.endings)
+          (subst (AreAsFar old) (sym c.as_mut_slice.ensures.value) c.args.self.now.ending));
       places = c.args.self.now.places;
     }
 

@@ -9,6 +9,7 @@ use Rattle.srcp_sockets.proofs.Doing.{done_step}
 use Rattle.srcp_sockets.proofs.Naming.{named_call}
 use Rattle.srcp_sockets.proofs.Standing.{stands_step}
 use Rattle.srcp_sockets.proofs.Timing.{timed_nothing}
+use Rattle.srcp_sockets.proofs.Ending.{far_same}
 use Rattle.srcp_sockets.proofs.sockets.Sockets.hold_back.Goals as goal
 
 pub invariant_of-self : goal.invariant_of-self
@@ -25,6 +26,7 @@ invariant_of-self g c =
       done = done_step c.args.self.now.turn.timekeeper.wall c.args.self.now.turn.timekeeper.start old new (Answers call) c.note_read.ensures
           (λ log is early. absurd (true≢false (sym c.requires ∙ ap (λ (t : Turn). t.late) (sym (c.args.self.now.timed log is).same) ∙ early)))
           c.args.self.now.done;
+      ending = far_same old new c.args.self.now.peers.items (Answers call) c.note_read.ensures (λ s x. refl) c.args.self.now.ending;
       places = c.args.self.now.places;
     }
 

@@ -2,6 +2,7 @@ use Rattle.srcp_sockets.proofs.Asking.{asked_first}
 use Rattle.srcp_sockets.proofs.Doing.{done_first}
 use Rattle.srcp_sockets.proofs.Timing.{timed_first}
 use Rattle.srcp_sockets.proofs.Naming.{named_first}
+use Rattle.std.proofs.Common.{◌≡◌, [], ap, arith, length}
 use Rattle.srcp_sockets.proofs.sockets.Sockets.new.Goals as goal
 
 pub invariant_of-result-clause-named : goal.invariant_of-result-clause-named
@@ -12,6 +13,11 @@ invariant_of-result-clause-timed g c = timed_first (g.S.System.trace c.args.syst
 
 pub invariant_of-result-clause-asked : goal.invariant_of-result-clause-asked
 invariant_of-result-clause-asked g c = asked_first (g.S.System.trace c.args.system) c.requires.trace
+
+pub invariant_of-result-clause-ending : goal.invariant_of-result-clause-ending
+invariant_of-result-clause-ending g c log is k d lt =
+    let none : c.in_ok-with_capacity.field-0.items ≡ [] = c.in_ok-with_capacity.ensures.items in
+    absurd (omega (arith, ap length none, lt))
 
 pub invariant_of-result-clause-done : goal.invariant_of-result-clause-done
 invariant_of-result-clause-done g c = done_first c.args.turn.timekeeper.wall c.args.turn.timekeeper.start (g.S.System.trace c.args.system)

@@ -10,6 +10,7 @@ use Rattle.srcp_sockets.proofs.Doing.{done_step, done_turn}
 use Rattle.srcp_sockets.proofs.Naming.{named_call}
 use Rattle.srcp_sockets.proofs.Standing.{stands_answered}
 use Rattle.srcp_sockets.proofs.Timing.{timed_unasked}
+use Rattle.srcp_sockets.proofs.Ending.{far_same}
 use Rattle.srcp_sockets.proofs.sockets.Sockets.note_nobody.Goals as goal
 
 pub invariant_of-self : goal.invariant_of-self
@@ -34,6 +35,7 @@ invariant_of-self g c =
       done = done_turn new self.turn c.note_accept-2.new.self (after_call self.turn (AcceptCall answer)) c.note_accept-2.ensures refl refl
           (done_step self.turn.timekeeper.wall self.turn.timekeeper.start old new (Answers (AcceptCall answer)) c.note_accept.ensures
           (λ log is. tt) self.done);
+      ending = far_same old new self.peers.items (Answers (AcceptCall answer)) c.note_accept.ensures (λ s x. refl) self.ending;
       places = self.places;
     }
 

@@ -15,6 +15,7 @@ use Rattle.srcp_sockets.proofs.Naming.{named_call, named_silent}
 use Rattle.srcp_sockets.proofs.Parting.{stands_clocked}
 use Rattle.srcp_sockets.proofs.Serving.{read_clocked, stands_now}
 use Rattle.srcp_sockets.proofs.Timing.{timed_moment}
+use Rattle.srcp_sockets.proofs.Ending.{far_told}
 use Rattle.srcp_sockets.proofs.sockets.Sockets.now.Goals as goal
 
 -- the moment that follows of what the clock showed
@@ -68,6 +69,8 @@ invariant_of-self g c =
           c.requires.may)
           (done_step turn.timekeeper.wall turn.timekeeper.start old mid (Clocks c.clock-shown.result) c.clock-shown.ensures
           (λ log is. tt) c.args.self.now.done));
+      ending = far_told old mid new c.args.self.now.peers.items c.clock-shown.result answer c.clock-shown.ensures c.note_now.ensures
+          c.requires.visited;
       places = c.args.self.now.places;
     }
 

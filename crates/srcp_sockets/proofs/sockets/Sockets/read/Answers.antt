@@ -16,6 +16,10 @@ use Rattle.srcp_sockets.proofs.Handing.{read_done}
 use Rattle.srcp_sockets.proofs.Naming.{named_call}
 use Rattle.srcp_sockets.proofs.Standing.{stands_one}
 use Rattle.srcp_sockets.proofs.Timing.{line_kept, read_time, timed_read}
+use Rattle.std.proofs.Common.{set, true}
+use Rattle.srcp_peers.specs.declared.stay.Stay.TheVariants as stay
+use Rattle.srcp_sockets.specs.Endings.{ending_of, is_as_far}
+use Rattle.srcp_sockets.proofs.Ending.{far_goes, set_one, slackens_step}
 use Rattle.srcp_sockets.proofs.sockets.Sockets.read.Goals as goal
 
 pub invariant_of-self : goal.invariant_of-self
@@ -29,6 +33,7 @@ invariant_of-self g c =
     let answer = c.read-handed.result.got in
     let buffer = c.read-handed.new.buffer in
     let turn = c.args.self.now.turn in
+    let here : x.stay ≡ stay.Here = ap (λ (p : Peer). p.stay) is ∙ (c.in-Some.ensures.found.1 x).1 in
     record {
       stands = stands_one old new c.args.self.now.peers.items c.in-Some.index
           x c.read-handed.new.self c.args.self.now.listening c.args.self.now.last within c.read-handed.ensures.kept
@@ -53,8 +58,18 @@ invariant_of-self g c =
           (λ log logged early. read_done turn.timekeeper.wall turn.timekeeper.start old turn x answer buffer (length c.args.buffer.now)
           c.read-handed.result.refused log logged c.args.self.now.timed
           (subst (IsKept old) (sym is) (c.args.self.now.stands.kept c.in-Some.index x within))
-          (ap (λ (p : Peer). p.stay) is ∙ (c.in-Some.ensures.found.1 x).1) c.read-handed.auto.buffer c.read-handed.ensures.answered)
+          here (subst (λ (p : Peer). is_as_far (ending_of p.number log) p.ending ≡ true) (sym is)
+          (c.args.self.now.ending log logged c.in-Some.index x within (c.in-Some.ensures.found.1 x).1)) c.read-handed.auto.buffer c.read-handed.ensures.answered)
           c.args.self.now.done);
+      ending = far_goes old new c.args.self.now.peers.items (set c.args.self.now.peers.items c.in-Some.index c.read-handed.new.self)
+          (slackens_step old new (Answers (ReadCall x.number answer buffer)) c.read-handed.ensures.trace (λ s e. refl))
+          (set_one c.args.self.now.peers.items c.in-Some.index x c.read-handed.new.self within
+          (λ here. (
+            ap (λ (p : Peer). p.stay) (sym is) ∙ sym (ap (λ (p : Peer). p.stay) c.read-handed.ensures.same) ∙ here,
+            c.read-handed.ensures.number ∙ e,
+            ap (λ (p : Peer). p.ending) c.read-handed.ensures.same ∙ ap (λ (p : Peer). p.ending) is,
+          )))
+          c.args.self.now.ending;
       places = c.args.self.now.places;
     }
 

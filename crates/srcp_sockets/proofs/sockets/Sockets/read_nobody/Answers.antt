@@ -10,6 +10,7 @@ use Rattle.srcp_sockets.proofs.Naming.{named_call}
 use Rattle.srcp_sockets.proofs.Handing.{missing_done}
 use Rattle.srcp_sockets.proofs.Parting.{stands_missed, unwatched_is}
 use Rattle.srcp_sockets.proofs.Timing.{read_time, timed_missed}
+use Rattle.srcp_sockets.proofs.Ending.{far_same}
 use Rattle.srcp_sockets.proofs.sockets.Sockets.read_nobody.Goals as goal
 
 pub invariant_of-self : goal.invariant_of-self
@@ -38,6 +39,7 @@ invariant_of-self g c =
           (unwatched_is old self.peers.items self.listening self.last c.args.number log is c.requires self.stands)
           c.report_fault-answer.ensures.exact)
           self.done);
+      ending = far_same old new c.args.self.now.peers.items (Answers call) c.note_read.ensures (λ s x. refl) c.args.self.now.ending;
       places = c.args.self.now.places;
     }
 

@@ -16,6 +16,9 @@ use Rattle.srcp_sockets.proofs.Doing.{done_step, done_turn, looked_wait}
 use Rattle.srcp_sockets.proofs.Naming.{named_silent}
 use Rattle.srcp_sockets.proofs.Waited.{stands_waited}
 use Rattle.srcp_sockets.proofs.Timing.{timed_wait}
+use Rattle.std.specs.Prelude.{take}
+use Rattle.srcp_sockets.specs.Endings.{AreAsFar}
+use Rattle.srcp_sockets.proofs.Ending.{far_goes, slackens_step, woken_of}
 use Rattle.srcp_sockets.proofs.sockets.Sockets.wait.Goals as goal
 
 pub invariant_of-self : goal.invariant_of-self
@@ -46,6 +49,11 @@ invariant_of-self g c =
       done = done_turn new c.args.self.now.turn c.wait.new.self (after_wait c.args.self.now.turn) c.wait.ensures refl refl
           (done_step c.args.self.now.turn.timekeeper.wall c.args.self.now.turn.timekeeper.start old new (Waits most count ready)
           c.wait-count.ensures.trace c.requires.may c.args.self.now.done);
+      ending = subst (AreAsFar new)
+          (sym (with_items_is c.args.self.now.peers c.wake.new.peers (c.wake.auto.peers ∙ search rules)))
+          (far_goes old new before c.wake.new.peers (slackens_step old new (Waits most count ready) c.wait-count.ensures.trace (λ s x. refl))
+          (woken_of before c.wake.new.peers (take count ready) c.wake.auto.peers c.wake.ensures)
+          (subst (AreAsFar old) same c.args.self.now.ending));
       places = c.args.self.now.places;
     }
 

@@ -11,6 +11,7 @@ use Rattle.srcp_sockets.proofs.Naming.{named_call}
 use Rattle.srcp_sockets.proofs.Parting.{stands_unwritten}
 use Rattle.srcp_sockets.proofs.Standing.{stands_one}
 use Rattle.srcp_sockets.proofs.Timing.{timed_write}
+use Rattle.srcp_sockets.proofs.Ending.{far_same, far_wrote}
 use Rattle.srcp_sockets.proofs.sockets.Sockets.write.Goals as goal
 
 pub returns-in_default-clause-trace : goal.returns-in_default-clause-trace
@@ -42,6 +43,11 @@ invariant_of-self-2 g c =
           (done_step c.args.self.now.turn.timekeeper.wall c.args.self.now.turn.timekeeper.start (g.S.System.trace c.args.self.now.system)
           (g.S.System.trace c.write-count.new.system) (Answers (WriteCall x.number c.args.bytes.now (Ok c.write-count.result)))
           c.write-count.ensures.trace (λ log is. tt) c.args.self.now.done);
+      ending = far_wrote (g.S.System.trace c.args.self.now.system) (g.S.System.trace c.write-count.new.system) c.args.self.now.peers.items
+          c.in-Some.index x c.write-count.new.self c.args.bytes.now c.write-count.result c.in-Some.ensures.found.0
+          c.index_mut.ensures.value c.args.self.now.stands.apart c.write-count.ensures.number
+          (ap (λ (p : Peer). p.stay) c.write-count.ensures.same) (ap (λ (p : Peer). p.ending) c.write-count.ensures.same)
+          c.write-count.ensures.trace c.args.self.now.ending;
       places = c.args.self.now.places;
     }
 
@@ -74,6 +80,11 @@ invariant_of-self-clause-stands g c = stands_unwritten (g.S.System.trace c.args.
 pub invariant_of-self-clause-asked : goal.invariant_of-self-clause-asked
 invariant_of-self-clause-asked g c = asked_step (g.S.System.trace c.args.self.now.system) (g.S.System.trace c.note_write.new.self)
     (Answers (WriteCall c.args.number c.args.bytes.now (Err Write))) c.note_write.ensures refl c.args.self.now.asked
+
+pub invariant_of-self-clause-ending : goal.invariant_of-self-clause-ending
+invariant_of-self-clause-ending g c = far_same (g.S.System.trace c.args.self.now.system) (g.S.System.trace c.note_write.new.self)
+    c.args.self.now.peers.items (Answers (WriteCall c.args.number c.args.bytes.now (Err Write))) c.note_write.ensures (λ s x. refl)
+    c.args.self.now.ending
 
 pub invariant_of-self-clause-done : goal.invariant_of-self-clause-done
 invariant_of-self-clause-done g c =
