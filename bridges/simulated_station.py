@@ -173,9 +173,10 @@ class Station:
         """Reads a CV, or writes a value into it; returns whether the numbers are right."""
         if not 1 <= cv <= 1024 or (value or 0) > 255:
             return False
-        found = -3 if self.decoder is None and value is None else (self.decoder or {}).get(cv, -1)
+        cvs = self.decoder or {}
+        found = -3 if self.decoder is None and value is None else cvs.get(cv, -1)
         if found >= 0 and value is not None:
-            found = self.decoder[cv] = value
+            found = cvs[cv] = value
         self.report(f"<{'v' if value is None else 'r'} {cv} {found}>\r\n")
         return True
 

@@ -2,6 +2,7 @@
 import os
 import ssl
 import threading
+from typing import Any
 
 try:
     import paho.mqtt.client as paho  # type: ignore[import]
@@ -38,8 +39,9 @@ def connect(asked, name, will, heard, joined, lost, loop):
         except UnicodeDecodeError:
             pass  # no topic of ours
 
-    version = [paho.CallbackAPIVersion.VERSION1] if hasattr(paho, "CallbackAPIVersion") else []
-    client = paho.Client(*version, client_id=name, clean_session=True)
+    versions = getattr(paho, "CallbackAPIVersion", None)
+    version: dict[str, Any] = {"callback_api_version": versions.VERSION1} if versions else {}
+    client = paho.Client(client_id=name, clean_session=True, **version)
     client.will_set(will, "offline", qos=1, retain=True)
     if asked.user:
         client.username_pw_set(asked.user, os.environ.get("MQTT_PASSWORD"))

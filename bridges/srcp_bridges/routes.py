@@ -56,7 +56,8 @@ class Routes:
 
         def turn(node, side):
             element = self.elements.of(node)
-            return element.turn(side, ports.get(tuple(element.given[:2])) if element.kind == "turnout" else None)
+            port = ports.get((element.given[0], element.given[1])) if element.kind == "turnout" else None
+            return element.turn(side, port)
 
         if (tracks := way(self.ways, begin, end, turn)) is None:
             raise self.wrong(index, "turnouts", f"no track leads from {begin.text} to {end.text} over the turnouts of "

@@ -73,8 +73,8 @@ class Confirmed(Station):
         """Takes a report of a locomotive: its speed and direction, and a bit for each function."""
         part = "cab", address
         before = self.hands.reports.reported.get(part, (0, FORWARD))
-        news = drives if drives[0] <= 0 or self.has_heard(part, drives) else before
-        self.hands.locomotive(address, *news, functions)
+        speed, way = drives if drives[0] <= 0 or self.has_heard(part, drives) else before
+        self.hands.locomotive(address, speed, way, functions)
         self.confirm(part, drives)
         for number in range(FUNCTIONS):
             self.confirm(("function", address, number), functions >> number & 1)
