@@ -219,7 +219,7 @@ def panel_that_leaves(port):
     with socket.create_connection(("127.0.0.1", port), timeout=SECONDS) as panel:
         panel.sendall(b"SET CONNECTIONMODE SRCP INFO\nGO\n")
         if panel.recv(len(WELCOME), socket.MSG_WAITALL) != WELCOME:
-            raise EOFError
+            raise ConnectionError("no place")
         panel.shutdown(socket.SHUT_WR)
         time.sleep(0.02)
 
@@ -236,7 +236,7 @@ def panels_that_leave_in_midst_of_changes(program):
         try:
             for came in range(1, LEAVERS + 1):
                 comes_again(lambda: panel_that_leaves(port))
-        except (EOFError, ConnectionError):
+        except ConnectionError:
             return f"the panel {came} finds no place"
         finally:
             throttle.socket.shutdown(socket.SHUT_RDWR)

@@ -159,7 +159,7 @@ def calls_that_are_interrupted(program):
             replies = Counter(throttle.asks(f"SET 1 FB 8 {turn % 2}") for turn in range(1, COMMANDS + 1))
             throttle.asks("SET 1 POWER ON last")
             told = panel.hears_until(b" 100 INFO 1 POWER ON last\n").count(b" 100 INFO 1 FB 8 ")
-        except (OSError, EOFError) as fault:
+        except OSError as fault:
             return f"after {calls[RECEIVE]} reads and {calls[SEND]} writes: {fault!r}"
     got = told - 1, replies
     return None if got == (COMMANDS, {"200 OK": COMMANDS}) else f"a panel was told, and commands are answered {got}"

@@ -48,11 +48,11 @@ def free_port():
 class Client:
     """A connection to a server, with the lines that came of it."""
 
-    def __init__(self, port, mode, receives=None):
+    def __init__(self, port, mode="COMMAND", receives=None, seconds=SECONDS):
         """Stays in the handshake if the mode is None. `receives` is how many unread bytes the socket is to keep, if the
-        system is not to choose."""
+        system is not to choose. `seconds` is how long it waits for a reply."""
         self.socket = socket.socket()
-        self.socket.settimeout(SECONDS)
+        self.socket.settimeout(seconds)
         if receives:
             self.socket.setsockopt(socket.SOL_SOCKET, socket.SO_RCVBUF, receives)
         self.socket.connect(("127.0.0.1", port))
@@ -66,7 +66,7 @@ class Client:
         while b"\n" not in self.begun:
             more = self.socket.recv(65536)
             if not more:
-                raise EOFError
+                raise ConnectionError("the server has closed the connection")
             self.begun += more
         line, _, self.begun = self.begun.partition(b"\n")
         return line + b"\n"
@@ -74,9 +74,9 @@ class Client:
     def asks(self, *commands):
         """Sends each command and waits for its reply; answers the last one without its stamp."""
         for command in commands:
-            self.socket.sendall(command.encode() + b"\n")
+            self.socket.sendall(command.encode("latin-1") + b"\n")
             reply = self.line()
-        return reply.split(b" ", 1)[1].decode().strip()
+        return reply.split(b" ", 1)[1].decode("latin-1").strip()
 
     def asks_many(self, commands):
         """Sends all commands before it reads a reply. Returns how many replies each text had, without their stamps."""
@@ -106,7 +106,7 @@ def comes_again(come):
     while True:
         try:
             return come()
-        except (EOFError, ConnectionError):
+        except ConnectionError:
             if time.monotonic() > end:
                 raise
             time.sleep(0.05)

@@ -13,7 +13,7 @@ import time
 import unittest
 from pathlib import Path
 
-from serving import comes_again
+from serving import Client, comes_again
 
 TOP = Path(__file__).resolve().parent.parent.parent
 PROGRAMS = Path(os.environ.get("SRCP_PROGRAMS", TOP / "bridges"))
@@ -160,18 +160,12 @@ class Server:
         self.start()
 
 
-class Session:
+class Session(Client):
     def __init__(self, port, mode="COMMAND"):
-        connection = socket.create_connection(("127.0.0.1", port), WAIT)
-        self.stream = connection.makefile("rw", encoding="latin-1", newline="\n")
-        if not self.stream.readline():
-            raise EOFError("the server is full")
-        self.ask(f"SET CONNECTIONMODE SRCP {mode}")
-        self.id = self.ask("GO").split()[-1]
+        super().__init__(port, mode, seconds=WAIT)
 
     def ask(self, command):
-        print(command, file=self.stream, flush=True)
-        return self.stream.readline().rstrip("\n").partition(" ")[2]
+        return self.asks(command)
 
     def order(self, *commands):
         for command in commands:
@@ -181,13 +175,7 @@ class Session:
     def flood(self, commands):
         """Sends many commands, 100 at once."""
         for begin in range(0, len(commands), 100):
-            some = commands[begin:begin + 100]
-            print("\n".join(some), file=self.stream, flush=True)
-            for _ in some:
-                self.stream.readline()
-
-    def close(self):
-        self.stream.close()
+            self.asks_many(commands[begin:begin + 100])
 
 
 def sessions(port, count):

@@ -226,7 +226,7 @@ class Losses(StationCase):
             self.track(lambda s: s.cabs[3] == (63, 1), "it drives as it did")
             gone = others.pop()
             gone.close()
-            until(lambda: "416" in self.throttle.ask(f"GET 0 SESSION {gone.id}"), "another has left its place")
+            until(lambda: "416" in self.throttle.ask(f"GET 0 SESSION {gone.session}"), "another has left its place")
             until(lambda: is_full(self.server.port), "the driver keeps a place again")
 
     def test_the_driver_is_ended(self):

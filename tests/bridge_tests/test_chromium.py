@@ -66,7 +66,8 @@ class ChromiumCase(WebCase):
             self.throttle.order(f"INIT 1 GL {name[2:]} N 1 28 5", f"SET 1 GL {name[2:]} {mode} {v} 28")
 
     def speed(self, address):
-        [row] = [row for row in rows(self.server.port) if row.startswith(f"100 INFO 1 GL {address} ")]
+        """The speed that was told last: a row that changes meanwhile is told again."""
+        *_, row = (row for row in rows(self.server.port) if row.startswith(f"100 INFO 1 GL {address} "))
         return int(row.split()[6])
 
     def picture(self, name, width, height, phone=False, dark=False):

@@ -230,11 +230,11 @@ class DccExWithLosses(Losses, DccExCase):
         meanwhile is carried out as it goes on, and is put to rest."""
         self.server.process.send(signal.SIGSTOP)
         begun = time.monotonic()
-        print("SET 1 GL 3 1 28 28", file=self.throttle.stream, flush=True)
+        self.throttle.socket.sendall(b"SET 1 GL 3 1 28 28\n")
         self.track(lambda s: s.cabs[3] == (0, 1), "it stands")
         self.assertLess(time.monotonic() - begun, 10)  # on a busy machine
         self.server.process.send(signal.SIGCONT)
-        self.throttle.stream.readline()
+        self.throttle.line()
         self.rests("server was away")
         self.drives()
 

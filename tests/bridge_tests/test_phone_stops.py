@@ -82,7 +82,7 @@ class WiThrottleStops(WiThrottleCase):
         self.throttle.order("SET 1 POWER ON")
         phone.got("PPA1")
         self.server.process.send(signal.SIGSTOP)
-        print("SET 1 POWER OFF", file=self.throttle.stream, flush=True)
+        self.throttle.socket.sendall(b"SET 1 POWER OFF\n")
         time.sleep(0.2)
         self.at_once(phone, *[f"M0A*<;>V{v}" for v in range(30, 80)])
         phone.got("PPA0", "HM3: it was stopped meanwhile")
