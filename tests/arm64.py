@@ -19,7 +19,7 @@ EMULATOR, COMPILER, LIBRARY = "qemu-aarch64", "aarch64-linux-gnu-gcc", Path("/us
 EMULATED = [EMULATOR, "-L", LIBRARY]
 # of a Raspberry Pi 3, 4 and 5
 PROCESSORS = ("cortex-a53", "cortex-a72", "cortex-a76")
-# None limits memory: that would be the memory of the emulator, which ends if it is refused.
+# None limits memory: the limit is on the emulator too. So who is lost then, the program or the emulator, is not told.
 SERVED = ("panels-hold-the-registry", "peer-65-is-turned-away", "client-that-half-closes", "port-that-is-taken",
           "turns-are-counted", "sessions-on-both-sides", "quiet-session-beside-many",
           "one-session-sends-a-million-commands", "end-of-a-session-with-locks", "half-closed-panel-beside-many")
