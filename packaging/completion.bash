@@ -2,18 +2,20 @@
 _srcp_server() {
 	local word=${COMP_WORDS[COMP_CWORD]} before=${COMP_WORDS[COMP_CWORD-1]} command=${COMP_WORDS[1]}
 	case $before in
-	--config) mapfile -t COMPREPLY < <(compgen -f -- "$word"); return ;;
+	--config | --plan) mapfile -t COMPREPLY < <(compgen -f -- "$word"); return ;;
 	--turns) return ;;
 	esac
 	local words="--help --version"
 	if [ "$COMP_CWORD" -eq 1 ]; then
-		words="serve check mirror replay help --help --version"
+		words="serve check mirror interlock replay help --help --version"
 	else
 		case $command in
 		serve) words="--config --turns --help" ;;
-		check | replay) words="--config --help" ;;
+		check) words="--config --plan --help" ;;
+		replay) words="--config --help" ;;
+		interlock) words="--plan --help" ;;
 		mirror) words="--help" ;;
-		help) words="serve check mirror replay" ;;
+		help) words="serve check mirror interlock replay" ;;
 		esac
 	fi
 	mapfile -t COMPREPLY < <(compgen -W "$words" -- "$word")

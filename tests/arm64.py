@@ -19,10 +19,12 @@ EMULATOR, COMPILER, LIBRARY = "qemu-aarch64", "aarch64-linux-gnu-gcc", Path("/us
 EMULATED = [EMULATOR, "-L", LIBRARY]
 # of a Raspberry Pi 3, 4 and 5
 PROCESSORS = ("cortex-a53", "cortex-a72", "cortex-a76")
-# None limits memory: the limit is on the emulator too. So who is lost then, the program or the emulator, is not told.
 SERVED = ("panels-hold-the-registry", "peer-65-is-turned-away", "client-that-half-closes", "port-that-is-taken",
-          "turns-are-counted", "sessions-on-both-sides", "quiet-session-beside-many",
+          "turns-are-counted", "memory-that-runs-out", "sessions-on-both-sides", "quiet-session-beside-many",
           "one-session-sends-a-million-commands", "end-of-a-session-with-locks", "half-closed-panel-beside-many")
+# A limit of memory is on the emulator too. So its C library takes 64 MB at the start, which the program cannot have.
+# An emulator that is refused memory ends, or answers the program's calls with ENOMEM.
+RESERVE, RESERVED = "MALLOC_TOP_PAD_", 64 << 20
 MINUTES = 10
 NOT_BUILT = 3  # the status of packaging/arm64/build if there is nothing to build it over
 VERSION = "srcp_server 1.0\n"
@@ -51,7 +53,8 @@ def emulated():
     """A program that emulates the one for ARM."""
     with tempfile.TemporaryDirectory() as folder:
         script = Path(folder) / "srcp_server"
-        script.write_text(f'#!/bin/sh\nexec {" ".join(map(str, EMULATED))} {program_for_arm64()} "$@"\n')
+        words = " ".join(map(str, [*EMULATED, "-U", RESERVE, program_for_arm64()]))
+        script.write_text(f'#!/bin/sh\n{RESERVE}={RESERVED} exec {words} "$@"\n')
         script.chmod(0o755)
         yield script
 

@@ -149,7 +149,7 @@ def program_takes_the_instructions_that_the_page_names(program):
 
 def linked_libraries():
     """The libraries of the kit that the crates name, with those below them if the kit is here."""
-    crates = dict(re.findall(r"^(\w+): (.*)$", (TOP / "crates.txt").read_text(), re.M))
+    crates = dict(re.findall(r"^(\w+):(.*)$", (TOP / "crates.txt").read_text(), re.M))
     wanted, found = [name for line in crates.values() for name in line.split()], set()
     kit = shutil.which("rt")
     while wanted:
@@ -238,7 +238,8 @@ def bash_completes_words(program):
 def commands_of_the_manual_page(program):
     """The examples of srcp_server(1), run as the blocks of the other pages are, in the repository's copy."""
     blocks = re.findall(r"^\.Bd -literal.*\n((?:.*\n)*?)\.Ed", (PACKAGING / "srcp_server.1").read_text(), re.M)
-    there = {"$ srcp_server ": "$ ./run ", f"/{CONF}": "examples/layout.toml", " &\n": "\n"}
+    there = {"$ srcp_server ": "$ ./run ", f"/{CONF}": "examples/layout.toml", " &\n": "\n",
+             "/usr/share/doc/srcp-server/examples": "examples"}
     with reader_of_a_page(program) as reader:
         for block in blocks:
             for installed, here in there.items():

@@ -18,6 +18,7 @@ fb_ports = 2
 """
 STORED_RUN = Path(__file__).resolve().parent / "cases" / "stored-run"
 LISTING = Path(__file__).resolve().parent / "cases" / "mirror-of-a-listing" / "stdin"
+ROUTE = Path(__file__).resolve().parent / "cases" / "interlock-route-set-and-given-back"
 
 
 def outcome(program, words, given=b""):
@@ -29,11 +30,11 @@ def unlike(what, got, want):
     return None if got == want else f"{what}: got {got!r}, want {want!r}"[:400]
 
 
-def check_document(program, document):
+def check_document(program, document, words=("check", "--config")):
     with tempfile.NamedTemporaryFile() as file:
         file.write(document)
         file.flush()
-        return outcome(program, ["check", "--config", file.name])
+        return outcome(program, [*words, file.name])
 
 
 def fault_of_document(document):
@@ -110,6 +111,19 @@ def listing_cut_after_each_byte(program):
     return None
 
 
+def routes_cut_after_each_byte(program):
+    """The LF of a line brings the next order at most, and no other byte brings one."""
+    given, orders = (ROUTE / "stdin").read_bytes(), (ROUTE / "stdout").read_bytes().splitlines(keepends=True)
+    sent = 0
+    for count in range(len(given) + 1):
+        got = outcome(program, ["interlock", "--plan", ROUTE / "plan.toml"], given[:count])
+        if got != (0, b"", b"".join(orders[:sent])):
+            sent += given[:count].endswith(b"\n")
+            if fault := unlike(f"{count} bytes", got, (0, b"", b"".join(orders[:sent]))):
+                return fault
+    return unlike("orders", sent, len(orders))
+
+
 def layout_of_250_buses(program):
     document = b"".join(b'[[bus]]\nnumber = %d\ngroups = ["POWER"]\n' % number for number in range(1, 251))
     told = b"port 4303\n" + b"".join(b"bus %d POWER\n" % number for number in range(1, 251))
@@ -134,4 +148,5 @@ def script_of_300_000_lines(program):
 
 
 INPUT_CASES = (document_cut_after_each_byte, script_cut_after_each_byte, listing_cut_after_each_byte,
-               layout_of_250_buses, mirror_of_70_000_rows, run_of_200_000_events, script_of_300_000_lines)
+               routes_cut_after_each_byte, layout_of_250_buses, mirror_of_70_000_rows, run_of_200_000_events,
+               script_of_300_000_lines)

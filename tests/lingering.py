@@ -1,6 +1,7 @@
 """How the door over sockets serves peers that are hard to serve: that send urgent data, that end and read late, that
 stay; and a server that stood still."""
 import os
+import select
 import signal
 import socket
 import threading
@@ -18,6 +19,13 @@ ANSWER = b" 100 INFO 1 POWER OFF\n"
 BESIDE = 4
 READERS = 12
 TURNED_AWAY = 71
+SENDERS = 64
+SENDING_PROCESSES = 16
+PULSES = 1000
+BETWEEN_PULSES = 4
+ASKED = 100
+LONGEST_REPLY = 0.1
+LONGEST_ASKING = 0.8
 
 
 @contextmanager
@@ -30,6 +38,62 @@ def stopped(server):
     finally:
         time.sleep(0.1)
         os.kill(server.pid, signal.SIGCONT)
+
+
+@contextmanager
+def turned_away_and_sending(port, count):
+    """So many clients come that find no place, and send without end in processes of their own."""
+    children = []
+    for _ in range(SENDING_PROCESSES):
+        child = os.fork()
+        if child == 0:
+            try:
+                send_to_who_drops_it([socket.create_connection(("127.0.0.1", port))
+                                      for _ in range(count // SENDING_PROCESSES)])
+            finally:
+                os._exit(0)
+        children.append(child)
+    try:
+        yield
+    finally:
+        for child in children:
+            os.kill(child, signal.SIGKILL)
+            os.waitpid(child, 0)
+
+
+def send_to_who_drops_it(clients):
+    """The clients send without end, each as much as is taken."""
+    for client in clients:
+        client.setblocking(False)
+    while clients:
+        _, ready, _ = select.select([], clients, [])
+        for client in ready:
+            try:
+                client.send(bytes(1 << 18))
+            except BlockingIOError:
+                pass
+            except OSError:
+                clients.remove(client)
+
+
+def clients_that_are_turned_away_and_send(program):
+    """All places are taken, and ports fall back all the time. A session is answered soon all the same."""
+    with served(program) as (port, _):
+        first, quiet, *_others = clients_at_all_places(port)
+        first.asks_many([f"INIT 1 GA {address} N" for address in range(1, PULSES + 1)])
+        first.asks_many([f"SET 1 GA {address} 0 1 {500 + address * BETWEEN_PULSES}"
+                         for address in range(1, PULSES + 1)])
+        with turned_away_and_sending(port, SENDERS):
+            time.sleep(0.5)
+            waits = []
+            for turn in range(ASKED):
+                begun = time.monotonic()
+                quiet.asks(f"SET 1 FB 1 {turn % 2}")
+                waits.append(time.monotonic() - begun)
+    late, took = sorted(waits)[-2], sum(waits)
+    if late > LONGEST_REPLY or took > LONGEST_ASKING:
+        return f"{ASKED} replies take {took:.1f} s, the 99th of them {late:.2f} s"
+    return None
 
 
 def urgent_data_stalls_nobody(program):
@@ -216,4 +280,5 @@ def clients_at_64_places(program):
 
 LINGERING_CASES = (urgent_data_stalls_nobody, pulse_sent_to_a_server_that_stood_still, fall_after_a_long_wait,
                    leaver_that_reads_late, half_closed_session_that_does_not_read,
-                   clients_that_are_turned_away_and_stay, end_of_a_session_with_much_behind_it, clients_at_64_places)
+                   clients_that_are_turned_away_and_stay, clients_that_are_turned_away_and_send,
+                   end_of_a_session_with_much_behind_it, clients_at_64_places)

@@ -178,7 +178,8 @@ def faults_met(program):
         taken.write_text(f"port = {port}\nbus = []\n")
         unreadable = os.open("/", os.O_RDONLY)
         met = [ended("serve", "--config", taken), ended("check", "--config", "/no/file"),
-               ended("check", "--config", empty), ended("replay", input=b"close\n"),
+               ended("check", "--config", empty), ended("interlock", "--plan", empty, input=b""),
+               ended("replay", input=b"close\n"),
                ended("mirror", input=b"none\n"), ended("mirror", input=b"\n" * 16_777_217),
                ended("replay", stdin=unreadable), ended("replay", input=b"open\n", stdout=full)]
         os.close(unreadable)

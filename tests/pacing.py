@@ -21,6 +21,9 @@ LONGEST_GO = 4
 ROWS = 1_000
 LONGEST_END = 4
 CLOSED = 1
+# Six pieces of as many lines are one line more than the lines of a turn weigh.
+SENDERS = 6
+MOST_AHEAD = 1.5
 
 
 @contextmanager
@@ -154,6 +157,31 @@ def quiet_replies(program, behind):
     return replies
 
 
+def sessions_that_do_not_wait_have_like_shares(program):
+    """Of sessions that send without end none is answered half as often again as another."""
+    with served(program) as (port, _):
+        throttles = [Client(port, "COMMAND") for _ in range(SENDERS)]
+        answered = [0] * SENDERS
+        readers = [threading.Thread(target=count_replies, args=(throttle, answered, index))
+                   for index, throttle in enumerate(throttles)]
+        commands = b"SET 1 FB 1 1\n" * SETS
+        senders = [threading.Thread(target=send_all, args=(throttle, commands)) for throttle in throttles]
+        with running(readers), running(senders):
+            time.sleep(1)
+            told = list(answered)
+            shut(throttles)
+    return None if max(told) < MOST_AHEAD * min(told) else f"the sessions are answered {told} times"
+
+
+def count_replies(throttle, answered, index):
+    """Counts the replies that a session reads until its connection is shut."""
+    try:
+        while piece := throttle.socket.recv(1 << 16):
+            answered[index] += piece.count(b"\n")
+    except OSError:
+        pass
+
+
 def commands_in_one_go(program):
     """Without a panel the pieces of commands that come in one go follow one another without a wait."""
     with served(program) as (port, _):
@@ -269,6 +297,6 @@ def half_closed_panel_beside_many(program):
     return None if ended else f"its stream goes on after {LONGEST_END} s and {len(lines)} lines"
 
 
-PACING_CASES = (sessions_on_both_sides, quiet_session_beside_many, commands_in_one_go,
-                one_session_sends_a_million_commands, panels_that_pause, end_of_a_session_with_locks,
-                half_closed_panel_beside_many)
+PACING_CASES = (sessions_on_both_sides, quiet_session_beside_many, sessions_that_do_not_wait_have_like_shares,
+                commands_in_one_go, one_session_sends_a_million_commands, panels_that_pause,
+                end_of_a_session_with_locks, half_closed_panel_beside_many)

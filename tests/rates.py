@@ -6,7 +6,7 @@ from contextlib import contextmanager
 
 from door import small_socket
 from pacing import in_a_process, sending_without_end
-from serving import Client, served
+from serving import LAYOUT, Client, served
 
 # The bytes of a line that tells a change of FB 1.
 LINE = len(b"1793674849.260 100 INFO 1 FB 1 1\n")
@@ -15,6 +15,10 @@ SECONDS_OF_LOAD = 5
 LONGEST_UNTIL_CLOSED = 15
 PORTS = 149
 FALLS = 10
+# How many ports fall back in a millisecond, and for how many: as many as a panel can take, but not all within 10.
+FALLS_A_MILLISECOND = 30
+MILLISECONDS = 20
+EIGHT_PORTS = LAYOUT + "ga_ports = 8\n"
 
 
 @contextmanager
@@ -54,11 +58,11 @@ def read_at(client, bytes_a_second):
         count += len(piece)
 
 
-def closed_after(port, lines_a_second, seconds):
+def closed_after(port, lines_a_second, seconds, command=b"SET 1 FB 1 %d\n"):
     """When a panel that reads so fast is closed beside a session that sends without end, or None if it is kept so
     long."""
     asker = Client(port, "COMMAND")
-    with sending_without_end([Client(port, "COMMAND")]), panel_reading(port, lines_a_second) as session:
+    with sending_without_end([Client(port, "COMMAND")], command), panel_reading(port, lines_a_second) as session:
         begun = time.monotonic()
         while (waited := time.monotonic() - begun) < seconds:
             if asker.asks(f"GET 0 SESSION {session}") == GONE:
@@ -71,6 +75,13 @@ def panel_that_reads_a_little_faster_than_a_line_a_millisecond(program):
     """It is kept beside a session that sends without end."""
     with served(program) as (port, _):
         closed = closed_after(port, 1_500, SECONDS_OF_LOAD)
+    return None if closed is None else f"it is closed after {closed:.1f} s"
+
+
+def panel_that_reads_a_little_faster_than_a_change_a_millisecond(program):
+    """It is kept too if every second command brings it 9 changes."""
+    with served(program, layout=EIGHT_PORTS) as (port, _):
+        closed = closed_after(port, 1_500, SECONDS_OF_LOAD, b"INIT 1 GA 5 N %d\nTERM 1 GA 5\n")
     return None if closed is None else f"it is closed after {closed:.1f} s"
 
 
@@ -106,6 +117,27 @@ def changes_at_one_moment_beside_many(program):
     return None if heard == FALLS * PORTS else f"a panel was sent {heard} of {FALLS * PORTS} falls"
 
 
+def falls_at_a_server_that_stood_still(program):
+    """Ports fall back one after another while the server stands still. A panel that reads is told each fall."""
+    with served(program) as (port, server):
+        first = Client(port, "COMMAND")
+        addresses = [range(step * FALLS_A_MILLISECOND + 1, (step + 1) * FALLS_A_MILLISECOND + 1)
+                     for step in range(MILLISECONDS)]
+        first.asks_many([f"INIT 1 GA {address} N" for of_step in addresses for address in of_step])
+        begun = time.monotonic()
+        for step, of_step in enumerate(addresses):
+            due = 2000 + step - int((time.monotonic() - begun) * 1000)
+            first.asks_many([f"SET 1 GA {address} 0 1 {due}" for address in of_step])
+        panel = Client(port, "INFO")
+        panel.hears_until(b" 100 INFO 1 FB 8 0\n")
+        time.sleep(max(begun + 1.8 - time.monotonic(), 0))
+        os.kill(server.pid, signal.SIGSTOP)
+        time.sleep(0.4)
+        os.kill(server.pid, signal.SIGCONT)
+        heard = in_a_process(falls_heard, panel, FALLS_A_MILLISECOND * MILLISECONDS)
+    return None if heard == FALLS_A_MILLISECOND * MILLISECONDS else f"a panel was sent {heard} falls"
+
+
 def falls_heard(panel, most):
     """Returns how many falls a panel is sent until they are enough or it is closed."""
     heard, rest = 0, panel.begun
@@ -116,4 +148,6 @@ def falls_heard(panel, most):
 
 
 RATE_CASES = (panel_that_reads_a_little_faster_than_a_line_a_millisecond,
-              panel_that_reads_slower_than_a_line_a_millisecond, changes_at_one_moment_beside_many)
+              panel_that_reads_a_little_faster_than_a_change_a_millisecond,
+              panel_that_reads_slower_than_a_line_a_millisecond, changes_at_one_moment_beside_many,
+              falls_at_a_server_that_stood_still)

@@ -4,9 +4,10 @@ over tables of inputs, over inputs that are cut or large, serving, and over the 
 that are named. Cases of bridges/ run beside each other.
 
 A case is a folder: `args` (one word a line), `stdin`, or in `stdin.from` the path of a file to read in its place,
-`config.toml` where it needs one, `status`, and what is expected: `stdout` and `stderr` to the byte, or in `expect.json`
-what single connections are sent, the word that each ends with, and the refused events. In what is expected, the words
-of TEXTS stand for texts of the program. The last line counts the cases; the status is 0 only where all of them pass.
+`config.toml` or `plan.toml` where it needs one, `status`, and what is expected: `stdout` and `stderr` to the byte, or
+in `expect.json` what single connections are sent, the word that each ends with, and the refused events. In what is
+expected, the words of TEXTS stand for texts of the program. The last line counts the cases; the status is 0 only where
+all of them pass.
 """
 import json
 import os
@@ -18,6 +19,7 @@ import tempfile
 import time
 import traceback
 from concurrent.futures import ThreadPoolExecutor
+from contextlib import contextmanager
 from functools import partial
 from pathlib import Path
 
@@ -42,6 +44,7 @@ from pacing import PACING_CASES
 from pages import PAGE_CASES
 from rates import RATE_CASES
 from releases import RELEASE_CASES
+from routes import ROUTE_CASES
 from run_script import RUN_SCRIPT_CASES
 from safety import SAFETY_CASES
 from serving import SERVING_CASES, TriedNothing, expected_text
@@ -156,6 +159,19 @@ def words_that_are_unknown(program):
     return None if is_told else f"got {(done.returncode, done.stderr, done.stdout)!r}"[:400]
 
 
+def check_of_no_file_or_of_two(program):
+    """Also if both are right."""
+    with tempfile.NamedTemporaryFile() as config, plan_of_one_route() as (_, *plan):
+        config.write(b"bus = []\n")
+        config.flush()
+        for words in ([], ["--config", config.name, *plan]):
+            done = subprocess.run([program, "check", *words], capture_output=True, timeout=SECONDS)
+            is_told = done.stderr.startswith(b"error: check needs either --config or --plan\n")
+            if not is_told or (done.returncode, done.stdout) != (2, b""):
+                return f"{words}: got {(done.returncode, done.stderr, done.stdout)!r}"[:400]
+    return None
+
+
 def word_that_is_no_text(program):
     done = subprocess.run([program, "check", "--config", b"\xff"], capture_output=True, timeout=SECONDS)
     text = b"error: invalid UTF-8 was detected in one or more arguments\n\nFor more information, try '--help'.\n"
@@ -176,6 +192,45 @@ def configuration_at_its_limit(program):
 
 def configuration_past_its_limit(program):
     return ended(run_check(program, b"bus = [] #".ljust(CONFIG_LIMIT + 1, b"#")), 2, b"input too large")
+
+
+PLAN_OF_ONE_ROUTE = b"bus = 9\n[[route]]\nnumber = 1\nturnouts = [[1, 12, 1]]\n"
+BEGUN, ASKED = b"0.000 200 OK GO 1\n0.000 200 OK\n", b"0.000 100 INFO 9 GA 1 1 1\n"
+
+
+@contextmanager
+def plan_of_one_route():
+    """The words that set its route: as it begins it is told not to be set, and its turnout is locked once it is asked
+    for."""
+    with tempfile.NamedTemporaryFile() as file:
+        file.write(PLAN_OF_ONE_ROUTE)
+        file.flush()
+        yield ["interlock", "--plan", file.name]
+
+
+def routes_past_the_limit_of_an_input(program):
+    """A signal box runs for weeks: its input has no limit, also of lines that tell of nothing."""
+    lines = b"0.000 100 INFO 1 FB 1 0\n" * 800_000
+    with plan_of_one_route() as words:
+        done = subprocess.run([program, *words], input=BEGUN + lines + ASKED, capture_output=True, timeout=SECONDS)
+    is_past = len(lines) > INPUT_LIMIT
+    return ended(done, 0, b"", b"SET 9 FB 1 0\nSET 1 LOCK GA 12 0\n") if is_past else "the input is short"
+
+
+def routes_whose_input_cannot_be_read(program):
+    folder = os.open("/", os.O_RDONLY)
+    try:
+        with plan_of_one_route() as words:
+            done = subprocess.run([program, *words], stdin=folder, capture_output=True, timeout=SECONDS)
+    finally:
+        os.close(folder)
+    return ended(done, 1, b"cannot read the input")
+
+
+def routes_whose_orders_cannot_be_written(program):
+    with plan_of_one_route() as words, open("/dev/full", "wb") as full:
+        done = subprocess.run([program, *words], input=BEGUN, stdout=full, stderr=subprocess.PIPE, timeout=SECONDS)
+    return ended(done, 1, b"cannot write")
 
 
 def script_past_its_limit(program):
@@ -245,13 +300,15 @@ def full_bus_that_stalls_nobody(program):
 
 
 STREAM_CASES = (input_past_its_limit, input_at_its_limit, input_that_cannot_be_read, output_that_cannot_be_written,
-                words_that_are_unknown, word_that_is_no_text, configuration_at_its_limit, configuration_past_its_limit,
-                script_past_its_limit, script_at_its_limit, script_that_cannot_be_read, run_that_cannot_be_written,
-                run_in_little_memory, full_bus_that_stalls_nobody)
+                words_that_are_unknown, check_of_no_file_or_of_two, word_that_is_no_text, configuration_at_its_limit,
+                configuration_past_its_limit, routes_past_the_limit_of_an_input, routes_whose_input_cannot_be_read,
+                routes_whose_orders_cannot_be_written, script_past_its_limit, script_at_its_limit,
+                script_that_cannot_be_read, run_that_cannot_be_written, run_in_little_memory,
+                full_bus_that_stalls_nobody)
 ALL_CASES = (STREAM_CASES + TABLE_CASES + INPUT_CASES + SERVING_CASES + DOOR_CASES + FAULT_CASES + CLIENT_CASES
              + FRONT_PAGE_CASES + PAGE_CASES + NAME_CASES + RUN_SCRIPT_CASES + SAFETY_CASES + LOOKING_CASES
              + DOCTOR_CASES + HOUSE_CASES + PACKAGE_CASES + INSTALLED_CASES + RELEASE_CASES + ARM64_CASES
-             + LINGERING_CASES + VANISHING_CASES + PACING_CASES + RATE_CASES + BRIDGE_CASES)
+             + LINGERING_CASES + VANISHING_CASES + PACING_CASES + RATE_CASES + ROUTE_CASES + BRIDGE_CASES)
 BESIDE = 10  # cases of bridges/ at once
 
 

@@ -18,7 +18,7 @@ from listing_out_of_memory import RECORDS, SCRIPT, event_refused, is_expected
 
 CRATE = Path(__file__).resolve().parent.parent / "crates" / "out_of_memory_tests"
 # how many allocations each trial is tried with, which is more than it has
-TRIALS = {"queue": 3, "feed": 5, "mirror": 4, "layout": 5, "connect": 8, "configuration": 18, "script": 4, "words": 66,
+TRIALS = {"queue": 3, "feed": 5, "mirror": 4, "layout": 5, "connect": 8, "configuration": 18, "script": 4, "words": 84,
           "serve": 9, "play-flat": 62, "play-nested": 66, "listing-flat": 39, "listing-nested": 48}
 LISTINGS = ("listing-flat", "listing-nested")
 # how many allocations of a listing's trial are left out: they read its script, which is not its run

@@ -13,16 +13,26 @@ from pathlib import Path
 from serving import SECONDS
 
 TOP = Path(__file__).resolve().parent.parent
-TOOLS = ("bash", "cat", "dirname", "env", "find", "mktemp", "nproc", "rm", "tac", "touch")
+TOOLS = "awk bash cat cp dirname env find mkdir mktemp nproc rm tac timeout touch".split()
 KIT = re.findall('^kit="(.*)"$', (TOP / "run").read_text(), re.M)[0]
-# Stands in for the kit: a crate takes half a second, and the log tells when each began and ended.
+# Stands in for the kit: a crate takes half a second, and the log tells when each began and ended. Two at once in one
+# tree fail. If KEPT names a folder, what one tree built is there for the others.
 RT = """#!/bin/sh
 [ "$1" != version ] || {{ echo '{kit}'; exit; }}
 crate=$(/bin/basename "$PWD")
+library=out/rlib/$crate.rlib
+if [ -n "$KEPT" ] && [ -f "$KEPT/$crate" ]; then
+  /bin/mkdir -p $library && /bin/ln "$KEPT/$crate" $library/format
+  exit
+fi
 echo "begin $crate: $*" >> '{log}'
 [ "$crate" != "$BAD" ] || {{ echo 'not proved'; exit 1; }}
+/bin/mkdir ../../busy || exit 1
 /bin/sleep "${{LONG:-0.5}}"
-[ ! -f src/main.rt ] || {{ /bin/mkdir -p out && /bin/cp '{program}' out/srcp_server; }}
+/bin/mkdir -p $library && echo $crate > $library/format
+[ -z "$KEPT" ] || /bin/ln $library/format "$KEPT/$crate"
+[ ! -f src/main.rt ] || /bin/cp '{program}' out/srcp_server
+/bin/rmdir ../../busy
 echo "end $crate" >> '{log}'
 """
 CRATES = """low: toml
@@ -123,6 +133,65 @@ def run_that_builds_what_it_needs(program):
     return None if (log, lines) == (want, want_lines) else f"got {(log, lines)}"
 
 
+@contextmanager
+def repository_to_build_by_twos(program, memory=4):
+    """A repository of several crates, on a machine of four processors with memory for so many provers, and a kit that
+    keeps what it built."""
+    with repository_of_one_crate(program, crates=CRATES) as (top, environment):
+        (top / "rt").rename(top / "tools" / "rt")
+        for name, number in (("nproc", 4), ("awk", memory)):
+            (top / "tools" / name).unlink()
+            (top / "tools" / name).write_text(f"#!/bin/sh\necho {number}\n")
+            (top / "tools" / name).chmod(0o755)
+        (top / "kept").mkdir()
+        yield top, environment | {"KEPT": str(top / "kept")}
+
+
+def told_by(log):
+    """The events of a log, which it then has no longer."""
+    lines = log.read_text().splitlines()
+    log.unlink()
+    return lines
+
+
+def begun_and_ended(jobs, *crates):
+    """The log of a kit that builds these crates in turn."""
+    words = {"srcp_server": f"run --jobs {jobs} -- mirror"}
+    lines = []
+    for name in crates:
+        lines += [f"begin {name}: " + words.get(name, f"lib --jobs {jobs}"), f"end {name}"]
+    return lines
+
+
+def run_that_builds_two_at_a_time(program):
+    """Two crates that do not stand on each other are built at once in a first build, if the kit has in one tree what it
+    built in another, and each processor has its memory; else, and later, one after another. No tree but the first is
+    left. A crate that fails ends the other."""
+    others = "left", "right", "srcp_server"
+    first, in_turn, with_fewer_jobs = (begun_and_ended(4, "low"), begun_and_ended(4, *others),
+                                       begun_and_ended(3, *others))
+    at_once = [sorted(with_fewer_jobs[0:4:2]), sorted(with_fewer_jobs[1:4:2]), *with_fewer_jobs[4:]]
+    tried = begun_and_ended(1, "low")  # in the second tree, in which it is not there
+    for memory, keeps, want in ((4, True, at_once), (4, False, tried + in_turn), (3, True, in_turn)):
+        with repository_to_build_by_twos(program, memory) as (top, environment):
+            # long enough that the second is begun before the first ends
+            how = {"LONG": "1.5"} if want == at_once else {} if keeps else {"KEPT": ""}
+            status, _, _ = outcome_of_run(top, environment | how)
+            log, left = told_by(top / "log"), list((top / "out").glob("*"))
+            (top / "crates" / "srcp_server" / "src" / "main.rt").write_text("// edited")
+            outcome_of_run(top, environment | {"KEPT": ""})
+            later = told_by(top / "log")
+        got = [sorted(log[2:4]), sorted(log[4:6]), *log[6:]] if want == at_once else log[2:]
+        if (status, log[:2], got, left, later) != (0, first, want, [], first + in_turn):
+            return f"memory {memory}, keeps {keeps}: {(status, log, left, later)}"
+    with repository_to_build_by_twos(program) as (top, environment):
+        status, told, _ = outcome_of_run(top, environment | {"BAD": "right"})
+        time.sleep(1)
+        log = told_by(top / "log")
+    got = status, told.endswith("building right failed\n"), sorted(line.partition(":")[0] for line in log[2:])
+    return None if got == (1, True, ["begin left", "begin right"]) else f"got {got}: {told}"
+
+
 def run_whose_build_fails(program):
     """It tells what the prover said, builds nothing above, and ends with status 1."""
     with repository_of_one_crate(program, crates=CRATES) as (top, environment):
@@ -167,4 +236,5 @@ def run_on_a_terminal(program):
 
 
 RUN_SCRIPT_CASES = (run_without_the_kit, run_with_a_kit_that_does_not_run, run_that_builds, run_with_another_kit,
-                    run_that_builds_what_it_needs, run_whose_build_fails, run_that_is_interrupted, run_on_a_terminal)
+                    run_that_builds_what_it_needs, run_that_builds_two_at_a_time, run_whose_build_fails,
+                    run_that_is_interrupted, run_on_a_terminal)

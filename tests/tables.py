@@ -52,6 +52,73 @@ REFUSED_DOCUMENTS = {
     b'bus = [{number = 1, groups = ["FB"]}]': "fb_ports missing",
     b'bus = [{number = 1, groups = ["FB"], fb_ports = 4097}]': "fb_ports out of range",
 }
+A_SIGNAL, A_TURNOUT = b"{number = 3, signal = [1, 40, 1, 0]}", b"{number = 5, turnouts = [[1, 40, 1]]}"
+MIXED, CROSSED = "a signal of one is a turnout of the other", "a port is go for one and stop for the other"
+# What is refused of a plan, or of the routes of one whose bus is 9
+REFUSED_PLANS = {
+    b"bus =": "not TOML",
+    b"bus = 9\nbus = 9\nroute = []": "not TOML",
+    b"bus = 9\nroute = [] # \xff": "not TOML",
+    b"": "bus missing",
+    b"route = 1": "bus missing",
+    b"bus = 0\nroute = []": "bus out of range",
+    b"bus = 251": "bus out of range",
+    b'bus = "9"': "bus out of range",
+    b"bus = 9": "route missing",
+    b"bus = 9\nroute = 1": "route out of range",
+    b"bus = 9\n[route]\nnumber = 1": "route out of range",
+}
+REFUSED_ROUTES = {
+    b"1": "route out of range",
+    b"{}": "number missing",
+    b"{number = 0}": "number out of range",
+    b"{number = 2045}": "number out of range",
+    b"{number = 1}, {number = 1, turnouts = 1}": "route 1 twice",
+    b"{number = 1, turnouts = 1}": "route 1: turnouts out of range",
+    b"{number = 1, turnouts = [1, 12, 1]}": "route 1: turnouts out of range",
+    b"{number = 1, turnouts = [[1, 12]]}": "route 1: turnouts out of range",
+    b"{number = 1, turnouts = [[1, 12, 1, 0]]}": "route 1: turnouts out of range",
+    b"{number = 1, turnouts = [[0, 12, 1]]}": "route 1: turnouts out of range",
+    b"{number = 1, turnouts = [[251, 12, 1]]}": "route 1: turnouts out of range",
+    b"{number = 1, turnouts = [[9, 12, 1]]}": "route 1: turnouts out of range",
+    b"{number = 1, turnouts = [[1, 0, 1]]}": "route 1: turnouts out of range",
+    b"{number = 1, turnouts = [[1, 2045, 1]]}": "route 1: turnouts out of range",
+    b"{number = 1, turnouts = [[1, 12, 8]]}": "route 1: turnouts out of range",
+    b"{number = 1, turnouts = [[1, 12, -1]]}": "route 1: turnouts out of range",
+    b"{number = 1, turnouts = [[1, 12, 0], [1, 12, 1], 1], blocks = 1}": "route 1: an accessory twice",
+    b"{number = 1, turnouts = [[1, 12, 0], 1, [1, 12, 1]], blocks = 1}": "route 1: turnouts out of range",
+    b"{number = 1, blocks = 1, signal = 1}": "route 1: blocks out of range",
+    b"{number = 1, blocks = [[1, 5], [1, 4097]]}": "route 1: blocks out of range",
+    b"{number = 1, blocks = [[9, 5]]}": "route 1: blocks out of range",
+    b"{number = 1, blocks = [[1, 5, 0]]}": "route 1: blocks out of range",
+    b"{number = 1, signal = [1, 40, 1], frees = 1}": "route 1: signal out of range",
+    b"{number = 1, signal = [9, 40, 1, 0]}": "route 1: signal out of range",
+    b"{number = 1, signal = [1, 2045, 1, 0]}": "route 1: signal out of range",
+    b"{number = 1, signal = [1, 40, 8, 0]}": "route 1: signal out of range",
+    b"{number = 1, signal = [1, 40, 0, 8]}": "route 1: signal out of range",
+    b"{number = 1, signal = [1, 40, 1, 1]}": "route 1: signal out of range",
+    b"{number = 1, turnouts = [[1, 40, 1]], signal = [1, 40, 1, 0], frees = 1}": "route 1: an accessory twice",
+    b"{number = 1, frees = [[1, 5]]}": "route 1: frees out of range",
+    b"{number = 1, frees = [9, 5]}": "route 1: frees out of range",
+    b"{number = 1, frees = [1, 4097]}": "route 1: frees out of range",
+    A_SIGNAL + b", " + A_TURNOUT: f"routes 3 and 5: {MIXED}",
+    A_TURNOUT + b", " + A_SIGNAL: f"routes 5 and 3: {MIXED}",
+    A_SIGNAL + b", {number = 5, signal = [1, 40, 2, 1]}": f"routes 3 and 5: {CROSSED}",
+    A_SIGNAL + b", {number = 5, signal = [1, 40, 0, 2]}": f"routes 3 and 5: {CROSSED}",
+    A_SIGNAL + b", {number = 4, turnouts = [[2, 40, 1]]}, "
+    b"{number = 5, turnouts = [[1, 12, 1]], signal = [1, 40, 0, 1], frees = [1, 5]}, 1": f"routes 3 and 5: {CROSSED}",
+    A_SIGNAL + b", {number = 4, turnouts = [[2, 40, 1]]}, "
+    b"{number = 5, turnouts = [[1, 40, 1]], signal = [2, 40, 0, 1]}": f"routes 3 and 5: {MIXED}",
+}
+PRINTED_PLANS = {
+    b'bus = 9\nplan = 1\nroute = [{number = 1, name = "West", from = "W"}]': "bus 9\nroute 1",
+    b"bus = 250\nroute = [{number = 2044, turnouts = [[249, 2044, 7], [1, 2044, 0]], "
+    b"blocks = [[249, 4096], [249, 4096]], signal = [249, 1, 7, 0], frees = [1, 4096]}]": "bus 250\nroute 2044",
+    b"bus = 1\nroute = [{number = 2, turnouts = [[2, 12, 1]]}, {number = 1, turnouts = [[2, 13, 1]]}, "
+    b"{number = 3, turnouts = [[3, 12, 1]], blocks = [[2, 12]]}]": "bus 1\nroute 2\nroute 1\nroute 3",
+    b"bus = 9\nroute = [" + A_SIGNAL + b", {number = 5, signal = [1, 40, 2, 0]}]":
+        "bus 9\nroute 3\nroute 5\nroute 3 conflicts with route 5: signal 1 40",
+}
 REFUSED_SCRIPTS = {
     b"shut x\n": "line 1: wrong number",
     b"open\n# none\n\nbytes 0 \\q\nOPEN\n": "line 4: wrong number",
@@ -95,6 +162,18 @@ def documents_that_are_refused(program):
                             for document, fault in REFUSED_DOCUMENTS.items())
 
 
+def plans_that_are_printed(program):
+    return first_difference((plan, check_document(program, plan, ("check", "--plan")), (0, b"", told.encode() + b"\n"))
+                            for plan, told in PRINTED_PLANS.items())
+
+
+def plans_that_are_refused(program):
+    """By each word that reads a plan."""
+    plans = REFUSED_PLANS | {b"bus = 9\nroute = [" + routes + b"]": fault for routes, fault in REFUSED_ROUTES.items()}
+    return first_difference((plan, check_document(program, plan, (word, "--plan")), fault_told(f"plan: {fault}"))
+                            for plan, fault in plans.items() for word in ("interlock", "check"))
+
+
 def scripts_that_are_refused(program):
     return first_difference((script, outcome(program, ["replay"], script), fault_told(f"script {fault}"))
                             for script, fault in REFUSED_SCRIPTS.items())
@@ -106,5 +185,5 @@ def lines_that_no_server_sends(program):
                             for lines, number in REFUSED_LINES.items())
 
 
-TABLE_CASES = (documents_that_are_checked, documents_that_are_refused, scripts_that_are_refused,
-               lines_that_no_server_sends)
+TABLE_CASES = (documents_that_are_checked, documents_that_are_refused, plans_that_are_printed,
+               plans_that_are_refused, scripts_that_are_refused, lines_that_no_server_sends)

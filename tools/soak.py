@@ -14,6 +14,10 @@ bridges [SECONDS [SEED]]: all programs of bridges/ beside a server, for ten minu
 whether the station, the page, the file of keep.py, the topics that the broker retains and examples/panel.py all say
 what a fresh panel is sent, and whether anything moved that no client had commanded since the last loss. It needs
 mosquitto and paho-mqtt.
+routes [SECONDS [SEED]]: box.py with eight routes, many of which conflict, for ten minutes or SECONDS. Throttles ask
+for them, try to move their turnouts, and lock some. The box is killed and ended, its panel and its `interlock` are
+lost, and the server hangs and is started again. A panel checks that no turnout of a set route moves or is unlocked,
+that no two that conflict are set, and that signals show go only over turnouts that are locked and thrown.
 """
 import re
 import subprocess
@@ -29,6 +33,7 @@ from bridge_tests.common import TOP, until
 from door import closed_panels, reads_to_the_end
 from evening import QUIET, Evening
 from pacing import panels_closed_by_pauses, running, send_all, shut
+from route_soak import Soak
 from serving import Client, served
 
 EVENTS_A_SCRIPT = 250_000
@@ -111,8 +116,21 @@ def bridges(program: str, seconds: int = 600, seed: int = 40) -> int:
     return len(differences) + len(evening.wrong)
 
 
+def routes(program: str, seconds: int = 600, seed: int = 57) -> int:
+    soak = Soak(program, seed)
+    try:
+        soak.run(seconds)
+    finally:
+        soak.ends()
+    count, wrong = soak.watch.count, len(soak.watch.wrong)
+    print(f"{count['set']} times a route was set, {count['shown']} times a signal shown, {soak.troubles} troubles; "
+          f"{count['throws that were refused']} commands of throttles were refused")
+    print(f"{wrong} things were wrong" if wrong else "nothing moved under a route, and no two that conflict were set")
+    return wrong + (not count["set"])
+
+
 def main():
-    soaks = {soak.__name__: soak for soak in (replay, panels, bridges)}
+    soaks = {soak.__name__: soak for soak in (replay, panels, bridges, routes)}
     if len(sys.argv) < 3 or sys.argv[1] not in soaks:
         sys.exit(__doc__)
     sys.exit(min(1, soaks[sys.argv[1]](str(Path(sys.argv[2]).resolve()), *map(int, sys.argv[3:]))))

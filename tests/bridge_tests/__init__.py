@@ -51,6 +51,7 @@ def cases_of(*kinds):
     return tuple(case_of(kind, method) for kind in kinds for method in names(kind))
 
 
+from .test_box import Box  # noqa: E402
 from .test_broker import MqttBesideOthers, MqttWithLimits, MqttWithTls  # noqa: E402
 from .test_chromium import WebByTouch, WebInChromium, WebInGerman, WebWithBeats  # noqa: E402
 from .test_dcc_ex import DccEx, DccExWithHands, DccExWithLosses  # noqa: E402
@@ -82,5 +83,5 @@ BRIDGE_CASES = cases_of(Readme, Following, MqttWithAWrongBroker, Stopping, Mqtt,
                         WebWithManyPages, WebWithSilentPages, WebBesideManyConnections, WebInTheNetwork, Entering,
                         WiThrottle, WiThrottleStops, WiThrottleWithBeats, WiThrottleWithRoutes, Srcpd, SrcpdWithADriver,
                         DccEx, DccExWithLosses, DccExWithHands, HandsBeforeStops, Z21, Z21WithLosses, Z21WithHands,
-                        DccExWithPrograms, Z21WithPrograms, Programming, Doctor, Guard, Keep, Log, Parsing, Plans,
+                        DccExWithPrograms, Z21WithPrograms, Programming, Doctor, Guard, Keep, Box, Log, Parsing, Plans,
                         PlanInChromium, LargePlanInChromium, PlanInGerman, WebBesideADriver)

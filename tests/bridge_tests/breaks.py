@@ -11,6 +11,7 @@ import sys
 import tempfile
 from pathlib import Path
 
+from box_breaks import BOX_BREAKS
 from plan_breaks import PLAN_BREAKS
 from station_breaks import STATION_BREAKS
 
@@ -346,6 +347,7 @@ BREAKS = [  # the file, whose cases, what is wrong, the text, what stands in its
     ("mqtt", "mqtt", "what is below all topics is not heard", "range(1, 7)]", "range(1, 5)]"),
     *STATION_BREAKS,
     *PLAN_BREAKS,
+    *BOX_BREAKS,
 ]
 
 

@@ -9,7 +9,7 @@ import pages
 
 from . import common
 from .browser import started
-from .common import PACKAGES, PROGRAMS, free_port, new_folder, until
+from .common import PACKAGES, PROGRAMS, free_port, new_folder, rows, until
 from .test_mqtt import IS_THERE, Broker
 from .test_web import Events
 
@@ -49,6 +49,19 @@ def at_the_page(port, station):
     return stops
 
 
+def at_the_plan(port):
+    """What the page has its reader do at a track plan: in Chromium, or, if there is none, as its script does."""
+    if not (browser := started()):
+        return Events(port).order("SET 3 GA 1 1 1 250")
+    browser.opens(f"http://127.0.0.1:{port}/")
+    until(lambda: browser.run("document.querySelectorAll('#drawing g').length") > 4, "a plan")
+    until(lambda: browser.run("document.getElementById('GA')?.children.length ?? 0") > 4, "the accessories of routes")
+    for name in "WP":
+        browser.run(f"document.querySelector('#drawing g[data-name=\"{name}\"]').onclick()")
+    until(lambda: browser.run("!!document.querySelector('#drawing path.set')"), "a route that is set")
+    browser.end()
+
+
 class Readme(unittest.TestCase):
     program = "readme"
 
@@ -78,15 +91,29 @@ class Readme(unittest.TestCase):
     def follows(self, reader, block):
         self.assertIsNone(reader.follows(block))
 
+    def acts(self, reader):
+        """Does what the page has its reader do before each block that no command begins."""
+        station, server = reader.programs[-1], reader.ports["4303"]
+        stops = at_the_page(reader.ports["8303"], station)
+        yield
+        stops()
+        yield
+        at_the_plan(reader.ports["8305"])
+        yield
+        for row in ("100 INFO 1 FB 1 1", "100 INFO 1 FB 1 0"):
+            station.types("1")
+            until(lambda: row in rows(server), row)
+        yield
+
     def test_quarter_of_an_hour(self):
-        acts = [lambda: at_the_page(reader.ports["8303"], reader.programs[-1])]
         with self.reader() as reader:
+            acts = None
             for block in self.blocks()[0]:
-                is_running = not block[0].startswith("$ ")
-                if is_running:  # what was done in the browser in between
-                    acts.append(acts.pop(0)())
+                if not block[0].startswith("$ "):
+                    acts = acts or self.acts(reader)
+                    next(acts)
                 self.follows(reader, block)
-        self.assertEqual(len(acts), 1)
+            self.assertEqual(next(acts, "all are done"), "all are done")
 
     @IS_THERE
     @unittest.skipUnless(shutil.which("mosquitto_sub"), "mosquitto-clients is not installed")

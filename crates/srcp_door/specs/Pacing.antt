@@ -1,7 +1,6 @@
 -- How much lines weigh, and what is let through.
-use Rattle.std.specs.Prelude.{◌≡◌, ◌≢◌, ℕ, ◌+◌, ◌-◌, ◌<◌, ◌≤◌, ◌==◌, Bool, ◌||◌, ◌&&◌, not, cond}
-use Rattle.std.specs.Prelude.{nat_le, nat_lt, Option, ⊤, List, [], ◌∷◌, ◌++◌, length, take, fold, count_by}
-use Rattle.std.specs.Bool.{MatchBool}
+use Rattle.std.specs.Prelude.{◌≡◌, ◌≢◌, ℕ, ◌+◌, ◌-◌, ◌<◌, ◌≤◌, ◌==◌, Bool, ◌&&◌, cond}
+use Rattle.std.specs.Prelude.{false, nat_le, nat_lt, Option, ⊤, List, [], ◌∷◌, ◌++◌, length, take, fold, count_by}
 use Rattle.std.specs.Option.{unwrap_or}
 use Rattle.srcp_grammar.specs.Weight.{weight}
 use Rattle.srcp_door.specs.declared.pacing.Line.{Line}
@@ -74,11 +73,18 @@ pub record IsFirstWeight (line : Line) (piece : List ℕ) (first : ℕ) : Type 0
       → weight_of line (take k piece) ≡ 0
   pub none : first ≡ 0 → weight_of line piece ≡ 0
 
--- the longest prefix in which at most one line weighs something
-pub record IsOneLine (line : Line) (piece : List ℕ) (count : ℕ) : Type 0 where
+-- the prefix of a piece that may go of a peer whose share is the first `rest` bytes of it, if lines may weigh so much:
+-- of its share the longest that weighs no more, and lines behind that weigh nothing
+pub record IsShare (line : Line) (most rest : ℕ) (piece : List ℕ) (count : ℕ) : Type 0 where
+  pub own : ℕ
+  pub is_own : IsLongest line most (take rest piece) own
+  pub longest : IsLongest line (weight_of line (take own (take rest piece))) piece count
+
+-- the same, if one line that weighs something may go
+pub record IsOneLine (line : Line) (rest : ℕ) (piece : List ℕ) (count : ℕ) : Type 0 where
   pub first : ℕ
-  pub is_first : IsFirstWeight line piece first
-  pub longest : IsLongest line first piece count
+  pub is_first : IsFirstWeight line (take rest piece) first
+  pub share : IsShare line first rest piece count
 
 -- how much may be let through in a turn: what the slack of the panels leaves beside the 160 changes of moments and ends
 -- of sessions; the slack is 256 if no panel is there, since one may begin; if that leaves less than any line can weigh,
@@ -87,11 +93,15 @@ abbrev pub pace_of : (slack : Option ℕ) (tick : Bool) → Pace
 pace_of slack tick =
     let left = unwrap_or slack 256 - 160 in cond (tick && nat_lt left 11) OneLine (Paced left)
 
--- the prefix of a peer's piece that may go in a turn; a peer that has its mark gets no line that weighs something
+-- the prefix of a peer's piece that may go in a turn; a peer that had its share gets no line that weighs something
 abbrev pub Allows : Pace → Share → (piece : List ℕ) (count : ℕ) → Type 0
-Allows (Paced left) share piece count = IsLongest share.line (cond share.mark 0 left) piece count
-Allows OneLine share piece count =
-    MatchBool share.mark (IsLongest share.line 0 piece count) (IsOneLine share.line piece count)
+Allows (Paced left) share piece count = IsShare share.line left share.rest piece count
+Allows OneLine share piece count = IsOneLine share.line share.rest piece count
+
+-- a line of its share is kept back of a peer of whose piece that is handed out, since the turn's lines weigh too much
+abbrev pub keeps_back : Pace → Share → (piece handed : List ℕ) → Bool
+keeps_back (Paced left) share piece handed = nat_lt (lines handed) (lines (take share.rest piece))
+keeps_back OneLine share piece handed = false
 
 -- lines that weigh so much may be let through
 abbrev pub fits : Pace → (weight : ℕ) → Bool
@@ -103,11 +113,12 @@ abbrev pub spent : Pace → (weight : ℕ) → Pace
 spent (Paced left) weight = Paced (left - weight)
 spent OneLine weight = cond (weight == 0) OneLine (Paced 0)
 
--- a peer's share after bytes were handed out to it: it has its mark if a line that weighs something ended in them
-abbrev pub share_after : Share → (handed : List ℕ) → Share
-share_after share handed = record {
+-- a peer's share after bytes of it were handed out: if a line that weighs something ended in them, the peer had its
+-- share, or keeps what is left of that if a line of it was kept back
+abbrev pub share_after : Share → (handed : List ℕ) → (kept : Bool) → Share
+share_after share handed kept = record {
   line = line_after share.line handed;
-  mark = share.mark || not (weight_of share.line handed == 0);
+  rest = cond (weight_of share.line handed == 0) share.rest (cond kept (share.rest - length handed) 0);
 }
 
 -- less may be let through than any line can weigh

@@ -1,8 +1,9 @@
 //! The lines that are let through in a turn.
 
 ghost use Rattle.std.specs.Prelude.{◌≡◌, ◌<◌, ◌≤◌, ◌+◌, ◌↔◌, ◌⊎◌, ◌==◌, ◌&&◌, false, true, not, cond, IsTrue, length};
-ghost use Rattle.std.specs.Prelude.{take};
-ghost use Rattle.srcp_door.specs.Pacing.{Allows, IsFirstWeight, IsLongest, IsShort, fits, line_after, line_weight};
+ghost use Rattle.std.specs.Prelude.{nat_lt, take};
+ghost use Rattle.srcp_door.specs.Pacing.{Allows, IsFirstWeight, IsLongest, IsShare, IsShort, fits, keeps_back};
+ghost use Rattle.srcp_door.specs.Pacing.{line_after, line_weight};
 ghost use Rattle.srcp_door.specs.Pacing.{lines, pace_of, share_after, spent, weight_of};
 
 use memchr::memchr;
@@ -56,8 +57,8 @@ impl Line {
 pub struct Share {
     /// The line that is being handed out.
     pub line: Line,
-    /// True if the peer got a line of some weight since the marks were cleared.
-    pub mark: bool,
+    /// How many bytes of its piece may still go, if their lines weigh something. It is 0 if it had its share.
+    pub rest: usize,
 }
 
 /// Says what weight of lines may still be let through in a turn.
@@ -74,7 +75,9 @@ pub enum Pace {
 pub struct Allowed {
     /// The number of its first bytes.
     pub count: usize,
-    /// True if a line is held back from a peer that got none since the marks were cleared.
+    /// What the lines weigh that end in them.
+    pub weight: usize,
+    /// True if a line of the peer's share is kept back.
     pub refused: bool,
 }
 
@@ -107,31 +110,39 @@ impl Pace {
     }
 
     /// Returns how many bytes of a peer's piece may be handed out. A piece in which no line ends goes out whole. Of
-    /// any other go whole lines, as many as the pace and the peer's mark let through. A peer with a mark gets no line
-    /// that weighs something, and a peer that gets such a line gets its mark.
+    /// any other go whole lines, as many as the pace and the peer's share let through. A peer that had its share gets
+    /// no line that weighs something. One whose share the pace cuts keeps what is left of it, but if the clock lets one
+    /// line through, that is its share.
     pub fn allow(&mut self, share: &mut Share, piece: &[u8]) -> Allowed
         ensures allowed { Allows self.old share.old piece.now result.count }
         ensures within { result.count ≤ length piece.now }
-        ensures share { share.new ≡ share_after share.old (take result.count piece.now) }
+        ensures share { share.new ≡ share_after share.old (take result.count piece.now) result.refused }
         ensures pace { self.new ≡ spent self.old (weight_of share.old.line (take result.count piece.now)) }
         ensures fits { fits self.old (weight_of share.old.line (take result.count piece.now)) ≡ true }
-        ensures refused { result.refused ≡ (not (lines (take result.count piece.now) == lines piece.now)
-            && not share.new.mark) }
+        ensures refused { result.refused ≡ keeps_back self.old share.old piece.now (take result.count piece.now) }
         ensures fair { IsTrue result.refused → IsShort self.new }
+        ensures weight { result.weight ≡ weight_of share.old.line (take result.count piece.now) }
     {
-        let left = match *self {
-            Pace::Paced { left } => left,
-            Pace::OneLine => first_weight(piece, share.line),
+        let own = &piece[..share.rest.min(piece.len())];
+        let (most, paced) = match *self {
+            Pace::Paced { left } => (left, true),
+            Pace::OneLine => (first_weight(own, share.line), false),
         };
-        let most = if share.mark { 0 } else { left };
-        let longest = longest_prefix(piece, share.line, most);
-        let count = longest.prefix.count;
-        *self = self.after(longest.weight);
-        share.line = share.line.after(&piece[..count]);
-        share.mark |= longest.weight > 0;
+        let granted = grant(piece, share.line, share.rest, most);
+        let refused = paced && granted.more;
+        *self = self.after(granted.weight);
+        share.line = share.line.after(&piece[..granted.count]);
+        if granted.weight > 0 {
+            share.rest = if refused {
+                share.rest.saturating_sub(granted.count)
+            } else {
+                0
+            };
+        }
         Allowed {
-            count,
-            refused: longest.more && !share.mark,
+            count: granted.count,
+            weight: granted.weight,
+            refused,
         }
     }
 }
@@ -154,6 +165,38 @@ struct WeighedPrefix {
     // True if a line ends in the rest of the piece, and the weight of the next such line.
     more: bool,
     next: usize,
+}
+
+/// What goes of a peer's piece.
+#[derive(Clone, Copy)]
+struct Granted {
+    // The number of its bytes.
+    count: usize,
+    // The weight of the lines that end in it.
+    weight: usize,
+    // True if a line of the peer's share is kept back.
+    more: bool,
+}
+
+/// Returns the prefix of a piece that goes of a peer whose share is the first `rest` bytes, if lines may weigh `most`.
+fn grant(piece: &[u8], line: Line, rest: usize, most: usize) -> Granted
+    ensures share { IsShare line most rest piece.now result.count }
+    ensures weight { result.weight ≡ weight_of line (take result.count piece.now) }
+    ensures more { result.more ≡ nat_lt (lines (take result.count piece.now)) (lines (take rest piece.now)) }
+    ensures few { result.weight ≤ most }
+    ensures light { IsTrue result.more → most < result.weight + MOST_CHANGES }
+{
+    let own = longest_prefix(&piece[..rest.min(piece.len())], line, most);
+    let all = if rest < piece.len() {
+        longest_prefix(piece, line, own.weight)
+    } else {
+        own
+    };
+    Granted {
+        count: all.prefix.count,
+        weight: all.weight,
+        more: own.more,
+    }
 }
 
 /// Returns the prefix of a piece whose lines weigh at most `most`. A piece in which no line ends is taken whole, else

@@ -5,14 +5,8 @@ ghost use Rattle.srcp_door.specs.Moments.{Moments, next_moment, passed, target, 
 
 use std::marker::Model;
 
-/// The most milliseconds from one moment to the next, if the clock is at most `MOST_STEPS` steps ahead.
-const STEP: u64 = 10;
-
-/// The most steps by which a moment may lag behind the clock.
-const MOST_STEPS: u64 = 60_000;
-
-/// The same in milliseconds.
-const MOST_BEHIND: u64 = STEP * MOST_STEPS;
+/// The most milliseconds by which a moment may lag behind the clock.
+const MOST_BEHIND: u64 = 600_000;
 
 /// Reports moments in milliseconds since 1970: the wall clock at the start, and what elapsed since on the monotonic
 /// clock. Contracts see both clocks at the start, and the last moment.
@@ -53,21 +47,22 @@ impl Timekeeper {
         self.last = self.last.max(goal.min(before_due));
     }
 
-    /// Returns the next moment, if the monotonic clock shows `elapsed`.
-    pub fn report(&mut self, elapsed: u64) -> u64
-        ensures reported { result ≡ next_moment 10 ten_minutes self.old.last (target self.old elapsed) }
+    /// Returns the next moment, if the monotonic clock shows `elapsed`. It is at most `step` milliseconds after the
+    /// last one, unless that lags by more than 10 minutes.
+    pub fn report(&mut self, elapsed: u64, step: u64) -> u64
+        ensures reported { result ≡ next_moment step ten_minutes self.old.last (target self.old elapsed) }
         ensures new { self.new ≡ record { wall = self.old.wall; start = self.old.start; last = result } }
         ensures forward { self.old.last ≤ result }
         ensures within { result ≤ max self.old.last (target self.old elapsed) }
-        ensures step { target self.old elapsed ≤ self.old.last + 10 + ten_minutes → result ≤ self.old.last + 10 }
-        ensures reached { target self.old elapsed ≤ self.old.last + 10
+        ensures step { target self.old elapsed ≤ self.old.last + step + ten_minutes → result ≤ self.old.last + step }
+        ensures reached { target self.old elapsed ≤ self.old.last + step
             → result ≡ max self.old.last (target self.old elapsed) }
         ensures behind { target self.old elapsed ≤ result + ten_minutes }
     {
         let goal = self.goal(elapsed);
-        let step = self.last.saturating_add(STEP);
+        let next = self.last.saturating_add(step);
         let far = goal.saturating_sub(MOST_BEHIND);
-        self.last = self.last.max(goal.min(step.max(far)));
+        self.last = self.last.max(goal.min(next.max(far)));
         self.last
     }
 

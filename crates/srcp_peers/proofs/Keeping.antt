@@ -191,6 +191,17 @@ pub spares_shut : (n other : ℕ) (old new : Option (List Step)) → other ≢ n
 spares_shut n other old new differ tells =
     spares_after other old new (Shuts n) tells (λ a. skips (n == other) (shut_down a) a (alien n other differ))
 
+pub spares_got : (n other : ℕ) (old new : Option (List Step)) (answer : Result Got DoorFault) (buffer : List ℕ) → other ≢ n
+    → Tells old (Answers (ReadCall n answer buffer)) new → Spares other old new
+spares_got n other old new answer buffer differ tells =
+    spares_after other old new (Answers (ReadCall n answer buffer)) tells (λ a. same a answer)
+  where
+    same : (a : Account) (got : Result Got DoorFault) → answered_step other a (ReadCall n got buffer) ≡ a
+    same a (Ok (got.Bytes count)) = skips (n == other) _ a (alien n other differ)
+    same a (Ok got.Nothing) = refl
+    same a (Ok got.Ended) = skips (n == other) _ a (alien n other differ)
+    same a (Err fault) = skips (n == other) _ a (alien n other differ)
+
 -- what a read of the door answered
 got_agrees : (a : Account) (p : Peer) (answer : Result Got DoorFault) (buffer rest : List ℕ) (share : Share) (asked : Bool)
     → p.stay ≡ stay.Here → p.incoming ≡ got_bytes answer buffer ++ rest

@@ -1,7 +1,7 @@
 -- All peers of a door, when a step changes one of them.
 use Rattle.std.proofs.Common.{◌≡◌, ◌∙◌, ℕ, ◌<◌, ◌≤◌, ◌+◌, List, length, refl, ap, sym, subst, arith, ⊎_elim, get_or, set, get_or-set_other}
 use Rattle.std.proofs.Common.{get_or-set_same, ◌==◌, Option, Some}
-use Rattle.std.specs.Prelude.{◌≢◌, All, Bool, false, true, fold, slice_index_or, take, not, ◌&&◌}
+use Rattle.std.specs.Prelude.{◌≢◌, All, Bool, false, true, cond, fold, slice_index_or, take, ◌&&◌}
 use Rattle.std.proofs.lemmas.Bool.{cases_eq}
 use Rattle.std.proofs.lemmas.List.{get_or_default, length-set}
 use Rattle.srcp_peers.specs.declared.peer.Peer.{Peer}
@@ -95,18 +95,18 @@ clocked_all old new peers answer tells kept k d lt =
     let p : Peer = slice_index_or peers k d in
     kept_after old new (Clocks answer) p p tells refl (λ a h. clocked_agrees a p answer h) (kept k d lt)
 
--- the marks of those that were visited, and the others as they were
-pub set_marked : (first peers : List Peer) (i : ℕ) (p q : Peer) (clear : Bool) → i < length peers
-    → q.share.mark ≡ (not clear && (get_or peers i p).share.mark)
+-- the shares of those that were visited, and the others as they were
+pub set_shared : (first peers : List Peer) (i : ℕ) (p q : Peer) (anew : Bool) → i < length peers
+    → q.share.rest ≡ cond anew 256 (get_or peers i p).share.rest
     → ((k : ℕ) (d : Peer) → i ≤ k → slice_index_or peers k d ≡ slice_index_or first k d)
-    → ((k : ℕ) (d : Peer) → k < i → (slice_index_or peers k d).share.mark ≡ (not clear && (slice_index_or first k d).share.mark))
+    → ((k : ℕ) (d : Peer) → k < i → (slice_index_or peers k d).share.rest ≡ cond anew 256 (slice_index_or first k d).share.rest)
     → (k : ℕ) (d : Peer) → k < i + 1
-    → (slice_index_or (set peers i q) k d).share.mark ≡ (not clear && (slice_index_or first k d).share.mark)
-set_marked first peers i p q clear within marked rest before k d lt = ⊎_elim
-    (λ (e : k ≡ i). ap (λ (x : Peer). x.share.mark) (ap (λ n. get_or (set peers i q) n d) e ∙ get_or-set_same peers i q d within) ∙ marked
-    ∙ ap (λ (x : Peer). not clear && x.share.mark)
+    → (slice_index_or (set peers i q) k d).share.rest ≡ cond anew 256 (slice_index_or first k d).share.rest
+set_shared first peers i p q anew within shared rest before k d lt = ⊎_elim
+    (λ (e : k ≡ i). ap (λ (x : Peer). x.share.rest) (ap (λ n. get_or (set peers i q) n d) e ∙ get_or-set_same peers i q d within) ∙ shared
+    ∙ ap (λ (x : Peer). cond {A = ℕ} anew 256 x.share.rest)
     (get_or_default peers i p d within ∙ rest i d (omega arith) ∙ ap (λ n. get_or first n d) (sym e)))
-    (λ (ne : k ≡ i → ⊥). ap (λ (x : Peer). x.share.mark) (get_or-set_other peers i k q d ne) ∙ before k d (omega (arith, lt, ne)))
+    (λ (ne : k ≡ i → ⊥). ap (λ (x : Peer). x.share.rest) (get_or-set_other peers i k q d ne) ∙ before k d (omega (arith, lt, ne)))
     (cases_eq k i)
 
 abbrev pub StaysAfter : Stay → Peer → Type 0

@@ -1,5 +1,5 @@
 -- What holds of all peers of a door.
-use Rattle.std.specs.Prelude.{◌&&◌, ◌≡◌, ◌≢◌, ℕ, ◌<◌, ◌≤◌, Bool, List, length, slice_index_or, Option, not}
+use Rattle.std.specs.Prelude.{◌≡◌, ◌≢◌, ℕ, ◌<◌, ◌≤◌, Bool, List, length, slice_index_or, Option, cond}
 use Rattle.srcp_peers.specs.declared.peer.Peer.{Peer}
 use Rattle.srcp_peers.specs.Steps.{Step}
 use Rattle.srcp_peers.specs.declared.readiness.Flush.{Flush}
@@ -29,10 +29,10 @@ abbrev pub AreThose : List Peer → List Peer → Type 0
 AreThose old new = (k : ℕ) (d : Peer) → k < length old → (slice_index_or new k d).number
     ≡ (slice_index_or old k d).number
 
--- with `clear` no mark stays, and else each
-abbrev pub AreMarked : (clear : Bool) → (old new : List Peer) → Type 0
-AreMarked clear old new = (k : ℕ) (d : Peer) → k < length old → (slice_index_or new k d).share.mark
-    ≡ (not clear && (slice_index_or old k d).share.mark)
+-- with `anew` the share of each is a whole piece, and else what was left of it
+abbrev pub AreShared : (anew : Bool) → (old new : List Peer) → Type 0
+AreShared anew old new = (k : ℕ) (d : Peer) → k < length old → (slice_index_or new k d).share.rest
+    ≡ cond anew 256 (slice_index_or old k d).share.rest
 
 -- a turn that flushes `what` offers the socket of each what is queued for it, if that is flushed
 abbrev pub AreOffered : Flush → List Peer → (old new : Option (List Step)) → Type 0

@@ -1,7 +1,8 @@
 -- What a peer's states mean.
 use Rattle.std.specs.Prelude.{◌≡◌, ◌≢◌, ◌⊎◌, ℕ, ◌==◌, ◌&&◌, ◌||◌, nat_lt, Bool, true, false, not, if◌then◌else◌, cond}
-use Rattle.std.specs.Prelude.{List, [], ◌∷◌, ◌++◌, ◌+◌, ◌-◌, count_by, drop, length, min, take, Option, Some, Result}
-use Rattle.std.specs.Prelude.{Ok, Err}
+use Rattle.std.specs.Prelude.{List, [], ◌∷◌, ◌++◌, ◌+◌, ◌-◌, ◌/◌, count_by, drop, filter, length, max, min, take}
+use Rattle.std.specs.Prelude.{Option, Some}
+use Rattle.std.specs.Prelude.{Result, Ok, Err}
 use Rattle.std.specs.Io.{StartsWith}
 use Rattle.std.specs.declared.io.ErrorKind.{ErrorKind}
 use Rattle.srcp_peers.specs.declared.system.Ready.{Ready}
@@ -340,10 +341,14 @@ gone_as clock came state (stay.Shut since) = is_lost state || (has_ended came ||
 abbrev pub is_gone : (clock : ℕ) → Peer → Bool
 is_gone clock p = gone_as clock p.input p.output p.stay
 
--- one that was shut down is drained: its socket was read until nothing came, or 64 times
-abbrev pub IsDrained : (old new : Peer) → (trace_old trace_new : Option (List Step)) → Type 0
-IsDrained old new trace_old trace_new = is_shut old.stay ≡ true
-    → (may_have new.input ≡ false) ⊎ Makes (is_read_of old.number) 64 trace_old trace_new
+-- how often the socket of each that lingers is read in a turn: they share 64 reads, but each has one
+abbrev pub reads_each : List Peer → ℕ
+reads_each peers = max (64 / max (length (filter (λ peer. not (is_here peer.stay)) peers)) 1) 1
+
+-- one that was shut down is drained: its socket was read until nothing came, or as often as that
+abbrev pub IsDrained : (reads : ℕ) (old new : Peer) → (trace_old trace_new : Option (List Step)) → Type 0
+IsDrained reads old new trace_old trace_new = is_shut old.stay ≡ true
+    → (may_have new.input ≡ false) ⊎ Makes (is_read_of old.number) reads trace_old trace_new
 
 -- ---- who is read
 

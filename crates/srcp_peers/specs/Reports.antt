@@ -1,8 +1,7 @@
 -- What a read of a peer answers.
 use Rattle.std.specs.Prelude.{◌≡◌, ◌≢◌, ℕ, ◌==◌, ◌&&◌, ◌||◌, Bool, true, false, not, cond, List, [], length, min, take}
 use Rattle.std.specs.Prelude.{Result, Ok, Err}
-use Rattle.srcp_door.specs.Pacing.{Allows, lines, share_after}
-use Rattle.srcp_door.specs.declared.pacing.Share.{Share}
+use Rattle.srcp_door.specs.Pacing.{Allows, keeps_back}
 use Rattle.srcp_door.specs.declared.door.DoorFault.{DoorFault}
 use Rattle.srcp_door.specs.declared.door.DoorFault.TheVariants as fault
 use Rattle.srcp_door.specs.declared.door.Got.{Got}
@@ -51,17 +50,13 @@ end_in turn p = cond turn.ends (cond (is_failed p) (Err fault.Read) (cond (is_en
 abbrev pub piece_of : Peer → (room : ℕ) → List ℕ
 piece_of p room = take (min 256 room) p.incoming
 
--- a line of a piece is kept back of a peer that got none since the marks were cleared
-abbrev pub keeps_back : (piece handed : List ℕ) → Share → Bool
-keeps_back piece handed share = not (lines handed == lines piece) && not share.mark
-
 -- ---- the answer
 
 -- a read with room for so many bytes answered so and handed that out, or kept a line back. It handed out as much as the
--- turn's pace and the peer's mark allow; if nothing was held, it reported the end
+-- turn's pace and the peer's share allow; if nothing was held, it reported the end
 pub record IsAnswered (turn : Turn) (p : Peer) (room : ℕ) (answer : Result Got DoorFault) (handed : List ℕ)
     (kept : Bool) : Type 0 where
   pub end : p.incoming ≡ [] → answer ≡ end_in turn p
   pub some : p.incoming ≢ [] → (reports_end answer ≡ false)
       × Allows turn.pace p.share (piece_of p room) (length handed)
-  pub back : kept ≡ keeps_back (piece_of p room) handed (share_after p.share handed)
+  pub back : kept ≡ keeps_back turn.pace p.share (piece_of p room) handed

@@ -1,11 +1,13 @@
 -- What a turn is after a call of the door.
-use Rattle.std.specs.Prelude.{ℕ, ◌-◌, ◌/◌, ◌==◌, ◌||◌, ◌&&◌, nat_le, nat_lt, Bool, true, false, not, cond}
+use Rattle.std.specs.Prelude.{ℕ, ◌+◌, ◌-◌, ◌*◌, ◌^◌, ◌/◌, ◌==◌, ◌||◌, ◌&&◌, nat_le, nat_lt}
+use Rattle.std.specs.Prelude.{Bool, true, false, not, cond, min, max}
 use Rattle.std.specs.Prelude.{List, [], take, Option, Some, None, Result, Ok, Err}
 use Rattle.std.specs.Option.{option_map}
 use Rattle.srcp_door.specs.Moments.{next_moment, passed, target}
 use Rattle.srcp_door.specs.Pacing.{pace_of, spent, weight_of}
 use Rattle.srcp_door.specs.declared.pacing.Line.{Line}
-use Rattle.srcp_door.specs.declared.pacing.Pace.TheVariants.{Paced}
+use Rattle.srcp_door.specs.declared.pacing.Pace.{Pace}
+use Rattle.srcp_door.specs.declared.pacing.Pace.TheVariants.{Paced, OneLine}
 use Rattle.srcp_door.specs.declared.door.DoorFault.{DoorFault}
 use Rattle.srcp_door.specs.declared.door.Got.{Got}
 use Rattle.srcp_door.specs.declared.door.Got.TheVariants as got
@@ -25,6 +27,7 @@ first_turn wall start = record {
   busy = true;
   late = false;
   pace = Paced 0;
+  next_line = 0;
   ends = false;
 }
 
@@ -65,9 +68,19 @@ reports_end (Err fault) = true
 abbrev pub ended : Turn → Turn
 ended turn = record turn { busy = true; ends = false }
 
+-- what the clock has to show before it lets a line through, after lines of that weight were handed out at that pace: if
+-- the clock let them through, which showed this, as many milliseconds more as they weigh
+abbrev pub next_after : (clock next : ℕ) → Pace → (weight : ℕ) → ℕ
+next_after clock next (Paced left) weight = next
+next_after clock next OneLine weight = cond (weight == 0) next (min (clock + weight) (2 ^ 64 - 1))
+
 -- after bytes were handed out of a peer whose line was that: what they weigh, no more may weigh
 abbrev pub handed_out : Turn → Line → List ℕ → Turn
-handed_out turn line bytes = record turn { busy = true; pace = spent turn.pace (weight_of line bytes) }
+handed_out turn line bytes = record turn {
+  busy = true;
+  pace = spent turn.pace (weight_of line bytes);
+  next_line = next_after turn.clock turn.next_line turn.pace (weight_of line bytes);
+}
 
 abbrev pub after_read : Turn → Line → Result Got DoorFault → List ℕ → Turn
 after_read turn line (Ok (got.Bytes count)) buffer = handed_out turn line (take count buffer)
@@ -81,12 +94,22 @@ after_wait turn = record turn { busy = false }
 
 -- ---- the moment
 
--- the moment that is to be reported, if the monotonic clock shows this time: what this stands for, or a step of
--- 10 milliseconds if something falls due meanwhile; at most 10 minutes are made up in such steps
+-- how many milliseconds the moment goes on at once if something falls due, counted from right before that: 1, so that
+-- it is the moment at which that falls due; in a turn behind a late one twice as many as the clock, of which half a
+-- second counts at most
+abbrev pub step_at : Turn → (time : ℕ) → ℕ
+step_at turn time = cond turn.late (max (2 * min (time - turn.clock) 500) 1) 1
+
+-- the moment that is to be reported, if the monotonic clock shows this time: what this stands for, or a step if
+-- something falls due meanwhile; at most 10 minutes are made up in such steps
 abbrev pub moment_at : Turn → (time : ℕ) → ℕ
 moment_at turn time =
-    next_moment 10 600000 (passed turn.timekeeper.last (target turn.timekeeper time) turn.due)
+    next_moment (step_at turn time) 600000 (passed turn.timekeeper.last (target turn.timekeeper time) turn.due)
     (target turn.timekeeper time)
+
+-- the clock went on, and lets a line through: those that it let through before are as long ago as they weigh
+abbrev pub ticks : Turn → (time : ℕ) → Bool
+ticks turn time = not (time == turn.clock) && nat_le turn.next_line time
 
 -- the moment was asked for: from then on lines of a turn's weight may be handed out, and one end be reported
 abbrev pub begun : Turn → (tick : Bool) → Turn
@@ -94,7 +117,7 @@ begun turn tick = record turn { pace = pace_of turn.slack tick; ends = true }
 
 -- after a moment was reported; the turn is late if the moment is behind the time
 abbrev pub reported_at : Turn → (time moment : ℕ) → Turn
-reported_at turn time moment = record (begun turn (not (time == turn.clock))) {
+reported_at turn time moment = record (begun turn (ticks turn time)) {
   timekeeper = record { wall = turn.timekeeper.wall; start = turn.timekeeper.start; last = moment };
   clock = time;
   late = nat_lt moment (target turn.timekeeper time);

@@ -9,15 +9,15 @@ ghost use Rattle.srcp_peers.specs.declared.peer.Peer.{Peer};
 ghost use Rattle.srcp_peers.specs.Steps.{SaysNothing};
 ghost use Rattle.srcp_peers.specs.Times.{KeepsTimes};
 ghost use Rattle.srcp_peers.specs.Peers.{IsKept, OffersDue, Spares, is_closable, is_gone, is_here, is_lost, is_shut};
-ghost use Rattle.srcp_peers.specs.Peers.{Asks, IsDrained, Makes, is_read_of, may_have, stay_after};
+ghost use Rattle.srcp_peers.specs.Peers.{Asks, IsDrained, Makes, is_read_of, may_have, reads_each, stay_after};
 
 use crate::peer::Peer;
 use crate::readiness::Flush;
 use crate::stay::{Stay, is_overdue};
 use crate::system::System;
 
-/// How often the socket of a lingering peer is read in a turn: what still comes is dropped as fast as it comes.
-const MOST_DRAINED: u32 = 64;
+/// How often the sockets of all that linger are read in a turn: what still comes is dropped as fast as it comes.
+const MOST_DRAINED: usize = 64;
 
 /// How many peers linger before one is closed for a pending connection.
 pub const MOST_LINGERING: usize = 64;
@@ -30,9 +30,9 @@ impl Peer {
         self.stay = Stay::Draining { since };
     }
 
-    /// Flushes a peer that is there, and goes on with one that lingers.
+    /// Flushes a peer that is there, and goes on with one that lingers: its socket is read as often as `reads`.
     #[inline(always)]
-    pub(crate) fn hand_over<S: System>(&mut self, system: &mut S, what: Flush)
+    pub(crate) fn hand_over<S: System>(&mut self, system: &mut S, what: Flush, reads: usize)
         requires { IsKept (S.trace system.old) self.old }
         ensures kept { IsKept (S.trace system.new) self.new }
         ensures others { (other : ℕ) → other ≢ self.old.number
@@ -43,18 +43,18 @@ impl Peer {
         ensures offered { OffersDue what self.old (S.trace system.old) (S.trace system.new) }
         ensures stay { self.new.stay ≡ stay_after self.old.stay self.new.outgoing self.new.output }
         ensures ending { self.new.ending ≡ self.old.ending }
-        ensures drained { IsDrained self.old self.new (S.trace system.old) (S.trace system.new) }
+        ensures drained { IsDrained reads self.old self.new (S.trace system.old) (S.trace system.new) }
     {
         if self.stay.is_here() {
             self.flush(system, what);
         } else {
-            self.part(system);
+            self.part(system, reads);
         }
     }
 
     /// Goes on with a peer that lingers.
     #[inline(never)]
-    fn part<S: System>(&mut self, system: &mut S)
+    fn part<S: System>(&mut self, system: &mut S, reads: usize)
         requires { IsKept (S.trace system.old) self.old }
         ensures kept { IsKept (S.trace system.new) self.new }
         ensures others { (other : ℕ) → other ≢ self.old.number
@@ -66,12 +66,12 @@ impl Peer {
             → OffersDue Flush.All self.old (S.trace system.old) (S.trace system.new) }
         ensures stay { self.new.stay ≡ stay_after self.old.stay self.new.outgoing self.new.output }
         ensures ending { self.new.ending ≡ self.old.ending }
-        ensures drained { IsDrained self.old self.new (S.trace system.old) (S.trace system.new) }
+        ensures drained { IsDrained reads self.old self.new (S.trace system.old) (S.trace system.new) }
     {
         match self.stay {
             Stay::Here => (),
             Stay::Draining { since } => self.finish(system, since),
-            Stay::Shut { .. } => self.drain(system),
+            Stay::Shut { .. } => self.drain(system, reads),
         }
     }
 
@@ -113,8 +113,8 @@ impl Peer {
         self.stay = Stay::Shut { since };
     }
 
-    /// Drops what its socket gives, as far as a turn goes.
-    fn drain<S: System>(&mut self, system: &mut S)
+    /// Drops what its socket gives, in as many reads at most.
+    fn drain<S: System>(&mut self, system: &mut S, reads: usize)
         requires kept { IsKept (S.trace system.old) self.old }
         requires gone { is_here self.old.stay ≡ false }
         ensures kept { IsKept (S.trace system.new) self.new }
@@ -126,9 +126,9 @@ impl Peer {
         ensures stay { self.new.stay ≡ self.old.stay }
         ensures ending { self.new.ending ≡ self.old.ending }
         ensures drained { (may_have self.new.input ≡ false)
-            ⊎ Makes (is_read_of self.old.number) 64 (S.trace system.old) (S.trace system.new) }
+            ⊎ Makes (is_read_of self.old.number) reads (S.trace system.old) (S.trace system.new) }
     {
-        for _ in 0..MOST_DRAINED {
+        for _ in 0..reads {
             if !self.input.is_ready() {
                 return;
             }
@@ -187,6 +187,13 @@ impl Peer {
             Stay::Shut { .. } => true,
         }
     }
+}
+
+/// Returns how often the socket of each that lingers is read in a turn: they share the reads, but each has one.
+pub(crate) fn reads_each(peers: &[Peer]) -> usize
+    ensures { result ≡ reads_each peers.now }
+{
+    (MOST_DRAINED / count_lingering(peers).max(1)).max(1)
 }
 
 /// Returns how many linger.

@@ -14,8 +14,8 @@ ghost use Rattle.srcp_peers.specs.declared.readiness.Input.{Input};
 ghost use Rattle.srcp_peers.specs.declared.readiness.Output.{Output};
 ghost use Rattle.srcp_peers.specs.Turns.{after_read, got_bytes, reports_end};
 ghost use Rattle.srcp_peers.specs.Ends.{begun, written};
-ghost use Rattle.srcp_peers.specs.Reports.{IsAnswered, end_in, is_ended, is_failed, keeps_back, piece_of};
-ghost use Rattle.srcp_door.specs.Pacing.{Allows, IsShort, fits, line_after, share_after, weight_of};
+ghost use Rattle.srcp_peers.specs.Reports.{IsAnswered, end_in, is_ended, is_failed, piece_of};
+ghost use Rattle.srcp_door.specs.Pacing.{Allows, IsShort, fits, keeps_back, line_after, share_after, weight_of};
 ghost use Rattle.srcp_peers.specs.declared.ending.Ending.{Ending};
 ghost use Rattle.srcp_door.specs.declared.pacing.Line.{Line};
 
@@ -75,12 +75,12 @@ pub struct Peer {
 pub struct Handed {
     /// The answer of the read.
     pub got: Result<Got, DoorFault>,
-    /// Whether a line was kept back of a peer that got none since the marks were cleared.
+    /// Whether a line of the peer's share was kept back.
     pub refused: bool,
 }
 
 impl Peer {
-    /// Returns a new peer. It has its mark, so that new peers do not keep the others from their lines.
+    /// Returns a new peer. It has no share yet, so that new peers do not keep the others from their lines.
     pub fn new(number: u32, queues: Queues) -> Peer
         ensures { result ≡ record {
           number = number;
@@ -90,7 +90,7 @@ impl Peer {
           output = Output.Open;
           cut = false;
           stay = Stay.Here;
-          share = record { line = Line.Ended; mark = true };
+          share = record { line = Line.Ended; rest = 0 };
           ending = Ending.Open;
           asked = true;
           room = MOST_WRITES;
@@ -107,7 +107,7 @@ impl Peer {
             stay: Stay::Here,
             share: Share {
                 line: Line::Ended,
-                mark: true,
+                rest: 0,
             },
             ending: Ending::Open,
             asked: true,
@@ -191,9 +191,9 @@ impl Peer {
             || self.asked && (self.cut || self.incoming.is_empty())
     }
 
-    /// Begins a visit: reads its socket, and goes on on the way to its end. With `clear` its mark is cleared. At
-    /// most `room` lines may be queued in the visit while its socket refuses more.
-    pub(crate) fn begin_visit<S: System>(&mut self, system: &mut S, clear: bool, room: u32)
+    /// Begins a visit: reads its socket, and goes on on the way to its end. With `anew` its share is a whole piece
+    /// again. At most `room` lines may be queued in the visit while its socket refuses more.
+    pub(crate) fn begin_visit<S: System>(&mut self, system: &mut S, anew: bool, room: u32)
         requires { IsKept (S.trace system.old) self.old }
         ensures kept { IsKept (S.trace system.new) self.new }
         ensures others { (other : ℕ) → other ≢ self.old.number
@@ -206,7 +206,7 @@ impl Peer {
             → Asks self.old self.new (S.trace system.old) (S.trace system.new) }
         ensures read { IsRead (S.trace system.new) self.old.number }
         ensures ending { self.new.ending ≡ begun self.old.ending (is_over self.new.incoming self.new.input) }
-        ensures mark { self.new.share ≡ record self.old.share { mark = not clear && self.old.share.mark } }
+        ensures share { self.new.share ≡ record self.old.share { rest = cond anew 256 self.old.share.rest } }
         ensures same { self.new ≡ record self.old {
           incoming = self.new.incoming;
           input = self.new.input;
@@ -217,7 +217,9 @@ impl Peer {
     {
         self.fill(system);
         self.room = room;
-        self.share.mark = !clear && self.share.mark;
+        if anew {
+            self.share.rest = MOST_IN_PIECE;
+        }
         self.ending = self.ending.begin_visit(self.input.is_over(&self.incoming));
     }
 
@@ -273,7 +275,8 @@ impl Peer {
         ensures ends { reports_end result.got ≡ true → turn.old.ends ≡ true }
         ensures answered { IsAnswered turn.old self.old (length buffer.old) result.got
             (got_bytes result.got buffer.new) result.refused }
-        ensures share { self.new.share ≡ share_after self.old.share (got_bytes result.got buffer.new) }
+        ensures share { self.new.share ≡ share_after self.old.share (got_bytes result.got buffer.new)
+            result.refused }
         ensures refused { result.refused ≡ true → IsShort turn.new.pace }
         ensures same { self.new ≡ record self.old {
           incoming = self.new.incoming;
@@ -298,7 +301,8 @@ impl Peer {
         ensures ends { reports_end result.got ≡ true → turn.old.ends ≡ true }
         ensures answered { IsAnswered turn.old self.old (length buffer.old) result.got
             (got_bytes result.got buffer.new) result.refused }
-        ensures share { self.new.share ≡ share_after self.old.share (got_bytes result.got buffer.new) }
+        ensures share { self.new.share ≡ share_after self.old.share (got_bytes result.got buffer.new)
+            result.refused }
         ensures refused { result.refused ≡ true → IsShort turn.new.pace }
         ensures same { self.new ≡ record self.old {
           incoming = self.new.incoming;
@@ -325,9 +329,10 @@ impl Peer {
         ensures fits { fits turn.old.pace (weight_of self.old.share.line (got_bytes result.got buffer.new)) ≡ true }
         ensures allows { Allows turn.old.pace self.old.share (piece_of self.old (length buffer.old))
             (length (got_bytes result.got buffer.new)) }
-        ensures share { self.new.share ≡ share_after self.old.share (got_bytes result.got buffer.new) }
-        ensures back { result.refused ≡ keeps_back (piece_of self.old (length buffer.old))
-            (got_bytes result.got buffer.new) self.new.share }
+        ensures share { self.new.share ≡ share_after self.old.share (got_bytes result.got buffer.new)
+            result.refused }
+        ensures back { result.refused ≡ keeps_back turn.old.pace self.old.share (piece_of self.old (length buffer.old))
+            (got_bytes result.got buffer.new) }
         ensures refused { result.refused ≡ true → IsShort turn.new.pace }
         ensures same { self.new ≡ record self.old {
           incoming = self.new.incoming;

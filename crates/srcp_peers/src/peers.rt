@@ -5,10 +5,11 @@ ghost use Rattle.srcp_peers.specs.declared.peer.Peer.{Peer};
 ghost use Rattle.srcp_peers.specs.Steps.{SaysNothing};
 ghost use Rattle.srcp_peers.specs.Times.{KeepsTimes};
 ghost use Rattle.srcp_peers.specs.Peers.{Spares, IsRead, after_wake};
-ghost use Rattle.srcp_peers.specs.AllPeers.{AreApart, AreBegun, AreKept, AreMarked, AreOffered, AreShutDown, AreThose};
+ghost use Rattle.srcp_peers.specs.AllPeers.{AreApart, AreBegun, AreKept, AreShared, AreOffered, AreShutDown, AreThose};
 ghost use Rattle.srcp_peers.specs.AllPeers.{IsAbsent, KeepEndings};
 ghost use Rattle.srcp_peers.specs.Listeners.{woken_listening};
 
+use crate::lingering::reads_each;
 use crate::peer::Peer;
 use crate::readiness::Flush;
 use crate::system::{Ready, System};
@@ -27,14 +28,15 @@ pub fn flush<S: System>(system: &mut S, peers: &mut [Peer], what: Flush)
     ensures shut { AreShutDown peers.old peers.new }
     ensures endings { KeepEndings peers.old peers.new }
 {
+    let reads = reads_each(peers);
     for peer in peers.iter_mut() {
-        peer.hand_over(system, what);
+        peer.hand_over(system, what, reads);
     }
 }
 
-/// Begins the visit of each peer; with `clear` the marks are cleared. At most `room` lines may be queued for each whose
-/// socket refuses more.
-pub fn begin_visits<S: System>(system: &mut S, peers: &mut [Peer], clear: bool, room: u32)
+/// Begins the visit of each peer; with `anew` the share of each is a whole piece again. At most `room` lines may be
+/// queued for each whose socket refuses more.
+pub fn begin_visits<S: System>(system: &mut S, peers: &mut [Peer], anew: bool, room: u32)
     requires kept { AreKept (S.trace system.old) peers.old }
     requires apart { AreApart peers.old }
     ensures kept { AreKept (S.trace system.new) peers.new }
@@ -44,12 +46,12 @@ pub fn begin_visits<S: System>(system: &mut S, peers: &mut [Peer], clear: bool, 
     ensures times { KeepsTimes (S.trace system.old) (S.trace system.new) }
     ensures read { (k : ℕ) (d : Peer) → k < length peers.new
         → IsRead (S.trace system.new) (slice_index_or peers.new k d).number }
-    ensures marks { AreMarked clear peers.old peers.new }
+    ensures shares { AreShared anew peers.old peers.new }
     ensures begun { AreBegun peers.old peers.new }
     ensures rooms { All (λ peer. peer.room ≡ room) peers.new }
 {
     for peer in peers.iter_mut() {
-        peer.begin_visit(system, clear, room);
+        peer.begin_visit(system, anew, room);
     }
 }
 

@@ -4,15 +4,14 @@ ghost use Rattle.std.specs.Prelude.{◌≡◌, ◌<◌, ◌≤◌, ◌-◌, ◌/
 ghost use Rattle.std.specs.Prelude.{IfErr, Result, cond, length, take, ◌↔◌, IsTrue, All, min};
 ghost use Rattle.srcp_door.specs.declared.door.DoorFault.{DoorFault};
 ghost use Rattle.srcp_door.specs.Calls.{ExpectCall, AcceptCall, WriteCall, CloseCall};
-ghost use Rattle.srcp_door.specs.Pacing.{Allows, IsShort, fits, line_after, share_after, weight_of};
+ghost use Rattle.srcp_door.specs.Pacing.{Allows, IsShort, fits, keeps_back, line_after, share_after, weight_of};
 ghost use Rattle.srcp_door.specs.declared.pacing.Line.{Line};
 ghost use Rattle.srcp_peers.specs.Turns.{after_call, after_read, after_wait, begun, earlier, ended, first_turn};
 ghost use Rattle.srcp_peers.specs.Turns.{handed_out, is_behind, is_pending, is_short, lack, moment_at, stop};
-ghost use Rattle.srcp_peers.specs.Turns.{reports_end, time_left, reported_at};
+ghost use Rattle.srcp_peers.specs.Turns.{reports_end, time_left, reported_at, next_after, step_at, ticks};
 ghost use Rattle.std.specs.Option.{option_map};
 ghost use Rattle.srcp_peers.specs.Accounts.{is_short_wait};
 ghost use Rattle.srcp_peers.specs.Peers.{is_busy, is_resting};
-ghost use Rattle.srcp_peers.specs.Reports.{keeps_back};
 ghost use Rattle.std.specs.List.{list_all, list_any};
 ghost use Rattle.srcp_peers.specs.Listeners.{refused_listening};
 ghost use Rattle.srcp_peers.specs.Waiting.{IsWithin, longest_wait, sooner};
@@ -25,6 +24,9 @@ use srcp_grammar::MOST_CHANGES;
 /// A wait for what falls due ends earlier than it by this part of the wait: the system may end a wait late by a
 /// thousandth of it, or a two-hundredth for a process of low priority. The turns behind it wait for the rest.
 const EARLIER: u64 = 128;
+
+/// In a turn behind a late one, the moment goes on as fast as twice the clock, for this many milliseconds at most.
+const MOST_TWICE: u64 = 500;
 
 /// What a door knows of its turn.
 #[derive(Drop)]
@@ -45,6 +47,8 @@ pub struct Turn {
     pub late: bool,
     /// How much the lines may still weigh that are handed out.
     pub pace: Pace,
+    /// What the monotonic clock has to show before it lets a line through, in milliseconds.
+    pub next_line: u64,
     /// Whether the end of a peer may still be reported.
     pub ends: bool,
 }
@@ -63,6 +67,7 @@ impl Turn {
             busy: true,
             late: false,
             pace: Pace::Paced { left: 0 },
+            next_line: 0,
             ends: false,
         }
     }
@@ -134,8 +139,9 @@ impl Turn {
     }
 
     /// Returns the moment that is to be reported, if the monotonic clock shows a time. Moments never go back. After
-    /// a stall they catch up in steps of 10 milliseconds, from the moment on at which something falls due. From now on
-    /// lines may be handed out again, as many as the panels can take, and the end of one peer may be reported.
+    /// a stall they go from one at which something falls due to the next. If the turns are slow, they go on twice as
+    /// fast as the clock. From now on lines may be handed out again, as many as the panels can take, and the end of one
+    /// peer may be reported.
     ///
     /// # Errors
     /// `Now` if the clock cannot be read.
@@ -150,15 +156,35 @@ impl Turn {
             self.begin(false);
             return Err(DoorFault::Now);
         };
+        let step = self.step(time);
         self.timekeeper.pass(time, self.due);
-        let moment = self.timekeeper.report(time);
+        let moment = self.timekeeper.report(time, step);
         self.late = self.timekeeper.is_late(time);
-        self.begin(time != self.clock);
+        self.begin(self.ticks(time));
         self.clock = time;
         Ok(moment)
     }
 
-    /// Begins the pace of a turn; `tick` says whether the clock went on.
+    /// Returns how many milliseconds the moment goes on at once if something falls due, counted from right before that.
+    fn step(&self, time: u64) -> u64
+        ensures { result ≡ step_at self.now time }
+    {
+        if !self.late {
+            return 1;
+        }
+        let passed = time.saturating_sub(self.clock).min(MOST_TWICE);
+        (2 * passed).max(1)
+    }
+
+    /// Returns whether the clock went on, and now lets a line through: the one before held it up for as many
+    /// milliseconds as it weighs.
+    fn ticks(&self, time: u64) -> bool
+        ensures { result ≡ ticks self.now time }
+    {
+        time != self.clock && self.next_line <= time
+    }
+
+    /// Begins the pace of a turn; `tick` says whether the clock lets a line through.
     fn begin(&mut self, tick: bool)
         ensures { self.new ≡ begun self.old tick }
     {
@@ -217,13 +243,25 @@ impl Turn {
         ensures line { share.new.line ≡ line_after share.old.line (take result.count piece.now) }
         ensures fits { fits self.old.pace (weight_of share.old.line (take result.count piece.now)) ≡ true }
         ensures allows { Allows self.old.pace share.old piece.now result.count }
-        ensures share { share.new ≡ share_after share.old (take result.count piece.now) }
-        ensures back { result.refused ≡ keeps_back piece.now (take result.count piece.now) share.new }
+        ensures share { share.new ≡ share_after share.old (take result.count piece.now) result.refused }
+        ensures back { result.refused ≡ keeps_back self.old.pace share.old piece.now (take result.count piece.now) }
         ensures fair { result.refused ≡ true → IsShort self.new.pace }
     {
+        let pace = self.pace;
         let allowed = self.pace.allow(share, piece);
         self.busy = self.busy || allowed.count > 0;
+        self.next_line = self.next_after(pace, allowed.weight);
         allowed
+    }
+
+    /// Returns what the clock has to show before it lets a line through, after lines of that weight went at that pace.
+    fn next_after(&self, pace: Pace, weight: usize) -> u64
+        ensures { result ≡ next_after self.now.clock self.now.next_line pace weight }
+    {
+        match pace {
+            Pace::OneLine if weight > 0 => self.clock.saturating_add(weight as u64),
+            Pace::OneLine | Pace::Paced { .. } => self.next_line,
+        }
     }
 
     /// Notes who came in.

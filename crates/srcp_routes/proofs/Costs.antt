@@ -14,7 +14,7 @@ use Rattle.srcp_routes.specs.declared.stage.Stage.{Stage}
 use Rattle.srcp_routes.specs.declared.stage.Stage.TheVariants as stage
 use Rattle.srcp_routes.proofs.Well.{below, fresh, well}
 
--- of a route with so many turnouts, asked for or not, at a stage
+-- of a route with this number of turnouts, asked for or not, at a stage
 abbrev pub cost : ℕ → Bool → Stage → ℕ
 cost count wanted (stage.Locking done) = count + count + 5 + (count - done)
 cost count wanted (stage.Throwing done) = count + 4 + (count - done)

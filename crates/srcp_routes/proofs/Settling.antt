@@ -213,7 +213,7 @@ rest_stays routes t (ok ∷ replies) resting =
     subst (λ (u : Table). (fold after u (map Reply replies)).waiting ≡ None) (sym (rest_after routes t ok resting))
     (rest_stays routes t replies resting)
 
--- so many replies bring all routes to rest
+-- a number of replies brings all routes to rest
 settle : (routes : List Route) (t : Table) (replies : List Bool) (x : Option ℕ) → t.waiting ≡ x → IsSound routes t
     → (t.waiting ≡ None → IsResting routes t) → work t ≤ length replies
     → (fold after t (map Reply replies)).waiting ≡ None

@@ -1,4 +1,4 @@
--- What is promised of replies: so many of them bring all routes to rest.
+-- What is promised of replies: a number of them brings all routes to rest.
 use Rattle.std.specs.Prelude.{◌≡◌, ℕ, ◌≤◌, Bool, None, List, length, map, fold}
 use Rattle.srcp_routes.specs.Laws.{after, course}
 use Rattle.srcp_routes.specs.Plan.{Table}

@@ -44,7 +44,7 @@ order_of route stage.Hiding = Some (order.Report route.number false)
 order_of route (stage.Unlocking left) =
     option_map (λ (setting : Setting). order.Unlock setting.device) (turnout_at route left)
 
--- so many locks are to be given up, from the last
+-- this number of locks is to be given up, from the last
 abbrev pub left_stage : ℕ → Stage
 left_stage left = if left == 0 then stage.Idle else stage.Unlocking (left - 1)
 

@@ -231,7 +231,7 @@ impl Interlocking {
         }
     }
 
-    /// Returns the first of so many routes that may send an order.
+    /// Returns the first route that may send an order, of those at the first `count` places.
     fn due(&self, count: usize) -> Option<usize>
         ensures first { result ≡ first_below (λ n. is_some (order_at self.now n)) count }
         ensures below { IfSome result (λ n. n < count) }

@@ -19,9 +19,9 @@ pub enum Stage {
     Blocked,
     /// It holds nothing, and is to be reported as not set.
     Closing,
-    /// So many turnouts are locked, and the next is being locked.
+    /// This number of turnouts is locked, and the next is being locked.
     Locking(usize),
-    /// All turnouts are locked, so many are thrown, and the next is being thrown.
+    /// All turnouts are locked, this number of them is thrown, and the next is being thrown.
     Throwing(usize),
     /// All turnouts are thrown, and the signal waits for the blocks.
     Ready,
@@ -37,7 +37,7 @@ pub enum Stage {
     Stuck,
     /// It is to be reported as not set, and holds its locks.
     Hiding,
-    /// So many turnouts stay locked, and the next is being unlocked.
+    /// This number of turnouts stays locked, and the next is being unlocked.
     Unlocking(usize),
 }
 
@@ -80,7 +80,7 @@ fn stop_setting(signal: Signal) -> Setting
     }
 }
 
-/// Returns the stage of a route that has so many locks to give up.
+/// Returns the stage of a route that has this number of locks to give up.
 fn left_stage(left: usize) -> Stage
     ensures { result ≡ left_stage left }
 {

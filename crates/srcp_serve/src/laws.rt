@@ -44,8 +44,8 @@ pub fn light_turns()
 {}
 
 /// States that the lines that end in a piece weigh no more than the door weighs the piece (`weigh`). The door knows of
-/// the bytes before it only whether a line began in them, and counts the greatest weight then. That is the same, whether
-/// the bytes were handed out in two pieces or in one (`line`).
+/// the bytes before it only whether a line began in them, and counts the greatest weight then. That is the same,
+/// whether the bytes were handed out in two pieces or in one (`line`).
 pub fn pieces_weigh_enough()
     ensures weigh { (buses : List Bus) → PiecesWeighEnough buses }
     ensures line { LinesGoOn }

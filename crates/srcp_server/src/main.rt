@@ -2,15 +2,18 @@
 #![tactic(auto)]
 
 ghost use Rattle.std.specs.Prelude.{◌≡◌};
-ghost use Rattle.srcp_sockets.specs.Faults.{listen_text};
+ghost use Rattle.srcp_host.specs.Faults.{host_text};
+ghost use Rattle.srcp_server.specs.Statuses.{host_status};
 ghost use Rattle.srcp_tool.specs.Faults.{fault_status, fault_text};
 
 use clap::error::ErrorKind;
-use srcp_core::Core;
+use srcp_host::{HostFault, Machine, serve_file};
 use srcp_layout_file::read_layout;
+use srcp_plan_file::read_plan;
 use srcp_rules::{Bus, Layout, Nested};
-use srcp_sockets::{ListenFault, SocketDoor, serve_sockets};
-use srcp_tool::{Tool, ToolFault, check, mirror, read_config, read_words, replay};
+use srcp_tool::{
+    Tool, ToolFault, check, check_plan, interlock, mirror, read_config, read_words, replay,
+};
 use std::alloc::Global;
 use std::io::{Read, Write};
 use std::net::Net;
@@ -20,9 +23,6 @@ use std::string::String;
 use std::time::Clock;
 use std::vec::Vec;
 use std::{env, fs, io};
-
-/// The longest wait of a turn if the words give a number of turns, in milliseconds.
-const LONGEST_TURN: u64 = 8;
 
 /// Does what the words ask for. A fault is printed on standard error, and its status is returned.
 fn main(rt: HostRuntime) -> ExitCode {
@@ -36,7 +36,9 @@ fn main(rt: HostRuntime) -> ExitCode {
     };
     let done = match tool {
         Tool::Mirror => mirror(rt.alloc(), &mut rt.stdin(), &mut rt.stdout()),
+        Tool::Interlock { plan } => set_routes(&rt, plan, &mut rt.stdin(), &mut rt.stdout()),
         Tool::Check { config } => check_file(&rt, config, &mut rt.stdout()),
+        Tool::CheckPlan { plan } => check_plan_file(&rt, plan, &mut rt.stdout()),
         Tool::Replay { config } => replay_input(&rt, config, &mut rt.stdin(), &mut rt.stdout()),
         Tool::Serve { config, turns } => serve_layout(&rt, config, turns),
     };
@@ -90,6 +92,27 @@ fn check_file<R: Files + AllocGlobal, W: Write>(
     check(rt.alloc(), &config, writer)
 }
 
+/// Checks the plan in a file.
+fn check_plan_file<R: Files + AllocGlobal, W: Write>(
+    rt: &R,
+    path: &str,
+    writer: &mut W,
+) -> Result<(), ToolFault> {
+    let plan = read_config_file(rt, path)?;
+    check_plan(rt.alloc(), &plan, writer)
+}
+
+/// Sets the routes of the plan in a file by the lines on the input.
+fn set_routes<R: Files + AllocGlobal, I: Read, W: Write>(
+    rt: &R,
+    path: &str,
+    reader: &mut I,
+    writer: &mut W,
+) -> Result<(), ToolFault> {
+    let plan = read_plan(rt.alloc(), &read_config_file(rt, path)?)?;
+    interlock(rt.alloc(), plan.bus, plan.routes, reader, writer)
+}
+
 fn read_config_file<R: Files + AllocGlobal>(rt: &R, path: &str) -> Result<Vec<u8>, ToolFault> {
     match fs::open(rt, path) {
         Ok(mut file) => read_config(rt.alloc(), &mut file),
@@ -134,25 +157,21 @@ fn serve_layout<R: Files + AllocGlobal + Net + Clock>(
     path: &str,
     turns: u64,
 ) -> Result<(), ToolFault> {
-    let config = read_layout(rt.alloc(), &read_config_file(rt, path)?)?;
-    let mut door = SocketDoor::listen(rt, rt.alloc(), config.port, rt).map_err(tool_fault)?;
-    let Ok(mut core) = Core::<Nested>::new(rt.alloc(), &config.layout, 0, 0) else {
-        return Err(ToolFault::Memory);
-    };
-    if turns < u64::MAX {
-        door.wait_at_most(LONGEST_TURN);
+    let config = read_config_file(rt, path)?;
+    match serve_file::<Nested, Machine<R>>(&mut Machine { rt }, rt.alloc(), &config, turns) {
+        Ok(_) => Ok(()),
+        Err(fault) => Err(tool_fault(fault)),
     }
-    serve_sockets(&mut core, &mut door, turns);
-    Ok(())
 }
 
-/// Returns the program's fault for a door that cannot listen, with the same text.
-fn tool_fault(fault: ListenFault) -> ToolFault
-    ensures text { fault_text result ≡ listen_text fault }
-    ensures status { fault_status result ≡ 1 }
+/// Returns the program's fault for one of serving, with the same text.
+fn tool_fault(fault: HostFault) -> ToolFault
+    ensures text { fault_text result ≡ host_text fault }
+    ensures status { fault_status result ≡ host_status fault }
 {
     match fault {
-        ListenFault::Port => ToolFault::Listen,
-        ListenFault::Memory => ToolFault::Memory,
+        HostFault::Config(fault) => ToolFault::Config(fault),
+        HostFault::Port => ToolFault::Listen,
+        HostFault::Memory => ToolFault::Memory,
     }
 }

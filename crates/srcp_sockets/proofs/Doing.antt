@@ -1,5 +1,6 @@
 -- What a door has done goes on from step to step.
-use Rattle.std.proofs.Common.{◌≡◌, ◌∙◌, ℕ, suc, ◌<◌, ◌≤◌, ◌+◌, Bool, true, false, not, List, [], ◌∷◌, ◌++◌, length, take, refl, ap, sym, subst}
+use Rattle.std.proofs.Common.{◌≡◌, ◌∙◌, ℕ, suc, ◌<◌, ◌≤◌, ◌+◌, Bool, true, false, not}
+use Rattle.std.proofs.Common.{List, [], ◌∷◌, ◌++◌, length, take, refl, ap, sym, subst}
 use Rattle.std.proofs.Common.{arith, ⊎_elim, ◌⊎◌, ◌==◌, ◌&&◌, ◌||◌, if◌then◌else◌, Option, Some, None, Ok, Err, true≢false, append-nil}
 use Rattle.std.specs.Prelude.{Result, fold, nat_lt, slice_index_or}
 use Rattle.std.specs.List.{list_all, list_any}
@@ -332,7 +333,8 @@ may_tell old new peers l last true stands says holds looked log is none =
     absurd (true≢false (sym takes ∙ none p.number))
 may_tell old new peers l last false stands says holds looked log is none = looked refl log is
 
-pub moment_done : (wall start : ℕ) (old mid : Option (List Step)) (shown : Option ℕ) (answer : Result ℕ DoorFault) → Tells old (Clocks shown) mid
+pub moment_done : (wall start : ℕ) (old mid : Option (List Step)) (shown : Option ℕ) (answer : Result ℕ DoorFault)
+    → Tells old (Clocks shown) mid
     → is_shown (Some shown) answer ≡ true → MayTell old → (log : List Step) → mid ≡ Some log
     → IsDone wall start log (Answers (NowCall answer))
 moment_done wall start old mid shown answer tells is_so may log is =

@@ -106,7 +106,8 @@ leaving_from socket x (step ∷ log) = leaving_from socket (leaving_step socket 
 pub leaving_account : (socket : ℕ) (log : List Step) → (leaving socket log).account ≡ account socket log
 leaving_account socket log = leaving_from socket (record { account = untouched; ending = Open }) log
 
-ending_more : (socket : ℕ) (log : List Step) (step : Step) → ending_of socket (log ++ step ∷ []) ≡ ending_step socket (leaving socket log) step
+ending_more : (socket : ℕ) (log : List Step) (step : Step)
+    → ending_of socket (log ++ step ∷ []) ≡ ending_step socket (leaving socket log) step
 ending_more socket log step =
     ap (λ (x : Leaving). x.ending) (fold-append (leaving_step socket) (record { account = untouched; ending = Open }) log (step ∷ []))
 
@@ -378,7 +379,8 @@ far_told old mid new peers shown answer reads tells visited later logged k d lt 
     let was : (leaving p.number t.0).ending ≡ ending_of p.number r.0 = ap (ending_of p.number) r.2
     ∙ ending_more p.number r.0 (Clocks shown) in
     let came : (leaving p.number t.0).account.received ≡ (account p.number r.0).received =
-    ap (λ (a : Account). a.received) (leaving_account p.number t.0 ∙ ap (account p.number) r.2 ∙ account_more p.number r.0 (Clocks shown)) in
+    ap (λ (a : Account). a.received)
+        (leaving_account p.number t.0 ∙ ap (account p.number) r.2 ∙ account_more p.number r.0 (Clocks shown)) in
     let wanted : ending_of p.number later ≡ begun (ending_of p.number r.0) (is_all_read (account p.number r.0).received) =
     ap (ending_of p.number) t.2 ∙ ending_more p.number t.0 (Answers (NowCall answer))
     ∙ ap (λ (e : Ending). begun e (is_all_read (leaving p.number t.0).account.received)) was

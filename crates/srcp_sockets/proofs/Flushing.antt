@@ -20,7 +20,8 @@ use Rattle.srcp_peers.specs.declared.turn.Turn.{Turn}
 use Rattle.srcp_peers.specs.Accounts.{Account, Sent, account, account_step, closed, is_lingering, is_overdue, is_owed, may_shut}
 use Rattle.srcp_peers.specs.Accounts.{untouched, wrote}
 use Rattle.srcp_peers.specs.AllPeers.{AreOffered, AreShutDown, IsAbsent}
-use Rattle.srcp_peers.specs.Peers.{Agrees, IsFlushed, IsKept, IsOffered, Makes, OffersDue, Spares, StaysAs, WritesAs, flush_of, flushes_all, gone_as, is_gone}
+use Rattle.srcp_peers.specs.Peers.{Agrees, IsFlushed, IsKept, IsOffered, Makes, OffersDue, Spares, StaysAs, WritesAs}
+use Rattle.srcp_peers.specs.Peers.{flush_of, flushes_all, gone_as, is_gone}
 use Rattle.srcp_peers.specs.Peers.{has_ended, is_due, is_lost, stay_after, tries_again, woken_output}
 use Rattle.srcp_peers.specs.Steps.{Accepts, Answers, Clocks, Closes, Reads, SaysNothing, Shuts, Step, Tells, Waits, Writes, call_of, calls}
 use Rattle.srcp_peers.specs.Times.{KeepsTimes, Times, first_times, times, times_step}

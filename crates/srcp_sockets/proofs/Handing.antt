@@ -1,12 +1,12 @@
 -- What a read answers that is made in time.
-use Rattle.std.proofs.Common.{◌≡◌, ◌∙◌, ℕ, suc, ◌<◌, ◌≤◌, Bool, true, false, not, List, [], ◌∷◌, ◌++◌, length, take, drop, refl, ap, sym, subst}
+use Rattle.std.proofs.Common.{◌≡◌, ◌∙◌, ℕ, suc, ◌<◌, ◌≤◌, Bool, true, false, not}
+use Rattle.std.proofs.Common.{List, [], ◌∷◌, ◌++◌, length, take, drop, refl, ap, sym, subst}
 use Rattle.std.proofs.Common.{arith, ⊎_elim, ◌==◌, ◌&&◌, ◌||◌, cond, Option, Some, Ok, Err, true≢false}
 use Rattle.std.specs.Prelude.{◌≢◌, Result, min}
-use Rattle.std.specs.Bool.{MatchBool}
 use Rattle.std.proofs.Math.Seq.{drop-append_seam}
 use Rattle.std.proofs.lemmas.Bool.{cases_lt}
 use Rattle.std.proofs.lemmas.Bool.Decides.{nat_tests}
-use Rattle.srcp_door.specs.Pacing.{Allows, IsLongest, IsOneLine, lines, weight_of}
+use Rattle.srcp_door.specs.Pacing.{Allows, IsLongest, IsShare, lines, weight_of}
 use Rattle.srcp_door.specs.declared.door.DoorFault.{DoorFault}
 use Rattle.srcp_door.specs.declared.door.DoorFault.TheVariants as fault
 use Rattle.srcp_door.specs.declared.door.Got.{Got}
@@ -50,15 +50,13 @@ light_longest line most piece count h = record {
       (cases_lt (lines (take count piece)) (lines (take n piece)));
 }
 
+granted : (line : Line) (most rest : ℕ) (piece : List ℕ) (count : ℕ) → IsShare line most rest piece count → IsHandedOut line piece count
+granted line most rest piece count h = light_longest line (weight_of line (take h.own (take rest piece))) piece count h.longest
+
 allowed : (pace : Pace) (share : Share) (piece : List ℕ) (count : ℕ) → Allows pace share piece count
     → IsHandedOut share.line piece count
-allowed (Paced left) share piece count h = light_longest share.line (cond share.mark 0 left) piece count h
-allowed OneLine share piece count h = by share.mark h
-  where
-    by : (mark : Bool) → MatchBool mark (IsLongest share.line 0 piece count) (IsOneLine share.line piece count)
-        → IsHandedOut share.line piece count
-    by true longest = light_longest share.line 0 piece count longest
-    by false one = light_longest share.line one.first piece count one.longest
+allowed (Paced left) share piece count h = granted share.line left share.rest piece count h
+allowed OneLine share piece count h = granted share.line h.first share.rest piece count h.share
 
 -- ---- who failed
 
@@ -151,7 +149,8 @@ leaves a p wanted h here far may sound settled =
 -- of a peer that is there
 pub read_done : (wall start : ℕ) (trace : Option (List Step)) (turn : Turn) (p : Peer) (answer : Result Got DoorFault) (buffer : List ℕ)
     (room : ℕ) (kept : Bool) (log : List Step) → trace ≡ Some log → IsTimedFrom wall start trace turn → IsKept trace p
-    → p.stay ≡ stay.Here → is_as_far (ending_of p.number log) p.ending ≡ true → length buffer ≡ room → IsAnswered turn p room answer (got_bytes answer buffer) kept
+    → p.stay ≡ stay.Here → is_as_far (ending_of p.number log) p.ending ≡ true → length buffer ≡ room
+    → IsAnswered turn p room answer (got_bytes answer buffer) kept
     → IsReadDone wall start log p.number answer buffer
 read_done wall start trace turn p answer buffer room kept log is timed agrees here far long answered =
     let a : Account = account p.number log in
@@ -164,7 +163,8 @@ read_done wall start trace turn p answer buffer room kept log is timed agrees he
     true≢false (sym e ∙ held ∙ ap (λ (xs : List ℕ). not (length xs == 0)) none) in
     let piece : piece_of p room ≡ held_piece a.received (length buffer) =
     ap (λ n. take (min 256 n) p.incoming) (sym long)
-    ∙ ap (take (min 256 (length buffer))) (sym (ap (drop (length a.received.handed)) gave ∙ drop-append_seam a.received.handed p.incoming)) in
+    ∙ ap (take (min 256 (length buffer)))
+        (sym (ap (drop (length a.received.handed)) gave ∙ drop-append_seam a.received.handed p.incoming)) in
     record {
       told = λ ends failing.
           let rest = watched_fails a.watched (not (is_held a.received) && (a.sent.lost || a.received.failed)) stays.0 failing in

@@ -36,7 +36,7 @@ nobody = record {
   output = output.Open;
   cut = false;
   stay = stay.Here;
-  share = record { line = line.Ended; mark = true };
+  share = record { line = line.Ended; rest = 0 };
   ending = ending.Open;
   asked = true;
   room = 300;

@@ -1,5 +1,6 @@
 -- How far a peer is on the way to its end, by the steps so far.
-use Rattle.std.specs.Prelude.{◌≡◌, ℕ, ◌<◌, ◌==◌, ◌&&◌, nat_le, nat_lt, Bool, true, false, not, if◌then◌else◌, List, fold}
+use Rattle.std.specs.Prelude.{◌≡◌, ℕ, ◌<◌, ◌==◌, ◌&&◌, nat_le, nat_lt}
+use Rattle.std.specs.Prelude.{Bool, true, false, not, if◌then◌else◌, List, fold}
 use Rattle.std.specs.Prelude.{length, slice_index_or, Option, Some, Ok}
 use Rattle.std.proofs.Props.{props}
 use Rattle.srcp_door.specs.Calls.{Call, NowCall, WriteCall}

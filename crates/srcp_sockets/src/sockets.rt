@@ -22,7 +22,7 @@ ghost use Rattle.srcp_peers.specs.Turns.{time_left};
 ghost use Rattle.srcp_peers.specs.Waiting.{IsWithin, longest_wait};
 ghost use Rattle.srcp_door.specs.Calls.{ExpectCall, NowCall, ReadCall, WriteCall, CloseCall};
 ghost use Rattle.srcp_peers.specs.Steps.{Closes, SaysNothing, SaysOne, Tells};
-ghost use Rattle.srcp_peers.specs.AllPeers.{AreMarked, AreOffered};
+ghost use Rattle.srcp_peers.specs.AllPeers.{AreShared, AreOffered};
 ghost use Rattle.srcp_sockets.specs.Doors.{AreRead, IsMissing, IsPresent, Stands, flushed_in};
 
 mod accepting;
@@ -51,7 +51,7 @@ pub(crate) struct Sockets<S: System + Drop> {
     pub most: Option<u64>,
     // What the clock showed when all that was queued was flushed last, in milliseconds.
     flushed: u64,
-    // Whether a peer was refused its first line since the turn began: the marks stay then.
+    // Whether a line of a peer's share was kept back since the turn began: the shares stay then.
     refused: bool,
     // The queues that were made for a connection that was not accepted: the next one has them.
     spare: Option<Queues>,
@@ -59,7 +59,8 @@ pub(crate) struct Sockets<S: System + Drop> {
     ghost named: { IsNamed (S.trace system) last } by { IsNamed-prop (S.trace system) last },
     ghost timed: { IsTimed (S.trace system) turn } by { IsTimed-prop (S.trace system) turn },
     ghost asked: { AreAsked (S.trace system) } by { AreAsked-prop (S.trace system) },
-    ghost done: { AreDone turn.timekeeper.wall turn.timekeeper.start (S.trace system) } by { AreDone-prop turn.timekeeper.wall turn.timekeeper.start (S.trace system) },
+    ghost done: { AreDone turn.timekeeper.wall turn.timekeeper.start (S.trace system) } by {
+        AreDone-prop turn.timekeeper.wall turn.timekeeper.start (S.trace system) },
     ghost ending: { AreAsFar (S.trace system) peers.items } by { AreAsFar-prop (S.trace system) peers.items },
     ghost places: { 129 ≤ vec_capacity peers },
 }
@@ -211,22 +212,22 @@ impl<S: System + Drop> Sockets<S> {
         self.turn.wait();
     }
 
-    /// Begins the visit of each peer; `holds` says whether input was held as the turn began. The marks are cleared if
-    /// no peer was refused its first line in the turn before.
+    /// Begins the visit of each peer; `holds` says whether input was held as the turn began. The share of each is a
+    /// whole piece again if no line of a share was kept back in the turn before.
     fn begin_visits(&mut self, holds: bool)
         ensures calls { SaysNothing (S.trace self.old.system) (S.trace self.new.system) }
         ensures read { AreRead (S.trace self.new.system) }
         ensures visited { AreVisited (S.trace self.new.system) self.new.peers.items }
-        ensures marks { AreMarked (not self.old.refused) self.old.peers.items self.new.peers.items }
+        ensures shares { AreShared (not self.old.refused) self.old.peers.items self.new.peers.items }
         ensures rooms { All (λ peer. peer.room ≡ room_of holds self.old.turn.slack) self.new.peers.items }
         ensures times { KeepsTimes (S.trace self.old.system) (S.trace self.new.system) }
         ensures flushed { self.new.flushed ≡ self.old.flushed }
         ensures reset { self.new.refused ≡ false }
     {
-        let clear = !self.refused;
+        let anew = !self.refused;
         let room = self.room(holds);
         self.refused = false;
-        begin_visits(&mut self.system, self.peers.as_mut_slice(), clear, room);
+        begin_visits(&mut self.system, self.peers.as_mut_slice(), anew, room);
     }
 
     /// Returns how many lines may be queued for a peer whose socket refuses more. While commands wait for the panels,

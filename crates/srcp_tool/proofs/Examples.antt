@@ -1,6 +1,6 @@
 -- Worked lines, computed by the definitions.
 use Rattle.std.proofs.Common.{◌≡◌, true, [], ◌∷◌, ◌++◌, Ok, codes, refl}
-use Rattle.std.specs.Prelude.{None}
+use Rattle.std.specs.Prelude.{None, Some}
 use Rattle.std.specs.Fmt.{digits}
 use Rattle.clap.specs.Walk.{walked}
 use Rattle.srcp_grammar.specs.declared.layout.Bus.{Bus}
@@ -27,15 +27,15 @@ tells_of_a_line = refl
 
 -- ---- words
 
-no_words : task (codes "srcp_server" ∷ []) ≡ Replay None
+no_words : task (codes "srcp_server" ∷ []) ≡ Some (Replay None)
 no_words = refl
 
-checks_a_file : task (codes "srcp_server" ∷ codes "check" ∷ codes "--config" ∷ codes "f" ∷ []) ≡ Check (codes "f")
+checks_a_file : task (codes "srcp_server" ∷ codes "check" ∷ codes "--config" ∷ codes "f" ∷ []) ≡ Some (Check (codes "f"))
 unfolding walked
 checks_a_file = refl
 
 serves_for_three_turns : task (codes "srcp_server" ∷ codes "serve" ∷ codes "--turns" ∷ codes "3" ∷ codes "--config=f" ∷ [])
-    ≡ Serve (codes "f") 3
+    ≡ Some (Serve (codes "f") 3)
 unfolding walked
 serves_for_three_turns = refl
 

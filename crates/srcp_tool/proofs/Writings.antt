@@ -11,7 +11,8 @@ use Rattle.std.proofs.KnownBytes.{Appends-trans}
 use Rattle.std.specs.Io.KnownBytes.{Appends}
 use Rattle.srcp_tool.specs.Output.{AppendsPrefix, RefusesFor, Writes, WritesText}
 use Rattle.srcp_tool.specs.declared.fault.ToolFault.{ToolFault}
-use Rattle.srcp_tool.specs.declared.fault.ToolFault.TheVariants.{Config, Input, Line, Listen, Memory, Output, Script, TooLarge, Unreadable}
+use Rattle.srcp_tool.specs.declared.fault.ToolFault.TheVariants.{Config, Input, Line, Listen, Memory, Output, Plan, Script, TooLarge}
+use Rattle.srcp_tool.specs.declared.fault.ToolFault.TheVariants.{Unreadable}
 
 -- what writing a text that is to be printed comes to
 pub writes_text : (Prints : List ℕ → Type 0) (Stops : ToolFault → Type 0) (text : List ℕ) (result : Result Unit ToolFault)
@@ -31,6 +32,7 @@ writes_that Prints Stops text (Err TooLarge) old new prints stops w = absurd w.0
 writes_that Prints Stops text (Err (Script fault)) old new prints stops w = absurd w.0
 writes_that Prints Stops text (Err (Line line)) old new prints stops w = absurd w.0
 writes_that Prints Stops text (Err (Config fault)) old new prints stops w = absurd w.0
+writes_that Prints Stops text (Err (Plan fault)) old new prints stops w = absurd w.0
 writes_that Prints Stops text (Err Unreadable) old new prints stops w = absurd w.0
 writes_that Prints Stops text (Err Listen) old new prints stops w = absurd w.0
 

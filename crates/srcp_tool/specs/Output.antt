@@ -18,13 +18,17 @@ use Rattle.srcp_core.specs.declared.event.Event.{Event}
 use Rattle.srcp_core.specs.declared.record.Record.{Record}
 use Rattle.srcp_layout_file.specs.Document.{config_of}
 use Rattle.srcp_layout_file.specs.Output.{checked}
+use Rattle.srcp_plan_file.specs.Document.{plan_of}
+use Rattle.srcp_plan_file.specs.Output.{printed as printed_plan}
+use Rattle.srcp_plan_file.specs.Plan.{planned}
+use Rattle.srcp_plan_file.specs.declared.plan.Plan.{Plan}
 use Rattle.srcp_script.specs.Output.{printed}
 use Rattle.srcp_script.specs.Script.{script}
 use Rattle.srcp_layout_file.specs.declared.config.Config.{Config}
 use Rattle.srcp_layout_file.specs.declared.config.ConfigFault.{ConfigFault}
 use Rattle.srcp_tool.specs.declared.fault.ToolFault.{ToolFault}
 use Rattle.srcp_tool.specs.declared.fault.ToolFault.TheVariants.{Input, Output, TooLarge, Script, Line, Memory}
-use Rattle.srcp_tool.specs.declared.fault.ToolFault.TheVariants.{Config as ConfigIs, Unreadable}
+use Rattle.srcp_tool.specs.declared.fault.ToolFault.TheVariants.{Config as ConfigIs, Plan as PlanIs, Unreadable}
 use Rattle.srcp_script.specs.declared.script.ScriptFault.{ScriptFault}
 
 -- ---- replay: what a run gave
@@ -99,6 +103,19 @@ checked_or (Err wrong) = Err (ConfigIs wrong)
 -- what `check` prints for the bytes of a configuration, or why it refuses them
 abbrev pub check_output : List ℕ → Result (List ℕ) ToolFault
 check_output bytes = checked_or (config_of bytes)
+
+-- ---- check: which routes of a plan conflict
+
+-- the text is what is printed for the plan that these bytes say
+pub record PrintsPlan (bytes text : List ℕ) : Type 0 where
+  pub plan : Plan
+  pub says : plan_of bytes ≡ Ok (planned plan)
+  pub prints : text ≡ printed_plan plan
+
+-- why a plan is refused
+abbrev pub RefusesPlan : List ℕ → ToolFault → Type 0
+RefusesPlan bytes (PlanIs wrong) = plan_of bytes ≡ Err wrong
+RefusesPlan bytes other = ⊥
 
 -- ---- the writing
 

@@ -1,57 +1,89 @@
 //! The words of the command line.
 
-ghost use Rattle.std.specs.Prelude.{◌≡◌, false, map, option_map, string_bytes, IfOk};
-ghost use Rattle.clap.specs.Words.{app_of, fault_of, found_of, rows_of, rule_of, subcommand_rows_of, FailsBy};
+ghost use Rattle.std.specs.Prelude.{◌≡◌, false, map, option_map, string_bytes, IfOk, Some};
+ghost use Rattle.clap.specs.Words.{app_of, found_of, rows_of, rule_of, subcommand_rows_of, FailsBy};
 ghost use Rattle.clap.specs.declared.builder.Command.TheViews.{out-Command as fields_of};
-ghost use Rattle.srcp_tool.specs.Arguments.{config_rule, turns_rule, server_app, over_lines_app, replay_app};
-ghost use Rattle.srcp_tool.specs.Arguments.{mirror_app, check_app, serve_app, program_app, config_in, turns_in};
-ghost use Rattle.srcp_tool.specs.Arguments.{subtask, task_of, task_in, task};
+ghost use Rattle.srcp_tool.specs.Arguments.{config_rule, plan_rule, turns_rule, server_app, over_lines_app};
+ghost use Rattle.srcp_tool.specs.Arguments.{replay_app, mirror_app, interlock_app, check_app, serve_app, program_app};
+ghost use Rattle.srcp_tool.specs.Arguments.{config_in, plan_in, turns_in, checked};
+ghost use Rattle.srcp_tool.specs.Arguments.{subtask, task_of, task_in, task, refusal_of};
 
 use crate::tool::Tool;
+use clap::error::ErrorKind;
 use clap::{Arg, ArgMatches, Command, Error, value_parser};
 use std::alloc::{AllocError, Global};
 use std::string::String;
+
+/// What is said of a check of no file, or of two.
+const ONE_FILE: &str = "check needs either --config or --plan";
 
 /// Returns what the words ask for, the program's name first.
 ///
 /// # Errors
 /// Returns what `clap` answers if the words ask for nothing that the program does, or for `--help` or `--version`.
-/// That has the text, the stream that it goes to, and the status. Its kind is `OutOfMemory` if memory is refused.
+/// That has the text, the stream that it goes to, and the status. Its kind is `OutOfMemory` if memory is refused, and
+/// `MissingRequiredArgument` if a check is of no file, or of two.
 pub fn read_words<'a>(alloc: Global, words: &'a [String]) -> Result<Tool<'a>, Error>
-    ensures task { IfOk result (λ tool. task_of tool ≡ task (map string_bytes words.entry.now)) }
-    ensures kinds { FailsBy (fault_of program_app (map string_bytes words.entry.now)) result }
+    ensures task { IfOk result (λ tool. Some (task_of tool) ≡ task (map string_bytes words.entry.now)) }
+    ensures kinds { FailsBy (refusal_of (map string_bytes words.entry.now)) result }
 {
-    let matches = program(alloc)?.try_get_matches_from(words)?;
-    Ok(tool_in(&matches))
+    let mut program = program(alloc)?;
+    let matches = program.try_get_matches_from_mut(words)?;
+    match tool_in(&matches) {
+        Some(tool) => Ok(tool),
+        None => Err(program.error(ErrorKind::MissingRequiredArgument, ONE_FILE)?),
+    }
 }
 
-/// Returns what the matches ask for, which is a replay if they have no subcommand.
-fn tool_in<'a>(matches: &ArgMatches<'a>) -> Tool<'a>
-    ensures { task_of result ≡ task_in (subcommand_rows_of matches.now) }
+/// Returns what the matches ask for, which is a replay if they have no subcommand, and nothing for a check of no file or
+/// of two.
+fn tool_in<'a>(matches: &ArgMatches<'a>) -> Option<Tool<'a>>
+    ensures { option_map task_of result ≡ task_in (subcommand_rows_of matches.now) }
 {
     match matches.subcommand() {
-        None => Tool::Replay { config: None },
+        None => Some(Tool::Replay { config: None }),
         Some((name, found)) => subtool(name, found),
     }
 }
 
-fn subtool<'a>(name: &str, found: &ArgMatches<'a>) -> Tool<'a>
-    ensures { task_of result ≡ subtask name.now (rows_of (found_of found.now)) }
+fn subtool<'a>(name: &str, found: &ArgMatches<'a>) -> Option<Tool<'a>>
+    ensures { option_map task_of result ≡ subtask name.now (rows_of (found_of found.now)) }
 {
     match name {
-        "mirror" => Tool::Mirror,
-        // `clap` refuses these two without a configuration
-        "check" => Tool::Check {
-            config: config_in(found).unwrap_or(""),
-        },
-        "serve" => Tool::Serve {
+        "mirror" => Some(Tool::Mirror),
+        // `clap` refuses this one without a plan
+        "interlock" => Some(Tool::Interlock {
+            plan: plan_in(found).unwrap_or(""),
+        }),
+        "check" => checked(config_in(found), plan_in(found)),
+        // `clap` refuses this one without a configuration
+        "serve" => Some(Tool::Serve {
             config: config_in(found).unwrap_or(""),
             turns: turns_in(found),
-        },
-        _ => Tool::Replay {
+        }),
+        _ => Some(Tool::Replay {
             config: config_in(found),
-        },
+        }),
     }
+}
+
+/// Returns what is to be checked: one of these files, if only one is given.
+fn checked<'a>(config: Option<&'a str>, plan: Option<&'a str>) -> Option<Tool<'a>>
+    ensures { option_map task_of result ≡ checked (option_map (λ file. file.now) config.entry)
+        (option_map (λ file. file.now) plan.entry) }
+{
+    match (config, plan) {
+        (Some(config), None) => Some(Tool::Check { config }),
+        (None, Some(plan)) => Some(Tool::CheckPlan { plan }),
+        _ => None,
+    }
+}
+
+/// Returns the file that `--plan` names.
+fn plan_in<'a>(found: &ArgMatches<'a>) -> Option<&'a str>
+    ensures { option_map (λ file. file.now) result ≡ plan_in (rows_of (found_of found.now)) }
+{
+    found.get_str("plan")
 }
 
 /// Returns the file that `--config` names.
@@ -68,7 +100,7 @@ fn turns_in(found: &ArgMatches<'_>) -> u64
     found.get_one::<u64>("turns").unwrap_or(u64::MAX)
 }
 
-/// Makes the command with its four subcommands.
+/// Makes the command with its five subcommands.
 fn program<'a>(alloc: Global) -> Result<Command<'a>, AllocError>
     ensures app { IfOk result (λ command. app_of command ≡ program_app) }
     ensures local { IfOk result (λ command. (fields_of command).has_globals ≡ false) }
@@ -79,15 +111,17 @@ fn program<'a>(alloc: Global) -> Result<Command<'a>, AllocError>
     command.subcommand(serve)
 }
 
-/// Makes the command with the two subcommands that work on standard input.
+/// Makes the command with the three subcommands that work on standard input.
 fn over_lines<'a>(alloc: Global) -> Result<Command<'a>, AllocError>
     ensures app { IfOk result (λ command. app_of command ≡ over_lines_app) }
     ensures local { IfOk result (λ command. (fields_of command).has_globals ≡ false) }
 {
     let replay = replay(alloc)?;
     let mirror = mirror(alloc);
+    let interlock = interlock(alloc)?;
     let command = server(alloc).subcommand(replay)?;
-    command.subcommand(mirror)
+    let command = command.subcommand(mirror)?;
+    command.subcommand(interlock)
 }
 
 /// Makes the command without its subcommands.
@@ -118,13 +152,27 @@ fn mirror<'a>(alloc: Global) -> Command<'a>
     )
 }
 
+fn interlock<'a>(alloc: Global) -> Result<Command<'a>, AllocError>
+    ensures app { IfOk result (λ command. app_of command ≡ interlock_app) }
+    ensures local { IfOk result (λ command. (fields_of command).has_globals ≡ false) }
+{
+    Command::new(alloc, "interlock")
+        .about(
+            "Sets the routes of a plan: reads what a panel is sent and replies, and prints commands",
+        )
+        .arg(plan(alloc, true))
+}
+
 fn check<'a>(alloc: Global) -> Result<Command<'a>, AllocError>
     ensures app { IfOk result (λ command. app_of command ≡ check_app) }
     ensures local { IfOk result (λ command. (fields_of command).has_globals ≡ false) }
 {
-    Command::new(alloc, "check")
-        .about("Reads a configuration, and prints what it says")
-        .arg(config(alloc, true))
+    let command = Command::new(alloc, "check")
+        .about(
+            "Reads a configuration, and prints what it says; or a plan, and prints which routes conflict",
+        )
+        .arg(config(alloc, false))?;
+    command.arg(plan(alloc, false))
 }
 
 fn serve<'a>(alloc: Global) -> Result<Command<'a>, AllocError>
@@ -146,6 +194,18 @@ fn config<'a>(alloc: Global, required: bool) -> Arg<'a>
         .long("config")
         .value_name("FILE")
         .help("The configuration: a TOML document with the port and the buses")
+        .required(required)
+}
+
+/// Makes the option `--plan F`.
+fn plan<'a>(alloc: Global, required: bool) -> Arg<'a>
+    ensures rule { rule_of result ≡ plan_rule required }
+    ensures local { result.global ≡ false }
+{
+    Arg::new(alloc, "plan")
+        .long("plan")
+        .value_name("FILE")
+        .help("The plan of a signal box: a TOML document with its routes")
         .required(required)
 }
 

@@ -5,6 +5,7 @@ ghost use Rattle.srcp_tool.specs.Faults.{fault_text, fault_status, stops_at};
 
 use srcp_core::RunFault;
 use srcp_layout_file::ConfigFault;
+use srcp_plan_file::PlanFault;
 use srcp_script::{Cause, ScriptFault};
 use std::alloc::AllocError;
 use std::fmt;
@@ -28,7 +29,9 @@ pub enum ToolFault {
     Memory,
     /// The configuration is refused.
     Config(ConfigFault),
-    /// The configuration cannot be read.
+    /// The plan is refused.
+    Plan(PlanFault),
+    /// The configuration, or the plan, cannot be read.
     Unreadable,
     /// The port cannot be listened on.
     Listen,
@@ -46,6 +49,7 @@ impl fmt::Display for ToolFault {
             ToolFault::Line(line) => { write!(f, "mirror line {line}: not an information line") }
             ToolFault::Memory => write!(f, "out of memory"),
             ToolFault::Config(fault) => write!(f, "{fault}"),
+            ToolFault::Plan(fault) => write!(f, "{fault}"),
             ToolFault::Unreadable => write!(f, "cannot read the configuration"),
             ToolFault::Listen => write!(f, "cannot listen"),
         }
@@ -72,6 +76,19 @@ impl From<ConfigFault> for ToolFault {
         match fault {
             ConfigFault::Memory => ToolFault::Memory,
             _ => ToolFault::Config(fault),
+        }
+    }
+}
+
+impl From<PlanFault> for ToolFault {
+    ghost use Rattle.srcp_tool.specs.Faults.{stops_by};
+
+    ghost from_gives = { λ fault e. e ≡ stops_by fault };
+
+    fn from(fault: PlanFault) -> ToolFault {
+        match fault {
+            PlanFault::Memory => ToolFault::Memory,
+            _ => ToolFault::Plan(fault),
         }
     }
 }
@@ -114,6 +131,10 @@ impl ToolFault {
             ToolFault::Memory => 1,
             ToolFault::Config(fault) => match fault {
                 ConfigFault::Memory => 1,
+                _ => 2,
+            },
+            ToolFault::Plan(fault) => match fault {
+                PlanFault::Memory => 1,
                 _ => 2,
             },
             ToolFault::Unreadable => 1,

@@ -1,5 +1,6 @@
 //! The program but for serving. It reads its words (`read_words`) and a configuration's bytes (`read_config`). It
-//! replays a script (`replay`), mirrors the lines of a panel (`mirror`), and checks a configuration (`check`).
+//! replays a script (`replay`), mirrors the lines of a panel (`mirror`), runs a signal box over a stream (`interlock`),
+//! checks a configuration (`check`), and a plan (`check_plan`).
 //! `ToolFault` says why it stops, with which text and which status.
 //!
 //! `check_text` is what `check` writes, as bytes in memory.
@@ -12,15 +13,17 @@ mod arguments;
 mod checking;
 mod fault;
 mod input;
+mod interlocking;
 mod output;
 mod playback;
 mod stream;
 mod tool;
 
 pub use arguments::read_words;
-pub use checking::{check, check_text};
+pub use checking::{check, check_plan, check_text};
 pub use fault::ToolFault;
 pub use input::read_config;
+pub use interlocking::interlock;
 pub use playback::replay;
 pub use stream::mirror;
 pub use tool::Tool;

@@ -49,6 +49,22 @@ fn checks_a_configuration(rt: HostRuntime) -> Result<(), Fail> {
     Ok(())
 }
 
+#[test]
+fn checks_a_plan(rt: HostRuntime) -> Result<(), Fail> {
+    let words = given(rt.alloc(), &["check", "--plan", "f"])?;
+    let tool = read_words(rt.alloc(), &words)?;
+    assert!(rt; matches!(tool, Tool::CheckPlan { plan: "f" }));
+    Ok(())
+}
+
+#[test]
+fn sets_the_routes_of_a_plan(rt: HostRuntime) -> Result<(), Fail> {
+    let words = given(rt.alloc(), &["interlock", "--plan=f"])?;
+    let tool = read_words(rt.alloc(), &words)?;
+    assert!(rt; matches!(tool, Tool::Interlock { plan: "f" }));
+    Ok(())
+}
+
 /// Returns for how many turns the words ask to serve over the configuration `f`.
 fn turns_of(alloc: Global, words: &[&str]) -> Result<u64, Fail> {
     let words = given(alloc, words)?;
@@ -83,6 +99,10 @@ fn refused(alloc: Global, words: &[&str]) -> Option<(ErrorKind, i32)> {
 fn refuses_words_that_ask_for_nothing(rt: HostRuntime) {
     let answer = refused(rt.alloc(), &["check"]);
     assert_eq!(rt; answer, Some((ErrorKind::MissingRequiredArgument, 2)));
+    let answer = refused(rt.alloc(), &["check", "--plan=f", "--config=g"]);
+    assert_eq!(rt; answer, Some((ErrorKind::MissingRequiredArgument, 2)));
+    let answer = refused(rt.alloc(), &["interlock"]);
+    assert_eq!(rt; answer, Some((ErrorKind::MissingRequiredArgument, 2)));
     let answer = refused(rt.alloc(), &["serve", "--turns", "3"]);
     assert_eq!(rt; answer, Some((ErrorKind::MissingRequiredArgument, 2)));
     let answer = refused(rt.alloc(), &["serve", "--config", "f", "--turns", "x"]);
@@ -93,6 +113,8 @@ fn refuses_words_that_ask_for_nothing(rt: HostRuntime) {
         Some((ErrorKind::ValueValidation, 2))
     );
     let answer = refused(rt.alloc(), &["mirror", "--config", "f"]);
+    assert_eq!(rt; answer, Some((ErrorKind::UnknownArgument, 2)));
+    let answer = refused(rt.alloc(), &["interlock", "--plan", "f", "--config", "f"]);
     assert_eq!(rt; answer, Some((ErrorKind::UnknownArgument, 2)));
     let answer = refused(rt.alloc(), &["reply"]);
     assert_eq!(rt; answer, Some((ErrorKind::InvalidSubcommand, 2)));

@@ -1,8 +1,9 @@
-//! Checking a configuration. The cases of `tests/tables.py` check more of them.
+//! Checking a configuration, and a plan. The cases of `tests/tables.py` check more of them.
 
 use crate::memory_io::Source;
 use srcp_layout_file::{ConfigFault, Field};
-use srcp_tool::{ToolFault, check, read_config};
+use srcp_plan_file::PlanFault;
+use srcp_tool::{ToolFault, check, check_plan, read_config};
 use std::test::Fail;
 use std::vec::Vec;
 
@@ -23,6 +24,25 @@ fn tells_nothing_of_a_refused_configuration(rt: HostRuntime) {
     let answer = check(rt.alloc(), b"port = 80", &mut output);
     let missing = ToolFault::Config(ConfigFault::Missing(Field::Bus));
     assert_eq!(rt; answer, Err(missing));
+    assert!(rt; output.is_empty());
+}
+
+#[test]
+fn tells_which_routes_conflict(rt: HostRuntime) -> Result<(), Fail> {
+    let document = b"bus = 9
+route = [{number = 1, turnouts = [[1, 12, 1]]}, {number = 4, turnouts = [[1, 12, 0]]}]";
+    let mut output = Vec::new(rt.alloc());
+    check_plan(rt.alloc(), document, &mut output)?;
+    let wanted = b"bus 9\nroute 1\nroute 4\nroute 1 conflicts with route 4: turnout 1 12\n";
+    assert_eq!(rt; output.as_slice(), wanted.as_slice());
+    Ok(())
+}
+
+#[test]
+fn tells_nothing_of_a_refused_plan(rt: HostRuntime) {
+    let mut output = Vec::new(rt.alloc());
+    let answer = check_plan(rt.alloc(), b"bus =", &mut output);
+    assert_eq!(rt; answer, Err(ToolFault::Plan(PlanFault::NotToml)));
     assert!(rt; output.is_empty());
 }
 

@@ -1,6 +1,7 @@
 //! The texts of the program's faults, and their statuses.
 
 use srcp_layout_file::{ConfigFault, Field};
+use srcp_plan_file::PlanFault;
 use srcp_script::{Cause, ScriptFault};
 use srcp_tool::ToolFault;
 use std::test::Fail;
@@ -56,6 +57,14 @@ fn tells_a_fault_and_its_status(rt: HostRuntime) -> Result<(), Fail> {
             2,
         ),
         (ToolFault::Config(ConfigFault::Memory), "out of memory", 1),
+        (ToolFault::Plan(PlanFault::NotToml), "plan: not TOML", 2),
+        (
+            ToolFault::from(PlanFault::Twice(4)),
+            "plan: route 4 twice",
+            2,
+        ),
+        (ToolFault::from(PlanFault::Memory), "out of memory", 1),
+        (ToolFault::Plan(PlanFault::Memory), "out of memory", 1),
         (ToolFault::Unreadable, "cannot read the configuration", 1),
         (ToolFault::Listen, "cannot listen", 1),
     ];

@@ -10,6 +10,8 @@ mod document;
 #[cfg(test)]
 mod faults;
 #[cfg(test)]
+mod interlocking;
+#[cfg(test)]
 mod keepers;
 #[cfg(test)]
 mod memory_io;

@@ -4,7 +4,7 @@ use crate::memory_io::{Sink, Source};
 use crate::mirroring::ROWS;
 use srcp_rules::{Flat, Layout};
 use srcp_script::{Cause, ScriptFault, read_script};
-use srcp_tool::{ToolFault, check, mirror, read_config, replay};
+use srcp_tool::{ToolFault, check, check_plan, mirror, read_config, replay};
 use std::alloc::Global;
 use std::test::Fail;
 use std::vec::Vec;
@@ -21,6 +21,10 @@ rows 1
 const CONFIG: &[u8] = b"bus = [{number = 9, groups = [\"GA\"], ga_max = 1}]";
 
 const CHECKED: &[u8] = b"port 4303\nbus 9 GA 1\n";
+
+const PLAN: &[u8] = b"bus = 9\nroute = [{number = 1, turnouts = [[1, 12, 1]]}]";
+
+const TABLE: &[u8] = b"bus 9\nroute 1\n";
 
 /// Makes a reader that fails after these bytes.
 fn failing(bytes: &[u8]) -> Source<'_> {
@@ -101,8 +105,18 @@ fn checks_a_prefix_if_a_write_fails(rt: HostRuntime) {
     }
 }
 
+#[test]
+fn checks_a_prefix_of_a_plan_if_a_write_fails(rt: HostRuntime) {
+    for room in 0..TABLE.len() + 1 {
+        let mut sink = Sink::new(rt.alloc(), room, room % 2 == 0);
+        let answer = check_plan(rt.alloc(), PLAN, &mut sink);
+        assert_eq!(rt; answer, written(room, TABLE));
+        assert_eq!(rt; sink.taken.as_slice(), &TABLE[..room]);
+    }
+}
+
 /// Returns the result of writing a text into `room` bytes.
-fn written(room: usize, text: &[u8]) -> Result<(), ToolFault> {
+pub(crate) fn written(room: usize, text: &[u8]) -> Result<(), ToolFault> {
     if room < text.len() {
         Err(ToolFault::Output)
     } else {

@@ -5,7 +5,7 @@ use Rattle.srcp_door.specs.declared.pacing.Share.{Share}
 use Rattle.srcp_peers.specs.declared.peer.Peer.{Peer}
 use Rattle.srcp_peers.proofs.Saying.{says_none, says_then, keeps_none, keeps_then}
 use Rattle.srcp_peers.proofs.Keeping.{spares_none, spares_then}
-use Rattle.srcp_peers.proofs.Lists.{set_read, absent_there, set_apart, set_each, set_kept, set_marked, set_rest, set_rooms, set_those}
+use Rattle.srcp_peers.proofs.Lists.{set_read, absent_there, set_apart, set_each, set_kept, set_shared, set_rest, set_rooms, set_those}
 use Rattle.srcp_peers.proofs.peers.begin_visits.Goals as goal
 
 pub loop-peer-init : goal.loop-peer-init
@@ -17,7 +17,7 @@ loop-peer-init g c = record {
   calls = says_none (g.S.System.trace c.args.system.now);
   times = keeps_none (g.S.System.trace c.args.system.now);
   read = λ k d lt. absurd (omega (arith, lt));
-  marked = λ k d lt. absurd (omega (arith, lt));
+  shared = λ k d lt. absurd (omega (arith, lt));
   rooms = λ k d lt. absurd (omega (arith, lt));
   begun = λ k d lt. absurd (omega (arith, lt));
   rest = λ k d late. refl;
@@ -45,8 +45,8 @@ loop-peer-preserved g c = record {
   read = set_read (g.S.System.trace c.loop-peer.system) (g.S.System.trace c.begin_visit.new.system) c.loop-peer.peers
       c.loop-peer.peer-index c.peer-item.result c.begin_visit.new.self (omega arith) c.loop-peer.invariant.apart
       c.begin_visit.ensures.number c.begin_visit.ensures.others c.begin_visit.ensures.read c.loop-peer.invariant.read;
-  marked = set_marked c.args.peers.now c.loop-peer.peers c.loop-peer.peer-index c.peer-item.result c.begin_visit.new.self c.args.clear
-      (omega arith) (ap (λ (s : Share). s.mark) c.begin_visit.ensures.mark) c.loop-peer.invariant.rest c.loop-peer.invariant.marked;
+  shared = set_shared c.args.peers.now c.loop-peer.peers c.loop-peer.peer-index c.peer-item.result c.begin_visit.new.self c.args.anew
+      (omega arith) (ap (λ (s : Share). s.rest) c.begin_visit.ensures.share) c.loop-peer.invariant.rest c.loop-peer.invariant.shared;
   rooms = set_rooms c.loop-peer.peers c.loop-peer.peer-index c.begin_visit.new.self c.args.room (omega arith)
       (ap (λ (p : Peer). p.room) c.begin_visit.ensures.same) c.loop-peer.invariant.rooms;
   begun = set_each (λ (p q : Peer). (q.stay ≡ p.stay) × (q.ending ≡ begun p.ending (is_over q.incoming q.input))) c.args.peers.now

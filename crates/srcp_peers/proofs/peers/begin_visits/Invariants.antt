@@ -1,4 +1,4 @@
-use Rattle.std.specs.Prelude.{◌≡◌, ℕ, ◌<◌, ◌≤◌, ◌&&◌, not, slice_index_or}
+use Rattle.std.specs.Prelude.{◌≡◌, ℕ, ◌<◌, ◌≤◌, cond, slice_index_or}
 use Rattle.srcp_peers.specs.declared.peer.Peer.{Peer}
 use Rattle.srcp_peers.specs.Steps.{SaysNothing}
 use Rattle.srcp_peers.specs.Times.{KeepsTimes}
@@ -16,10 +16,11 @@ invariant-loop-peer g l = record {
   calls : SaysNothing (g.S.System.trace l.fn.system) (g.S.System.trace l.system);
   times : KeepsTimes (g.S.System.trace l.fn.system) (g.S.System.trace l.system);
   read : (k : ℕ) (d : Peer) → k < l.peer-index → IsRead (g.S.System.trace l.system) (slice_index_or l.peers k d).number;
-  marked : (k : ℕ) (d : Peer) → k < l.peer-index
-      → (slice_index_or l.peers k d).share.mark ≡ (not l.clear && (slice_index_or l.fn.peers k d).share.mark);
+  shared : (k : ℕ) (d : Peer) → k < l.peer-index
+      → (slice_index_or l.peers k d).share.rest ≡ cond l.anew 256 (slice_index_or l.fn.peers k d).share.rest;
   rooms : (k : ℕ) (d : Peer) → k < l.peer-index → (slice_index_or l.peers k d).room ≡ l.room;
   begun : (k : ℕ) (d : Peer) → k < l.peer-index → (let p = slice_index_or l.peers k d in
-      (p.stay ≡ (slice_index_or l.fn.peers k d).stay) × (p.ending ≡ begun (slice_index_or l.fn.peers k d).ending (is_over p.incoming p.input)));
+      (p.stay ≡ (slice_index_or l.fn.peers k d).stay)
+      × (p.ending ≡ begun (slice_index_or l.fn.peers k d).ending (is_over p.incoming p.input)));
   rest : (k : ℕ) (d : Peer) → l.peer-index ≤ k → slice_index_or l.peers k d ≡ slice_index_or l.fn.peers k d;
 }

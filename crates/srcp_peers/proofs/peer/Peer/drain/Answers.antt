@@ -42,6 +42,6 @@ loop-preserved g c =
 
 pub returns-clause-drained : goal.returns-clause-drained
 returns-clause-drained g c =
-    let all : c.loop.counter ≡ 64 = omega arith in
+    let all : c.loop.counter ≡ c.args.reads = omega arith in
     inr (subst (λ (n : ℕ). Makes (is_read_of c.args.self.now.number) n (g.S.System.trace c.args.system.now)
     (g.S.System.trace c.loop.system)) all c.loop.invariant.made)

@@ -2,7 +2,7 @@ use Rattle.std.proofs.Common.{◌≡◌, ◌∙◌, ℕ, not, List, rules, subst
 use Rattle.std.specs.Prelude.{All}
 use Rattle.std.proofs.lemmas.List.{with_items_is}
 use Rattle.srcp_peers.specs.declared.peer.Peer.{Peer}
-use Rattle.srcp_peers.specs.AllPeers.{AreMarked}
+use Rattle.srcp_peers.specs.AllPeers.{AreShared}
 use Rattle.srcp_sockets.specs.Doors.{Stands}
 use Rattle.srcp_peers.specs.Turns.{room_of}
 use Rattle.srcp_sockets.proofs.Asking.{asked_silent}
@@ -62,12 +62,12 @@ returns-clause-visited g c =
     c.begin_visits.ensures.those c.begin_visits.ensures.kept c.begin_visits.ensures.begun
     (subst (AreAsFar old) (sym c.as_mut_slice.ensures.value) c.args.self.now.ending))
 
-pub returns-clause-marks : goal.returns-clause-marks
-returns-clause-marks g c =
-    let clear = not c.args.self.now.refused in
-    subst (λ (ps : List Peer). AreMarked clear c.args.self.now.peers.items ps)
+pub returns-clause-shares : goal.returns-clause-shares
+returns-clause-shares g c =
+    let anew = not c.args.self.now.refused in
+    subst (λ (ps : List Peer). AreShared anew c.args.self.now.peers.items ps)
     (sym (with_items_is c.args.self.now.peers c.begin_visits.new.peers (c.begin_visits.auto.peers ∙ search rules)))
-    (subst (λ (ps : List Peer). AreMarked clear ps c.begin_visits.new.peers) c.as_mut_slice.ensures.value c.begin_visits.ensures.marks)
+    (subst (λ (ps : List Peer). AreShared anew ps c.begin_visits.new.peers) c.as_mut_slice.ensures.value c.begin_visits.ensures.shares)
 
 pub returns-clause-rooms : goal.returns-clause-rooms
 returns-clause-rooms g c =

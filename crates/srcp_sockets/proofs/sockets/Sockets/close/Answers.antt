@@ -59,7 +59,8 @@ invariant_of-self-2 g c =
       asked = asked_step old new (Answers call) c.note_close-2.ensures refl c.args.self.now.asked;
       done = done_turn new c.args.self.now.turn c.note_close-3.new.self (after_call c.args.self.now.turn call)
           (c.note_close-3.ensures c.args.number (Ok tt)) refl refl
-          (done_step c.args.self.now.turn.timekeeper.wall c.args.self.now.turn.timekeeper.start old new (Answers call) c.note_close-2.ensures
+          (done_step c.args.self.now.turn.timekeeper.wall c.args.self.now.turn.timekeeper.start old new
+          (Answers call) c.note_close-2.ensures
           (λ log is. tt) c.args.self.now.done);
       ending = far_left old new c.args.self.now.peers.items c.in-Some.index x c.linger.new.self c.args.self.now.turn.clock there.0
           c.linger.ensures (slackens_step old new (Answers call) c.note_close-2.ensures (λ s x. refl)) c.args.self.now.ending;

@@ -59,7 +59,8 @@ invariant_of-self g c =
           c.read-handed.result.refused log logged c.args.self.now.timed
           (subst (IsKept old) (sym is) (c.args.self.now.stands.kept c.in-Some.index x within))
           here (subst (λ (p : Peer). is_as_far (ending_of p.number log) p.ending ≡ true) (sym is)
-          (c.args.self.now.ending log logged c.in-Some.index x within (c.in-Some.ensures.found.1 x).1)) c.read-handed.auto.buffer c.read-handed.ensures.answered)
+          (c.args.self.now.ending log logged c.in-Some.index x within (c.in-Some.ensures.found.1 x).1))
+          c.read-handed.auto.buffer c.read-handed.ensures.answered)
           c.args.self.now.done);
       ending = far_goes old new c.args.self.now.peers.items (set c.args.self.now.peers.items c.in-Some.index c.read-handed.new.self)
           (slackens_step old new (Answers (ReadCall x.number answer buffer)) c.read-handed.ensures.trace (λ s e. refl))

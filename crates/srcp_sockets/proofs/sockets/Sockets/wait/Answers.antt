@@ -51,7 +51,8 @@ invariant_of-self g c =
           c.wait-count.ensures.trace c.requires.may c.args.self.now.done);
       ending = subst (AreAsFar new)
           (sym (with_items_is c.args.self.now.peers c.wake.new.peers (c.wake.auto.peers ∙ search rules)))
-          (far_goes old new before c.wake.new.peers (slackens_step old new (Waits most count ready) c.wait-count.ensures.trace (λ s x. refl))
+          (far_goes old new before c.wake.new.peers
+          (slackens_step old new (Waits most count ready) c.wait-count.ensures.trace (λ s x. refl))
           (woken_of before c.wake.new.peers (take count ready) c.wake.auto.peers c.wake.ensures)
           (subst (AreAsFar old) same c.args.self.now.ending));
       places = c.args.self.now.places;

@@ -1,0 +1,104 @@
+"""The program `srcp_server interlock`, which says what is ordered for the routes of a plan, and when."""
+import asyncio
+import re
+import shutil
+import subprocess
+import tomllib
+from asyncio.subprocess import PIPE
+from pathlib import Path
+from typing import Any
+
+from srcp_bridges.program import Wrong
+from srcp_bridges.rows import Key, Port, Row, Rows
+
+RUN = Path(__file__).resolve().parent.parent.parent / "run"  # that of the repository, if this file is in it
+FAULT = re.compile(r"^(?:srcp_server: plan|srcp_server|error): (.*)", re.M)
+LOCK, REPORT = re.compile(r"SET (\d+) LOCK GA (\d+) 0"), re.compile(r"SET \d+ FB (\d+) ([01])")
+Accessory = tuple[int, int]  # bus, address
+
+
+def server_program() -> str:
+    """Returns the program of the server."""
+    return str(RUN) if RUN.exists() else shutil.which("srcp_server") or "srcp_server"
+
+
+class RoutePlan:
+    """The routes of a file in which the program finds no fault: their bus, and by their numbers their names and their
+    turnouts. `signals` has those of all."""
+
+    def __init__(self, program: str, path: str):
+        self.program, self.path = program, path
+        words = program, "interlock", "--plan", path
+        try:
+            done = subprocess.run(words, stdin=subprocess.DEVNULL, capture_output=True, text=True)
+        except OSError as fault:
+            raise Wrong(f"--program {program}: {fault.strerror}") from None
+        if done.returncode:
+            found = FAULT.search(done.stderr)
+            raise Wrong(f"--plan {path}: {found[1] if found else f'{program} ended with status {done.returncode}'}")
+        document: dict[str, Any] = tomllib.loads(Path(path).read_text())
+        routes, self.bus = document.get("route", []), document["bus"]
+        self.names: dict[int, str] = {route["number"]: str(route.get("name", "")) for route in routes}
+        self.turnouts: dict[int, set[Accessory]] = {
+            route["number"]: {(bus, address) for bus, address, _ in route.get("turnouts", [])} for route in routes}
+        self.signals: set[Accessory] = {(signal[0], signal[1]) for route in routes if (signal := route.get("signal"))}
+
+    def accessories(self) -> list[Accessory]:
+        """Returns all that it names, those that ask for routes first."""
+        return [*((self.bus, number) for number in self.names), *sorted(self.signals.union(*self.turnouts.values()))]
+
+    def over(self, turnout: Accessory) -> list[int]:
+        """Returns the routes that lead over a turnout."""
+        return [number for number, turnouts in self.turnouts.items() if turnout in turnouts]
+
+
+def locked(order: str) -> Accessory | None:
+    """Returns the turnout that an order locks."""
+    return (int(found[1]), int(found[2])) if (found := LOCK.fullmatch(order)) else None
+
+
+def reported(order: str) -> tuple[int, bool] | None:
+    """Returns the route of which an order tells whether it is set, and whether it is."""
+    return (int(found[1]), found[2] == "1") if (found := REPORT.fullmatch(order)) else None
+
+
+class Interlock:
+    """A run of that program for a command session: it is told first that this has begun, and how the sensors are."""
+
+    def __init__(self, process: asyncio.subprocess.Process, bus: int):
+        assert process.stdin and process.stdout
+        self.process, self.input, self.output, self.bus = process, process.stdin, process.stdout, bus
+
+    @classmethod
+    async def begin(cls, plan: RoutePlan, session: int, rows: Rows) -> "Interlock":
+        words = plan.program, "interlock", "--plan", plan.path
+        begun = cls(await asyncio.create_subprocess_exec(*words, stdin=PIPE, stdout=PIPE), plan.bus)
+        begun.tell(f"200 OK GO {session}")
+        for key in [key for key in rows if key[1] == "FB"]:
+            begun.tell_row(key, rows[key])
+        return begun
+
+    def tell(self, words: str) -> None:
+        """Tells a reply of the command session, or a line of a panel."""
+        self.input.write(f"0.000 {words}\n".encode())
+
+    def tell_row(self, key: Key, row: Row | None) -> None:
+        """Tells a row, if it is that of a sensor, or of a port of an accessory that asks for a route."""
+        bus, group, address, part = key
+        if isinstance(row, Port) and (group == "FB" or bus == self.bus):
+            port = f"{part} " if group == "GA" else ""
+            self.tell(f"100 INFO {bus} {group} {address} {port}{row.value}")
+
+    async def order(self) -> str:
+        """Returns the next order, or an empty text if the program has ended."""
+        return (await self.output.readline()).decode().rstrip("\n")
+
+    def end(self) -> None:
+        """Ends it: then there is no further order."""
+        self.input.close()
+
+    async def gone(self) -> None:
+        """Ends it, and waits until it is gone."""
+        self.end()
+        await self.output.read()
+        await self.process.wait()

@@ -1,0 +1,64 @@
+//! Serving a file.
+
+ghost use Rattle.std.specs.Prelude.{◌≡◌, ◌<◌, IfErr, IfOk};
+ghost use Rattle.srcp_host.specs.Hosting.{Refuses, Serves};
+
+use crate::fault::HostFault;
+use crate::opener::Opener;
+use srcp_core::Core;
+use srcp_layout_file::read_layout;
+use srcp_rules::Rows;
+use srcp_serve::Served;
+use srcp_sockets::{SocketDoor, System, serve_sockets};
+use std::alloc::Global;
+
+/// The longest wait of a turn if turns are counted, in milliseconds.
+const LONGEST_TURN: u64 = 8;
+
+/// Holds what is left once all turns were served.
+#[derive(Drop)]
+pub struct Hosted<S: System + Drop> {
+    /// The counts of the turns.
+    pub served: Served,
+    /// The door. It delivers what was taken as it is dropped.
+    pub door: SocketDoor<S>,
+}
+
+/// Serves the layout of a file for `turns` turns, to the peers of the door that is opened at the file's port. `R` keeps
+/// the rows. The core begins at moment 0, and the first session has the id 1. If there are fewer turns than the
+/// greatest u64, a turn waits 8 ms at most.
+///
+/// # Errors
+/// Returns the first fault: that of the file (`Config`), and then nothing is opened; or that the file's port cannot be
+/// had (`Port`). Returns `Memory` if memory is refused on the way.
+pub fn serve_file<R: Rows, O: Opener>(
+    opener: &mut O,
+    alloc: Global,
+    file: &[u8],
+    turns: u64,
+) -> Result<Hosted<O::System>, HostFault>
+    ensures served { IfOk result (λ hosted. Serves O.answers O.System.trace file.now turns opener.old opener.new
+        hosted.served hosted.door.sockets.system) }
+    ensures faults { IfOk result (λ hosted. hosted.door.faults < 18446744073709551615
+        → hosted.served.faults ≡ hosted.door.faults) }
+    ensures refused { IfErr result (λ fault. Refuses O.answers file.now opener.old opener.new fault) }
+{
+    let config = read_layout(alloc, file)?;
+    let mut door = opener.open(alloc, config.port)?;
+    // Called for its contract, which says the layout's limits.
+    let _ = config.layout.buses();
+    let mut core = Core::<R>::new(alloc, &config.layout, 0, 0)?;
+    limit_waits(&mut door, turns);
+    let served = serve_sockets(&mut core, &mut door, turns);
+    Ok(Hosted { served, door })
+}
+
+/// Limits how long a turn waits, if turns are counted.
+fn limit_waits<S: System + Drop>(door: &mut SocketDoor<S>, turns: u64)
+    ensures system { door.new.sockets.system ≡ door.old.sockets.system }
+    ensures faults { door.new.faults ≡ door.old.faults }
+{
+    if turns < u64::MAX {
+        door.wait_at_most(LONGEST_TURN);
+    }
+}

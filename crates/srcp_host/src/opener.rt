@@ -1,0 +1,25 @@
+//! What opens a door at a port.
+
+ghost use Rattle.std.specs.Prelude.{◌≡◌, ℕ, IfErr, IfOk, Result, Ok, Err};
+ghost use Rattle.srcp_sockets.specs.declared.fault.ListenFault.{ListenFault};
+
+use srcp_sockets::{ListenFault, SocketDoor, System};
+use std::alloc::Global;
+
+/// Opens a door at a port.
+pub trait Opener {
+    /// The system below the door.
+    type System: System + Drop;
+
+    // From the first state it may answer this for the port: a system, or why there is none. It is in the second then.
+    ghost answers: { Self → (port : ℕ) → Result Self.System ListenFault → Self → Type 0 };
+
+    /// Opens a door at the port, of which no call has failed.
+    ///
+    /// # Errors
+    /// Fails with `Port` if the port cannot be had, and with `Memory` if memory is refused.
+    fn open(&mut self, alloc: Global, port: u16) -> Result<SocketDoor<Self::System>, ListenFault>
+        ensures ok { IfOk result (λ door. answers self.old port (Ok door.sockets.system) self.new) }
+        ensures err { IfErr result (λ fault. answers self.old port (Err fault) self.new) }
+        ensures faults { IfOk result (λ door. door.faults ≡ 0) };
+}

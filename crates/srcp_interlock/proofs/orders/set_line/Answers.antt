@@ -1,0 +1,9 @@
+use Rattle.std.proofs.Common.{arith, length-append}
+use Rattle.srcp_info.proofs.LineLaws.{length_number}
+use Rattle.srcp_interlock.proofs.orders.set_line.Goals as goal
+
+pub put_number-requires : goal.put_number-requires
+put_number-requires c = grind (arith, length-append, length_number 3 c.args.setting.port)
+
+pub put_bytes-requires-2 : goal.put_bytes-requires-2
+put_bytes-requires-2 c = grind (arith, length-append, length_number 3 c.args.setting.port)

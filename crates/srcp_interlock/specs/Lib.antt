@@ -1,0 +1,4 @@
+pub mod Orders
+pub mod Hearing
+pub mod Boxes
+pub mod Laws

@@ -1,0 +1,123 @@
+//! Lines, taken as events.
+
+ghost use Rattle.std.specs.Prelude.{◌≡◌};
+ghost use Rattle.srcp_interlock.specs.Hearing.{is_go, is_refusal, coded_event, reply_event, port_event, place_of};
+ghost use Rattle.srcp_interlock.specs.Hearing.{row_event, change_event, Hears};
+ghost use Rattle.srcp_text.specs.Words.{words_of};
+
+use srcp_info::{Change, Key, Value, read_change};
+use srcp_routes::{Device, Event};
+use srcp_text::{Words, words};
+
+/// Returns whether these words of a reply, behind its code, say that a command session begins.
+fn is_go(mut words: Words<'_>) -> bool
+    ensures { result ≡ is_go words.entry }
+{
+    let Some(_ok) = words.next() else {
+        return false;
+    };
+    let Some(go) = words.next() else {
+        return false;
+    };
+    words.next().is_some() && words.next().is_none() && go == b"GO".as_slice()
+}
+
+/// Returns whether a code is from 400 to 599.
+fn is_refusal(code: &[u8]) -> bool
+    ensures { result ≡ is_refusal code.now }
+{
+    match code.first() {
+        Some(digit) => *digit == b'4' || *digit == b'5',
+        None => false,
+    }
+}
+
+/// Returns the event that a code and the words behind it tell of as those of a reply.
+fn coded_event(code: &[u8], more: Words<'_>) -> Option<Event>
+    ensures { result ≡ coded_event code.now more.entry }
+{
+    if code == b"200".as_slice() {
+        return Some(if is_go(more) {
+            Event::Lost
+        } else {
+            Event::Reply(true)
+        });
+    }
+    if is_refusal(code) {
+        Some(Event::Reply(false))
+    } else {
+        None
+    }
+}
+
+/// Returns the event that a line tells of as a reply.
+fn reply_event(line: &[u8]) -> Option<Event>
+    ensures { result ≡ reply_event (words_of line.now) }
+{
+    let mut words = words(line);
+    let _stamp = words.next()?;
+    let code = words.next()?;
+    coded_event(code, words)
+}
+
+/// Returns what a port that is 1 says of the route at a place. `row` is one above the port's number.
+fn port_event(row: u8, place: usize) -> Option<Event>
+    ensures { result ≡ port_event row place }
+{
+    match row {
+        2 => Some(Event::Ask(place)),
+        1 => Some(Event::Give(place)),
+        _ => None,
+    }
+}
+
+/// Returns the place of the route with this number.
+fn place_of(numbers: &[u32], number: u32) -> Option<usize>
+    ensures { result ≡ place_of numbers.now number }
+{
+    numbers.iter().position(|other| *other == number)
+}
+
+/// Returns the event that a row tells of.
+fn row_event(own: u8, numbers: &[u32], key: Key, value: Value) -> Option<Event>
+    ensures { result ≡ row_event own numbers.now key value }
+{
+    match value {
+        Value::GaPort { on } if on && key.bus == own => {
+            let place = place_of(numbers, key.address)?;
+            port_event(key.port, place)
+        }
+        Value::Fb { on } => {
+            let sensor = Device {
+                bus: key.bus,
+                address: key.address,
+            };
+            Some(Event::Told(sensor, on))
+        }
+        _ => None,
+    }
+}
+
+/// Returns the event that a change tells of.
+fn change_event(own: u8, numbers: &[u32], change: Change) -> Option<Event>
+    ensures { result ≡ change_event own numbers.now change }
+{
+    match change {
+        Change::Put(shown) => row_event(own, numbers, shown.key, shown.value),
+        Change::Gone { .. } => None,
+    }
+}
+
+/// Returns the event that a line tells of, if it tells of one: as a reply, or as that of a change.
+pub(crate) fn hear(own: u8, numbers: &[u32], line: &[u8]) -> Option<Event>
+    ensures { Hears own numbers.now line.now result }
+{
+    let replied = reply_event(line);
+    if replied.is_some() {
+        return replied;
+    }
+    match read_change(line) {
+        Some(change) => change_event(own, numbers, change),
+        None => None,
+    }
+}

@@ -1,0 +1,67 @@
+//! A signal box.
+
+ghost use Rattle.std.specs.Prelude.{◌≡◌, IfOk, map, option_map};
+ghost use Rattle.srcp_interlock.specs.Boxes.{TakesIn, box_of};
+ghost use Rattle.srcp_routes.specs.declared.route.Route.{Route as RouteRecord};
+
+use crate::hearing::hear;
+use crate::orders::order_line;
+use srcp_routes::{Interlocking, Route};
+use srcp_text::LineBuf;
+use std::alloc::{AllocError, Global};
+use std::marker::Model;
+use std::vec::Vec;
+
+/// Sets the routes of a plan and gives them back, by the lines that it is sent: those of a panel, and the replies of
+/// the command session that sends its lines.
+#[derive(Drop)]
+pub struct SignalBox {
+    own: u8,
+    numbers: Vec<u32>,
+    interlocking: Interlocking,
+}
+
+impl Model for SignalBox {
+    ghost use Rattle.srcp_interlock.specs.Boxes.{Box};
+
+    ghost Value = { Box };
+
+    ghost view = { λ b. record { own = b.own; numbers = b.numbers.items; table = b.interlocking } };
+}
+
+/// Returns the numbers of routes.
+fn numbers_of(alloc: Global, routes: &[Route]) -> Result<Vec<u32>, AllocError>
+    ensures { IfOk result (λ numbers. numbers.items ≡ map (λ (route : RouteRecord). route.number) routes.now) }
+{
+    routes.iter().map(|route| route.number).collect(alloc)
+}
+
+impl SignalBox {
+    /// Makes the box of these routes, which is to be told first that a command session has begun. `own` is the bus of
+    /// the routes. Accessory n of it asks for route n (port 1) and gives it back (port 0), and sensor n tells whether
+    /// route n is set. No other call takes memory.
+    ///
+    /// # Errors
+    /// If memory is refused.
+    pub fn new(alloc: Global, own: u8, routes: Vec<Route>) -> Result<SignalBox, AllocError>
+        ensures { IfOk result (λ signal_box. signal_box ≡ box_of own routes.items) }
+    {
+        let numbers = numbers_of(alloc, &routes)?;
+        let interlocking = Interlocking::new(alloc, routes)?;
+        Ok(SignalBox {
+            own,
+            numbers,
+            interlocking,
+        })
+    }
+
+    /// Takes in a line, without its LF, and returns the line to send then, with its LF, if there is one. What tells of
+    /// no event changes nothing.
+    pub fn step(&mut self, line: &[u8]) -> Option<LineBuf>
+        ensures { TakesIn self.old line.now self.new (option_map (λ sent. sent.items) result) }
+    {
+        let event = hear(self.own, &self.numbers, line)?;
+        let order = self.interlocking.step(event)?;
+        Some(order_line(self.own, order))
+    }
+}

@@ -1,0 +1,341 @@
+-- What is read of a plan keeps to what every plan keeps to.
+use Rattle.std.proofs.Common.{◌≡◌, ◌≢◌, ℕ, ◌≤◌, Bool, true, false, ◌||◌, List, [], ◌∷◌, ◌++◌, Option, Some, None, Ok, Err}
+use Rattle.std.proofs.Common.{refl, arith}
+use Rattle.std.specs.Prelude.{◌==◌, if◌then◌else◌, IfOk, IfSome, pos, negsuc}
+use Rattle.std.specs.Option.{option_map_or}
+use Rattle.std.specs.List.{All, AllPairs, list_any}
+use Rattle.std.proofs.lemmas.List.Elements.{All-nil, All-cons, All-push}
+use Rattle.std.proofs.lemmas.List.Quantifiers.{all_pairs_push}
+use Rattle.toml.specs.Data.{Data, string, integer, float, boolean, datetime, array, table, Members}
+use Rattle.srcp_grammar.specs.Layout.{is_within}
+use Rattle.srcp_layout_file.specs.Gives.{◌>>=◌}
+use Rattle.srcp_routes.specs.Conflicts.{is_same}
+use Rattle.srcp_routes.specs.declared.route.Device.{Device}
+use Rattle.srcp_routes.specs.declared.route.Setting.{Setting}
+use Rattle.srcp_routes.specs.declared.route.Signal.{Signal}
+use Rattle.srcp_plan_file.specs.Document.{OrFault, ranged, array_in, value_at, required, number_in, if_given, other_bus, device_of}
+use Rattle.srcp_plan_file.specs.Document.{turnout_of, sensor_of, signal_with, signal_of, new_turnout, turnout_in, turnouts_in, array_at}
+use Rattle.srcp_plan_file.specs.Document.{sensor_in, blocks_in, new_signal, signal_at, frees_at, route_numbered}
+use Rattle.srcp_plan_file.specs.Document.{is_numbered, new_number, apart_from, apart_from_all, route_of, route_in, routes_in}
+use Rattle.srcp_plan_file.specs.Document.{plan_in, document, plan_of}
+use Rattle.srcp_plan_file.specs.Plan.{PlannedRoute, IsBeside, IsTurnout, IsSignal, AreOther, IsRoute, AreApart, IsPlan}
+use Rattle.srcp_plan_file.specs.Plan.{has_accessory, mixes, crosses}
+use Rattle.srcp_plan_file.specs.declared.plan.Field.{Field}
+use Rattle.srcp_plan_file.specs.declared.plan.Field.TheVariants as field
+use Rattle.srcp_plan_file.specs.declared.plan.PlanFault.{PlanFault}
+use Rattle.srcp_plan_file.specs.declared.plan.PlanFault.TheVariants as fault
+
+-- what comes after a reading, by what that reading keeps to
+after : {A B : Type 0} (P : A → Type 0) (Q : B → Type 0) (m : OrFault A) (f : A → OrFault B) → IfOk m P → ((x : A) → P x → IfOk (f x) Q)
+    → IfOk (m >>= f) Q
+after P Q (Ok x) f h g = g x h
+after P Q (Err e) f h g = tt
+
+-- a reading keeps to what follows from what it keeps to
+weaker : {A : Type 0} {P Q : A → Type 0} (m : OrFault A) → ((x : A) → P x → Q x) → IfOk m P → IfOk m Q
+weaker (Ok x) f h = f x h
+weaker (Err e) f h = tt
+
+-- a reading of which nothing is asked
+any : {A : Type 0} (m : OrFault A) → IfOk m (λ x. Unit)
+any (Ok x) = tt
+any (Err e) = tt
+
+-- ---- numbers
+
+abbrev IsFrom : (low high n : ℕ) → Type 0
+IsFrom low high n = (low ≤ n) × (n ≤ high)
+
+is_from : (low high n : ℕ) → is_within low high n ≡ true → IsFrom low high n
+is_from low high n e = (grind arith, grind arith)
+
+ranged_if : (low high n : ℕ) (b : PlanFault) (w : Bool) → is_within low high n ≡ w
+    → IfOk (ranged low high b (integer (pos n))) (IsFrom low high)
+ranged_if low high n b true e = rw e (is_from low high n e)
+ranged_if low high n b false e = rw e tt
+
+is_ranged : (low high : ℕ) (b : PlanFault) (d : Data) → IfOk (ranged low high b d) (IsFrom low high)
+is_ranged low high b (string s) = tt
+is_ranged low high b (integer (pos n)) = ranged_if low high n b (is_within low high n) refl
+is_ranged low high b (integer (negsuc n)) = tt
+is_ranged low high b (float x) = tt
+is_ranged low high b (boolean x) = tt
+is_ranged low high b (datetime x) = tt
+is_ranged low high b (array x) = tt
+is_ranged low high b (table x) = tt
+
+is_number : (low high : ℕ) (f : Field) (members : Members) → IfOk (number_in low high f members) (IsFrom low high)
+is_number low high f members = after (λ d. Unit) (IsFrom low high) (required f members) (ranged low high _) (any (required f members))
+    (λ d h. is_ranged low high _ d)
+
+-- ---- devices
+
+abbrev IsOther : (own n : ℕ) → Type 0
+IsOther own n = IsFrom 1 250 n × (n ≢ own)
+
+differs : (own n : ℕ) → (n == own) ≡ false → n ≢ own
+differs own n e = grind arith
+
+other_if : (own n : ℕ) (b : PlanFault) (w : Bool) → (n == own) ≡ w → IsFrom 1 250 n → IfOk (other_bus own b n) (IsOther own)
+other_if own n b true e h = rw e tt
+other_if own n b false e h = rw e (h, differs own n e)
+
+is_device : (own greatest : ℕ) (b : PlanFault) (bus address : Data) → IfOk (device_of own greatest b bus address) (IsBeside own greatest)
+is_device own greatest b bus address =
+    after (IsOther own) (IsBeside own greatest) (ranged 1 250 b bus >>= other_bus own b) _
+    (after (IsFrom 1 250) (IsOther own) (ranged 1 250 b bus) (other_bus own b) (is_ranged 1 250 b bus)
+    (λ n h. other_if own n b (n == own) refl h))
+    (λ n h. after (IsFrom 1 greatest) (IsBeside own greatest) (ranged 1 greatest b address) _ (is_ranged 1 greatest b address)
+    (λ place k. record { bus = h.0; other = h.1; address = k }))
+
+is_turnout : (own : ℕ) (b : PlanFault) (values : List Data) → IfOk (turnout_of own b values) (IsTurnout own)
+is_turnout own b [] = tt
+is_turnout own b (bus ∷ []) = tt
+is_turnout own b (bus ∷ address ∷ []) = tt
+is_turnout own b (bus ∷ address ∷ port ∷ []) =
+    after (IsBeside own 2044) (IsTurnout own) (device_of own 2044 b bus address) _ (is_device own 2044 b bus address)
+    (λ device h. after (IsFrom 0 7) (IsTurnout own) (ranged 0 7 b port) _ (is_ranged 0 7 b port)
+    (λ n k. record { device = h; port = k.1 }))
+is_turnout own b (bus ∷ address ∷ port ∷ more ∷ others) = tt
+
+is_sensor : (own : ℕ) (b : PlanFault) (values : List Data) → IfOk (sensor_of own b values) (IsBeside own 4096)
+is_sensor own b [] = tt
+is_sensor own b (bus ∷ []) = tt
+is_sensor own b (bus ∷ address ∷ []) = is_device own 4096 b bus address
+is_sensor own b (bus ∷ address ∷ more ∷ others) = tt
+
+signal_if : (own : ℕ) (b : PlanFault) (device : Device) (go stop : ℕ) (w : Bool) → (go == stop) ≡ w → IsBeside own 2044 device
+    → IsFrom 0 7 go → IsFrom 0 7 stop → IfOk (signal_with b device go stop) (IsSignal own)
+signal_if own b device go stop true e h k m = rw e tt
+signal_if own b device go stop false e h k m = rw e (record { device = h; go = k.1; stop = m.1; differ = differs stop go e })
+
+is_signal : (own : ℕ) (b : PlanFault) (values : List Data) → IfOk (signal_of own b values) (IsSignal own)
+is_signal own b [] = tt
+is_signal own b (bus ∷ []) = tt
+is_signal own b (bus ∷ address ∷ []) = tt
+is_signal own b (bus ∷ address ∷ go ∷ []) = tt
+is_signal own b (bus ∷ address ∷ go ∷ stop ∷ []) =
+    after (IsBeside own 2044) (IsSignal own) (device_of own 2044 b bus address) _ (is_device own 2044 b bus address)
+    (λ device h. after (IsFrom 0 7) (IsSignal own) (ranged 0 7 b go) _ (is_ranged 0 7 b go)
+    (λ n k. after (IsFrom 0 7) (IsSignal own) (ranged 0 7 b stop) _ (is_ranged 0 7 b stop)
+    (λ m j. signal_if own b device n m (n == m) refl h k j)))
+is_signal own b (bus ∷ address ∷ go ∷ stop ∷ more ∷ others) = tt
+
+-- ---- tests of lists
+
+or_false : (a b : Bool) → (a || b) ≡ false → (a ≡ false) × (b ≡ false)
+or_false true b e = (e, absurd (cc))
+or_false false b e = (refl, e)
+
+-- no element passes a test that none passes
+none_pass : {X : Type 0} (p : X → Bool) (xs : List X) → list_any p xs ≡ false → All (λ x. p x ≡ false) xs
+none_pass p [] e = All-nil (λ x. p x ≡ false)
+none_pass p (x ∷ xs) e =
+    let both = or_false (p x) (list_any p xs) e in
+    All-cons (λ x. p x ≡ false) x xs both.0 (none_pass p xs both.1)
+
+-- what each of two facts says of each element
+both_hold : {X : Type 0} (P Q R : X → Type 0) (xs : List X) → ((x : X) → P x → Q x → R x) → All P xs → All Q xs → All R xs
+both_hold P Q R xs f p q = λ k d lt. f _ (p k d lt) (q k d lt)
+
+-- ---- the keys of a route
+
+module _ (own number : ℕ) where
+  abbrev AreTurnouts : List Setting → Type 0
+  AreTurnouts turnouts = All (IsTurnout own) turnouts × AllPairs AreOther turnouts
+
+  -- a turnout that is none of those before it
+  abbrev IsNext : List Setting → Setting → Type 0
+  IsNext before turnout = IsTurnout own turnout × All (λ other. AreOther other turnout) before
+
+  new_if : (before : List Setting) (turnout : Setting) (w : Bool) → has_accessory before turnout.device ≡ w → IsTurnout own turnout
+      → IfOk (new_turnout number before turnout) (IsNext before)
+  new_if before turnout true e h = rw e tt
+  new_if before turnout false e h =
+      rw e (h, none_pass (λ (other : Setting). is_same other.device turnout.device) before e)
+
+  is_next : (before : List Setting) (value : Data) → IfOk (turnout_in own number before value) (IsNext before)
+  is_next before value =
+      after (IsTurnout own) (IsNext before)
+      (array_in (fault.Beyond number field.Turnouts) value >>= turnout_of own (fault.Beyond number field.Turnouts)) _
+      (after (λ d. Unit) (IsTurnout own) (array_in (fault.Beyond number field.Turnouts) value) _ (any _)
+      (λ values h. is_turnout own (fault.Beyond number field.Turnouts) values))
+      (λ turnout h. new_if before turnout (has_accessory before turnout.device) refl h)
+
+  are_turnouts : (before : List Setting) (values : List Data) → AreTurnouts before → IfOk (turnouts_in own number before values) AreTurnouts
+  are_turnouts before [] h = h
+  are_turnouts before (value ∷ values) h =
+      after (IsNext before) AreTurnouts (turnout_in own number before value) _ (is_next before value)
+      (λ turnout n. are_turnouts (before ++ turnout ∷ []) values
+      (All-push (IsTurnout own) before turnout h.0 n.0, all_pairs_push AreOther before turnout h.1 n.1))
+
+  given : {A : Type 0} (P : A → Type 0) (otherwise : A) (read : Data → OrFault A) (value : Option Data) → P otherwise
+      → ((d : Data) → IfOk (read d) P) → IfOk (if_given otherwise read value) P
+  given P otherwise read None h g = h
+  given P otherwise read (Some d) h g = g d
+
+  no_pairs : AllPairs AreOther []
+  no_pairs = λ i j d lt below. absurd (omega arith)
+
+  turnouts_hold : (members : Members) → IfOk (array_at number field.Turnouts members >>= turnouts_in own number []) AreTurnouts
+  turnouts_hold members =
+      after (λ v. Unit) AreTurnouts (array_at number field.Turnouts members) _ (any _)
+      (λ values h. are_turnouts [] values (All-nil (IsTurnout own), no_pairs))
+
+  is_sensor_in : (f : Field) (value : Data) → IfOk (sensor_in own number f value) (IsBeside own 4096)
+  is_sensor_in f value =
+      after (λ v. Unit) (IsBeside own 4096) (array_in (fault.Beyond number f) value) _ (any _)
+      (λ values h. is_sensor own (fault.Beyond number f) values)
+
+  are_blocks : (before : List Device) (values : List Data) → All (IsBeside own 4096) before
+      → IfOk (blocks_in own number before values) (All (IsBeside own 4096))
+  are_blocks before [] h = h
+  are_blocks before (value ∷ values) h =
+      after (IsBeside own 4096) (All (IsBeside own 4096)) (sensor_in own number field.Blocks value) _ (is_sensor_in field.Blocks value)
+      (λ block n. are_blocks (before ++ block ∷ []) values (All-push (IsBeside own 4096) before block h n))
+
+  blocks_hold : (members : Members) → IfOk (array_at number field.Blocks members >>= blocks_in own number []) (All (IsBeside own 4096))
+  blocks_hold members =
+      after (λ v. Unit) (All (IsBeside own 4096)) (array_at number field.Blocks members) _ (any _)
+      (λ values h. are_blocks [] values (All-nil (IsBeside own 4096)))
+
+  -- a signal within the limits that is none of the turnouts
+  abbrev IsSignalBeside : List Setting → Option Signal → Type 0
+  IsSignalBeside turnouts signal =
+      IfSome signal (IsSignal own)
+      × (option_map_or (λ (s : Signal). has_accessory turnouts s.device) signal false ≡ false)
+
+  signal_new : (turnouts : List Setting) (signal : Signal) (w : Bool) → has_accessory turnouts signal.device ≡ w → IsSignal own signal
+      → IfOk (new_signal number turnouts signal) (IsSignalBeside turnouts)
+  signal_new turnouts signal true e h = rw e tt
+  signal_new turnouts signal false e h = rw e (h, e)
+
+  signal_holds : (turnouts : List Setting) (members : Members) → IfOk (signal_at own number turnouts members) (IsSignalBeside turnouts)
+  signal_holds turnouts members =
+      given (IsSignalBeside turnouts) None _ (value_at field.Signal members) (tt, refl)
+      (λ d. after (IsSignal own) (IsSignalBeside turnouts)
+      (array_in (fault.Beyond number field.Signal) d >>= signal_of own (fault.Beyond number field.Signal)) _
+      (after (λ v. Unit) (IsSignal own) (array_in (fault.Beyond number field.Signal) d) _ (any _)
+      (λ values h. is_signal own (fault.Beyond number field.Signal) values))
+      (λ signal h. signal_new turnouts signal (has_accessory turnouts signal.device) refl h))
+
+  frees_hold : (members : Members) → IfOk (frees_at own number members) (λ frees. IfSome frees (IsBeside own 4096))
+  frees_hold members =
+      given (λ frees. IfSome frees (IsBeside own 4096)) None _ (value_at field.Frees members) tt
+      (λ d. after (IsBeside own 4096) (λ frees. IfSome frees (IsBeside own 4096)) (sensor_in own number field.Frees d) _
+      (is_sensor_in field.Frees d) (λ sensor h. h))
+
+  -- a route within the limits of this number
+  abbrev IsNumbered : PlannedRoute → Type 0
+  IsNumbered route = IsRoute own route × (route.number ≡ number)
+
+  numbered : (members : Members) → IsFrom 1 2044 number → IfOk (route_numbered own number members) IsNumbered
+  numbered members n =
+      after AreTurnouts IsNumbered (array_at number field.Turnouts members >>= turnouts_in own number []) _ (turnouts_hold members)
+      (λ turnouts t. after (All (IsBeside own 4096)) IsNumbered (array_at number field.Blocks members >>= blocks_in own number [])
+          _ (blocks_hold members)
+      (λ blocks b. after (IsSignalBeside turnouts) IsNumbered (signal_at own number turnouts members) _ (signal_holds turnouts members)
+      (λ signal s. after (λ frees. IfSome frees (IsBeside own 4096)) IsNumbered (frees_at own number members) _ (frees_hold members)
+      (λ frees f. (
+        record {
+          number = n;
+          turnouts = t.0;
+          blocks = b;
+          signal = s.0;
+          frees = f;
+          turnouts_once = t.1;
+          signal_once = s.1;
+        },
+        refl,
+      )))))
+
+-- ---- routes beside those before them
+
+-- a number that no route before has
+abbrev IsNewNumber : List PlannedRoute → ℕ → Type 0
+IsNewNumber before number = IsFrom 1 2044 number × All (λ other. is_numbered number other ≡ false) before
+
+new_number_if : (before : List PlannedRoute) (number : ℕ) (w : Bool) → list_any (is_numbered number) before ≡ w
+    → IsFrom 1 2044 number → IfOk (new_number before number) (IsNewNumber before)
+new_number_if before number true e h = rw e tt
+new_number_if before number false e h = rw e (h, none_pass (is_numbered number) before e)
+
+-- two routes that do not use one accessory in two ways
+abbrev AreUnmixed : PlannedRoute → PlannedRoute → Type 0
+AreUnmixed other route = (mixes other route ≡ false) × (crosses other route ≡ false)
+
+apart_step : (P : Unit {0} → Type 0) (w v : Bool) (m c : PlanFault) → (w ≡ false → v ≡ false → P tt)
+    → IfOk (if w then Err m else (if v then Err c else Ok tt)) P
+apart_step P true v m c f = tt
+apart_step P false true m c f = tt
+apart_step P false false m c f = f refl refl
+
+apart_if : (other route : PlannedRoute) → IfOk (apart_from other route) (λ u. AreUnmixed other route)
+apart_if other route =
+    apart_step (λ u. AreUnmixed other route) (mixes other route) (crosses other route) (fault.Mixed other.number route.number)
+    (fault.Crossed other.number route.number) (λ e f. (e, f))
+
+are_apart : (before : List PlannedRoute) (route : PlannedRoute)
+    → IfOk (apart_from_all before route) (λ u. All (λ other. AreUnmixed other route) before)
+are_apart [] route = All-nil (λ other. AreUnmixed other route)
+are_apart (other ∷ others) route =
+    after (λ u. AreUnmixed other route) (λ u. All (λ other. AreUnmixed other route) (other ∷ others)) (apart_from other route) _
+    (apart_if other route)
+    (λ u h. weaker (apart_from_all others route) (λ u k. All-cons (λ other. AreUnmixed other route) other others h k)
+    (are_apart others route))
+
+-- a route that may stand behind those before it
+abbrev IsNextRoute : (own : ℕ) → List PlannedRoute → PlannedRoute → Type 0
+IsNextRoute own before route = IsRoute own route × All (λ other. AreApart other route) before
+
+joined : (number : ℕ) (other route : PlannedRoute) → route.number ≡ number → (other.number == number) ≡ false → AreUnmixed other route
+    → AreApart other route
+joined number other route e f u = record { numbers = rw e (differs number other.number f); unmixed = u.0; uncrossed = u.1 }
+
+is_next_route : (own : ℕ) (before : List PlannedRoute) (members : Members) → IfOk (route_of own before members) (IsNextRoute own before)
+is_next_route own before members =
+    after (IsNewNumber before) (IsNextRoute own before) (number_in 1 2044 field.Number members >>= new_number before) _
+    (after (IsFrom 1 2044) (IsNewNumber before) (number_in 1 2044 field.Number members) _ (is_number 1 2044 field.Number members)
+    (λ n h. new_number_if before n (list_any (is_numbered n) before) refl h))
+    (λ n h. after (IsNumbered own n) (IsNextRoute own before) (route_numbered own n members) _ (numbered own n members h.0)
+    (λ route r. after (λ u. All (λ other. AreUnmixed other route) before) (IsNextRoute own before) (apart_from_all before route) _
+    (are_apart before route)
+    (λ u k. (r.0, λ i d lt. joined n _ route r.1 (h.1 i d lt) (k i d lt)))))
+
+is_route_in : (own : ℕ) (before : List PlannedRoute) (value : Data) → IfOk (route_in own before value) (IsNextRoute own before)
+is_route_in own before (string s) = tt
+is_route_in own before (integer n) = tt
+is_route_in own before (float x) = tt
+is_route_in own before (boolean x) = tt
+is_route_in own before (datetime x) = tt
+is_route_in own before (array x) = tt
+is_route_in own before (table members) = is_next_route own before members
+
+abbrev AreRoutes : (own : ℕ) → List PlannedRoute → Type 0
+AreRoutes own routes = All (IsRoute own) routes × AllPairs AreApart routes
+
+are_routes : (own : ℕ) (before : List PlannedRoute) (values : List Data) → AreRoutes own before
+    → IfOk (routes_in own before values) (AreRoutes own)
+are_routes own before [] h = h
+are_routes own before (value ∷ values) h =
+    after (IsNextRoute own before) (AreRoutes own) (route_in own before value) _ (is_route_in own before value)
+    (λ route n. are_routes own (before ++ route ∷ []) values
+    (All-push (IsRoute own) before route h.0 n.0, all_pairs_push AreApart before route h.1 n.1))
+
+-- ---- documents
+
+none_apart : AllPairs AreApart []
+none_apart = λ i j d lt below. absurd (omega arith)
+
+is_plan_in : (members : Members) → IfOk (plan_in members) IsPlan
+is_plan_in members =
+    after (IsFrom 1 250) IsPlan (number_in 1 250 field.Bus members) _ (is_number 1 250 field.Bus members)
+    (λ bus b. after (AreRoutes bus) IsPlan
+    (required field.Route members >>= (λ value. array_in (fault.OutOfRange field.Route) value >>= routes_in bus [])) _
+    (after (λ d. Unit) (AreRoutes bus) (required field.Route members) _ (any _)
+    (λ d h. after (λ v. Unit) (AreRoutes bus) (array_in (fault.OutOfRange field.Route) d) _ (any _)
+    (λ values k. are_routes bus [] values (All-nil (IsRoute bus), none_apart))))
+    (λ routes r. record { bus = b; each = r.0; apart = r.1 }))
+
+pub is_plan_of : (bytes : List ℕ) → IfOk (plan_of bytes) IsPlan
+is_plan_of bytes = after (λ m. Unit) IsPlan (document bytes) plan_in (any _) (λ members h. is_plan_in members)

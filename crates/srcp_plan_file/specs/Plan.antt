@@ -1,0 +1,106 @@
+-- What a plan says, and what every plan keeps to.
+use Rattle.std.specs.Prelude.{◌≡◌, ◌≢◌, ℕ, ◌≤◌, Bool, false, ◌&&◌, ◌||◌, ◌==◌, List, map}
+use Rattle.std.specs.Prelude.{Option, IfSome}
+use Rattle.std.specs.List.{All, AllPairs, list_any}
+use Rattle.std.specs.Option.{option_map_or}
+use Rattle.srcp_routes.specs.Conflicts.{is_same}
+use Rattle.srcp_routes.specs.declared.route.Device.{Device}
+use Rattle.srcp_routes.specs.declared.route.Route.{Route}
+use Rattle.srcp_routes.specs.declared.route.Setting.{Setting}
+use Rattle.srcp_routes.specs.declared.route.Signal.{Signal}
+use Rattle.srcp_plan_file.specs.declared.plan.Plan.{Plan}
+
+-- what a plan says of one route
+pub record PlannedRoute : Type 0 where
+  pub number : ℕ
+  pub turnouts : List Setting
+  pub blocks : List Device
+  pub signal : Option Signal
+  pub frees : Option Device
+
+-- what a plan says
+pub record Planned : Type 0 where
+  pub bus : ℕ
+  pub routes : List PlannedRoute
+
+abbrev pub planned_route : Route → PlannedRoute
+planned_route route = record {
+  number = route.number;
+  turnouts = route.turnouts.items;
+  blocks = route.blocks.items;
+  signal = route.signal;
+  frees = route.frees;
+}
+
+abbrev pub planned : Plan → Planned
+planned plan = record { bus = plan.bus; routes = map planned_route plan.routes.items }
+
+-- ---- accessories
+
+-- one of these turnouts is that accessory
+abbrev pub has_accessory : List Setting → Device → Bool
+has_accessory turnouts device = list_any (λ (turnout : Setting). is_same turnout.device device) turnouts
+
+-- the signal of the first route is a turnout of the second
+abbrev pub turns_signal : PlannedRoute → PlannedRoute → Bool
+turns_signal route other =
+    option_map_or (λ (signal : Signal). has_accessory other.turnouts signal.device) route.signal false
+
+-- a signal of one is a turnout of the other
+abbrev pub mixes : PlannedRoute → PlannedRoute → Bool
+mixes route other = turns_signal route other || turns_signal other route
+
+-- these are one accessory, and a port of it shows "go" for one and "stop" for the other
+abbrev pub is_crossed : Signal → Signal → Bool
+is_crossed one two = is_same one.device two.device && ((one.go == two.stop) || (one.stop == two.go))
+
+-- a port of a signal shows "go" for one route and "stop" for the other
+abbrev pub crosses : PlannedRoute → PlannedRoute → Bool
+crosses route other = option_map_or
+    (λ one. option_map_or (λ two. is_crossed one two) other.signal false) route.signal false
+
+-- ---- what every plan keeps to
+
+-- a device within the limits that is not on the routes' own bus
+pub record IsBeside (own greatest : ℕ) (device : Device) : Type 0 where
+  pub bus : (1 ≤ device.bus) × (device.bus ≤ 250)
+  pub other : device.bus ≢ own
+  pub address : (1 ≤ device.address) × (device.address ≤ greatest)
+
+-- a turnout with a port that an accessory may have
+pub record IsTurnout (own : ℕ) (turnout : Setting) : Type 0 where
+  pub device : IsBeside own 2044 turnout.device
+  pub port : turnout.port ≤ 7
+
+-- a signal whose ports for "go" and "stop" differ
+pub record IsSignal (own : ℕ) (signal : Signal) : Type 0 where
+  pub device : IsBeside own 2044 signal.device
+  pub go : signal.go ≤ 7
+  pub stop : signal.stop ≤ 7
+  pub differ : signal.go ≢ signal.stop
+
+-- two turnouts that are not one accessory
+abbrev pub AreOther : Setting → Setting → Type 0
+AreOther turnout other = is_same turnout.device other.device ≡ false
+
+-- a route within the limits that names no accessory twice
+pub record IsRoute (own : ℕ) (route : PlannedRoute) : Type 0 where
+  pub number : (1 ≤ route.number) × (route.number ≤ 2044)
+  pub turnouts : All (IsTurnout own) route.turnouts
+  pub blocks : All (IsBeside own 4096) route.blocks
+  pub signal : IfSome route.signal (IsSignal own)
+  pub frees : IfSome route.frees (IsBeside own 4096)
+  pub turnouts_once : AllPairs AreOther route.turnouts
+  pub signal_once : turns_signal route route ≡ false
+
+-- two routes that differ in their numbers, and do not use one accessory in two ways
+pub record AreApart (route other : PlannedRoute) : Type 0 where
+  pub numbers : route.number ≢ other.number
+  pub unmixed : mixes route other ≡ false
+  pub uncrossed : crosses route other ≡ false
+
+-- a plan that may be run
+pub record IsPlan (plan : Planned) : Type 0 where
+  pub bus : (1 ≤ plan.bus) × (plan.bus ≤ 250)
+  pub each : All (IsRoute plan.bus) plan.routes
+  pub apart : AllPairs AreApart plan.routes

@@ -1,0 +1,109 @@
+//! A plan, read from a TOML document.
+
+ghost use Rattle.std.specs.Prelude.{◌≡◌, [], map, IfOk};
+ghost use Rattle.std.specs.List.{list_any};
+ghost use Rattle.toml.specs.View.{table_view, view as data_of};
+ghost use Rattle.srcp_layout_file.specs.Gives.{Gives};
+ghost use Rattle.srcp_plan_file.specs.Plan.{IsPlan, planned, planned_route};
+ghost use Rattle.srcp_plan_file.specs.Document.{is_numbered, new_number, plan_in, plan_of};
+ghost use Rattle.srcp_plan_file.specs.Document.{route_in, route_of, routes_in};
+
+mod apart;
+mod device;
+mod member;
+mod route;
+
+use crate::plan::{Field, Plan, PlanFault};
+use apart::stand_apart;
+use member::{array_in, number_in, required};
+use route::route_numbered;
+use srcp_info::{GREATEST_BUS, GREATEST_GA};
+use srcp_routes::Route;
+use std::alloc::Global;
+use std::vec::Vec;
+use toml::{Table, Value};
+
+/// Reads a plan: a TOML document with the routes' own bus and the routes. Other keys are ignored.
+///
+/// # Errors
+/// Returns the first fault, in this order: the document (`NotToml`), the bus, the routes. Then route by route, in the
+/// order of the document: its number, and whether an earlier route has it (`Twice`). Its turnouts follow from left to
+/// right, and whether the route named one before (`Repeated`); then its blocks, its signal, and the sensor that frees
+/// it. At last it is held against the earlier routes one by one (`Mixed`, `Crossed`). Returns `Memory` if memory is
+/// refused.
+pub fn read_plan(alloc: Global, bytes: &[u8]) -> Result<Plan, PlanFault>
+    ensures reads { Gives planned PlanFault.Memory result (plan_of bytes.now) }
+    ensures whole { IfOk result (λ plan. IsPlan (planned plan)) }
+{
+    match toml::table_from_slice(alloc, bytes) {
+        Ok(members) => read_document(alloc, &members),
+        Err(fault) if fault.is_memory() => Err(PlanFault::Memory),
+        Err(_) => Err(PlanFault::NotToml),
+    }
+}
+
+/// Reads a document.
+fn read_document(alloc: Global, members: &Table) -> Result<Plan, PlanFault>
+    ensures { Gives planned PlanFault.Memory result (plan_in (table_view members.now)) }
+{
+    let bus = number_in(members, Field::Bus, 1, u32::from(GREATEST_BUS))? as u8;
+    let values = array_in(
+        required(members, Field::Route)?,
+        PlanFault::OutOfRange(Field::Route),
+    )?;
+    let routes = read_routes(alloc, bus, values)?;
+    Ok(Plan { bus, routes })
+}
+
+/// Reads the routes, in the order of the document.
+fn read_routes(alloc: Global, own: u8, values: &[Value]) -> Result<Vec<Route>, PlanFault>
+    ensures { Gives (λ routes. map planned_route routes.items) PlanFault.Memory result
+        (routes_in own [] (map data_of values.now)) }
+{
+    let mut routes = Vec::new(alloc);
+    for value in values {
+        let route = route_in(alloc, own, &routes, value)?;
+        routes.push(route)?;
+    }
+    Ok(routes)
+}
+
+/// Reads a route beside those before it.
+fn route_in(alloc: Global, own: u8, before: &[Route], value: &Value) -> Result<Route, PlanFault>
+    ensures { Gives planned_route PlanFault.Memory result
+        (route_in own (map planned_route before.now) (data_of value.now)) }
+{
+    match value.as_table() {
+        Some(members) => route_of(alloc, own, before, members),
+        None => Err(PlanFault::OutOfRange(Field::Route)),
+    }
+}
+
+/// Reads the number of a route and its keys, and holds it against those before it.
+fn route_of(alloc: Global, own: u8, before: &[Route], members: &Table) -> Result<Route, PlanFault>
+    ensures { Gives planned_route PlanFault.Memory result
+        (route_of own (map planned_route before.now) (table_view members.now)) }
+{
+    let number = new_number(before, number_in(members, Field::Number, 1, GREATEST_GA)?)?;
+    let route = route_numbered(alloc, own, number, members)?;
+    stand_apart(before, &route)?;
+    Ok(route)
+}
+
+/// Returns the number, which no earlier route has.
+fn new_number(before: &[Route], number: u32) -> Result<u32, PlanFault>
+    ensures { result ≡ new_number (map planned_route before.now) number }
+{
+    if is_taken(before, number) {
+        Err(PlanFault::Twice(number))
+    } else {
+        Ok(number)
+    }
+}
+
+/// Returns whether a route has this number.
+fn is_taken(before: &[Route], number: u32) -> bool
+    ensures { result ≡ list_any (λ route. is_numbered number (planned_route route)) before.now }
+{
+    before.iter().any(|route| route.number == number)
+}

@@ -1,0 +1,66 @@
+//! Accessories that a plan would use in two ways.
+
+ghost use Rattle.std.specs.Prelude.{◌≡◌, map};
+ghost use Rattle.srcp_plan_file.specs.Document.{apart_from, apart_from_all};
+ghost use Rattle.srcp_plan_file.specs.Plan.{crosses, is_crossed, mixes, planned_route, turns_signal};
+
+use crate::accessory::{has_accessory, is_same};
+use crate::plan::PlanFault;
+use srcp_routes::{Route, Signal};
+
+/// Returns whether the signal of the first route is a turnout of the second.
+fn turns_signal(route: &Route, other: &Route) -> bool
+    ensures { result ≡ turns_signal (planned_route route.now) (planned_route other.now) }
+{
+    match route.signal {
+        Some(signal) => has_accessory(&other.turnouts, signal.device),
+        None => false,
+    }
+}
+
+/// Returns whether a signal of one is a turnout of the other.
+fn mixes(route: &Route, other: &Route) -> bool
+    ensures { result ≡ mixes (planned_route route.now) (planned_route other.now) }
+{
+    turns_signal(route, other) || turns_signal(other, route)
+}
+
+/// Returns whether these are one accessory, and a port of it shows "go" for one and "stop" for the other.
+fn is_crossed(one: Signal, two: Signal) -> bool
+    ensures { result ≡ is_crossed one two }
+{
+    is_same(one.device, two.device) && (one.go == two.stop || one.stop == two.go)
+}
+
+/// Returns whether a port of a signal shows "go" for one route and "stop" for the other.
+fn crosses(route: &Route, other: &Route) -> bool
+    ensures { result ≡ crosses (planned_route route.now) (planned_route other.now) }
+{
+    match (route.signal, other.signal) {
+        (Some(one), Some(two)) => is_crossed(one, two),
+        _ => false,
+    }
+}
+
+/// Returns a fault if a route uses an accessory in another way than this one.
+fn stand_apart_from(other: &Route, route: &Route) -> Result<(), PlanFault>
+    ensures { result ≡ apart_from (planned_route other.now) (planned_route route.now) }
+{
+    if mixes(other, route) {
+        return Err(PlanFault::Mixed(other.number, route.number));
+    }
+    if crosses(other, route) {
+        return Err(PlanFault::Crossed(other.number, route.number));
+    }
+    Ok(())
+}
+
+/// Returns a fault if a route uses an accessory in another way than those before it.
+pub(super) fn stand_apart(before: &[Route], route: &Route) -> Result<(), PlanFault>
+    ensures { result ≡ apart_from_all (map planned_route before.now) (planned_route route.now) }
+{
+    for other in before {
+        stand_apart_from(other, route)?;
+    }
+    Ok(())
+}

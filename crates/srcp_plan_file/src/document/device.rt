@@ -1,0 +1,87 @@
+//! Turnouts, sensors and signals of a plan, each an array of numbers.
+
+ghost use Rattle.std.specs.Prelude.{◌≡◌, map};
+ghost use Rattle.toml.specs.View.{view as data_of};
+ghost use Rattle.srcp_plan_file.specs.Document.{device_of, other_bus, sensor_of, signal_of, signal_with, turnout_of};
+
+use super::member::ranged;
+use crate::plan::PlanFault;
+use srcp_info::{GREATEST_BUS, GREATEST_FB, GREATEST_GA, MOST_PORTS};
+use srcp_routes::{Device, Setting, Signal};
+use toml::Value;
+
+/// The greatest port of an accessory.
+const GREATEST_PORT: u32 = MOST_PORTS - 1;
+
+/// Returns a bus, which is not the routes' own.
+fn other_bus(own: u8, bus: u8, beyond: PlanFault) -> Result<u8, PlanFault>
+    ensures { result ≡ other_bus own beyond bus }
+{
+    if bus == own { Err(beyond) } else { Ok(bus) }
+}
+
+/// Reads a device from its bus and its address.
+fn device_of(
+    own: u8,
+    bus: &Value,
+    address: &Value,
+    greatest: u32,
+    beyond: PlanFault,
+) -> Result<Device, PlanFault>
+    ensures { result ≡ device_of own greatest beyond (data_of bus.now) (data_of address.now) }
+{
+    let bus = ranged(bus, 1, u32::from(GREATEST_BUS), beyond)? as u8;
+    let bus = other_bus(own, bus, beyond)?;
+    let address = ranged(address, 1, greatest, beyond)?;
+    Ok(Device { bus, address })
+}
+
+/// Reads a turnout from its bus, its address and its port.
+pub(super) fn turnout_of(own: u8, values: &[Value], beyond: PlanFault) -> Result<Setting, PlanFault>
+    ensures { result ≡ turnout_of own beyond (map data_of values.now) }
+{
+    match values {
+        [bus, address, port] => {
+            let device = device_of(own, bus, address, GREATEST_GA, beyond)?;
+            let port = ranged(port, 0, GREATEST_PORT, beyond)? as u8;
+            Ok(Setting { device, port })
+        }
+        _ => Err(beyond),
+    }
+}
+
+/// Reads a sensor from its bus and its address.
+pub(super) fn sensor_of(own: u8, values: &[Value], beyond: PlanFault) -> Result<Device, PlanFault>
+    ensures { result ≡ sensor_of own beyond (map data_of values.now) }
+{
+    match values {
+        [bus, address] => device_of(own, bus, address, GREATEST_FB, beyond),
+        _ => Err(beyond),
+    }
+}
+
+/// Returns a signal whose two ports differ.
+fn signal_with(device: Device, go: u8, stop: u8, beyond: PlanFault) -> Result<Signal, PlanFault>
+    ensures { result ≡ signal_with beyond device go stop }
+{
+    if go == stop {
+        Err(beyond)
+    } else {
+        Ok(Signal { device, go, stop })
+    }
+}
+
+/// Reads a signal from its bus, its address, and its ports for "go" and "stop".
+pub(super) fn signal_of(own: u8, values: &[Value], beyond: PlanFault) -> Result<Signal, PlanFault>
+    ensures { result ≡ signal_of own beyond (map data_of values.now) }
+{
+    match values {
+        [bus, address, go, stop] => {
+            let device = device_of(own, bus, address, GREATEST_GA, beyond)?;
+            let go = ranged(go, 0, GREATEST_PORT, beyond)? as u8;
+            let stop = ranged(stop, 0, GREATEST_PORT, beyond)? as u8;
+            signal_with(device, go, stop, beyond)
+        }
+        _ => Err(beyond),
+    }
+}

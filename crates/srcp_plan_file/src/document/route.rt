@@ -1,0 +1,172 @@
+//! One route of a plan.
+
+ghost use Rattle.std.specs.Prelude.{◌≡◌, [], map, option_map};
+ghost use Rattle.toml.specs.View.{table_view, view as data_of};
+ghost use Rattle.srcp_layout_file.specs.Gives.{Gives, Shows};
+ghost use Rattle.srcp_plan_file.specs.Document.{array_at, blocks_in, frees_at, new_signal, new_turnout};
+ghost use Rattle.srcp_plan_file.specs.Document.{route_numbered, sensor_in, signal_at, signal_in};
+ghost use Rattle.srcp_plan_file.specs.Document.{turnout_in, turnouts_in};
+ghost use Rattle.srcp_plan_file.specs.Plan.{planned_route};
+
+use super::device::{sensor_of, signal_of, turnout_of};
+use super::member::{array_in, value_at};
+use crate::accessory::has_accessory;
+use crate::plan::{Field, PlanFault};
+use srcp_routes::{Device, Route, Setting, Signal};
+use std::alloc::Global;
+use std::vec::Vec;
+use toml::{Table, Value};
+
+/// Reads the keys of the route of this number.
+pub(super) fn route_numbered(
+    alloc: Global,
+    own: u8,
+    number: u32,
+    members: &Table,
+) -> Result<Route, PlanFault>
+    ensures { Gives planned_route PlanFault.Memory result
+        (route_numbered own number (table_view members.now)) }
+{
+    let values = array_at(number, members, Field::Turnouts)?;
+    let turnouts = turnouts_in(alloc, own, number, values)?;
+    let values = array_at(number, members, Field::Blocks)?;
+    let blocks = blocks_in(alloc, own, number, values)?;
+    let signal = signal_at(own, number, &turnouts, members)?;
+    let frees = frees_at(own, number, members)?;
+    Ok(Route {
+        number,
+        turnouts,
+        blocks,
+        signal,
+        frees,
+    })
+}
+
+/// Returns the values of an array at a key of a route, none if it is not given.
+fn array_at(number: u32, members: &Table, field: Field) -> Result<&[Value], PlanFault>
+    ensures { Shows (λ values. map data_of values.now) result
+        (array_at number field (table_view members.now)) }
+{
+    match value_at(members, field) {
+        Some(value) => array_in(value, PlanFault::Beyond(number, field)),
+        None => Ok(&[]),
+    }
+}
+
+/// Reads turnouts from left to right.
+fn turnouts_in(
+    alloc: Global,
+    own: u8,
+    number: u32,
+    values: &[Value],
+) -> Result<Vec<Setting>, PlanFault>
+    ensures { Gives (λ turnouts. turnouts.items) PlanFault.Memory result
+        (turnouts_in own number [] (map data_of values.now)) }
+{
+    let mut turnouts = Vec::new(alloc);
+    for value in values {
+        let turnout = turnout_in(own, number, &turnouts, value)?;
+        turnouts.push(turnout)?;
+    }
+    Ok(turnouts)
+}
+
+/// Reads a turnout beside those before it.
+fn turnout_in(own: u8, number: u32, before: &[Setting], value: &Value) -> Result<Setting, PlanFault>
+    ensures { result ≡ turnout_in own number before.now (data_of value.now) }
+{
+    let beyond = PlanFault::Beyond(number, Field::Turnouts);
+    let turnout = turnout_of(own, array_in(value, beyond)?, beyond)?;
+    new_turnout(number, before, turnout)
+}
+
+/// Returns a turnout, which is none of those before it.
+fn new_turnout(number: u32, before: &[Setting], turnout: Setting) -> Result<Setting, PlanFault>
+    ensures { result ≡ new_turnout number before.now turnout }
+{
+    if has_accessory(before, turnout.device) {
+        Err(PlanFault::Repeated(number))
+    } else {
+        Ok(turnout)
+    }
+}
+
+/// Reads a sensor of this key.
+fn sensor_in(own: u8, number: u32, field: Field, value: &Value) -> Result<Device, PlanFault>
+    ensures { result ≡ sensor_in own number field (data_of value.now) }
+{
+    let beyond = PlanFault::Beyond(number, field);
+    sensor_of(own, array_in(value, beyond)?, beyond)
+}
+
+/// Reads blocks from left to right.
+fn blocks_in(
+    alloc: Global,
+    own: u8,
+    number: u32,
+    values: &[Value],
+) -> Result<Vec<Device>, PlanFault>
+    ensures { Gives (λ blocks. blocks.items) PlanFault.Memory result
+        (blocks_in own number [] (map data_of values.now)) }
+{
+    let mut blocks = Vec::new(alloc);
+    for value in values {
+        let block = sensor_in(own, number, Field::Blocks, value)?;
+        blocks.push(block)?;
+    }
+    Ok(blocks)
+}
+
+/// Reads the signal of a route, if it is given.
+fn signal_at(
+    own: u8,
+    number: u32,
+    turnouts: &[Setting],
+    members: &Table,
+) -> Result<Option<Signal>, PlanFault>
+    ensures { result ≡ signal_at own number turnouts.now (table_view members.now) }
+{
+    match value_at(members, Field::Signal) {
+        Some(value) => signal_in(own, number, turnouts, value),
+        None => Ok(None),
+    }
+}
+
+/// Reads a signal beside the turnouts of its route.
+fn signal_in(
+    own: u8,
+    number: u32,
+    turnouts: &[Setting],
+    value: &Value,
+) -> Result<Option<Signal>, PlanFault>
+    ensures { result ≡ signal_in own number turnouts.now (data_of value.now) }
+{
+    let beyond = PlanFault::Beyond(number, Field::Signal);
+    let signal = signal_of(own, array_in(value, beyond)?, beyond)?;
+    new_signal(number, turnouts, signal)
+}
+
+/// Returns a signal, which is none of the turnouts.
+fn new_signal(
+    number: u32,
+    turnouts: &[Setting],
+    signal: Signal,
+) -> Result<Option<Signal>, PlanFault>
+    ensures { result ≡ new_signal number turnouts.now signal }
+{
+    if has_accessory(turnouts, signal.device) {
+        Err(PlanFault::Repeated(number))
+    } else {
+        Ok(Some(signal))
+    }
+}
+
+/// Reads the sensor that frees a route, if it is given.
+fn frees_at(own: u8, number: u32, members: &Table) -> Result<Option<Device>, PlanFault>
+    ensures { result ≡ frees_at own number (table_view members.now) }
+{
+    match value_at(members, Field::Frees) {
+        Some(value) => Ok(Some(sensor_in(own, number, Field::Frees, value)?)),
+        None => Ok(None),
+    }
+}

@@ -1,0 +1,49 @@
+//! The content of a plan, and the reasons to refuse one.
+
+use srcp_routes::Route;
+use std::vec::Vec;
+use thiserror::Error;
+
+/// Holds what a plan says.
+#[derive(Drop)]
+pub struct Plan {
+    /// The routes' own bus: there they are asked for and told, and no device of a route is on it.
+    pub bus: u8,
+    /// The routes, in the order of the document.
+    pub routes: Vec<Route>,
+}
+
+/// Names a key of a plan. It is written in lower case.
+#[derive(Clone, Copy, Debug, PartialEq, Eq)]
+pub enum Field {
+    Bus,
+    Route,
+    Number,
+    Turnouts,
+    Blocks,
+    Signal,
+    Frees,
+}
+
+/// Says why a plan is refused.
+#[derive(Clone, Copy, Debug, PartialEq, Eq, Error)]
+pub enum PlanFault {
+    /// The bytes are no TOML document.
+    NotToml,
+    /// A key is missing that has to be given.
+    Missing(Field),
+    /// The key's value is of another type or beyond its limits.
+    OutOfRange(Field),
+    /// Two routes have this number.
+    Twice(u32),
+    /// In the route of this number the key's value is of another type, beyond its limits, or on the routes' own bus.
+    Beyond(u32, Field),
+    /// The route of this number names an accessory twice.
+    Repeated(u32),
+    /// A signal of one of these routes is a turnout of the other.
+    Mixed(u32, u32),
+    /// A port of a signal shows "go" for one of these routes and "stop" for the other.
+    Crossed(u32, u32),
+    /// Memory is refused.
+    Memory,
+}

@@ -1,0 +1,112 @@
+//! What two routes share.
+
+ghost use Rattle.std.specs.Prelude.{◌≡◌, ◌++◌, IfOk, OnOk};
+ghost use Rattle.srcp_routes.specs.Conflicts.{has_block, is_signal, uses};
+ghost use Rattle.srcp_plan_file.specs.Output.{shared_blocks, shared_devices, shared_signal, shared_turnouts};
+
+use crate::accessory::{has_accessory, is_same};
+use srcp_routes::{Device, Route};
+use std::alloc::{AllocError, Global};
+use std::fmt;
+use std::vec::Vec;
+
+/// Names a device that two routes share, by what it is to the first.
+#[derive(Clone, Copy, Debug, PartialEq, Eq)]
+pub(super) enum Shared {
+    Turnout(Device),
+    Signal(Device),
+    Block(Device),
+}
+
+impl fmt::Display for Shared {
+    ghost use Rattle.std.specs.Prelude.{Some};
+    ghost use Rattle.srcp_plan_file.specs.Output.{shared_text};
+
+    ghost output = { λ x. Some (shared_text x) };
+
+    fn fmt<W: fmt::Write>(&self, f: &mut fmt::Formatter<W>) -> fmt::Result {
+        match self {
+            Shared::Turnout(device) => write!(f, "turnout {} {}", device.bus, device.address),
+            Shared::Signal(device) => write!(f, "signal {} {}", device.bus, device.address),
+            Shared::Block(device) => write!(f, "block {} {}", device.bus, device.address),
+        }
+    }
+}
+
+/// Returns what two routes share: turnouts and the signal of the first that the second uses, and blocks of both.
+pub(super) fn shared_devices(
+    alloc: Global,
+    route: &Route,
+    other: &Route,
+) -> Result<Vec<Shared>, AllocError>
+    ensures { IfOk result (λ devices. devices.items ≡ shared_devices route.now other.now) }
+{
+    let mut devices = Vec::new(alloc);
+    add_turnouts(route, other, &mut devices)?;
+    add_signal(route, other, &mut devices)?;
+    add_blocks(route, other, &mut devices)?;
+    Ok(devices)
+}
+
+/// Returns whether a route has this accessory as its signal.
+fn is_signal(route: &Route, device: Device) -> bool
+    ensures { result ≡ is_signal route.now device }
+{
+    match route.signal {
+        Some(signal) => is_same(signal.device, device),
+        None => false,
+    }
+}
+
+/// Returns whether a route has this accessory as its signal or as a turnout.
+fn uses(route: &Route, device: Device) -> bool
+    ensures { result ≡ uses route.now device }
+{
+    is_signal(route, device) || has_accessory(&route.turnouts, device)
+}
+
+/// Returns whether a route has a block at this sensor.
+fn has_block(route: &Route, sensor: Device) -> bool
+    ensures { result ≡ has_block route.now sensor }
+{
+    route.blocks.iter().any(|block| is_same(*block, sensor))
+}
+
+/// Adds the turnouts of a route that the other uses.
+fn add_turnouts(route: &Route, other: &Route, devices: &mut Vec<Shared>) -> Result<(), AllocError>
+    ensures { OnOk result (devices.new.items
+        ≡ devices.old.items ++ shared_turnouts other.now route.now.turnouts.items) }
+{
+    for turnout in &route.turnouts {
+        if uses(other, turnout.device) {
+            devices.push(Shared::Turnout(turnout.device))?;
+        }
+    }
+    Ok(())
+}
+
+/// Adds the signal of a route if the other uses it.
+fn add_signal(route: &Route, other: &Route, devices: &mut Vec<Shared>) -> Result<(), AllocError>
+    ensures { OnOk result (devices.new.items
+        ≡ devices.old.items ++ shared_signal other.now route.now.signal) }
+{
+    if let Some(signal) = route.signal {
+        if uses(other, signal.device) {
+            devices.push(Shared::Signal(signal.device))?;
+        }
+    }
+    Ok(())
+}
+
+/// Adds the blocks that are those of both routes.
+fn add_blocks(route: &Route, other: &Route, devices: &mut Vec<Shared>) -> Result<(), AllocError>
+    ensures { OnOk result (devices.new.items
+        ≡ devices.old.items ++ shared_blocks other.now route.now.blocks.items) }
+{
+    for block in &route.blocks {
+        if has_block(other, *block) {
+            devices.push(Shared::Block(*block))?;
+        }
+    }
+    Ok(())
+}

@@ -1,0 +1,120 @@
+"""What `interlock` orders for the routes of a plan, compared with a model that shares nothing with it."""
+import random
+import subprocess
+import sys
+import tempfile
+import time
+import tomllib
+from contextlib import contextmanager
+from itertools import takewhile
+from pathlib import Path
+
+from serving import SECONDS
+
+sys.path.insert(0, str(Path(__file__).resolve().parent / "stand_ins"))
+from interlocking import Interlocking  # noqa: E402
+
+PLANS, LISTS, EVENTS = 250, 20, 40  # plans, lists of events of each, and events of each list
+OWN = 9  # the bus of the routes
+TURNOUTS = [(bus, address) for bus in (1, 2) for address in range(1, 6)]
+SIGNALS = [(bus, address) for bus in (1, 2) for address in range(11, 14)]
+SENSORS = [(bus, address) for bus in (1, 2) for address in range(1, 5)]
+REFUSALS = ("412 ERROR wrong value", "414 ERROR device locked", "416 ERROR no data", "500 ERROR out of resources")
+NO_EVENTS = ("101 INFO 0 SESSION 5 COMMAND", "102 INFO 1 GA 3", "100 INFO 1 GA 1 1 1", "100 INFO 1 POWER ON by hand",
+             f"100 INFO {OWN} GA 1 1 0", f"100 INFO {OWN} GA 1 0 0", f"100 INFO {OWN} GA 1 2 1",
+             "202 OK CONNECTIONMODE", f"100 INFO {OWN} LOCK GA 1 0 3", "",
+             f"101 INFO {OWN} GA 1 N", f"100 INFO {OWN} GA 2044 1 1")
+
+
+def plan_of(draw):
+    """A plan of 1 to 8 routes, many of which conflict."""
+    lines = [f"bus = {OWN}"]
+    for number in draw.sample(range(1, 13), draw.randint(1, 8)):
+        turnouts = [[*each, draw.randint(0, 1)] for each in draw.sample(TURNOUTS, draw.randint(0, 3))]
+        blocks = [list(each) for each in draw.sample(SENSORS, draw.randint(0, 2))]
+        lines += ["[[route]]", f"number = {number}", f"turnouts = {turnouts}", f"blocks = {blocks}"]
+        if draw.random() < 0.7:
+            lines.append(f"signal = {[*draw.choice(SIGNALS), draw.randint(3, 7), draw.randint(0, 2)]}")
+        if draw.random() < 0.7:
+            lines.append(f"frees = {list(draw.choice(SENSORS))}")
+    return "\n".join(lines) + "\n"
+
+
+def event_of(draw, model):
+    """A line that may come next: most often the reply that is waited for."""
+    if model.waits and draw.random() < 0.6 or draw.random() < 0.03:
+        return draw.choice(REFUSALS) if draw.random() < 0.15 else "200 OK"
+    what, route = draw.random(), draw.choice(model.routes).number
+    if what < 0.45:
+        return f"100 INFO {OWN} GA {route} 1 1"
+    if what < 0.6:
+        return f"100 INFO {OWN} GA {route} 0 1"
+    if what < 0.9:
+        return "100 INFO {} FB {} {}".format(*draw.choice(SENSORS), draw.choice((0, 0, 1)))
+    return f"200 OK GO {draw.randint(1, 99)}" if what < 0.92 else draw.choice(NO_EVENTS)
+
+
+def list_of(draw, model):
+    """Yields the lines of a list, each with the order that follows in the model, or None. A session begins first, which
+    most often knows that all sensors are 0."""
+    known = ["100 INFO {} FB {} 0".format(*each) for each in SENSORS if draw.random() < 0.9]
+    for line in [f"200 OK GO {draw.randint(1, 99)}", *known]:
+        yield f"0.000 {line}", model.take(f"0.000 {line}")
+    for _ in range(EVENTS):
+        line = f"{draw.randint(0, 10 ** 12)}.{draw.randint(0, 999):03} {event_of(draw, model)}"
+        yield line, model.take(line)
+
+
+@contextmanager
+def plan_file(text):
+    with tempfile.NamedTemporaryFile("w", suffix=".toml") as file:
+        file.write(text)
+        file.flush()
+        yield file.name
+
+
+def difference(program, draw):
+    """Returns at which line of its lists a plan has other orders than in the model, or None."""
+    text = plan_of(draw)
+    model = Interlocking(tomllib.loads(text))
+    lines = [pair for _ in range(LISTS) for pair in list_of(draw, model)]
+    with plan_file(text) as path:
+        done = subprocess.run([program, "interlock", "--plan", path], input="".join(f"{line}\n" for line, _ in lines),
+                              capture_output=True, text=True, timeout=SECONDS)
+    got, want = done.stdout.splitlines(), [(place, order) for place, (_, order) in enumerate(lines) if order]
+    if (done.returncode, done.stderr, got) == (0, "", [order for _, order in want]):
+        return None
+    same = sum(1 for _ in takewhile(lambda pair: pair[0] == pair[1][1], zip(got, want)))
+    place, order = want[same] if same < len(want) else (len(lines), None)
+    before = [line for line, _ in lines[max(0, place - 8):place + 1]]
+    return f"status {done.returncode}, {done.stderr!r}: order {same + 1} is {got[same:same + 1]}, want {order}, " \
+           f"after {before}; the plan is {text}"
+
+
+def routes_as_in_the_model(program):
+    """5,000 lists of events at random, over plans at random: asks, give-backs, sensors, refusals and lost sessions."""
+    draw = random.Random(57)
+    return next(filter(None, (difference(program, draw) for _ in range(PLANS))), None)
+
+
+def orders_come_at_once(program):
+    """Each order comes as soon as its line has come, and none later."""
+    draw = random.Random(58)
+    text = plan_of(draw)
+    model = Interlocking(tomllib.loads(text))
+    with plan_file(text) as path, subprocess.Popen([program, "interlock", "--plan", path], stdin=subprocess.PIPE,
+                                                   stdout=subprocess.PIPE, text=True, bufsize=1) as box:
+        assert box.stdin and box.stdout
+        count, began = 0, time.monotonic()
+        for line, order in list_of(draw, model):
+            box.stdin.write(f"{line}\n")
+            if order and (got := box.stdout.readline()) != f"{order}\n":
+                return f"after {line}: {got!r}, want {order}"
+            count += order is not None
+        box.stdin.close()
+        rest = box.stdout.read()
+    seconds = time.monotonic() - began
+    return None if count > 5 and not rest and seconds < SECONDS else f"{count} orders, then {rest!r}, in {seconds} s"
+
+
+ROUTE_CASES = (routes_as_in_the_model, orders_come_at_once)

@@ -1,0 +1,167 @@
+#!/usr/bin/env python3
+"""interlocking.py interlock --plan FILE: a model of `srcp_server interlock`, which shares nothing with it.
+
+It is written from what the pages promise of routes, and not from the code that is proved. A route is a list of orders
+that it goes through, and another by which it goes back.
+"""
+import sys
+import tomllib
+
+
+class Route:
+    """`steps` has what it still orders, each a kind and a command. `held`: it may hold locks. `is_stuck`: its signal
+    could not be stopped."""
+
+    def __init__(self, bus, given):
+        self.bus, self.number = bus, given["number"]
+        self.turnouts = [(of, address, port) for of, address, port in given.get("turnouts", [])]
+        self.blocks = {tuple(block) for block in given.get("blocks", [])}
+        self.signal, self.frees = given.get("signal"), tuple(given.get("frees", []))
+        self.accessories = {turnout[:2] for turnout in self.turnouts}
+        if self.signal:
+            self.accessories.add((self.signal[0], self.signal[1]))
+        self.begins_anew()
+
+    def conflicts(self, other):
+        return bool(self.accessories & other.accessories or self.blocks & other.blocks)
+
+    def report(self, is_set):
+        return "report", f"SET {self.bus} FB {self.number} {int(is_set)}"
+
+    def stop(self):
+        return [("stop", "SET {} GA {} {} 1 250".format(*self.signal[:2], self.signal[3]))] if self.signal else []
+
+    def unlocks(self, count):
+        return [("unlock", f"TERM {bus} LOCK GA {address}") for bus, address, _ in reversed(self.turnouts[:count])]
+
+    # ---- what it is about to do
+
+    def begins_anew(self):
+        """A session has begun: no lock is held, and nobody has asked."""
+        self.wanted = self.held = self.is_stuck = self.is_set = self.goes = False
+        self.steps = [*self.stop(), self.report(False)]
+
+    def goes_forth(self):
+        self.goes = self.held = True
+        self.steps = [*[("lock", f"SET {bus} LOCK GA {address} 0") for bus, address, _ in self.turnouts],
+                      *[("throw", f"SET {bus} GA {address} {port} 1 250") for bus, address, port in self.turnouts]]
+        if self.signal:
+            self.steps.append(("show", "SET {} GA {} {} 1 250".format(*self.signal[:3])))
+        self.steps.append(self.report(True))
+
+    def goes_back(self, was_tried=False):
+        """Undoes what it has done up to its next step. `was_tried`: that step was refused, so it may have been done."""
+        kind = self.steps[0][0] if self.steps else "report"
+        locks = len(self.turnouts)
+        if kind == "lock":
+            self.steps = self.unlocks(locks - sum(step[0] == "lock" for step in self.steps))
+        else:
+            may_show = kind == "report" or kind == "show" and was_tried
+            self.steps = [*(self.stop() if may_show else []), self.report(False), *self.unlocks(locks)]
+        self.goes = self.is_set = False
+        self.comes_to_rest()
+
+    def comes_to_rest(self):
+        if not self.steps and not self.is_set:
+            self.held = False
+
+    def is_idle(self):
+        return not self.steps and not self.is_set
+
+    # ---- what comes
+
+    def replied(self, is_accepted):
+        if not is_accepted:
+            self.wanted = False
+        if self.goes:
+            if not is_accepted:
+                return self.goes_back(was_tried=True)
+            self.steps.pop(0)
+            if not self.steps:
+                self.goes, self.is_set = False, True
+        elif self.steps[0][0] == "stop" and not is_accepted:
+            self.is_stuck = True
+        else:
+            self.steps.pop(0)
+            self.comes_to_rest()
+
+    def given_back(self):
+        self.wanted = self.is_stuck = False
+
+    def order(self, free, is_clear):
+        """Returns the command that it sends next, or None."""
+        if (self.goes or self.is_set) and not self.wanted:
+            self.goes_back()
+        elif self.is_idle() and self.wanted and self.blocks <= free and is_clear:
+            self.goes_forth()
+        if not self.steps or self.is_stuck or self.steps[0][0] == "show" and not self.blocks <= free:
+            return None
+        return self.steps[0][1]
+
+
+class Interlocking:
+    """`free` has the sensors that are known to be 0; `waits` is the route whose reply is to come."""
+
+    def __init__(self, plan):
+        self.bus, self.routes = plan["bus"], [Route(plan["bus"], given) for given in plan.get("route", [])]
+        self.free, self.waits = set(), None
+        self.others = {route: [other for other in self.routes if other is not route and route.conflicts(other)]
+                       for route in self.routes}
+
+    def take(self, line):
+        """Takes a line in. Returns the order that follows, or None."""
+        match line.split():
+            case [_, "100", "INFO", bus, "FB", number, value]:
+                self.sensed((int(bus), int(number)), value == "1")
+            case [_, "100", "INFO", bus, "GA", number, port, "1"] if int(bus) == self.bus:
+                self.pressed(int(number), int(port))
+            case [_, "200", "OK", "GO", _]:
+                self.waits = None
+                for route in self.routes:
+                    route.begins_anew()
+            case [_, code, *_] if code == "200" or code[0] in "45":
+                if self.waits:
+                    self.waits.replied(code == "200")
+                self.waits = None
+            case _:
+                return None
+        return self.next()
+
+    def sensed(self, sensor, is_on):
+        if not is_on and sensor not in self.free:
+            for route in self.routes:
+                if route.held and route.frees == sensor:
+                    route.wanted = False
+        (self.free.discard if is_on else self.free.add)(sensor)
+
+    def pressed(self, number, port):
+        for route in self.routes:
+            if route.number == number and port == 1:
+                route.wanted = True
+            elif route.number == number and port == 0:
+                route.given_back()
+
+    def next(self):
+        """One order at a time: that of the first route that has one."""
+        for route in self.routes if not self.waits else []:
+            if order := route.order(self.free, all(other.is_idle() for other in self.others[route])):
+                self.waits = route
+                return order
+        return None
+
+
+def main():
+    _, _, path = sys.argv[1:]
+    try:
+        with open(path, "rb") as file:
+            interlocking = Interlocking(tomllib.load(file))
+    except (OSError, ValueError, LookupError, TypeError) as fault:
+        print(f"srcp_server: plan: {fault}", file=sys.stderr)
+        sys.exit(2)
+    for line in sys.stdin:
+        if order := interlocking.take(line):
+            print(order, flush=True)
+
+
+if __name__ == "__main__":
+    main()
