@@ -23,14 +23,28 @@ def stage_of(words, folder):
     return "tests" if "--test" in words else "proof"
 
 
-def provers():
-    """Each prover that runs, as (process, start), with its crate, its stage and its processor seconds."""
+def fields_of(process):
+    """The fields of a process from its state on, as in proc(5): the second is its parent."""
+    return (process / "stat").read_text().rpartition(")")[2].split()
+
+
+def is_below(process, command):
+    """Whether a process was begun by the command, or by a process that was."""
+    while process.name not in ("0", "1"):
+        process = process.with_name(fields_of(process)[1])
+        if process.name == str(command):
+            return True
+    return False
+
+
+def provers(command):
+    """Each prover that runs below the command, as (process, start), with its crate, stage and processor seconds."""
     for process in Path("/proc").glob("[0-9]*"):
         try:
             words = (process / "cmdline").read_bytes().decode(errors="replace").split("\0")
-            if not words[0].endswith("/rattle") or "--crate-name" not in words:
+            if not words[0].endswith("/rattle") or "--crate-name" not in words or not is_below(process, command):
                 continue
-            fields = (process / "stat").read_text().rpartition(")")[2].split()
+            fields = fields_of(process)
             crate = words[words.index("--crate-name") + 1]
             seconds = (int(fields[11]) + int(fields[12])) / TICKS
             yield (process.name, fields[19]), (crate, stage_of(words, os.readlink(process / "cwd"))), seconds
@@ -58,7 +72,7 @@ def main():
     seconds_of, begun = {}, time.monotonic()
     gate = subprocess.Popen(sys.argv[1:])
     while gate.poll() is None:
-        seconds_of.update((key, (work, seconds)) for key, work, seconds in provers())
+        seconds_of.update((key, (work, seconds)) for key, work, seconds in provers(gate.pid))
         time.sleep(1)
     print("\n".join(table(seconds_of, time.monotonic() - begun)), file=sys.stderr)
     return gate.returncode

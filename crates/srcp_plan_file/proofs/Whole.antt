@@ -233,7 +233,7 @@ module _ (own number : ℕ) where
   numbered members n =
       after AreTurnouts IsNumbered (array_at number field.Turnouts members >>= turnouts_in own number []) _ (turnouts_hold members)
       (λ turnouts t. after (All (IsBeside own 4096)) IsNumbered (array_at number field.Blocks members >>= blocks_in own number [])
-          _ (blocks_hold members)
+      _ (blocks_hold members)
       (λ blocks b. after (IsSignalBeside turnouts) IsNumbered (signal_at own number turnouts members) _ (signal_holds turnouts members)
       (λ signal s. after (λ frees. IfSome frees (IsBeside own 4096)) IsNumbered (frees_at own number members) _ (frees_hold members)
       (λ frees f. (

@@ -380,7 +380,7 @@ far_told old mid new peers shown answer reads tells visited later logged k d lt 
     ∙ ending_more p.number r.0 (Clocks shown) in
     let came : (leaving p.number t.0).account.received ≡ (account p.number r.0).received =
     ap (λ (a : Account). a.received)
-        (leaving_account p.number t.0 ∙ ap (account p.number) r.2 ∙ account_more p.number r.0 (Clocks shown)) in
+    (leaving_account p.number t.0 ∙ ap (account p.number) r.2 ∙ account_more p.number r.0 (Clocks shown)) in
     let wanted : ending_of p.number later ≡ begun (ending_of p.number r.0) (is_all_read (account p.number r.0).received) =
     ap (ending_of p.number) t.2 ∙ ending_more p.number t.0 (Answers (NowCall answer))
     ∙ ap (λ (e : Ending). begun e (is_all_read (leaving p.number t.0).account.received)) was

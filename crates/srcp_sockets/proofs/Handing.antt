@@ -164,7 +164,7 @@ read_done wall start trace turn p answer buffer room kept log is timed agrees he
     let piece : piece_of p room ≡ held_piece a.received (length buffer) =
     ap (λ n. take (min 256 n) p.incoming) (sym long)
     ∙ ap (take (min 256 (length buffer)))
-        (sym (ap (drop (length a.received.handed)) gave ∙ drop-append_seam a.received.handed p.incoming)) in
+    (sym (ap (drop (length a.received.handed)) gave ∙ drop-append_seam a.received.handed p.incoming)) in
     record {
       told = λ ends failing.
           let rest = watched_fails a.watched (not (is_held a.received) && (a.sent.lost || a.received.failed)) stays.0 failing in

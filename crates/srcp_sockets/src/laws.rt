@@ -211,8 +211,8 @@ pub fn faults_are_told<S: System + Drop>(door: &SocketDoor<S>)
 
 /// A read of a peer that was leaving reported its end. It was leaving if it was there and had not failed, a read of its
 /// socket had found the end, all before that was handed out, its socket had taken all that was taken for it, and a
-/// visit behind the end had no more for it: fewer than 300 writes, of which none was cut. The exceptions are a turn that was
-/// late, and one that had reported another end.
+/// visit behind the end had no more for it: fewer than 300 writes, of which none was cut. The exceptions are a turn that
+/// was late, and one that had reported another end.
 pub fn ends_are_told<S: System + Drop>(door: &SocketDoor<S>)
     ensures { (before after : List Step) (socket : ℕ) (answer : Result Got DoorFault) (buffer : List ℕ)
         → S.trace door.now.sockets.system ≡ Some (before ++ Answers (ReadCall socket answer buffer) ∷ after)

@@ -35,8 +35,8 @@ pub fn read_words<'a>(alloc: Global, words: &'a [String]) -> Result<Tool<'a>, Er
     }
 }
 
-/// Returns what the matches ask for, which is a replay if they have no subcommand, and nothing for a check of no file or
-/// of two.
+/// Returns what the matches ask for, which is a replay if they have no subcommand, and nothing for a check of no file
+/// or of two.
 fn tool_in<'a>(matches: &ArgMatches<'a>) -> Option<Tool<'a>>
     ensures { option_map task_of result ≡ task_in (subcommand_rows_of matches.now) }
 {

@@ -19,8 +19,8 @@ use std::vec::Vec;
 ///
 /// # Errors
 /// Returns `Input` if a read fails, and `TooLarge` after 18,446,744,073,709,551,615 reads. All that the lines gave is
-/// written then. Returns `Output` if a write fails or takes nothing, or a flush fails. A front of what the lines gave
-/// is written then. Returns `Memory` if memory is refused. Nothing is written then.
+/// written then. Returns `Output` if a write fails or takes nothing, or a flush fails. A prefix of what the lines
+/// gave is written then. Returns `Memory` if memory is refused. Nothing is written then.
 pub fn interlock<R: Read, W: Write>(
     alloc: Global,
     own: u8,

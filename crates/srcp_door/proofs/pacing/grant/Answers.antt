@@ -34,7 +34,7 @@ returns-then-rest-piece-clause-more c =
     ∙ ap (λ n. not (n == lines (take c.min.result c.args.piece.now))) c.longest_prefix-own.ensures.lines
     ∙ ap (λ bytes. not (lines (take count bytes) == lines bytes)) (own c)
     ∙ kept c.args.line c.args.most c.args.rest count c.longest_prefix-all.result.prefix.count c.args.piece.now
-      (own_longest c) (all_longest c)
+    (own_longest c) (all_longest c)
 
 pub returns-then-rest-piece-clause-light : goal.returns-then-rest-piece-clause-light
 returns-then-rest-piece-clause-light c = λ more.

@@ -21,8 +21,8 @@ pub returns-in_err-matches-clause-kinds : goal.returns-in_err-matches-clause-kin
 returns-in_err-matches-clause-kinds c =
     let words = map string_bytes c.args.words.now in
     let failed : HasKind (fault_of program_app words) c.in_err-matches.field-0.0 =
-        subst (λ (app : App). is_simple_and_free app ≡ true → HasKind (fault_of app words) c.in_err-matches.field-0.0)
-        c.in_ok-program.ensures.app c.in_err-matches.ensures.kinds refl in
+    subst (λ (app : App). is_simple_and_free app ≡ true → HasKind (fault_of app words) c.in_err-matches.field-0.0)
+    c.in_ok-program.ensures.app c.in_err-matches.ensures.kinds refl in
     let all = refused words c.in_err-matches.field-0.0 failed in
     search (rules, all)
 
@@ -30,6 +30,6 @@ pub returns-in-Some-clause-kinds : goal.returns-in-Some-clause-kinds
 returns-in-Some-clause-kinds c =
     let words = map string_bytes c.args.words.now in
     let none = subst (λ (app : App). is_simple_and_free app ≡ true → fault_of app words ≡ []) c.in_ok-program.ensures.app
-        c.in_ok-matches.ensures.kinds refl in
+    c.in_ok-matches.ensures.kinds refl in
     let asked : Some (task_of c.in-Some.tool) ≡ task words = search rules in
     past (fault_of program_app words) (unasked (task words)) none ∙ ap unasked (sym asked)
