@@ -7,7 +7,8 @@ ghost use Rattle.srcp_script.specs.Script.{parts_behind};
 
 use memchr::memchr;
 
-/// Cuts a text at the first such byte. Returns what stands before it, and what follows it if there is one.
+/// Cuts a text at the first byte of this value. Returns the part before that byte, and the part behind, or `None` if
+/// the text has no such byte. Then the first part is the whole text.
 #[inline(always)]
 pub fn cut_at(byte: u8, text: &[u8]) -> (&[u8], Option<&[u8]>)
     ensures parts { slice_split (λ b. b == byte) text.now
@@ -23,8 +24,8 @@ pub fn cut_at(byte: u8, text: &[u8]) -> (&[u8], Option<&[u8]>)
     }
 }
 
-/// Returns the offset of the first such byte. A space is looked for byte by byte, since the words of a script are
-/// short.
+/// Returns the offset of the first byte of this value. Looks for a space byte by byte, since the words of a script
+/// are short.
 #[inline(always)]
 fn find_byte(byte: u8, text: &[u8]) -> Option<usize>
     ensures { result ≡ position (λ b. b == byte) text.now }

@@ -1,10 +1,10 @@
-//! Scripts, and what is printed of their run. It reads a script into the events of a run (`read_script`), and names
-//! its first fault (`ScriptFault`). It prints the row of a registry (`print_shown`) and parts of the record of a run.
-//! These are the line of each connection (`connection_line`), the end of the last line that was sent to it
-//! (`line_end`), and what follows the connections (`print_end`). `cut_at` cuts a text at a byte, as the lines and
-//! words of a script are cut.
+//! Scripts, and what is printed of their run. `read_script` reads a script into the events of a run, and
+//! `ScriptFault` names the script's first fault. `print_shown` prints the row of a registry. Three functions print
+//! parts of the record of a run: the line of each connection (`connection_line`), the end of the last line sent to a
+//! connection (`line_end`), and what follows the connections (`print_end`). `cut_at` cuts a text at a byte, as the
+//! lines and words of a script are cut.
 //!
-//! It runs no event: `srcp_core` does that. It does no input or output, and knows no configuration.
+//! This crate runs no event: `srcp_core` does. There is no input or output here, and no configuration is known.
 #![tactic(auto)]
 
 mod cut;

@@ -19,7 +19,8 @@ use std::alloc::{AllocError, Global};
 use std::string::String;
 use std::vec::Vec;
 
-/// Returns the line of a connection: its number, how many bytes were sent to it, and its state. Allocates no memory.
+/// Returns the line of a connection: the number, how many bytes the connection was sent, and the state. Allocates no
+/// memory.
 #[tactic(auto, using(crate::proofs::Prints::finish_most))]
 pub fn connection_line(number: usize, conn: &ConnRecord) -> LineBuf
     ensures { result.items ≡ connection_line number conn.now }
@@ -44,14 +45,14 @@ fn put_count(number: usize, line: &mut LineBuf)
     line.push(b' ');
 }
 
-/// Returns what ends the last line of these bytes: an LF if it has none, else nothing.
+/// Returns what the last line of these bytes lacks: an LF if there are bytes and the last is no LF, else nothing.
 pub fn line_end(bytes: &[u8]) -> &'static [u8]
     ensures { bytes.now ++ result.now ≡ ended bytes.now }
 {
     if is_cut(bytes) { b"\n" } else { b"" }
 }
 
-/// Returns whether there are bytes that do not end in an LF.
+/// Returns whether there are bytes and the last is no LF.
 fn is_cut(bytes: &[u8]) -> bool
     ensures { result ≡ not (is_empty (rest bytes.now)) }
 {

@@ -1,4 +1,4 @@
-//! Scripts: the events of a run, one a line.
+//! Scripts: the events of a run, each on a line.
 
 ghost use Rattle.std.specs.Prelude.{◌≡◌, ◌≢◌, ◌∷◌, ◌++◌, [], IfOk, IfErr, OnOk};
 ghost use Rattle.srcp_core.specs.declared.event.Event.{Event};
@@ -21,25 +21,25 @@ pub enum Cause {
     Word,
     /// A number is missing, unreadable or out of range, or something follows the last part.
     Number,
-    /// A backslash is followed by something that is no escape.
+    /// What follows a backslash is no escape.
     Escape,
     /// Memory is refused.
     Memory,
 }
 
-/// Names the first wrong line of a script, counted from 1 with the lines that are skipped.
+/// Names the first wrong line of a script, counted from 1 with the skipped lines, and what is wrong there.
 #[derive(Clone, Copy, Debug, PartialEq, Eq, Error)]
 pub struct ScriptFault {
     pub line: usize,
     pub cause: Cause,
 }
 
-/// Reads the events of a script, in order. Lines end in LF, and the last may lack it. Empty lines and lines that begin
-/// with `#` are skipped.
+/// Reads the events of a script, in order. Lines end in LF, and the last may lack the LF. Skips empty lines, and lines
+/// with `#` at their beginning.
 ///
 /// # Errors
-/// Returns the first wrong line, and in it the first fault from left to right. Returns `Cause::Memory` only if memory
-/// is refused.
+/// Returns the first wrong line, with the first fault of this line from left to right. Returns `Cause::Memory` only if
+/// memory is refused.
 pub fn read_script(alloc: Global, bytes: &[u8]) -> Result<Vec<Event>, ScriptFault>
     ensures events { IfOk result (λ events. script bytes.now ≡ Ok events.items) }
     ensures refused { IfErr result
@@ -62,7 +62,7 @@ pub fn read_script(alloc: Global, bytes: &[u8]) -> Result<Vec<Event>, ScriptFaul
     Ok(events)
 }
 
-/// Reads the event of a line, and appends it.
+/// Reads the event of a line, and appends this event.
 fn push_event(alloc: Global, line: &[u8], events: &mut Vec<Event>) -> Result<(), Cause>
     ensures pushed { OnOk result ((event : Event) × (event_of line.now ≡ Ok event)
         × (events.new.items ≡ events.old.items ++ event ∷ [])) }

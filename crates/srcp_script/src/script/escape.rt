@@ -10,17 +10,17 @@ use crate::script::Cause;
 use std::alloc::Global;
 use std::vec::Vec;
 
-/// Returns the bytes that a text writes: `
-/// `, `\r`, `\t`, `\\` and `\xHH` stand for one byte each, and any other byte for itself.
+/// Returns the bytes of a text with escapes. `\n`, `\r`, `\t`, `\\` and `\xHH` stand for one byte each, and any other
+/// byte for itself.
 ///
 /// # Errors
-/// Returns `Escape` if a backslash is followed by something else, and `Memory` if memory is refused.
+/// Returns `Escape` if something else follows a backslash, and `Memory` if memory is refused.
 pub(super) fn unescape(alloc: Global, text: &[u8]) -> Result<Vec<u8>, Cause>
     ensures bytes { IfOk result (λ bytes. unescaped text.now ≡ Some bytes.items) }
     ensures causes { IfErr result (λ cause. cause ≢ Cause.Memory → cause ≡ Cause.Escape) }
     ensures refused { IfErr result (λ cause. cause ≢ Cause.Memory → unescaped text.now ≡ None) }
 {
-    // The text has at least as many bytes as it writes.
+    // The text has at least as many bytes as the result.
     let mut bytes = Vec::with_capacity(alloc, text.len()).map_err(|_| Cause::Memory)?;
     let mut rest = text;
     loop {
@@ -35,7 +35,7 @@ pub(super) fn unescape(alloc: Global, text: &[u8]) -> Result<Vec<u8>, Cause>
     }
 }
 
-/// Returns the byte that a text behind a backslash writes, and what follows it.
+/// Returns the byte of the escape whose backslash stands before this text, and what follows the escape.
 fn escaped_byte(text: &[u8]) -> Option<(u8, &[u8])>
     ensures first { MatchOption result (unescaped (92 ∷ text.now) ≡ None) (λ first.
         unescaped (92 ∷ text.now) ≡ after first.0 (unescaped first.1.now)) }
@@ -54,7 +54,7 @@ fn escaped_byte(text: &[u8]) -> Option<(u8, &[u8])>
     }
 }
 
-/// Returns the byte that two hexadecimal digits write, and what follows them.
+/// Returns the byte of the first two hexadecimal digits, and what follows them.
 fn hex_byte(text: &[u8]) -> Option<(u8, &[u8])>
     ensures first { MatchOption result (unescaped (92 ∷ 120 ∷ text.now) ≡ None) (λ first.
         unescaped (92 ∷ 120 ∷ text.now) ≡ after first.0 (unescaped first.1.now)) }
@@ -69,7 +69,7 @@ fn hex_byte(text: &[u8]) -> Option<(u8, &[u8])>
     }
 }
 
-/// Returns the byte that two hexadecimal digits of any case write.
+/// Returns the byte of two hexadecimal digits, each in upper or lower case.
 fn byte_of_digits(high: u8, low: u8) -> Option<u8>
     ensures { SomeIff result ((digit_value high < 16) × (digit_value low < 16))
         (digit_value high * 16 + digit_value low) }

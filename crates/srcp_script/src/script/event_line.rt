@@ -1,4 +1,4 @@
-//! One line of a script: a word and what follows it, parted by one space each.
+//! A line of a script: a word and what follows the word, parted by a single space each.
 
 ghost use Rattle.std.specs.Prelude.{◌≡◌, ◌≢◌, ◌∷◌, [], length, MatchResult, Ok, Err};
 ghost use Rattle.std.specs.Option.{option_copied};
@@ -81,7 +81,7 @@ fn shut_line(rest: Option<&[u8]>) -> Result<Event, Cause>
     Ok(Event::Shut { conn })
 }
 
-/// Returns the next part and what follows it. A part that is missing is a fault of its number.
+/// Returns the next part, and what follows this part. Returns `Number` if the part is missing.
 fn next_part(rest: Option<&[u8]>) -> Result<(&[u8], Option<&[u8]>), Cause>
     ensures { MatchResult result
         (λ next. parts_behind 32 (option_copied rest.entry) ≡ next.0.now ∷ parts_behind 32 (option_copied next.1))
@@ -93,7 +93,7 @@ fn next_part(rest: Option<&[u8]>) -> Result<(&[u8], Option<&[u8]>), Cause>
     }
 }
 
-/// Returns the only part that is left.
+/// Returns the only part left. Returns `Number` if there is none, or another follows.
 #[tactic(auto, using(crate::proofs::Cuts::some_part))]
 fn last_part(rest: Option<&[u8]>) -> Result<&[u8], Cause>
     ensures { MatchResult result
