@@ -14,15 +14,15 @@ use clap::{Arg, ArgMatches, Command, Error, value_parser};
 use std::alloc::{AllocError, Global};
 use std::string::String;
 
-/// What is said of a check of no file, or of two.
+/// The text for a check of no file, or of two.
 const ONE_FILE: &str = "check needs either --config or --plan";
 
 /// Returns what the words ask for, the program's name first.
 ///
 /// # Errors
-/// Returns what `clap` answers if the words ask for nothing that the program does, or for `--help` or `--version`.
-/// That has the text, the stream that it goes to, and the status. Its kind is `OutOfMemory` if memory is refused, and
-/// `MissingRequiredArgument` if a check is of no file, or of two.
+/// Returns the answer of `clap` if the program does nothing of what the words ask, or if they ask for `--help` or
+/// `--version`. The answer has a text, the stream for the text, and the status. The answer's kind is `OutOfMemory` if
+/// memory is refused, and `MissingRequiredArgument` if a check is of no file, or of two.
 pub fn read_words<'a>(alloc: Global, words: &'a [String]) -> Result<Tool<'a>, Error>
     ensures task { IfOk result (λ tool. Some (task_of tool) ≡ task (map string_bytes words.entry.now)) }
     ensures kinds { FailsBy (refusal_of (map string_bytes words.entry.now)) result }
@@ -35,8 +35,8 @@ pub fn read_words<'a>(alloc: Global, words: &'a [String]) -> Result<Tool<'a>, Er
     }
 }
 
-/// Returns what the matches ask for, which is a replay if they have no subcommand, and nothing for a check of no file
-/// or of two.
+/// Returns what the matches ask for. Without a subcommand this is a replay. Returns `None` for a check of no file or of
+/// two.
 fn tool_in<'a>(matches: &ArgMatches<'a>) -> Option<Tool<'a>>
     ensures { option_map task_of result ≡ task_in (subcommand_rows_of matches.now) }
 {
@@ -51,12 +51,12 @@ fn subtool<'a>(name: &str, found: &ArgMatches<'a>) -> Option<Tool<'a>>
 {
     match name {
         "mirror" => Some(Tool::Mirror),
-        // `clap` refuses this one without a plan
+        // `clap` refuses this subcommand without a plan
         "interlock" => Some(Tool::Interlock {
             plan: plan_in(found).unwrap_or(""),
         }),
         "check" => checked(config_in(found), plan_in(found)),
-        // `clap` refuses this one without a configuration
+        // `clap` refuses this subcommand without a configuration
         "serve" => Some(Tool::Serve {
             config: config_in(found).unwrap_or(""),
             turns: turns_in(found),
@@ -67,7 +67,7 @@ fn subtool<'a>(name: &str, found: &ArgMatches<'a>) -> Option<Tool<'a>>
     }
 }
 
-/// Returns what is to be checked: one of these files, if only one is given.
+/// Returns the check of the given file. Returns `None` if no file or both are given.
 fn checked<'a>(config: Option<&'a str>, plan: Option<&'a str>) -> Option<Tool<'a>>
     ensures { option_map task_of result ≡ checked (option_map (λ file. file.now) config.entry)
         (option_map (λ file. file.now) plan.entry) }
@@ -79,21 +79,21 @@ fn checked<'a>(config: Option<&'a str>, plan: Option<&'a str>) -> Option<Tool<'a
     }
 }
 
-/// Returns the file that `--plan` names.
+/// Returns the file behind `--plan`.
 fn plan_in<'a>(found: &ArgMatches<'a>) -> Option<&'a str>
     ensures { option_map (λ file. file.now) result ≡ plan_in (rows_of (found_of found.now)) }
 {
     found.get_str("plan")
 }
 
-/// Returns the file that `--config` names.
+/// Returns the file behind `--config`.
 fn config_in<'a>(found: &ArgMatches<'a>) -> Option<&'a str>
     ensures { option_map (λ file. file.now) result ≡ config_in (rows_of (found_of found.now)) }
 {
     found.get_str("config")
 }
 
-/// Returns the number that `--turns` gives, or the greatest u64.
+/// Returns the number behind `--turns`, or the greatest u64 without this option.
 fn turns_in(found: &ArgMatches<'_>) -> u64
     ensures { result ≡ turns_in (rows_of (found_of found.now)) }
 {
@@ -111,7 +111,7 @@ fn program<'a>(alloc: Global) -> Result<Command<'a>, AllocError>
     command.subcommand(serve)
 }
 
-/// Makes the command with the three subcommands that work on standard input.
+/// Makes the command with the three subcommands over standard input.
 fn over_lines<'a>(alloc: Global) -> Result<Command<'a>, AllocError>
     ensures app { IfOk result (λ command. app_of command ≡ over_lines_app) }
     ensures local { IfOk result (λ command. (fields_of command).has_globals ≡ false) }

@@ -11,15 +11,15 @@ use std::alloc::AllocError;
 use std::fmt;
 use thiserror::Error;
 
-/// Says why the program stops. It displays as the text that the program prints on standard error after `srcp_server:
-/// `.
+/// Says why the program stops. Displays as what the program prints on standard error behind its name, a colon and a
+/// space.
 #[derive(Clone, Copy, Debug, PartialEq, Eq, Error)]
 pub enum ToolFault {
     /// The standard input fails.
     Input,
     /// The standard output fails, or takes nothing.
     Output,
-    /// There is more to read than its limit.
+    /// There is more to read than the limit.
     TooLarge,
     /// The script is refused.
     Script(ScriptFault),

@@ -1,4 +1,4 @@
-//! Input that is read to its end: the standard input, a configuration.
+//! Input, read to the end: the standard input, a configuration.
 
 ghost use Rattle.std.specs.Prelude.{◌≡◌, ◌<◌, ◌≤◌, length, take, IfOk, IfErr, IfSome, IsErrOf};
 ghost use Rattle.std.specs.Io.KnownBytes.{Consumes, IsAtEnd};
@@ -9,16 +9,16 @@ use std::alloc::Global;
 use std::io::Read;
 use std::vec::Vec;
 
-/// The most bytes that are read of the standard input.
+/// The most bytes of the standard input.
 pub(crate) const INPUT_LIMIT: usize = 16_777_216;
 
 /// The most bytes of a configuration.
 const CONFIG_LIMIT: usize = 1_048_576;
 
-/// The bytes that are asked for at once.
+/// The most bytes of a read.
 pub(crate) const PIECE: usize = 65_536;
 
-/// Reads the standard input to its end.
+/// Reads the standard input to the end.
 ///
 /// # Errors
 /// Returns `Input` if a read fails, `TooLarge` if there are more bytes than the limit, and `Memory` if memory is
@@ -33,7 +33,7 @@ pub(crate) fn read_input<R: Read>(alloc: Global, reader: &mut R) -> Result<Vec<u
     read_within(INPUT_LIMIT, alloc, reader)
 }
 
-/// Reads a configuration to its end.
+/// Reads a configuration to the end.
 ///
 /// # Errors
 /// Returns `Unreadable` if a read fails, `TooLarge` if there are more than 1,048,576 bytes, and `Memory` if memory is
@@ -51,7 +51,7 @@ pub fn read_config<R: Read>(alloc: Global, reader: &mut R) -> Result<Vec<u8>, To
     }
 }
 
-/// Reads to the end, if that takes no more bytes than the limit.
+/// Reads to the end, if there are no more bytes than the limit.
 fn read_within<R: Read>(limit: usize, alloc: Global, reader: &mut R) -> Result<Vec<u8>, ToolFault>
     requires { limit ≤ input_limit }
     ensures whole { IfOk result (λ input. IfSome (R.remaining reader.old) (λ bytes. input.items ≡ bytes)) }
@@ -77,7 +77,7 @@ fn read_within<R: Read>(limit: usize, alloc: Global, reader: &mut R) -> Result<V
     Err(ToolFault::TooLarge)
 }
 
-/// Reads the next bytes of a reader. Returns how many they are: none at its end.
+/// Reads the next bytes of a reader. Returns how many bytes were read: 0 at the end.
 ///
 /// # Errors
 /// Returns `Input` if the read fails.

@@ -13,14 +13,14 @@ use std::alloc::Global;
 use std::io::{Read, Write};
 use std::vec::Vec;
 
-/// Sets the routes of a plan and gives them back, by the lines on its input: those that a panel is sent, and the
-/// replies to the lines that it writes, one by one. Each line that it writes is flushed before the next is read. Lines
-/// end in LF, and a CR just before that is dropped. A line of more than 1,000 bytes tells of nothing.
+/// Sets the routes of a plan and gives them back, by the lines on the input. These are the lines sent to a panel, and
+/// the replies to the written lines, each reply to a line. Flushes each written line before the next is read. Lines
+/// end in LF, and a CR just before the LF is dropped. A line of more than 1,000 bytes tells of nothing.
 ///
 /// # Errors
-/// Returns `Input` if a read fails, and `TooLarge` after 18,446,744,073,709,551,615 reads. All that the lines gave is
-/// written then. Returns `Output` if a write fails or takes nothing, or a flush fails. A prefix of what the lines
-/// gave is written then. Returns `Memory` if memory is refused. Nothing is written then.
+/// Returns `Input` if a read fails, and `TooLarge` after 18,446,744,073,709,551,615 reads. Everything given by the
+/// lines is written then. Returns `Output` if a write fails or takes nothing, or a flush fails. A prefix of what the
+/// lines gave is written then. Returns `Memory` if memory is refused. Nothing is written then.
 pub fn interlock<R: Read, W: Write>(
     alloc: Global,
     own: u8,
@@ -44,7 +44,7 @@ pub fn interlock<R: Read, W: Write>(
     Err(ToolFault::TooLarge)
 }
 
-/// Takes in the lines that end in a piece of the input, and writes what the box sends by each.
+/// Takes in each line whose LF is in a piece of the input, and writes what the box sends by the line.
 ///
 /// # Errors
 /// Returns `Output` if a write fails or takes nothing, or a flush fails.
@@ -70,7 +70,7 @@ fn take_piece<W: Write>(
     }
 }
 
-/// Takes in a line, and writes what the box sends by it.
+/// Takes in a line, and writes what the box sends by this line.
 ///
 /// # Errors
 /// Returns `Output` if a write fails or takes nothing, or the flush fails.
@@ -88,7 +88,7 @@ fn answer<W: Write>(
     }
 }
 
-/// Writes a line, and flushes it.
+/// Writes a line, and flushes the output.
 ///
 /// # Errors
 /// Returns `Output` if a write fails or takes nothing, or the flush fails.

@@ -1,12 +1,12 @@
-//! The program but for serving. It reads its words (`read_words`) and a configuration's bytes (`read_config`). It
-//! replays a script (`replay`), mirrors the lines of a panel (`mirror`), runs a signal box over a stream (`interlock`),
-//! checks a configuration (`check`), and a plan (`check_plan`).
-//! `ToolFault` says why it stops, with which text and which status.
+//! The program but for serving. This crate reads the program's words (`read_words`) and a configuration's bytes
+//! (`read_config`). Each task of the program is a function: replay a script (`replay`), mirror the lines of a panel
+//! (`mirror`), run a signal box over a stream (`interlock`), check a configuration (`check`) or a plan (`check_plan`).
+//! `ToolFault` says why the program stops, with which text and which status.
 //!
 //! `check_text` is what `check` writes, as bytes in memory.
 //!
 //! `srcp_layout_file` reads a configuration, and `srcp_script` a script. This crate calls no socket and no clock:
-//! `srcp_sockets` does. It opens no file; its callers give it readers and writers.
+//! `srcp_sockets` does. This crate opens no file: callers hand over readers and writers.
 #![tactic(auto)]
 
 mod arguments;

@@ -43,7 +43,7 @@ pub(crate) fn write_connections<W: Write>(
     Ok(())
 }
 
-/// Writes the line of a connection, and the bytes that were sent to it.
+/// Writes the line of a connection, and the bytes sent to this connection.
 fn write_connection<W: Write>(
     writer: &mut W,
     number: usize,

@@ -1,4 +1,4 @@
-//! A script, read and run, and its record printed.
+//! A script, read and run, and the record of the run, printed.
 
 ghost use Rattle.std.specs.Prelude.{◌≡◌, List, IfOk, IfErr, IfSome};
 ghost use Rattle.std.specs.List.{AllByRecursion};
@@ -18,7 +18,7 @@ use std::io::{Read, Write};
 use std::vec::Vec;
 
 /// Reads a script to the end of the input, runs its events over the registry of the layout, and writes the record. The
-/// run begins at moment 0, and session ids at 1. The record has what was sent to each connection, which events were
+/// run begins at moment 0, and session ids at 1. The record says what was sent to each connection, which events were
 /// refused, and the rows at the end. Each keeper of rows gives the same record.
 ///
 /// # Errors
@@ -77,7 +77,7 @@ fn events_of(alloc: Global, input: &[u8]) -> Result<Vec<Event>, ToolFault>
     Ok(events)
 }
 
-/// Writes what is printed of a run. The bytes that were sent to a connection are not copied for that.
+/// Writes what is printed of a run. Copies none of the bytes sent to a connection.
 ///
 /// # Errors
 /// Returns `Memory` if memory is refused. Nothing is written then. Returns `Output` if a write fails or takes nothing.

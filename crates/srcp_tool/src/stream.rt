@@ -1,4 +1,4 @@
-//! The rows that information lines make.
+//! The rows made by information lines.
 
 ghost use Rattle.std.specs.Prelude.{◌≡◌, ◌+◌, ◌^◌, ◌<◌, ◌≤◌, ◌++◌, ℕ, List, length, IfOk, IfSome, IfErr};
 ghost use Rattle.srcp_info.specs.Client.{listing};
@@ -18,14 +18,14 @@ use std::alloc::{AllocError, Global};
 use std::io::{Read, Write};
 use std::vec::Vec;
 
-/// Reads information lines to the end of the input, and writes the rows of a client that applies them, as lines in key
-/// order. Lines end in LF alone, and what follows the last LF is not applied. The input is not kept: memory is
-/// allocated for the rows and for their lines alone.
+/// Reads information lines to the end of the input, applies them as a client does, and writes the rows as lines in key
+/// order. Lines end in LF alone, and what follows the last LF is not applied. Keeps no input: allocates memory for the
+/// rows and for their lines alone.
 ///
 /// # Errors
 /// Returns `Input` if a read fails, `TooLarge` if there are more than 16,777,216 bytes, and `Line` for the first line
-/// that is no information line. Returns `Memory` if memory is refused. Nothing is written then. Returns `Output` if a
-/// write fails or takes nothing. A prefix of the rows' lines is written then.
+/// other than an information line. Returns `Memory` if memory is refused. Nothing is written then. Returns `Output`
+/// if a write fails or takes nothing. A prefix of the rows' lines is written then.
 pub fn mirror<R: Read, W: Write>(
     alloc: Global,
     reader: &mut R,
@@ -41,8 +41,8 @@ pub fn mirror<R: Read, W: Write>(
     write_whole(writer, text.as_slice())
 }
 
-/// Applies the lines of the input up to its end. A line that is refused is reported only at the end, since a read that
-/// fails and an input that is too large come first.
+/// Applies the lines of the input to the end. Reports a refused line only at the end, since a failing read and too
+/// large an input come first.
 fn read_lines<R: Read>(alloc: Global, reader: &mut R) -> Result<Mirror, ToolFault>
     ensures within { IfOk result (λ rows. IfSome (R.remaining reader.old) (λ input. length input ≤ input_limit)) }
     ensures holds { IfOk result (λ rows. IfSome (R.remaining reader.old) (λ input. ClientHolds input rows)) }
@@ -70,8 +70,8 @@ fn read_lines<R: Read>(alloc: Global, reader: &mut R) -> Result<Mirror, ToolFaul
     Err(ToolFault::TooLarge)
 }
 
-/// Applies the lines that end in a piece, unless an earlier line was refused. Returns the number of a line that is
-/// refused.
+/// Applies each line whose LF is in a piece, unless an earlier line was refused. Returns the number of a refused
+/// line.
 fn take_piece(
     lines: &mut MirroredLines,
     refused: Option<usize>,

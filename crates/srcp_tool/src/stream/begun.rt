@@ -5,7 +5,7 @@ ghost use Rattle.srcp_tool.specs.Mirroring.{IsBegun};
 
 use srcp_text::LineBuf;
 
-/// Holds the bytes of a line that has begun, as far as they may be those of an information line.
+/// Holds the bytes of a line without an LF yet, as far as they may be those of an information line.
 #[derive(Drop)]
 pub(super) struct BegunLine {
     bytes: LineBuf,
@@ -32,7 +32,7 @@ impl BegunLine {
         }
     }
 
-    /// Returns the line, unless it is too long to be that of a change.
+    /// Returns the line. Returns `None` if the line has more than 256 bytes, too many for a change.
     pub(super) fn line(&self) -> Option<&[u8]>
         ensures { (text : List ℕ) → IsBegun self.now text
             → MatchOption result (256 < length text) (λ line. line.now ≡ text) }

@@ -1,4 +1,4 @@
-//! The whole lines of a stream, applied as they come.
+//! The whole lines of a stream, each applied at the LF.
 
 ghost use Rattle.std.specs.Prelude.{◌≡◌, ◌+◌, ◌^◌, ◌<◌, ◌≤◌, ◌∷◌, ◌++◌, ℕ, List, [], length, OnOk, IsErrOf};
 ghost use Rattle.srcp_tool.specs.Mirroring.{HasTaken};
@@ -9,8 +9,7 @@ use srcp_info::{Mirror, MirrorFault};
 use srcp_script::cut_at;
 use std::alloc::Global;
 
-/// Holds the rows that the whole lines of a stream make, the number of those lines, and the line that has begun after
-/// them.
+/// Holds the rows made by the whole lines of a stream, the number of those lines, and the begun line after them.
 #[derive(Drop)]
 pub(super) struct MirroredLines {
     mirror: Mirror,
@@ -45,11 +44,10 @@ impl MirroredLines {
         self.mirror
     }
 
-    /// Applies the lines that end in a piece of the stream.
+    /// Applies each line whose LF is in a piece of the stream.
     ///
     /// # Errors
-    /// Returns `NotInfo` if the first line that is not applied is no information line, and `Memory` if memory is
-    /// refused.
+    /// Returns `NotInfo` if the first line not applied is no information line, and `Memory` if memory is refused.
     pub(super) fn take(&mut self, piece: &[u8]) -> Result<(), MirrorFault>
         requires { self.old.count + length piece.now < 2 ^ 64 }
         ensures taken { OnOk result
@@ -70,7 +68,7 @@ impl MirroredLines {
         }
     }
 
-    /// Applies the line that has begun, at its LF.
+    /// Applies the begun line, at the LF.
     fn end_line(&mut self) -> Result<(), MirrorFault>
         requires { self.old.count + 1 < 2 ^ 64 }
         ensures taken { OnOk result
