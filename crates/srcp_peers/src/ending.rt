@@ -5,20 +5,23 @@ ghost use Rattle.srcp_peers.specs.Ends.{begun, written};
 
 use srcp_door::MOST_WRITES;
 
-/// The state of a peer before its end. That is reported once its input is over, a whole visit behind that had no
-/// more for it, and its socket took all of it. So changes that go on coming put it off no longer than that.
+/// Says how far a peer is on the way to its end. The end is reported after three things: the input is over, a whole
+/// visit behind that had no more for the peer, and the socket took everything. Changes that go on coming delay the end
+/// no longer than this.
 #[derive(Clone, Copy)]
 pub enum Ending {
-    /// Its input is not over.
+    /// The input is not over.
     Open,
-    /// Its input is over. `writes` counts the writes to it in this visit; it is `MOST_WRITES` if one was cut.
+    /// The input is over. `writes` counts the writes to the peer in this visit; the count is `MOST_WRITES` if one was
+    /// cut.
     Settling { writes: u32 },
-    /// Its input is over, and a whole visit wrote to it fewer times than that.
+    /// The input is over, and a whole visit wrote to the peer fewer than `MOST_WRITES` times.
     Settled,
 }
 
 impl Ending {
-    /// Returns what follows the begin of a visit, if `ended` says whether the input is over and none of it held.
+    /// Returns what follows the begin of a visit. `ended` says whether the input is over and no byte of the input is
+    /// held.
     pub(crate) fn begin_visit(self, ended: bool) -> Ending
         ensures next { result ≡ begun self ended }
         ensures open { result ≡ Ending.Open ↔ (self ≡ Ending.Open) × (ended ≡ false) }
@@ -33,7 +36,7 @@ impl Ending {
         }
     }
 
-    /// Returns what follows a write, of which all was taken or not.
+    /// Returns what follows a write. `all` says whether the whole write was taken.
     pub(crate) fn written(self, all: bool) -> Ending
         ensures next { result ≡ written self all }
         ensures cut { all ≡ false → result ≢ Ending.Open → (self ≡ Ending.Settled)
@@ -50,14 +53,14 @@ impl Ending {
         }
     }
 
-    /// Returns whether its input is not over.
+    /// Returns whether the input is not over.
     pub(crate) fn is_open(self) -> bool
         ensures { IsTrue result ↔ self ≡ Ending.Open }
     {
         matches!(self, Ending::Open)
     }
 
-    /// Returns whether its end may be reported once its socket took all.
+    /// Returns whether the end of the peer may be reported once its socket took everything.
     pub(crate) fn is_settled(self) -> bool
         ensures { IsTrue result ↔ self ≡ Ending.Settled }
     {

@@ -1,10 +1,11 @@
-//! A peer of a door with its socket: what is queued for it, what was read of it, when its socket is written to and
-//! read, when its end may be reported, and how it lingers once the core closed it. `peers` has what a turn does with
-//! all of them, `Turn` what a door knows of its turn, and `longest_wait` says how long that may wait.
+//! A peer of a door with its socket, the bytes queued for the peer, and the bytes read from the peer. The crate says
+//! when the socket is written to and read, and when the peer's end may be reported. It also says how the peer lingers
+//! after the core closed it. `peers` has what a turn does with all peers. `Turn` has what a door knows of its turn, and
+//! `longest_wait` says how long a turn may wait.
 //!
-//! `System` is the small trait of system calls. What the list of these calls says of one socket is its account, and
-//! whatever the system answers, a state of a peer means what its account says. The crate makes none of these calls
-//! itself, accepts nobody and closes no socket: `srcp_sockets` does that.
+//! `System` is the small trait of system calls. The account of a socket is what the list of these calls says of the
+//! socket. Whatever the system answers, a state of a peer means what the account says. The crate makes none of these
+//! calls itself, accepts nobody and closes no socket: `srcp_sockets` does.
 #![tactic(auto)]
 
 mod ending;

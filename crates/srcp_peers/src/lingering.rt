@@ -1,6 +1,6 @@
-//! How a peer lingers that the core closed: its socket is written what is queued, is shut down behind that, and is read
-//! until its input ends. A socket that is closed with input in it would reset the connection, and the peer would
-//! lose what it did not read.
+//! How a peer lingers after the core closed it. The socket is written the queued bytes, is shut down behind these, and
+//! is read until the input ends. To close a socket with unread input would reset the connection, and the peer would
+//! lose the bytes that it had not read.
 
 ghost use Rattle.std.specs.Prelude.{◌≡◌, ◌≢◌, ◌<◌, ℕ, [], true, false, IfSome, length, slice_index_or, filter, not};
 ghost use Rattle.std.specs.Prelude.{◌⊎◌};
@@ -16,21 +16,21 @@ use crate::readiness::Flush;
 use crate::stay::{Stay, is_overdue};
 use crate::system::System;
 
-/// How often the sockets of all that linger are read in a turn: what still comes is dropped as fast as it comes.
+/// The most reads in a turn of all lingering sockets together. These reads drop the input as fast as more comes.
 const MOST_DRAINED: usize = 64;
 
 /// How many peers linger before one is closed for a pending connection.
 pub const MOST_LINGERING: usize = 64;
 
 impl Peer {
-    /// Notes that the core closed it, at that time of the monotonic clock.
+    /// Notes that the core closed the peer. `since` is what the monotonic clock showed then, in milliseconds.
     pub fn linger(&mut self, since: u64)
         ensures { self.new ≡ record self.old { stay = Stay.Draining since } }
     {
         self.stay = Stay::Draining { since };
     }
 
-    /// Flushes a peer that is there, and goes on with one that lingers: its socket is read as often as `reads`.
+    /// Flushes a peer that is there. Goes on with a lingering peer, with at most `reads` reads of its socket.
     #[inline(always)]
     pub(crate) fn hand_over<S: System>(&mut self, system: &mut S, what: Flush, reads: usize)
         requires { IsKept (S.trace system.old) self.old }
@@ -52,7 +52,7 @@ impl Peer {
         }
     }
 
-    /// Goes on with a peer that lingers.
+    /// Goes on with a lingering peer: writes its queued bytes, shuts its socket down, or drops its input.
     #[inline(never)]
     fn part<S: System>(&mut self, system: &mut S, reads: usize)
         requires { IsKept (S.trace system.old) self.old }
@@ -75,7 +75,7 @@ impl Peer {
         }
     }
 
-    /// Writes what is queued, and shuts the socket down once that is taken.
+    /// Writes the queued bytes, and shuts the socket down once the socket took all of them.
     fn finish<S: System>(&mut self, system: &mut S, since: u64)
         requires kept { IsKept (S.trace system.old) self.old }
         requires draining { self.old.stay ≡ Stay.Draining since }
@@ -95,7 +95,7 @@ impl Peer {
         }
     }
 
-    /// Shuts down the writing side of its socket.
+    /// Shuts down the writing side of the socket.
     fn shut_down<S: System>(&mut self, system: &mut S, since: u64)
         requires kept { IsKept (S.trace system.old) self.old }
         requires draining { self.old.stay ≡ Stay.Draining since }
@@ -113,7 +113,7 @@ impl Peer {
         self.stay = Stay::Shut { since };
     }
 
-    /// Drops what its socket gives, in as many reads at most.
+    /// Drops the input that the socket gives, in at most `reads` reads.
     fn drain<S: System>(&mut self, system: &mut S, reads: usize)
         requires kept { IsKept (S.trace system.old) self.old }
         requires gone { is_here self.old.stay ≡ false }
@@ -136,7 +136,7 @@ impl Peer {
         }
     }
 
-    /// Drops what was read of it, and reads once more.
+    /// Drops the input that was read, and reads once more.
     fn skip<S: System>(&mut self, system: &mut S)
         requires kept { IsKept (S.trace system.old) self.old }
         requires gone { is_here self.old.stay ≡ false }
@@ -155,7 +155,7 @@ impl Peer {
         self.fill(system);
     }
 
-    /// Drops what was read of it.
+    /// Drops the input that was read.
     fn drop_input(&mut self)
         ensures { self.new ≡ record self.old { incoming = [] } }
     {
@@ -163,7 +163,7 @@ impl Peer {
         self.incoming.drop_front(count);
     }
 
-    /// Returns whether nothing is left to do for it.
+    /// Returns whether nothing is left to do for a lingering peer.
     fn is_gone(&self, clock: u64) -> bool
         ensures is { result ≡ is_gone clock self.now }
         ensures closable { result ≡ true → is_closable clock self.now ≡ true }
@@ -177,7 +177,7 @@ impl Peer {
         }
     }
 
-    /// Returns whether it lingers and is owed nothing.
+    /// Returns whether the peer lingers and is owed nothing.
     fn is_shut(&self) -> bool
         ensures is { result ≡ is_shut self.now.stay }
         ensures closable { (clock : ℕ) → result ≡ true → is_closable clock self.now ≡ true }
@@ -189,21 +189,23 @@ impl Peer {
     }
 }
 
-/// Returns how often the socket of each that lingers is read in a turn: they share the reads, but each has one.
+/// Returns how often each lingering socket is read in a turn. The sockets share `MOST_DRAINED` reads, with at least one
+/// each.
 pub(crate) fn reads_each(peers: &[Peer]) -> usize
     ensures { result ≡ reads_each peers.now }
 {
     (MOST_DRAINED / count_lingering(peers).max(1)).max(1)
 }
 
-/// Returns how many linger.
+/// Returns how many peers linger.
 pub fn count_lingering(peers: &[Peer]) -> usize
     ensures { result ≡ length (filter (λ peer. not (is_here peer.stay)) peers.now) }
 {
     peers.iter().filter(|peer| !peer.stay.is_here()).count()
 }
 
-/// Returns the index of the first peer for which nothing is left to do, at that time of the monotonic clock.
+/// Returns the index of the first lingering peer with nothing left to do, if any. `clock` is the monotonic clock, in
+/// milliseconds.
 pub fn first_gone(peers: &[Peer], clock: u64) -> Option<usize>
     ensures first { result ≡ position (is_gone clock) peers.now }
     ensures gone { IfSome result (λ index. (d : Peer) → is_gone clock (slice_index_or peers.now index d) ≡ true) }
@@ -213,7 +215,7 @@ pub fn first_gone(peers: &[Peer], clock: u64) -> Option<usize>
     peers.iter().position(|peer| peer.is_gone(clock))
 }
 
-/// Returns the index of the first peer that lingers and is owed nothing.
+/// Returns the index of the first peer that lingers and is owed nothing, if any.
 pub fn first_shut(peers: &[Peer]) -> Option<usize>
     ensures first { result ≡ position (λ peer. is_shut peer.stay) peers.now }
     ensures closable { IfSome result (λ index. (index < length peers.now)

@@ -28,59 +28,59 @@ use crate::turn::Turn;
 use srcp_door::{DoorFault, Got, Line, MOST_WRITES, Share};
 use srcp_info::{LONGEST_LINE, MOST_IN_PIECE};
 
-/// A peer with more queued bytes than this is flushed before the clock goes on. The queue then has space for all that a
-/// visit writes.
+/// A peer with more queued bytes than this is flushed before the clock goes on. The queue then has space for all writes
+/// of a visit.
 const FLUSH_THRESHOLD: usize = MOST_OUTGOING - MOST_WRITES as usize * LONGEST_LINE;
 
-/// What is to be reported of a peer of which nothing is held.
+/// Says what is to be reported of a peer while none of its input is held.
 #[derive(Clone, Copy)]
 enum Due {
     /// Nothing now.
     Nothing,
-    /// Its end.
+    /// The end of the peer.
     End,
-    /// That it is lost.
+    /// The loss of the peer.
     Fault,
 }
 
 /// A peer and its socket.
 #[derive(Drop)]
 pub struct Peer {
-    /// The number of its socket.
+    /// The number of the socket.
     pub number: u32,
-    /// How many lines may still be queued for it in this visit while its socket refuses more.
+    /// How many lines may still be queued for the peer in this visit while the socket refuses more.
     pub room: u32,
-    /// What it was written that its socket did not take yet.
+    /// The bytes written to the peer that the socket did not take yet.
     pub outgoing: Outgoing,
-    /// What was read of it and not handed out.
+    /// The bytes read from the peer that were not handed out yet.
     pub incoming: Queue<MOST_INCOMING>,
     /// What a read may find.
     pub input: Input,
     /// What a write may find.
     pub output: Output,
-    /// Whether less was taken for it than was handed over last: the core has more for it, and takes nothing of it.
+    /// True if the last write did not fit: the core has more for the peer, and takes no input of the peer.
     pub cut: bool,
-    /// Whether it is there.
+    /// Whether the peer is there, or lingers.
     pub stay: Stay,
-    /// Its share of the lines that are handed out.
+    /// The peer's share of the lines that are handed out.
     pub share: Share,
-    /// How far it is on the way to its end.
+    /// How far the peer is on the way to its end.
     pub ending: Ending,
-    /// Whether input of it was handed out since it was flushed: what it is written then is an answer.
+    /// True if input of the peer was handed out since the last flush: what the peer is written next is an answer.
     pub asked: bool,
 }
 
-/// What a read of a peer gave.
+/// The outcome of a read of a peer.
 #[derive(Clone, Copy)]
 pub struct Handed {
     /// The answer of the read.
     pub got: Result<Got, DoorFault>,
-    /// Whether a line of the peer's share was kept back.
+    /// True if a line of the peer's share was kept back.
     pub refused: bool,
 }
 
 impl Peer {
-    /// Returns a new peer. It has no share yet, so that new peers do not keep the others from their lines.
+    /// Returns a new peer without a share, so that new peers do not keep the others from their lines.
     pub fn new(number: u32, queues: Queues) -> Peer
         ensures { result ≡ record {
           number = number;
@@ -115,7 +115,7 @@ impl Peer {
         }
     }
 
-    /// Notes what its socket was found ready for.
+    /// Notes what the socket was found ready for. Another socket's `ready` changes nothing.
     pub(crate) fn wake(&mut self, ready: Ready)
         ensures { self.new ≡ after_wake self.old ready }
     {
@@ -127,7 +127,7 @@ impl Peer {
         }
     }
 
-    /// Writes once what is queued, if its socket may take something, and what is flushed says that it is to.
+    /// Writes the queued bytes once, if the socket may take some and `what` says that the peer is due.
     #[inline(always)]
     pub(crate) fn flush<S: System>(&mut self, system: &mut S, what: Flush)
         requires { IsKept (S.trace system.old) self.old }
@@ -181,8 +181,8 @@ impl Peer {
         }
     }
 
-    /// Returns whether what is queued is flushed. An answer is, unless input of the peer is held, since more is to come
-    /// then; and so is much.
+    /// Returns whether the queued bytes are flushed: always if `what` is not `Answers`, or if the queue is long. An
+    /// answer is flushed too, unless the core takes held input of the peer, since more of the answer follows then.
     fn is_due(&self, what: Flush) -> bool
         ensures { result ≡ is_due what self.now }
     {
@@ -191,8 +191,8 @@ impl Peer {
             || self.asked && (self.cut || self.incoming.is_empty())
     }
 
-    /// Begins a visit: reads its socket, and goes on on the way to its end. With `anew` its share is a whole piece
-    /// again. At most `room` lines may be queued in the visit while its socket refuses more.
+    /// Begins a visit: reads the socket, and takes a step on the way to the end. With `anew` the share becomes a whole
+    /// piece again. At most `room` lines may be queued in the visit while the socket refuses more.
     pub(crate) fn begin_visit<S: System>(&mut self, system: &mut S, anew: bool, room: u32)
         requires { IsKept (S.trace system.old) self.old }
         ensures kept { IsKept (S.trace system.new) self.new }
@@ -232,7 +232,7 @@ impl Peer {
         self.input.is_ready() && self.incoming.len() < MOST_IN_PIECE
     }
 
-    /// Reads its socket once, if a read may find something and less than a piece is held.
+    /// Reads the socket once, if a read may find something and less than a piece is held.
     #[inline(always)]
     pub(crate) fn fill<S: System>(&mut self, system: &mut S)
         requires { IsKept (S.trace system.old) self.old }
@@ -257,8 +257,8 @@ impl Peer {
         }
     }
 
-    /// Moves what was read to the start of a buffer, as far as the turn's lines go. If nothing is held, it reports the
-    /// end or the fault, if the turn reported no other.
+    /// Moves held input to the start of a buffer, as far as the turn's lines go. If no input is held, reports the end
+    /// or the fault of the peer, unless the turn reported another.
     pub fn read<S: System>(&mut self, system: &mut S, turn: &mut Turn, buffer: &mut [u8]) -> Handed
         requires kept { IsKept (S.trace system.old) self.old }
         requires here { self.old.stay ≡ Stay.Here }
@@ -319,7 +319,7 @@ impl Peer {
         self.hand_out(turn, buffer)
     }
 
-    /// Moves what is held of it to the start of a buffer, as far as the turn's lines go.
+    /// Moves held input to the start of a buffer, as far as the turn's lines go.
     fn hand_out(&mut self, turn: &mut Turn, buffer: &mut [u8]) -> Handed
         ensures bytes { self.old.incoming ≡ got_bytes result.got buffer.new ++ self.new.incoming }
         ensures ended { reports_end result.got ≡ false }
@@ -358,7 +358,7 @@ impl Peer {
         }
     }
 
-    /// Returns what is reported if nothing is held of it: its end or a fault, if the turn reported no other.
+    /// Returns the report for a peer with no input held: the end or a fault, unless the turn reported another.
     fn reported_end(&self, turn: &mut Turn) -> Result<Got, DoorFault>
         ensures none { (n : ℕ) → result ≢ Ok (Got.Bytes n) }
         ensures bytes { (buffer : List ℕ) → got_bytes result buffer ≡ [] }
@@ -376,7 +376,7 @@ impl Peer {
         }
     }
 
-    /// Returns what is to be reported if nothing is held of it.
+    /// Returns what is to be reported of a peer with no input held.
     fn due_end(&self) -> Due
         ensures end { result ≡ Due.End → self.now.incoming ≡ [] → MayEnd self.now }
         ensures fault { result ≡ Due.Fault → MayFail self.now }
@@ -392,7 +392,7 @@ impl Peer {
         }
     }
 
-    /// Takes bytes, as many as there is space for, and returns how many. What is written to a lost peer goes nowhere.
+    /// Takes as many bytes as there is space for, and returns how many. Bytes written to a lost peer go nowhere.
     pub fn write<S: System>(&mut self, system: &mut S, bytes: &[u8]) -> usize
         requires kept { IsKept (S.trace system.old) self.old }
         requires here { self.old.stay ≡ Stay.Here }
@@ -420,7 +420,7 @@ impl Peer {
         count
     }
 
-    /// Gathers bytes, as many as there is space for, and returns how many.
+    /// Gathers as many bytes as there is space for, and returns how many.
     fn enqueue(&mut self, bytes: &[u8]) -> usize
         ensures count { result ≤ length bytes.now }
         ensures exact { result ≡ enqueued self.old bytes.now }
@@ -438,35 +438,35 @@ impl Peer {
         self.outgoing.take(bytes)
     }
 
-    /// Returns whether input of it is held that the core takes.
+    /// Returns whether input of the peer is held that the core takes.
     pub fn holds_input(&self) -> bool
         ensures { result ≡ holds_input self.now }
     {
         self.stay.is_here() && !self.cut && !self.incoming.is_empty()
     }
 
-    /// Returns whether something is queued that its socket may still take.
+    /// Returns whether bytes are queued that the socket may still take.
     pub fn is_owed(&self) -> bool
         ensures { result ≡ is_waiting self.now }
     {
         !self.outgoing.is_empty() && !self.output.is_lost()
     }
 
-    /// Returns whether it is there, and something happens to it though no socket is found ready.
+    /// Returns whether the peer is there with work to do that waits for no socket.
     pub(crate) fn is_busy(&self) -> bool
         ensures { result ≡ is_busy self.now }
     {
         self.stay.is_here() && !self.is_resting()
     }
 
-    /// Returns whether it is there, and nothing happens to it unless its socket is found ready.
+    /// Returns whether the peer is there with no work to do until its socket is found ready.
     pub(crate) fn is_resting(&self) -> bool
         ensures { result ≡ is_resting self.now }
     {
         self.stay.is_here() && self.has_rest()
     }
 
-    /// Returns whether nothing is to be done for it unless its socket is found ready.
+    /// Returns whether there is no work to do until the socket is found ready.
     fn has_rest(&self) -> bool
         ensures { result ≡ has_rest self.now }
     {

@@ -15,7 +15,7 @@ use crate::readiness::Flush;
 use crate::system::{Ready, System};
 use crate::turn::Listening;
 
-/// Flushes each peer that is there, and goes on with those that linger.
+/// Flushes each peer that is there, and goes on with the lingering peers.
 pub fn flush<S: System>(system: &mut S, peers: &mut [Peer], what: Flush)
     requires kept { AreKept (S.trace system.old) peers.old }
     requires apart { AreApart peers.old }
@@ -34,8 +34,8 @@ pub fn flush<S: System>(system: &mut S, peers: &mut [Peer], what: Flush)
     }
 }
 
-/// Begins the visit of each peer; with `anew` the share of each is a whole piece again. At most `room` lines may be
-/// queued for each whose socket refuses more.
+/// Begins the visit of each peer; with `anew` each share is a whole piece again. At most `room` lines may be queued for
+/// each peer whose socket refuses more.
 pub fn begin_visits<S: System>(system: &mut S, peers: &mut [Peer], anew: bool, room: u32)
     requires kept { AreKept (S.trace system.old) peers.old }
     requires apart { AreApart peers.old }
@@ -78,7 +78,7 @@ fn wake_one(peers: &mut [Peer], ready: Ready)
     peers[index].wake(ready);
 }
 
-/// Returns the index of the peer with that socket, if one has it.
+/// Returns the index of the peer with this socket, if any.
 fn index_of(peers: &[Peer], socket: u32) -> Option<usize>
     ensures found { IfSome result (λ index. (index < length peers.now)
         × ((d : Peer) → (slice_index_or peers.now index d).number ≡ socket)) }
@@ -92,7 +92,7 @@ fn index_of(peers: &[Peer], socket: u32) -> Option<usize>
     None
 }
 
-/// Notes whether the listener is ready.
+/// Returns whether a pending connection may be accepted after these sockets were found ready.
 pub fn listen(listening: Listening, ready: &[Ready]) -> Listening
     ensures { result ≡ fold woken_listening listening ready.now }
 {

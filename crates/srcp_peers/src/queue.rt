@@ -10,31 +10,31 @@ use std::io::ErrorKind;
 use std::marker::Model;
 use std::vec::Vec;
 
-/// How many bytes are queued for a peer at most.
+/// The most bytes that are queued for a peer.
 pub const MOST_OUTGOING: usize = 40_960;
 
-/// How many bytes are read ahead at most.
+/// The most bytes that are read ahead of a peer.
 pub const MOST_INCOMING: usize = 4_096;
 
-/// What a peer was written that its socket did not take yet.
+/// The bytes written to a peer that its socket did not take yet.
 pub type Outgoing = Queue<MOST_OUTGOING>;
 
-/// The queues of a peer that is still to come: nothing is held in them.
+/// The queues of a peer that is still to come. Both are empty.
 #[derive(Drop)]
 pub struct Queues {
-    /// What it is written.
+    /// The queue of what the peer is written.
     pub outgoing: Outgoing,
-    /// What is read of it.
+    /// The queue of what is read from the peer.
     pub incoming: Queue<MOST_INCOMING>,
     ghost sent: { outgoing ≡ [] },
     ghost came: { incoming ≡ [] },
 }
 
 impl Queues {
-    /// Returns both.
+    /// Makes two empty queues.
     ///
     /// # Errors
-    /// If memory is refused.
+    /// Returns an error if memory is refused.
     pub fn new(alloc: Global) -> Result<Queues, AllocError>
         ensures { IfOk result (λ queues. (queues.outgoing ≡ []) × (queues.incoming ≡ [])) }
     {
@@ -45,7 +45,7 @@ impl Queues {
     }
 }
 
-/// A bounded FIFO queue of bytes, at most `MOST`. Contracts see it as a list.
+/// A bounded FIFO queue of at most `MOST` bytes. Contracts see a list.
 #[derive(Drop)]
 pub struct Queue<const MOST: usize> {
     // The bytes from `start` to `end` are held.
@@ -81,7 +81,7 @@ impl<const MOST: usize> Queue<MOST> {
         })
     }
 
-    /// Returns how many are held.
+    /// Returns how many bytes are held.
     pub(crate) fn len(&self) -> usize
         ensures count { result ≡ length self.now }
         ensures most { result ≤ MOST }
@@ -89,14 +89,14 @@ impl<const MOST: usize> Queue<MOST> {
         self.end - self.start
     }
 
-    /// Returns whether none is held.
+    /// Returns whether no byte is held.
     pub(crate) fn is_empty(&self) -> bool
         ensures { result ≡ (length self.now == 0) }
     {
         self.start == self.end
     }
 
-    /// Takes bytes, as many as there is space for, and returns how many those are.
+    /// Takes as many bytes as there is space for, and returns how many.
     pub(crate) fn take(&mut self, bytes: &[u8]) -> usize
         ensures count { result ≡ min (length bytes.now) (MOST - length self.old) }
         ensures held { self.new ≡ self.old ++ take result bytes.now }
@@ -109,7 +109,7 @@ impl<const MOST: usize> Queue<MOST> {
         bytes.len()
     }
 
-    /// Moves what is held to the start of the buffer, and takes bytes, as many as there is space for behind it.
+    /// Moves the held bytes to the start of the buffer, and takes as many bytes as there is space for behind them.
     #[inline(never)]
     fn take_at_front(&mut self, bytes: &[u8]) -> usize
         ensures count { result ≡ min (length bytes.now) (MOST - length self.old) }
@@ -124,10 +124,10 @@ impl<const MOST: usize> Queue<MOST> {
         count
     }
 
-    /// Reads once of a socket, as much as there is space for, and returns how many bytes came.
+    /// Reads once from a socket, up to the free space, and returns how many bytes came.
     ///
     /// # Errors
-    /// Those of the system. Then the bytes stay as they are.
+    /// Returns the error of the system. The queue stays the same then.
     pub(crate) fn read_from<S: System>(
         &mut self,
         system: &mut S,
@@ -151,7 +151,7 @@ impl<const MOST: usize> Queue<MOST> {
         }
     }
 
-    /// Returns the bytes, oldest first.
+    /// Returns the held bytes, oldest first.
     pub(crate) fn front(&self) -> &[u8]
         ensures { result.now ≡ self.now }
     {

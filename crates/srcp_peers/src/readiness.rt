@@ -1,4 +1,4 @@
-//! What a read and a write of a peer's socket may find, and what is flushed to it.
+//! What a read and a write of a peer's socket may find, and what is flushed to the peer.
 
 ghost use Rattle.std.specs.Prelude.{◌≡◌, ◌≢◌, true, false};
 ghost use Rattle.srcp_peers.specs.Peers.{flushes_all, given, is_lost, is_over, may_have, missed, output_after, refused};
@@ -11,11 +11,11 @@ use crate::system::Refusal;
 /// What a read of a socket may find.
 #[derive(Clone, Copy)]
 pub enum Input {
-    /// Something, for all that is known.
+    /// A read may return data.
     Ready,
-    /// Something behind urgent data, or the end, which no event reports again: it is read until nothing comes.
+    /// Data behind urgent data, or the end: no event reports these again, and the socket is read until nothing comes.
     Draining,
-    /// Nothing, until the socket is found ready.
+    /// No data, until the socket is found ready.
     Quiet,
     /// A read found the end.
     Ended,
@@ -26,35 +26,35 @@ pub enum Input {
 /// What a write to a socket may find.
 #[derive(Clone, Copy)]
 pub enum Output {
-    /// Room, for all that is known.
+    /// A write may be taken.
     Open,
-    /// None, until the socket is found ready.
+    /// No room, until the socket is found ready.
     Full,
     /// The socket takes no more.
     Lost,
 }
 
-/// What is flushed of what is queued for the peers.
+/// Says which of the queued bytes are flushed.
 #[derive(Clone, Copy)]
 pub enum Flush {
-    /// Answers, and what is queued for a peer if that is much.
+    /// Answers, and a long queue of a peer.
     Answers,
-    /// All.
+    /// Everything.
     All,
-    /// All, and a socket that refused more is tried though it was not found ready: the system finds it so only once
-    /// much of its room is free.
+    /// Everything, also to a socket that refused more and was not found ready. The system reports a socket as ready
+    /// only once much of its room is free.
     Again,
 }
 
 impl Flush {
-    /// Returns whether all is flushed.
+    /// Returns whether everything is flushed.
     pub(crate) fn is_all(self) -> bool
         ensures { result ≡ flushes_all self }
     {
         !matches!(self, Flush::Answers)
     }
 
-    /// Returns whether a socket is tried that refused more.
+    /// Returns whether a socket that refused more is tried.
     pub(crate) fn tries_again(self) -> bool
         ensures { result ≡ tries_again self }
     {
@@ -83,7 +83,7 @@ impl Input {
         }
     }
 
-    /// Returns what follows a read that gave `count` bytes, if there was room for `room`.
+    /// Returns what follows a read that gave `count` bytes into a buffer of `room` bytes.
     pub(crate) fn given(self, count: usize, room: usize) -> Input
         ensures { result ≡ given self count room }
     {
@@ -122,14 +122,14 @@ impl Input {
         }
     }
 
-    /// Returns whether the input is over, and none of it held.
+    /// Returns whether the input is over and no byte of the input is held.
     pub(crate) fn is_over(self, incoming: &Queue<MOST_INCOMING>) -> bool
         ensures { result ≡ is_over incoming.now self }
     {
         matches!(self, Input::Ended) && incoming.is_empty()
     }
 
-    /// Returns whether nothing is to be reported of it but what its socket says.
+    /// Returns whether only a readiness event can bring something to report of a peer with no input held.
     pub(crate) fn is_resting(self, outgoing: &Outgoing) -> bool
         ensures { result ≡ rests_reading outgoing.now self }
     {
@@ -163,7 +163,7 @@ impl Output {
         }
     }
 
-    /// Returns what follows a write of `all` bytes of which `count` were taken.
+    /// Returns what follows a write of `all` bytes, if the socket took `count`.
     pub(crate) fn after(count: usize, all: usize) -> Output
         ensures { result ≡ output_after count all }
     {
@@ -197,7 +197,8 @@ impl Output {
         }
     }
 
-    /// Returns whether nothing is queued that the socket may take.
+    /// Returns whether there is nothing to write now: the socket is full, or is open with an empty queue. Returns false
+    /// for a lost socket.
     pub(crate) fn is_resting(self, outgoing: &Outgoing) -> bool
         ensures { result ≡ rests_writing outgoing.now self }
     {

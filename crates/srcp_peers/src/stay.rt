@@ -4,23 +4,23 @@ ghost use Rattle.std.specs.Prelude.{◌≡◌, true};
 ghost use Rattle.srcp_peers.specs.Accounts.{is_overdue};
 ghost use Rattle.srcp_peers.specs.Peers.{is_here};
 
-/// How long a peer lingers at most, in milliseconds. When the door ends it delivers what was taken for as long.
+/// The longest time that a peer lingers, in milliseconds. At its end a door delivers taken bytes for as long at most.
 pub const LINGER: u64 = 10_000;
 
-/// Whether a peer is there, or lingers after the core closed it.
+/// Says whether a peer is there, or lingers after the core closed it.
 #[derive(Clone, Copy)]
 pub enum Stay {
-    /// It is there.
+    /// The core did not close the peer.
     Here,
-    /// The core closed it when the monotonic clock showed this. Its socket is still to take what is queued.
+    /// The core closed the peer when the monotonic clock showed `since`. The socket has still to take the queued bytes.
     Draining { since: u64 },
-    /// The core closed it then. Its socket took all, and its writing side was shut down. What still comes is dropped,
-    /// until it ends.
+    /// The core closed the peer when the monotonic clock showed `since`. The socket took everything, and its writing
+    /// side was shut down. More input is dropped until the input ends.
     Shut { since: u64 },
 }
 
 impl Stay {
-    /// Returns whether it is there.
+    /// Returns whether the peer is there.
     pub fn is_here(self) -> bool
         ensures is { result ≡ is_here self }
         ensures yes { result ≡ true → self ≡ Stay.Here }
@@ -32,7 +32,7 @@ impl Stay {
     }
 }
 
-/// Returns whether a peer that the core closed then lingers no longer.
+/// Returns whether a peer that the core closed at `since` lingers no longer.
 pub(crate) fn is_overdue(clock: u64, since: u64) -> bool
     ensures { result ≡ is_overdue clock since }
 {

@@ -8,33 +8,33 @@ ghost use Rattle.srcp_peers.specs.Steps.{refusal_of};
 use srcp_door::{DoorFault, Got};
 use std::io::ErrorKind;
 
-/// What a socket was found ready for. The listener is socket 0.
+/// Says what a socket was found ready for. The listener is socket 0.
 #[derive(Clone, Copy)]
 pub struct Ready {
     /// The socket.
     pub socket: u32,
-    /// A read may find something, or a pending connection may be accepted.
+    /// True if a read may find something, or a pending connection may be accepted.
     pub readable: bool,
-    /// Its input was found to be over, or the socket to have failed: a read has still to report it.
+    /// True if the input was found to be over, or the socket to have failed. A read has still to report this.
     pub closed: bool,
-    /// Urgent data came: a read ends at it, and no other event reports the bytes that follow.
+    /// True if urgent data came. A read ends at urgent data, and no other event reports the bytes behind.
     pub urgent: bool,
-    /// A write may be taken.
+    /// True if a write may be taken.
     pub writable: bool,
 }
 
-/// What a call of the system that failed says of a socket.
+/// Says what a failed call of the system means for a socket.
 #[derive(Clone, Copy)]
 pub enum Refusal {
-    /// It takes or has nothing now.
+    /// The socket takes or has nothing now.
     Later,
     /// The call was interrupted, and is to be made again.
     Again,
-    /// It takes or has nothing any more.
+    /// The socket takes or has nothing any more.
     Fault,
 }
 
-/// Returns what a call that failed so says.
+/// Returns what a failed call means for its socket.
 pub fn refusal_of(fault: ErrorKind) -> Refusal
     ensures { result ≡ refusal_of fault }
 {
@@ -45,32 +45,32 @@ pub fn refusal_of(fault: ErrorKind) -> Refusal
     }
 }
 
-/// The calls of the system, and between them the answers of a door, each noted at its end. An implementation for the
-/// system only makes the call, and does nothing with what it notes.
+/// The calls of the system, and between these the answers of a door, each noted at its end. An implementation for the
+/// system only makes the calls, and does nothing with the notes.
 pub trait System {
-    /// The calls and answers so far, if they are kept.
+    /// The calls and answers up to now, if the implementation keeps them.
     ghost trace: { Self → Option (List Step) } = { λ _. None };
 
-    /// Accepts the next pending connection: its socket has that number from then on.
+    /// Accepts the next pending connection. From then on its socket has this number.
     ///
     /// # Errors
-    /// Those of the system.
+    /// Returns the error of the system.
     fn accept(&mut self, number: u32) -> Result<(), ErrorKind>
         ensures { Tells (trace self.old) (Accepts number result) (trace self.new) };
 
-    /// Reads once of a socket.
+    /// Reads once from a socket, and returns how many bytes came.
     ///
     /// # Errors
-    /// Those of the system.
+    /// Returns the error of the system.
     fn read(&mut self, socket: u32, buffer: &mut [u8]) -> Result<usize, ErrorKind>
         requires { 0 < length buffer.old }
         ensures count { IfOk result (λ count. count ≤ length buffer.new) }
         ensures trace { Tells (trace self.old) (Reads socket buffer.new result) (trace self.new) };
 
-    /// Writes once to a socket.
+    /// Writes once to a socket, and returns how many bytes the socket took.
     ///
     /// # Errors
-    /// Those of the system.
+    /// Returns the error of the system.
     fn write(&mut self, socket: u32, bytes: &[u8]) -> Result<usize, ErrorKind>
         ensures count { IfOk result (λ count. count ≤ length bytes.now) }
         ensures trace { Tells (trace self.old) (Writes socket bytes.now result) (trace self.new) };
@@ -79,37 +79,38 @@ pub trait System {
     fn shutdown(&mut self, socket: u32)
         ensures { Tells (trace self.old) (Shuts socket) (trace self.new) };
 
-    /// Closes a socket. Its number is that of no socket from then on.
+    /// Closes a socket. From then on no socket has the number.
     fn close(&mut self, socket: u32)
         ensures { Tells (trace self.old) (Closes socket) (trace self.new) };
 
-    /// Waits until a socket is ready, at most `most` milliseconds if that is said. Returns how many were found ready,
-    /// which are the first of `ready`; none if the system refuses to wait.
+    /// Waits until a socket is ready, for at most `most` milliseconds if given. Returns how many were found ready,
+    /// which are the first of `ready`. Returns 0 if the system refuses to wait.
     fn wait(&mut self, most: Option<u64>, ready: &mut [Ready]) -> usize
         ensures count { result ≤ length ready.new }
         ensures trace { Tells (trace self.old) (Waits most result ready.new) (trace self.new) };
 
-    /// Returns what the monotonic clock shows, in milliseconds, or nothing if it cannot be read.
+    /// Returns what the monotonic clock shows, in milliseconds, or `None` if the clock cannot be read.
     fn clock(&mut self) -> Option<u64>
         ensures { Tells (trace self.old) (Clocks result) (trace self.new) };
 
-    /// Notes when something falls due next, and how much the panels can still take.
+    /// Notes the call of the door that tells when something falls due next, and how many changes the panels can still
+    /// take.
     fn note_expect(&mut self, due: Option<u64>, slack: Option<usize>)
         ensures { Tells (trace self.old) (Answers (ExpectCall due slack)) (trace self.new) };
 
-    /// Notes a moment that was asked for.
+    /// Notes the answer to a call that asked for a moment.
     fn note_now(&mut self, answer: Result<u64, DoorFault>)
         ensures { Tells (trace self.old) (Answers (NowCall answer)) (trace self.new) };
 
-    /// Notes who was accepted.
+    /// Notes the answer of an accept.
     fn note_accept(&mut self, answer: Result<Option<u32>, DoorFault>)
         ensures { Tells (trace self.old) (Answers (AcceptCall answer)) (trace self.new) };
 
-    /// Notes what was read of a peer.
+    /// Notes what was read from a peer.
     fn note_read(&mut self, peer: u32, answer: Result<Got, DoorFault>, buffer: &[u8])
         ensures { Tells (trace self.old) (Answers (ReadCall peer answer buffer.now)) (trace self.new) };
 
-    /// Notes what was taken for a peer.
+    /// Notes how many bytes were taken for a peer.
     fn note_write(&mut self, peer: u32, bytes: &[u8], answer: Result<usize, DoorFault>)
         ensures { Tells (trace self.old) (Answers (WriteCall peer bytes.now answer)) (trace self.new) };
 

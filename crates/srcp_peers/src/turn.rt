@@ -1,4 +1,4 @@
-//! What a door knows of the turn that it is in, and how long that turn may wait.
+//! What a door knows of the turn in progress, and how long that turn may wait.
 
 ghost use Rattle.std.specs.Prelude.{◌≡◌, ◌<◌, ◌≤◌, ◌-◌, ◌/◌, ◌||◌, ◌⊎◌, true, false, ℕ, List, Some, None, Ok, Err};
 ghost use Rattle.std.specs.Prelude.{IfErr, Result, cond, length, take, ◌↔◌, IsTrue, All, min};
@@ -21,40 +21,41 @@ use crate::system::Refusal;
 use srcp_door::{Allowed, DoorFault, Got, MOST_WRITES, Pace, RESERVE, Share, Timekeeper};
 use srcp_grammar::MOST_CHANGES;
 
-/// A wait for what falls due ends earlier than it by this part of the wait: the system may end a wait late by a
-/// thousandth of it, or a two-hundredth for a process of low priority. The turns behind it wait for the rest.
+/// A wait for a due moment ends early by this part of the wait. The system may end a wait late by a thousandth of the
+/// wait, or a two-hundredth for a process of low priority. The turns behind the wait spend the rest.
 const EARLIER: u64 = 128;
 
-/// In a turn behind a late one, the moment goes on as fast as twice the clock, for this many milliseconds at most.
+/// In a turn behind a late turn, the moment goes on at twice the clock's speed, for this many milliseconds at most.
 const MOST_TWICE: u64 = 500;
 
-/// What a door knows of its turn.
+/// Holds what a door knows of its turn.
 #[derive(Drop)]
 pub struct Turn {
-    /// The clocks at the start, and the moment that was reported last.
+    /// The clocks at the start, and the last moment reported.
     pub timekeeper: Timekeeper,
-    /// What the monotonic clock showed when that moment was reported, in milliseconds; 0 before the first.
+    /// What the monotonic clock showed when the last moment was reported, in milliseconds; 0 before the first.
     pub clock: u64,
     /// The moment at which something falls due next, if anything does.
     pub due: Option<u64>,
-    /// How many more changes may come upon each panel, if there is one.
+    /// How many more changes each panel can take, or `None` without a panel.
     pub slack: Option<usize>,
-    /// The same, as it was said in the turn before.
+    /// The slack of the turn before.
     pub before: Option<usize>,
-    /// Whether something happened since the last wait.
+    /// True if something happened since the last wait.
     pub busy: bool,
-    /// Whether the moment that was reported last is behind the time.
+    /// True if the last moment reported is behind the time.
     pub late: bool,
     /// How much the lines may still weigh that are handed out.
     pub pace: Pace,
-    /// What the monotonic clock has to show before it lets a line through, in milliseconds.
+    /// What the monotonic clock has to show before the clock lets a line through, in milliseconds.
     pub next_line: u64,
-    /// Whether the end of a peer may still be reported.
+    /// True if the end of a peer may still be reported in this turn.
     pub ends: bool,
 }
 
 impl Turn {
-    /// Returns the turn that follows nothing, by the wall clock and the monotonic clock, in milliseconds.
+    /// Starts the first turn, with nothing due and no panel. `wall` is the wall clock and `start` the monotonic clock,
+    /// in milliseconds.
     pub fn first(wall: u64, start: u64) -> Turn
         ensures { result ≡ first_turn wall start }
     {
@@ -95,16 +96,16 @@ impl Turn {
         }
     }
 
-    /// Returns how many milliseconds a turn stands still though there is something to do: 1 if a panel is so far behind
-    /// for the second turn that no line may go until the clock goes on.
+    /// Returns how many milliseconds a turn waits although there is work to do. The result is 1 if, for the second
+    /// turn, a panel is too far behind for a line to go before the clock goes on. Else the result is 0.
     pub fn stop(&self) -> u64
         ensures { result ≡ stop self.now }
     {
         u64::from(is_behind(self.before) && is_behind(self.slack))
     }
 
-    /// Returns how many changes the panels lack for a line to go before the clock goes on; as many as a peer is written
-    /// lines in a visit if there is no panel.
+    /// Returns how many changes the panels lack for a line to go before the clock goes on. Returns `MOST_WRITES`
+    /// without a panel.
     pub fn lack(&self) -> u32
         ensures { result ≡ lack self.now.slack }
     {
@@ -122,7 +123,7 @@ impl Turn {
             .is_some_and(|slack| slack < RESERVE + MOST_CHANGES)
     }
 
-    /// Notes what falls due next, and how much the panels can still take.
+    /// Notes what falls due next, and how many changes the panels can still take.
     pub fn expect(&mut self, due: Option<u64>, slack: Option<usize>)
         ensures { self.new ≡ after_call self.old (ExpectCall due slack) }
     {
@@ -138,13 +139,13 @@ impl Turn {
         self.busy = false;
     }
 
-    /// Returns the moment that is to be reported, if the monotonic clock shows a time. Moments never go back. After
-    /// a stall they go from one at which something falls due to the next. If the turns are slow, they go on twice as
-    /// fast as the clock. From now on lines may be handed out again, as many as the panels can take, and the end of one
-    /// peer may be reported.
+    /// Returns the moment to report, if the monotonic clock shows a time. Moments never go back. After a stall the
+    /// moments go from one due moment to the next. If the turns are slow, the moments go on twice as fast as the clock.
+    /// From now on lines may be handed out again, as many as the panels can take, and the end of one peer may be
+    /// reported.
     ///
     /// # Errors
-    /// `Now` if the clock cannot be read.
+    /// Returns `Now` if the clock cannot be read.
     pub fn report_moment(&mut self, shown: Option<u64>) -> Result<u64, DoorFault>
         ensures none { shown ≡ None → (result ≡ Err DoorFault.Now) × (self.new ≡ begun self.old false) }
         ensures some { (time : ℕ) → shown ≡ Some time
@@ -165,7 +166,8 @@ impl Turn {
         Ok(moment)
     }
 
-    /// Returns how many milliseconds the moment goes on at once if something falls due, counted from right before that.
+    /// Returns by how many milliseconds the moment goes on at most if something falls due, counted from right before
+    /// that.
     fn step(&self, time: u64) -> u64
         ensures { result ≡ step_at self.now time }
     {
@@ -176,8 +178,8 @@ impl Turn {
         (2 * passed).max(1)
     }
 
-    /// Returns whether the clock went on, and now lets a line through: the one before held it up for as many
-    /// milliseconds as it weighs.
+    /// Returns whether the clock went on, and now lets a line through. A line that the clock let through keeps the next
+    /// back for as many milliseconds as its weight.
     fn ticks(&self, time: u64) -> bool
         ensures { result ≡ ticks self.now time }
     {
@@ -192,7 +194,7 @@ impl Turn {
         self.ends = true;
     }
 
-    /// Returns whether the end of a peer may be reported now. If so, it is the one of this turn.
+    /// Returns whether the end of a peer may be reported now. If so, no other end may be reported in this turn.
     pub(crate) fn allow_end(&mut self) -> bool
         ensures allowed { result ≡ self.old.ends }
         ensures new { self.new ≡ cond result (ended self.old) self.old }
@@ -203,7 +205,7 @@ impl Turn {
         allowed
     }
 
-    /// Answers a read of a peer whose end is due: by that, if the turn reported no other end.
+    /// Answers a read of a peer whose end is due: with the end, unless the turn reported another.
     pub(crate) fn report_end(&mut self) -> Result<Got, DoorFault>
         ensures exact { result ≡ cond self.old.ends (Ok Got.Ended) (Ok Got.Nothing) }
         ensures reported { (result ≡ Ok Got.Nothing) ⊎ (result ≡ Ok Got.Ended) }
@@ -217,10 +219,10 @@ impl Turn {
         }
     }
 
-    /// Answers a read of a peer that is lost or is not there: by that, if the turn reported no other end.
+    /// Answers a read of a peer that is lost or not there: with a fault, unless the turn reported another end.
     ///
     /// # Errors
-    /// `Read` if it did not.
+    /// Returns `Read` unless the turn reported another end.
     pub fn report_fault(&mut self) -> Result<Got, DoorFault>
         ensures exact { result ≡ cond self.old.ends (Err DoorFault.Read) (Ok Got.Nothing) }
         ensures reported { (result ≡ Ok Got.Nothing) ⊎ (result ≡ Err DoorFault.Read) }
@@ -234,8 +236,8 @@ impl Turn {
         }
     }
 
-    /// Returns how many bytes of a peer's piece may be handed out now, by its share of the lines, and notes that they
-    /// are.
+    /// Returns how many bytes of a peer's piece may be handed out now, by the peer's share of the lines. Notes these
+    /// bytes as handed out.
     pub(crate) fn allow(&mut self, share: &mut Share, piece: &[u8]) -> Allowed
         ensures within { result.count ≤ length piece.now }
         ensures nothing { result.count ≡ 0 → self.new ≡ self.old }
@@ -254,7 +256,8 @@ impl Turn {
         allowed
     }
 
-    /// Returns what the clock has to show before it lets a line through, after lines of that weight went at that pace.
+    /// Returns what the clock has to show before it lets the next line through, after lines of this weight went at this
+    /// pace.
     fn next_after(&self, pace: Pace, weight: usize) -> u64
         ensures { result ≡ next_after self.now.clock self.now.next_line pace weight }
     {
@@ -264,14 +267,14 @@ impl Turn {
         }
     }
 
-    /// Notes who came in.
+    /// Notes the answer of an accept.
     pub fn note_accept(&mut self, answer: Result<Option<u32>, DoorFault>)
         ensures { self.new ≡ after_call self.old (AcceptCall answer) }
     {
         self.note(matches!(answer, Ok(Some(_))));
     }
 
-    /// Notes what was taken for a peer.
+    /// Notes how many bytes were taken for a peer.
     pub fn note_write(&mut self, answer: Result<usize, DoorFault>)
         ensures { (peer : ℕ) (bytes : List ℕ) → self.new ≡ after_call self.old (WriteCall peer bytes answer) }
     {
@@ -307,20 +310,20 @@ fn earlier(left: u64) -> u64
     left - left / EARLIER
 }
 
-/// How long a turn waits at most in milliseconds if a call of the system is to be made again, or a peer lingers.
+/// The longest wait in milliseconds if a call of the system is to be made again, or a peer lingers.
 pub const RETRY_DELAY: u64 = 8;
 
-/// How long a turn waits at most for what falls due, in milliseconds: an hour.
+/// The longest wait for what falls due, in milliseconds: an hour.
 const LONGEST_WAIT: u64 = 3_600_000;
 
-/// Whether a pending connection may be accepted.
+/// Says whether a pending connection may be accepted.
 #[derive(Clone, Copy)]
 pub enum Listening {
-    /// One may.
+    /// A pending connection may be accepted.
     Ready,
-    /// One may, but the system refused the last.
+    /// A pending connection may be accepted, but the system refused the last.
     Refused,
-    /// None may, until the listener is found ready.
+    /// No pending connection may be accepted, until the listener is found ready.
     Quiet,
 }
 
@@ -344,10 +347,10 @@ impl Listening {
     }
 }
 
-/// Returns how many milliseconds a turn waits at most; `None` if only a socket ends the wait. While a peer that is
-/// there or the listener may have something, or a panel may have something coming, it does not wait; but if a panel is
-/// so far behind for the second turn that no line may go, it waits until the clock goes on. It waits neither past what
-/// falls due, nor longer than `most` if that is said, nor longer than the retry delay while a peer lingers.
+/// Returns how many milliseconds a turn waits at most, or `None` if only a socket ends the wait. The turn does not wait
+/// while a peer that is there, the listener or a panel may have something. There is an exception: if, for the second
+/// turn, a panel is too far behind for a line to go, the turn waits until the clock goes on. No wait goes past what
+/// falls due, or past `most` if given. While a peer lingers no wait is longer than the retry delay.
 pub fn longest_wait(
     peers: &[Peer],
     listening: Listening,
@@ -383,14 +386,14 @@ fn sooner(one: Option<u64>, other: Option<u64>) -> Option<u64>
     }
 }
 
-/// Returns whether something happens to a peer that is there though no socket is found ready.
+/// Returns whether there is work to do for a peer that is there before any socket is found ready.
 fn are_busy(peers: &[Peer]) -> bool
     ensures { result ≡ list_any is_busy peers.now }
 {
     peers.iter().any(|peer| peer.is_busy())
 }
 
-/// Returns whether all are there, and nothing happens to them unless a socket is found ready.
+/// Returns whether all peers are there, with no work to do until a socket is found ready.
 fn are_resting(peers: &[Peer]) -> bool
     ensures is { result ≡ list_all is_resting peers.now }
     ensures yes { result ≡ true → All (λ peer. is_resting peer ≡ true) peers.now }
