@@ -19,12 +19,13 @@ use srcp_info::{GREATEST_FB, GREATEST_GA, GREATEST_GL};
 use std::alloc::Global;
 use toml::{Table, Value};
 
-/// Reads a configuration: a TOML document with a port and buses. Other keys are ignored.
+/// Reads a configuration: a TOML document with a port and buses. Ignores other keys.
 ///
 /// # Errors
 /// Returns the first fault, in this order: the document (`NotToml`), the port, the buses. Then bus by bus, in the
-/// order of the document: its number, and whether an earlier bus has it (`Twice`). Its groups follow from left to
-/// right, then what these need: gl_max, ga_max, ga_ports, fb_ports. Returns `Memory` if memory is refused.
+/// order of the document: the bus's number, and whether an earlier bus has this number (`Twice`). The groups of the
+/// bus follow from left to right, then what these need: gl_max, ga_max, ga_ports, fb_ports. Returns `Memory` if memory
+/// is refused.
 pub fn read_layout(alloc: Global, bytes: &[u8]) -> Result<Config, ConfigFault>
     ensures { Gives (λ config. config) ConfigFault.Memory result (config_of bytes.now) }
 {
@@ -64,7 +65,7 @@ fn read_buses(alloc: Global, values: &[Value]) -> Result<Layout, ConfigFault>
     Ok(layout)
 }
 
-/// Reads a bus, which differs from those before it.
+/// Reads a bus, whose number differs from those of the buses before.
 fn bus_in(before: &Layout, value: &Value) -> Result<Bus, ConfigFault>
     ensures bus { result ≡ bus_in before.now (data_of value.now) }
     ensures new { IfOk result (λ bus. IsBus bus × (has_number before.now bus.number ≡ false)) }
@@ -75,7 +76,7 @@ fn bus_in(before: &Layout, value: &Value) -> Result<Bus, ConfigFault>
     }
 }
 
-/// Reads the number of a bus, its groups, and what these need.
+/// Reads the number and the groups of a bus, and what these groups need.
 fn bus_of(before: &Layout, members: &Table) -> Result<Bus, ConfigFault>
     ensures bus { result ≡ bus_of before.now (table_view members.now) }
     ensures new { IfOk result (λ bus. IsBus bus × (has_number before.now bus.number ≡ false)) }
@@ -96,7 +97,7 @@ fn bus_of(before: &Layout, members: &Table) -> Result<Bus, ConfigFault>
     })
 }
 
-/// Reads the number of a bus, which no earlier bus has.
+/// Reads the number of a bus. Returns `Twice` if an earlier bus has this number.
 fn number_beside(before: &Layout, members: &Table) -> Result<u8, ConfigFault>
     ensures number { result ≡ number_beside before.now (table_view members.now) }
     ensures new { IfOk result (λ number.

@@ -62,7 +62,7 @@ fn print_power(power: bool, text: &mut Vec<u8>) -> Result<(), AllocError>
     Ok(())
 }
 
-/// Prints a group's name and its size, if it has any.
+/// Prints a group's name, and the group's size if that is not 0.
 fn print_group(alloc: Global, name: &str, count: u32, text: &mut Vec<u8>) -> Result<(), AllocError>
     ensures { OnOk result (text.new.items
         ≡ text.old.items ++ after_spaces (group_words name.now count)) }

@@ -17,7 +17,7 @@ pub(super) struct Groups {
     pub(super) fb: bool,
 }
 
-/// Returns the groups that the values name, read from left to right.
+/// Returns the groups named by the values, read from left to right.
 pub(super) fn groups_in(values: &[Value]) -> Result<Groups, ConfigFault>
     ensures { result ≡ groups_in no_groups (map data_of values.now) }
 {

@@ -1,4 +1,4 @@
-//! A value of a table: it has to be there, and of the type and within the limits that its key asks for.
+//! A value of a table: present, of the key's type, and within the key's limits.
 
 ghost use Rattle.std.specs.Prelude.{◌≡◌, ◌≤◌, map, option_map, IfOk};
 ghost use Rattle.toml.specs.Data.{get_member};
@@ -19,7 +19,7 @@ fn find_member(members: &Table, field: Field) -> Option<&Value>
     members.get(key_of(field))
 }
 
-/// Returns the value at the key, which must be there.
+/// Returns the value at the key. Returns `Missing` if there is none.
 pub(super) fn required(members: &Table, field: Field) -> Result<&Value, ConfigFault>
     ensures { Shows (λ value. data_of value.now) result (required field (table_view members.now)) }
 {
@@ -53,7 +53,7 @@ fn ranged(value: &Value, field: Field, low: u32, high: u32) -> Result<u32, Confi
     }
 }
 
-/// Returns the integer at the key, which must be there.
+/// Returns the integer at the key. Returns `Missing` if there is no value.
 pub(super) fn number_in(
     members: &Table,
     field: Field,
@@ -66,7 +66,7 @@ pub(super) fn number_in(
     ranged(required(members, field)?, field, low, high)
 }
 
-/// Returns the integer at the key, or the default if it is not given.
+/// Returns the integer at the key, or the default if there is no value.
 pub(super) fn given_or(
     members: &Table,
     field: Field,
@@ -84,7 +84,7 @@ pub(super) fn given_or(
     }
 }
 
-/// Returns the integer at the key if the bus has the group, and 0 if it does not.
+/// Returns the integer at the key if the bus has the group, else 0.
 pub(super) fn number_if(
     is_there: bool,
     members: &Table,
