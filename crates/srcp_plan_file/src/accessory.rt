@@ -13,7 +13,7 @@ pub(crate) fn is_same(a: Device, b: Device) -> bool
     a.bus == b.bus && a.address == b.address
 }
 
-/// Returns whether one of these turnouts is that accessory.
+/// Returns whether this accessory is among the turnouts.
 pub(crate) fn has_accessory(turnouts: &[Setting], device: Device) -> bool
     ensures { result ≡ has_accessory turnouts.now device }
 {

@@ -23,14 +23,14 @@ use std::alloc::Global;
 use std::vec::Vec;
 use toml::{Table, Value};
 
-/// Reads a plan: a TOML document with the routes' own bus and the routes. Other keys are ignored.
+/// Reads a plan: a TOML document with the routes' own bus and the routes. Ignores other keys.
 ///
 /// # Errors
 /// Returns the first fault, in this order: the document (`NotToml`), the bus, the routes. Then route by route, in the
-/// order of the document: its number, and whether an earlier route has it (`Twice`). Its turnouts follow from left to
-/// right, and whether the route named one before (`Repeated`); then its blocks, its signal, and the sensor that frees
-/// it. At last it is held against the earlier routes one by one (`Mixed`, `Crossed`). Returns `Memory` if memory is
-/// refused.
+/// order of the document: the route's number, and whether an earlier route has this number (`Twice`). The turnouts
+/// follow from left to right, and whether the route named a turnout before (`Repeated`); then the blocks, the signal,
+/// and the sensor by which the route is freed. At last the route is compared with each earlier route (`Mixed`,
+/// `Crossed`). Returns `Memory` if memory is refused.
 pub fn read_plan(alloc: Global, bytes: &[u8]) -> Result<Plan, PlanFault>
     ensures reads { Gives planned PlanFault.Memory result (plan_of bytes.now) }
     ensures whole { IfOk result (λ plan. IsPlan (planned plan)) }
@@ -68,7 +68,7 @@ fn read_routes(alloc: Global, own: u8, values: &[Value]) -> Result<Vec<Route>, P
     Ok(routes)
 }
 
-/// Reads a route beside those before it.
+/// Reads a route beside the earlier routes.
 fn route_in(alloc: Global, own: u8, before: &[Route], value: &Value) -> Result<Route, PlanFault>
     ensures { Gives planned_route PlanFault.Memory result
         (route_in own (map planned_route before.now) (data_of value.now)) }
@@ -79,7 +79,7 @@ fn route_in(alloc: Global, own: u8, before: &[Route], value: &Value) -> Result<R
     }
 }
 
-/// Reads the number of a route and its keys, and holds it against those before it.
+/// Reads the number and the keys of a route, and compares the route with the earlier routes.
 fn route_of(alloc: Global, own: u8, before: &[Route], members: &Table) -> Result<Route, PlanFault>
     ensures { Gives planned_route PlanFault.Memory result
         (route_of own (map planned_route before.now) (table_view members.now)) }
@@ -90,7 +90,7 @@ fn route_of(alloc: Global, own: u8, before: &[Route], members: &Table) -> Result
     Ok(route)
 }
 
-/// Returns the number, which no earlier route has.
+/// Returns the number. Returns `Twice` if an earlier route has this number.
 fn new_number(before: &[Route], number: u32) -> Result<u32, PlanFault>
     ensures { result ≡ new_number (map planned_route before.now) number }
 {

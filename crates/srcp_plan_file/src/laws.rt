@@ -1,8 +1,8 @@
-//! A law of every two routes. The function does nothing: its `ensures` is the law.
+//! A law of every two routes. The function does nothing: the law is what `ensures` says.
 
 ghost use Rattle.srcp_plan_file.specs.Laws.{SharedConflict};
 
-/// States for any two routes: they share something that `print_plan` names exactly if they conflict.
+/// States for any two routes: there is something shared for `print_plan` to name exactly if the routes conflict.
 pub fn shared_conflict()
     ensures { SharedConflict }
 {}

@@ -1,8 +1,8 @@
-//! The plan of a signal box: it reads a TOML document into routes (`read_plan`), names its first fault (`PlanFault`),
-//! and prints which routes conflict (`print_plan`).
+//! The plan of a signal box. `read_plan` reads a TOML document into routes, `PlanFault` names the document's first
+//! fault, and `print_plan` prints which routes conflict.
 //!
-//! It opens no file; its callers hand it bytes. It sets no route, and knows no line of the protocol and none of the
-//! program's words.
+//! This crate opens no file: callers hand over bytes. The crate sets no route, and knows no line of the protocol and
+//! none of the program's words.
 #![tactic(auto)]
 
 mod accessory;

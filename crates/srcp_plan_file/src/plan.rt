@@ -7,13 +7,13 @@ use thiserror::Error;
 /// Holds what a plan says.
 #[derive(Drop)]
 pub struct Plan {
-    /// The routes' own bus: there they are asked for and told, and no device of a route is on it.
+    /// The routes' own bus: there routes are asked for and told, and no device of a route is on this bus.
     pub bus: u8,
     /// The routes, in the order of the document.
     pub routes: Vec<Route>,
 }
 
-/// Names a key of a plan. It is written in lower case.
+/// Names a key of a plan. A plan writes the key in lower case.
 #[derive(Clone, Copy, Debug, PartialEq, Eq)]
 pub enum Field {
     Bus,
@@ -30,19 +30,19 @@ pub enum Field {
 pub enum PlanFault {
     /// The bytes are no TOML document.
     NotToml,
-    /// A key is missing that has to be given.
+    /// A required key is missing.
     Missing(Field),
-    /// The key's value is of another type or beyond its limits.
+    /// The key's value is of another type or beyond the key's limits.
     OutOfRange(Field),
     /// Two routes have this number.
     Twice(u32),
-    /// In the route of this number the key's value is of another type, beyond its limits, or on the routes' own bus.
+    /// In the route of this number the key's value is of another type, beyond the limits, or on the routes' own bus.
     Beyond(u32, Field),
     /// The route of this number names an accessory twice.
     Repeated(u32),
-    /// A signal of one of these routes is a turnout of the other.
+    /// The signal of either of these routes is a turnout of the other.
     Mixed(u32, u32),
-    /// A port of a signal shows "go" for one of these routes and "stop" for the other.
+    /// A port of a signal shows "go" for either of these routes and "stop" for the other.
     Crossed(u32, u32),
     /// Memory is refused.
     Memory,

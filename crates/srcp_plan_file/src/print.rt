@@ -1,4 +1,4 @@
-//! A plan, printed: its routes, and which of them conflict.
+//! A plan, printed: the routes, and which of them conflict.
 
 ghost use Rattle.std.specs.Prelude.{◌≡◌, ◌++◌, OnOk, IfOk, string_bytes};
 ghost use Rattle.std.specs.List.{flat_map};
@@ -13,8 +13,8 @@ use srcp_routes::Route;
 use std::alloc::{AllocError, Global};
 use std::vec::Vec;
 
-/// Prints the locking table of a plan: the routes' own bus, the number of each route, and a line for each two routes
-/// that conflict. That line says by which turnouts, signal and blocks of the first.
+/// Prints the locking table of a plan: the routes' own bus, the number of each route, and a line for each two
+/// conflicting routes. The line says by which turnouts, signal and blocks of the first the two conflict.
 pub fn print_plan(alloc: Global, plan: &Plan) -> Result<Vec<u8>, AllocError>
     ensures { IfOk result (λ text. text.items ≡ printed plan.now) }
 {
@@ -48,7 +48,7 @@ fn print_route(alloc: Global, number: u32, text: &mut Vec<u8>) -> Result<(), All
     text.extend_from_slice(line.as_bytes())
 }
 
-/// Prints a line for each two routes that conflict.
+/// Prints a line for each two conflicting routes.
 fn print_conflicts(alloc: Global, routes: &[Route], text: &mut Vec<u8>) -> Result<(), AllocError>
     ensures { OnOk result (text.new.items ≡ text.old.items ++ conflict_lines routes.now) }
 {

@@ -1,4 +1,4 @@
-//! Accessories that a plan would use in two ways.
+//! Accessories used in two ways by a plan.
 
 ghost use Rattle.std.specs.Prelude.{◌≡◌, map};
 ghost use Rattle.srcp_plan_file.specs.Document.{apart_from, apart_from_all};
@@ -18,21 +18,21 @@ fn turns_signal(route: &Route, other: &Route) -> bool
     }
 }
 
-/// Returns whether a signal of one is a turnout of the other.
+/// Returns whether the signal of either route is a turnout of the other.
 fn mixes(route: &Route, other: &Route) -> bool
     ensures { result ≡ mixes (planned_route route.now) (planned_route other.now) }
 {
     turns_signal(route, other) || turns_signal(other, route)
 }
 
-/// Returns whether these are one accessory, and a port of it shows "go" for one and "stop" for the other.
+/// Returns whether two signals are the same accessory, and a port shows "go" for either and "stop" for the other.
 fn is_crossed(one: Signal, two: Signal) -> bool
     ensures { result ≡ is_crossed one two }
 {
     is_same(one.device, two.device) && (one.go == two.stop || one.stop == two.go)
 }
 
-/// Returns whether a port of a signal shows "go" for one route and "stop" for the other.
+/// Returns whether a port of a signal shows "go" for either route and "stop" for the other.
 fn crosses(route: &Route, other: &Route) -> bool
     ensures { result ≡ crosses (planned_route route.now) (planned_route other.now) }
 {
@@ -42,7 +42,7 @@ fn crosses(route: &Route, other: &Route) -> bool
     }
 }
 
-/// Returns a fault if a route uses an accessory in another way than this one.
+/// Returns a fault if a route uses an accessory in another way than the other route does.
 fn stand_apart_from(other: &Route, route: &Route) -> Result<(), PlanFault>
     ensures { result ≡ apart_from (planned_route other.now) (planned_route route.now) }
 {
@@ -55,7 +55,7 @@ fn stand_apart_from(other: &Route, route: &Route) -> Result<(), PlanFault>
     Ok(())
 }
 
-/// Returns a fault if a route uses an accessory in another way than those before it.
+/// Returns the first fault if a route uses an accessory in another way than an earlier route does.
 pub(super) fn stand_apart(before: &[Route], route: &Route) -> Result<(), PlanFault>
     ensures { result ≡ apart_from_all (map planned_route before.now) (planned_route route.now) }
 {

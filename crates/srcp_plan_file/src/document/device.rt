@@ -13,7 +13,7 @@ use toml::Value;
 /// The greatest port of an accessory.
 const GREATEST_PORT: u32 = MOST_PORTS - 1;
 
-/// Returns a bus, which is not the routes' own.
+/// Returns a bus. Returns the fault `beyond` if this is the routes' own.
 fn other_bus(own: u8, bus: u8, beyond: PlanFault) -> Result<u8, PlanFault>
     ensures { result ≡ other_bus own beyond bus }
 {
@@ -60,7 +60,7 @@ pub(super) fn sensor_of(own: u8, values: &[Value], beyond: PlanFault) -> Result<
     }
 }
 
-/// Returns a signal whose two ports differ.
+/// Returns a signal. Returns the fault `beyond` if both ports are the same.
 fn signal_with(device: Device, go: u8, stop: u8, beyond: PlanFault) -> Result<Signal, PlanFault>
     ensures { result ≡ signal_with beyond device go stop }
 {

@@ -1,4 +1,4 @@
-//! A value of a table: it has to be there, and of the type and within the limits that its key asks for.
+//! A value of a table: present, of the key's type, and within the key's limits.
 
 ghost use Rattle.std.specs.Prelude.{◌≡◌, ◌≤◌, map, option_map, IfOk};
 ghost use Rattle.toml.specs.View.{table_view, view as data_of};
@@ -16,7 +16,7 @@ pub(super) fn value_at(members: &Table, field: Field) -> Option<&Value>
     members.get(key_of(field))
 }
 
-/// Returns the value at the key, which must be there.
+/// Returns the value at the key. Returns `Missing` if there is none.
 pub(super) fn required(members: &Table, field: Field) -> Result<&Value, PlanFault>
     ensures { Shows (λ value. data_of value.now) result (required field (table_view members.now)) }
 {
@@ -55,7 +55,7 @@ pub(super) fn ranged(
     }
 }
 
-/// Returns the integer at the key, which must be there.
+/// Returns the integer at the key. Returns `Missing` if there is no value.
 pub(super) fn number_in(
     members: &Table,
     field: Field,

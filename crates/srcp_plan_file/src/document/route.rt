@@ -1,4 +1,4 @@
-//! One route of a plan.
+//! A route of a plan.
 
 ghost use Rattle.std.specs.Prelude.{◌≡◌, [], map, option_map};
 ghost use Rattle.toml.specs.View.{table_view, view as data_of};
@@ -42,7 +42,7 @@ pub(super) fn route_numbered(
     })
 }
 
-/// Returns the values of an array at a key of a route, none if it is not given.
+/// Returns the values of the array at a key of a route, or no values if there is no such key.
 fn array_at(number: u32, members: &Table, field: Field) -> Result<&[Value], PlanFault>
     ensures { Shows (λ values. map data_of values.now) result
         (array_at number field (table_view members.now)) }
@@ -71,7 +71,7 @@ fn turnouts_in(
     Ok(turnouts)
 }
 
-/// Reads a turnout beside those before it.
+/// Reads a turnout beside the earlier turnouts of the route.
 fn turnout_in(own: u8, number: u32, before: &[Setting], value: &Value) -> Result<Setting, PlanFault>
     ensures { result ≡ turnout_in own number before.now (data_of value.now) }
 {
@@ -80,7 +80,7 @@ fn turnout_in(own: u8, number: u32, before: &[Setting], value: &Value) -> Result
     new_turnout(number, before, turnout)
 }
 
-/// Returns a turnout, which is none of those before it.
+/// Returns a turnout. Returns `Repeated` if the route named the accessory before.
 fn new_turnout(number: u32, before: &[Setting], turnout: Setting) -> Result<Setting, PlanFault>
     ensures { result ≡ new_turnout number before.now turnout }
 {
@@ -117,7 +117,7 @@ fn blocks_in(
     Ok(blocks)
 }
 
-/// Reads the signal of a route, if it is given.
+/// Reads the signal of a route, if there is one.
 fn signal_at(
     own: u8,
     number: u32,
@@ -132,7 +132,7 @@ fn signal_at(
     }
 }
 
-/// Reads a signal beside the turnouts of its route.
+/// Reads a signal beside the turnouts of the route.
 fn signal_in(
     own: u8,
     number: u32,
@@ -146,7 +146,7 @@ fn signal_in(
     new_signal(number, turnouts, signal)
 }
 
-/// Returns a signal, which is none of the turnouts.
+/// Returns a signal. Returns `Repeated` if the accessory is among the turnouts.
 fn new_signal(
     number: u32,
     turnouts: &[Setting],
@@ -161,7 +161,7 @@ fn new_signal(
     }
 }
 
-/// Reads the sensor that frees a route, if it is given.
+/// Reads the sensor by which a route is freed, if there is one.
 fn frees_at(own: u8, number: u32, members: &Table) -> Result<Option<Device>, PlanFault>
     ensures { result ≡ frees_at own number (table_view members.now) }
 {

@@ -10,7 +10,7 @@ use std::alloc::{AllocError, Global};
 use std::fmt;
 use std::vec::Vec;
 
-/// Names a device that two routes share, by what it is to the first.
+/// Names a device shared by two routes, by what the device is to the first route.
 #[derive(Clone, Copy, Debug, PartialEq, Eq)]
 pub(super) enum Shared {
     Turnout(Device),
@@ -33,7 +33,8 @@ impl fmt::Display for Shared {
     }
 }
 
-/// Returns what two routes share: turnouts and the signal of the first that the second uses, and blocks of both.
+/// Returns what two routes share: the turnouts and the signal of the first, as far as the second uses them, and the
+/// blocks of both.
 pub(super) fn shared_devices(
     alloc: Global,
     route: &Route,
@@ -48,7 +49,7 @@ pub(super) fn shared_devices(
     Ok(devices)
 }
 
-/// Returns whether a route has this accessory as its signal.
+/// Returns whether this accessory is the signal of a route.
 fn is_signal(route: &Route, device: Device) -> bool
     ensures { result ≡ is_signal route.now device }
 {
@@ -58,7 +59,7 @@ fn is_signal(route: &Route, device: Device) -> bool
     }
 }
 
-/// Returns whether a route has this accessory as its signal or as a turnout.
+/// Returns whether this accessory is the signal or a turnout of a route.
 fn uses(route: &Route, device: Device) -> bool
     ensures { result ≡ uses route.now device }
 {
@@ -72,7 +73,7 @@ fn has_block(route: &Route, sensor: Device) -> bool
     route.blocks.iter().any(|block| is_same(*block, sensor))
 }
 
-/// Adds the turnouts of a route that the other uses.
+/// Adds the turnouts of a route used by the other.
 fn add_turnouts(route: &Route, other: &Route, devices: &mut Vec<Shared>) -> Result<(), AllocError>
     ensures { OnOk result (devices.new.items
         ≡ devices.old.items ++ shared_turnouts other.now route.now.turnouts.items) }
@@ -85,7 +86,7 @@ fn add_turnouts(route: &Route, other: &Route, devices: &mut Vec<Shared>) -> Resu
     Ok(())
 }
 
-/// Adds the signal of a route if the other uses it.
+/// Adds the signal of a route if the other uses this accessory.
 fn add_signal(route: &Route, other: &Route, devices: &mut Vec<Shared>) -> Result<(), AllocError>
     ensures { OnOk result (devices.new.items
         ≡ devices.old.items ++ shared_signal other.now route.now.signal) }
@@ -98,7 +99,7 @@ fn add_signal(route: &Route, other: &Route, devices: &mut Vec<Shared>) -> Result
     Ok(())
 }
 
-/// Adds the blocks that are those of both routes.
+/// Adds the blocks common to both routes.
 fn add_blocks(route: &Route, other: &Route, devices: &mut Vec<Shared>) -> Result<(), AllocError>
     ensures { OnOk result (devices.new.items
         ≡ devices.old.items ++ shared_blocks other.now route.now.blocks.items) }
