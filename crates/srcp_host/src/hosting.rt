@@ -20,17 +20,17 @@ const LONGEST_TURN: u64 = 8;
 pub struct Hosted<S: System + Drop> {
     /// The counts of the turns.
     pub served: Served,
-    /// The door. It delivers what was taken as it is dropped.
+    /// The door. Dropping the door delivers what was taken.
     pub door: SocketDoor<S>,
 }
 
-/// Serves the layout of a file for `turns` turns, to the peers of the door that is opened at the file's port. `R` keeps
-/// the rows. The core begins at moment 0, and the first session has the id 1. If there are fewer turns than the
-/// greatest u64, a turn waits 8 ms at most.
+/// Serves the layout of a file for `turns` turns, to the peers of a door opened at the file's port. `R` keeps the rows.
+/// The core begins at moment 0, and the first session has the id 1. If there are fewer turns than the greatest u64, a
+/// turn waits 8 ms at most.
 ///
 /// # Errors
-/// Returns the first fault: that of the file (`Config`), and then nothing is opened; or that the file's port cannot be
-/// had (`Port`). Returns `Memory` if memory is refused on the way.
+/// Returns the first fault: `Config` for the file's fault, and then nothing is opened, or `Port` if the file's port
+/// cannot be had. Returns `Memory` if memory is refused on the way.
 pub fn serve_file<R: Rows, O: Opener>(
     opener: &mut O,
     alloc: Global,

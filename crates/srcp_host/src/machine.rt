@@ -1,4 +1,4 @@
-//! The machine as it is: its sockets and its clocks.
+//! The machine: sockets and clocks.
 
 ghost use Rattle.std.specs.Prelude.{IfOk};
 ghost use Rattle.srcp_sockets.specs.Faults.{IsLocal};

@@ -11,13 +11,14 @@ pub trait Opener {
     /// The system below the door.
     type System: System + Drop;
 
-    // From the first state it may answer this for the port: a system, or why there is none. It is in the second then.
+    // In the first state the opener may answer this for the port: a system, or why there is none. The second state is
+    // that of the opener afterwards.
     ghost answers: { Self → (port : ℕ) → Result Self.System ListenFault → Self → Type 0 };
 
-    /// Opens a door at the port, of which no call has failed.
+    /// Opens a door at the port. No call of the door has failed yet.
     ///
     /// # Errors
-    /// Fails with `Port` if the port cannot be had, and with `Memory` if memory is refused.
+    /// Returns `Port` if the port cannot be had, and `Memory` if memory is refused.
     fn open(&mut self, alloc: Global, port: u16) -> Result<SocketDoor<Self::System>, ListenFault>
         ensures ok { IfOk result (λ door. answers self.old port (Ok door.sockets.system) self.new) }
         ensures err { IfErr result (λ fault. answers self.old port (Err fault) self.new) }
