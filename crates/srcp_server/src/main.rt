@@ -24,7 +24,7 @@ use std::time::Clock;
 use std::vec::Vec;
 use std::{env, fs, io};
 
-/// Does what the words ask for. A fault is printed on standard error, and its status is returned.
+/// Does what the words ask for. Prints a fault on standard error, and returns the fault's status.
 fn main(rt: HostRuntime) -> ExitCode {
     let words = match words_given(&rt) {
         Ok(words) => words,
@@ -48,12 +48,12 @@ fn main(rt: HostRuntime) -> ExitCode {
     }
 }
 
-/// Returns the program's name and the words behind it.
+/// Returns the program's name and the words behind the name.
 fn words_given<R: Env + AllocGlobal>(rt: &R) -> io::Result<Vec<String>> {
     Ok(env::args(rt)?.collect(rt.alloc())?)
 }
 
-/// Prints why the words cannot be read. For a word that is no UTF-8 it prints what `clap` would.
+/// Prints why the words cannot be read, as `clap` would if a word is no UTF-8.
 fn print_no_words<R: Eprint>(rt: &R, fault: &io::Error) -> ExitCode {
     if fault.kind() == io::ErrorKind::OutOfMemory {
         return print_fault(rt, ToolFault::Memory);
@@ -64,7 +64,7 @@ fn print_no_words<R: Eprint>(rt: &R, fault: &io::Error) -> ExitCode {
     ExitCode::from(2)
 }
 
-/// Prints what `clap` says of words that it refuses, or that ask for help or for the version.
+/// Prints what `clap` says of refused words, or of words asking for help or for the version.
 fn print_refusal<R: Print + Eprint>(rt: &R, refused: &clap::Error) -> ExitCode {
     if refused.kind() == ErrorKind::OutOfMemory {
         return print_fault(rt, ToolFault::Memory);
@@ -151,7 +151,7 @@ fn built_in_layout(alloc: Global) -> Result<Layout, ToolFault> {
     }
 }
 
-/// Serves the layout of the configuration in a file to the peers that connect to its port, for `turns` turns.
+/// Serves the layout of the configuration in a file for `turns` turns, to the peers at the configuration's port.
 fn serve_layout<R: Files + AllocGlobal + Net + Clock>(
     rt: &R,
     path: &str,
@@ -164,7 +164,7 @@ fn serve_layout<R: Files + AllocGlobal + Net + Clock>(
     }
 }
 
-/// Returns the program's fault for one of serving, with the same text.
+/// Returns the program's fault for a fault of serving, with the same text.
 fn tool_fault(fault: HostFault) -> ToolFault
     ensures text { fault_text result ≡ host_text fault }
     ensures status { fault_status result ≡ host_status fault }
