@@ -7,7 +7,7 @@ ghost use Rattle.srcp_text.specs.Words.{bit_word, words_of};
 use crate::word::{first_filled, word_len};
 use std::marker::Model;
 
-/// Iterates over the words of a line that are still to come. Contracts see it as the list of them.
+/// Iterates over the words of a line that are still to come. Contracts see the list of these words.
 #[derive(Debug, Drop)]
 pub struct Words<'a> {
     rest: &'a [u8],
@@ -30,8 +30,9 @@ impl<'a> Words<'a> {
         Words { rest: line }
     }
 
-    /// Takes the next word if it is 0 or 1 between two single spaces, as most functions of a locomotive are written.
-    /// It takes fewer instructions than `next`, which takes any word.
+    /// Takes the next word if 0 or 1 stands between two single spaces, as most functions of a locomotive are written.
+    /// Returns `None` for any other text, and then takes nothing.
+    /// This call takes fewer instructions than `next`, which takes any word.
     #[inline(always)]
     pub fn next_bit(&mut self) -> Option<bool>
         ensures { MatchOption result (self.new ≡ self.old) (λ bit. self.old ≡ bit_word bit ∷ self.new) }

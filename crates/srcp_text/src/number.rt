@@ -3,8 +3,8 @@
 ghost use Rattle.std.specs.Prelude.{◌≡◌};
 ghost use Rattle.srcp_text.specs.Words.{number_of, plain_number_of, has_leading_zero};
 
-/// Returns the number that a word writes in decimal, if it is at most `max`. The word is one ASCII digit or more, and
-/// leading zeros are allowed. Returns `None` for any other word.
+/// Returns the number that a word writes in decimal, if the number is at most `max`. The word is one ASCII digit or
+/// more, and leading zeros are allowed. Returns `None` for any other word.
 pub fn read_number(word: &[u8], max: u32) -> Option<u32>
     ensures { result ≡ number_of max word.now }
 {
@@ -12,8 +12,8 @@ pub fn read_number(word: &[u8], max: u32) -> Option<u32>
     Some(number as u32)
 }
 
-/// Returns the number that a word writes without leading zeros, if it is at most `max`. Each number has one such word,
-/// that of `put_number`. Returns `None` for any other word.
+/// Returns the number that a word writes without leading zeros, if the number is at most `max`. Each number has one
+/// such word, as `put_number` writes. Returns `None` for any other word.
 pub fn read_plain(word: &[u8], max: u64) -> Option<u64>
     ensures { result ≡ plain_number_of max word.now }
 {

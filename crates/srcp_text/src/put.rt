@@ -6,10 +6,10 @@ ghost use Rattle.srcp_text.specs.Stamp.{stamp};
 
 use arrayvec::ArrayVec;
 
-/// Holds a line that is being written. Its 256 bytes stand in the value itself, so it allocates no memory.
+/// Holds a line while its bytes are written. The 256 bytes stand in the value itself: no memory is allocated.
 pub type LineBuf = ArrayVec<u8, 256>;
 
-/// Appends bytes as they are. The line must have room for them.
+/// Appends bytes as they are. The line must have room for these bytes.
 pub fn put_bytes<const N: usize>(bytes: &[u8], line: &mut ArrayVec<u8, N>)
     requires { array_vec_len line.old + length bytes.now ≤ N }
     ensures { line.new.items ≡ line.old.items ++ bytes.now }
@@ -17,7 +17,7 @@ pub fn put_bytes<const N: usize>(bytes: &[u8], line: &mut ArrayVec<u8, N>)
     line.try_extend_from_slice(bytes).unwrap();
 }
 
-/// Appends a number in decimal, without leading zeros. That is at most 20 bytes, for which the line must have room.
+/// Appends a number in decimal, without leading zeros. The line must have room for the digits, at most 20 bytes.
 #[inline]
 pub fn put_number<const N: usize>(number: u64, line: &mut ArrayVec<u8, N>)
     requires { array_vec_len line.old + length (decimal number) ≤ N }
@@ -39,7 +39,7 @@ pub fn put_number<const N: usize>(number: u64, line: &mut ArrayVec<u8, N>)
     }
 }
 
-/// Appends a number of four digits. It is a function of its own, so that the code of shorter ones stays small.
+/// Appends a number of four digits. A call of its own keeps the code of shorter numbers small.
 #[inline(never)]
 fn put_four_digits<const N: usize>(number: u64, line: &mut ArrayVec<u8, N>)
     requires digits { (1000 ≤ number) × (number < 10000) }
@@ -52,7 +52,7 @@ fn put_four_digits<const N: usize>(number: u64, line: &mut ArrayVec<u8, N>)
     line.push(b'0' + (number % 10) as u8);
 }
 
-/// Appends a number of five digits or more. It is a function of its own, so that a short number needs no buffer.
+/// Appends a number of five digits or more. In a call of its own, since a short number needs no buffer.
 #[inline(never)]
 fn put_long_number<const N: usize>(number: u64, line: &mut ArrayVec<u8, N>)
     requires { array_vec_len line.old + length (decimal number) ≤ N }
@@ -63,8 +63,8 @@ fn put_long_number<const N: usize>(number: u64, line: &mut ArrayVec<u8, N>)
     put_bytes(&digits[start..], line);
 }
 
-/// Appends the stamp of a moment of `moment` milliseconds, as `12.050`: its seconds in decimal, a point, and the
-/// milliseconds past them in three digits. That is at most 21 bytes, for which the line must have room.
+/// Appends the stamp of a moment of `moment` milliseconds, as `12.050`: the seconds in decimal, a point, and the
+/// remaining milliseconds in three digits. The line must have room for the stamp, at most 21 bytes.
 #[inline(always)]
 pub fn put_stamp<const N: usize>(moment: u64, line: &mut ArrayVec<u8, N>)
     requires { array_vec_len line.old + length (stamp moment) ≤ N }

@@ -1,4 +1,4 @@
-//! The reader that finds the lines of bytes that come in pieces.
+//! The reader of lines from bytes in pieces.
 
 ghost use Rattle.std.specs.Prelude.{◌≡◌, ◌<◌, ◌≤◌, IsTrue, IfSome, List, ℕ, [], ◌++◌, length, position};
 ghost use Rattle.srcp_text.specs.Marks.{is_lf, marks, without_cr};
@@ -11,20 +11,20 @@ use std::marker::Model;
 // The most bytes of a line, the CR counted.
 const LONGEST: usize = 1000;
 
-/// What a feed found.
+/// Says what a feed found.
 #[derive(Clone, Copy, Debug, PartialEq, Eq)]
 pub enum Fed {
     /// A line of at most 1,000 bytes, the CR counted. `LineReader::line` lends it.
     Line {
-        /// The offset in the piece after its LF: the next feed goes on there.
+        /// The offset in the piece after the LF. The next feed goes on there.
         stop: usize,
     },
-    /// A line of more than 1,000 bytes, which are not kept.
+    /// A line of more than 1,000 bytes. No byte of the line is kept.
     TooLong {
-        /// The offset in the piece after its LF: the next feed goes on there.
+        /// The offset in the piece after the LF. The next feed goes on there.
         stop: usize,
     },
-    /// No LF: the rest of the piece belongs to a line that a later piece ends.
+    /// No LF. The rest of the piece belongs to a line, and a later piece ends the line.
     More,
 }
 
@@ -38,9 +38,9 @@ enum State {
     Found,
 }
 
-/// Finds the lines of bytes, in whatever pieces they come. The line form is that of SRCP 0.8: a line ends in LF, and
-/// one CR just before the LF is dropped. At most 1,000 bytes may stand before the LF, the CR counted. The bytes of a
-/// begun line stand in the value itself, so no memory is allocated.
+/// Finds the lines of bytes, in whatever pieces the bytes come. The form of a line is from SRCP 0.8: a line ends in LF,
+/// and a single CR just before the LF is dropped. At most 1,000 bytes may stand before the LF, the CR counted. The
+/// bytes of a begun line stand in the value itself: no memory is allocated.
 #[derive(Debug, Drop)]
 pub struct LineReader {
     // The first `len` bytes are those of the line.
@@ -73,21 +73,21 @@ impl LineReader {
         }
     }
 
-    /// Takes the bytes of `piece` from the offset `start` up to the first LF, or all of them if there is none. Returns
-    /// what it found. After a line, or one too long, the next feed begins a new line.
+    /// Takes the bytes of `piece` from the offset `start` up to the first LF, or all of the rest if there is no LF.
+    /// Returns what the feed found. The feed after a line, kept or too long, begins a new line.
     pub fn feed(&mut self, piece: &[u8], start: usize) -> Fed
         requires { start ≤ length piece.now }
-        // It stops after the first LF, if there is one.
+        // The feed stops after the first LF, if there is one.
         ensures stop { stop_of result ≡ next_stop piece.now start }
-        // So the next feed may go on there, and comes nearer to the end of the piece.
+        // The next feed may go on there, nearer to the end of the piece.
         ensures within { IfSome (stop_of result)
             (λ stop. (start < stop) × (stop ≤ length piece.now)) }
         ensures no_line { ¬ IsTrue (is_line result) → self.new.line ≡ [] }
-        // It adds this mark to those of the bytes fed earlier, or none.
+        // The feed adds this mark, or none, to the marks of the bytes fed earlier.
         ensures marks { (fed : List ℕ) → StandsAt fed self.old
             → marks (fed ++ consumed piece.now start result)
             ≡ marks fed ++ new_marks result self.new.line }
-        // It then stands at the bytes that have been fed.
+        // The reader then stands at the bytes fed in all.
         ensures stands { (fed : List ℕ) → StandsAt fed self.old
             → StandsAt (fed ++ consumed piece.now start result) self.new }
         // The same as one equation.
@@ -102,8 +102,8 @@ impl LineReader {
         self.end(start + len + 1)
     }
 
-    /// Lends the line that the last feed found, without its LF and a CR just before it. It is empty if
-    /// the last feed found none.
+    /// Lends the line of the last feed, without the LF and a CR just before the LF. Lends no bytes unless the last feed
+    /// returned `Fed::Line`.
     pub fn line(&self) -> &[u8]
         ensures { result.now ≡ self.now.line }
     {

@@ -6,11 +6,11 @@ ghost use Rattle.srcp_text.specs.Words.{is_blank, is_filled, is_keyword, words_o
 
 use crate::iter::Words;
 
-/// Returns the words of a line, the first one first. They are cut at runs of space and tab, also at both ends of the
-/// line. Every other byte belongs to a word.
+/// Returns the words of a line, in order. Runs of spaces and tabs separate words, also at both ends of the line. Every
+/// other byte belongs to a word.
 pub fn words(line: &[u8]) -> Words<'_>
     ensures words { result ≡ words_of line.now }
-    // So they can be counted.
+    // A line has no more words than bytes.
     ensures few { length result ≤ length line.now }
 {
     Words::of(line)
