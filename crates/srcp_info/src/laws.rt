@@ -1,14 +1,14 @@
-//! Laws of all lines, and of all that a client holds. Each function does nothing: its `ensures` is the law.
+//! Laws of all lines, and of the rows of a client. Each function does nothing: its `ensures` is the law.
 
 ghost use Rattle.srcp_info.specs.Laws.{ChangesHaveLines, RepliesHaveLines, LinesDiffer, LinesReadAgain, BytesHoldOnce};
 ghost use Rattle.srcp_info.specs.Laws.{ClientRises, ClientFollows};
 
-/// States that the line of a well-formed change has at most 126 bytes, of which the last is LF and no other.
+/// States: the line of a well-formed change has at most 126 bytes. Its last byte is LF, and no other byte is.
 pub fn changes_have_lines()
     ensures { ChangesHaveLines }
 {}
 
-/// States the same of the line of a well-formed reply, at a moment of 64 bits in milliseconds.
+/// States the same of the line of a well-formed reply, at any moment of 64 bits in milliseconds.
 pub fn replies_have_lines()
     ensures { RepliesHaveLines }
 {}
@@ -18,12 +18,12 @@ pub fn lines_differ()
     ensures { LinesDiffer }
 {}
 
-/// States that the line of a well-formed change is read as that change.
+/// States that reading the line of a well-formed change gives back the change.
 pub fn lines_read_again()
     ensures { LinesReadAgain }
 {}
 
-/// States that bytes are the lines of one list of changes alone, and then one line that has begun.
+/// States that bytes are the lines of a single list of changes, and then a single begun line.
 pub fn bytes_hold_once()
     ensures { BytesHoldOnce }
 {}
@@ -33,7 +33,7 @@ pub fn client_rises()
     ensures { ClientRises }
 {}
 
-/// States that applying a line's change gives the rows of a client the change's effect.
+/// States that applying the line of a change has the effect of the change on the rows of a client.
 pub fn client_follows()
     ensures { ClientFollows }
 {}

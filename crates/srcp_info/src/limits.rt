@@ -3,10 +3,10 @@
 /// The greatest number of a bus. The least is 1: bus 0 is the server itself.
 pub const GREATEST_BUS: u8 = 250;
 
-/// The greatest address of a locomotive, which is that of NMRA's DCC.
+/// The greatest address of a locomotive, from NMRA's DCC.
 pub const GREATEST_GL: u32 = 10239;
 
-/// The greatest address of an accessory, which is that of NMRA's DCC.
+/// The greatest address of an accessory, from NMRA's DCC.
 pub const GREATEST_GA: u32 = 2044;
 
 /// The greatest number of a sensor.
@@ -24,7 +24,7 @@ pub const MOST_STEPS: u32 = 1000;
 /// The most functions of a locomotive.
 pub const MOST_FUNCTIONS: u32 = 29;
 
-/// The greatest speed, and the greatest of the greatest speeds that a client may give.
+/// The greatest speed, and the greatest limit of speed that a client may give.
 pub const GREATEST_SPEED: u32 = 65535;
 
 /// The most seconds for which a lock is set.
@@ -36,11 +36,11 @@ pub const MOST_MILLISECONDS: u32 = 60000;
 /// The most bytes of the text of a power row.
 pub const LONGEST_TEXT: usize = 80;
 
-/// The most bytes of a piece: what a connection is handed at once.
+/// The most bytes of a piece: what one call hands to a connection.
 pub const MOST_IN_PIECE: usize = 256;
 
-/// The most bytes of a line, its LF included.
+/// The most bytes of a line, LF included.
 pub const LONGEST_LINE: usize = 126;
 
-/// The most bytes of the line of a reply that shows no row, its LF included.
+/// The most bytes of the line of a reply without a row, LF included.
 pub const LONGEST_SHORT_REPLY: usize = 64;

@@ -1,4 +1,4 @@
-//! The rows of a client that applies the lines that it is sent.
+//! The rows of a client, which applies each line sent to the client.
 
 ghost use Rattle.std.specs.Prelude.{◌≡◌, ◌+◌, ◌<◌, true, false, not, [], length, Err, OnOk, OnErr};
 ghost use Rattle.std.specs.List.{filter, AllByRecursion};
@@ -20,13 +20,13 @@ use std::marker::Model;
 /// Says why a line was not applied.
 #[derive(Clone, Copy, Debug, PartialEq, Eq)]
 pub enum MirrorFault {
-    /// It is not the line of a well-formed change.
+    /// No well-formed change has this line.
     NotInfo,
-    /// Memory for one more row is refused.
+    /// Memory for another row is refused.
     Memory,
 }
 
-/// Holds the rows of a client that applies each line that it is sent. Contracts see it as the list of the rows, by
+/// Holds the rows of a client, which applies each line sent to the client. Contracts see the list of the rows, by
 /// rising key.
 #[derive(Drop)]
 pub struct Mirror {
@@ -59,9 +59,12 @@ impl Mirror {
         }
     }
 
-    /// Applies a line, without its LF: its row is put at its key, or all rows of its device are removed. Answers
-    /// `NotInfo` if it is not the line of a well-formed change, and `Memory` if memory for one more row is refused. A
-    /// refusal leaves the mirror as it was.
+    /// Applies a line, given without the LF: puts the row at its key, or removes all rows of the device.
+    ///
+    /// # Errors
+    /// Returns one of these, and then the mirror stays as it was:
+    /// - `NotInfo` if no well-formed change has this line;
+    /// - `Memory` if memory for another row is refused.
     pub fn apply(&mut self, line: &[u8]) -> Result<(), MirrorFault>
         ensures ok { OnOk result ((change : Change)
             × IsLineOf line.now change × (self.new ≡ changed change self.old)) }

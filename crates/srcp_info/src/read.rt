@@ -31,8 +31,8 @@ struct Tail {
     value: Value,
 }
 
-// Each of the next functions reads the tail of a line. A text that no such line has gives any answer: what was read is
-// written again and compared before it is returned.
+// Each of the next functions reads the tail of a line. A text that no such line has gives any answer: `read_change`
+// writes the answer again and compares before it returns.
 
 fn read_session(text: &[u8]) -> Tail
     ensures { (address : ℕ) (mode : Mode) → address < 2 ^ 32
@@ -205,7 +205,7 @@ fn read_value(kind: InfoKind, group: Group, text: &[u8]) -> Tail
     }
 }
 
-/// Holds what the words of a line say up to those of its group.
+/// Holds what the words of a line say up to the words of the group.
 #[derive(Clone, Copy)]
 struct Head {
     moment: u64,
@@ -214,7 +214,7 @@ struct Head {
     group: Group,
 }
 
-/// Returns the first words of a line, up to those of its group, and the text after them.
+/// Returns the first words of a line, up to the words of the group, and the text after them.
 fn next_head(line: &[u8]) -> (Head, &[u8])
     ensures { (moment : ℕ) (kind : InfoKind) (bus : ℕ) (group : Group) (more : List (List ℕ))
         → moment < 2 ^ 64 → bus < 2 ^ 8
@@ -236,7 +236,7 @@ fn next_head(line: &[u8]) -> (Head, &[u8])
     (head, rest)
 }
 
-/// Returns the change that has this line if the line is that of a well-formed change. Returns any change otherwise.
+/// Returns the change of this line, if a well-formed change has the line. Returns any change otherwise.
 fn change_of(line: &[u8]) -> Change
     ensures { (change : Change) → IsLineOf line.now change → result ≡ change }
 {
@@ -275,9 +275,9 @@ fn change_of(line: &[u8]) -> Change
     }
 }
 
-/// Returns the change that has this line, without its LF, or `None` if no well-formed change has it. Allocates no
-/// memory. The line's form is that of SRCP 0.8. A line with another spelling, as with two spaces, a leading zero or
-/// small letters, is none.
+/// Returns the change of a line, given without the LF, or `None` if no well-formed change has this line. Allocates no
+/// memory. The form of a line is from SRCP 0.8. Any other spelling gives `None`, as two spaces, a leading zero or small
+/// letters.
 pub fn read_change(line: &[u8]) -> Option<Change>
     ensures { Reads line.now result }
 {

@@ -1,4 +1,4 @@
-//! The words of a line, one after another. Each is read for what it would say in a line of this server.
+//! The words of a line in order, each read as a word of an information line.
 
 ghost use Rattle.std.specs.Prelude.{◌≡◌, ℕ, ◌^◌, ◌<◌, ◌≤◌, ◌++◌, ◌∷◌, List, Bool, false, length, map, decimal, codes};
 ghost use Rattle.std.specs.Prelude.{position, ◌==◌};
@@ -28,15 +28,15 @@ pub(crate) enum InfoKind {
     Term,
 }
 
-/// Returns the offset of the first such byte.
+/// Returns the offset of the first wanted byte, or `None` if the text has none.
 fn place_of(wanted: u8, text: &[u8]) -> Option<usize>
     ensures { result ≡ position (λ byte. byte == wanted) text.now }
 {
     text.iter().position(|byte| *byte == wanted)
 }
 
-/// Returns what stands before the first separator, and what stands after it. Without a separator that is all of the
-/// text and nothing.
+/// Returns what stands before the first separator, and what stands after it. Returns all of the text and nothing if
+/// there is no separator.
 pub(crate) fn cut(text: &[u8], separator: u8) -> (&[u8], &[u8])
     ensures before { result.0.now ≡ before_first (λ byte. byte == separator) text.now }
     ensures after { result.1.now ≡ after_first (λ byte. byte == separator) text.now }
@@ -47,7 +47,7 @@ pub(crate) fn cut(text: &[u8], separator: u8) -> (&[u8], &[u8])
     }
 }
 
-/// Returns the first word, and the text after the space that follows it.
+/// Returns the first word, and the text after the space behind the word.
 pub(crate) fn next_word(text: &[u8]) -> (&[u8], &[u8])
     ensures { (word : List ℕ) (others : List (List ℕ)) → list_any is_space word ≡ false
         → text.now ≡ join_with_byte 32 (word ∷ others)
@@ -56,7 +56,7 @@ pub(crate) fn next_word(text: &[u8]) -> (&[u8], &[u8])
     cut(text, b' ')
 }
 
-/// Returns the first word as a number, and the text after the space that follows it.
+/// Returns the first word as a number, and the text after the space behind the word.
 pub(crate) fn next_number(text: &[u8]) -> (u32, &[u8])
     ensures { (number : ℕ) (others : List (List ℕ)) → number < 2 ^ 32
         → text.now ≡ join_with_byte 32 (decimal number ∷ others)
@@ -66,7 +66,7 @@ pub(crate) fn next_number(text: &[u8]) -> (u32, &[u8])
     (read_number(word, u32::MAX).unwrap_or(0), rest)
 }
 
-/// Returns the group that one word names.
+/// Returns the group of a single word, or `None` if no group has this name.
 fn group_named(word: &[u8]) -> Option<Group>
     ensures session { word.now ≡ codes "SESSION" → result ≡ Some Group.Session }
     ensures power { word.now ≡ codes "POWER" → result ≡ Some Group.Power }
@@ -85,7 +85,7 @@ fn group_named(word: &[u8]) -> Option<Group>
     }
 }
 
-/// Returns the group that the first word names, or the first two, and the text after them.
+/// Returns the group of the first word, or of the first two, and the text after the group.
 pub(crate) fn next_group(text: &[u8]) -> (Group, &[u8])
     ensures { (group : Group) (others : List (List ℕ))
         → text.now ≡ join_with_byte 32 (group_words group ++ others)
@@ -98,7 +98,7 @@ pub(crate) fn next_group(text: &[u8]) -> (Group, &[u8])
     }
 }
 
-/// Returns the group of locks that the word after LOCK names, and the text after it.
+/// Returns the group of locks for the word after LOCK, and the text after this word.
 fn next_lock_group(text: &[u8]) -> (Group, &[u8])
     ensures gl { (others : List (List ℕ)) → text.now ≡ join_with_byte 32 (codes "GL" ∷ others)
         → (result.0 ≡ Group.LockGl) × (result.1.now ≡ join_with_byte 32 others) }
@@ -123,7 +123,7 @@ pub(crate) fn kind_of(code: &[u8]) -> InfoKind
     }
 }
 
-/// Returns the mode of a session that a text names.
+/// Returns the mode of a session with this name.
 pub(crate) fn mode_named(text: &[u8]) -> Mode
     ensures { (mode : Mode) → text.now ≡ mode_word mode → result ≡ mode }
 {
@@ -133,7 +133,7 @@ pub(crate) fn mode_named(text: &[u8]) -> Mode
     }
 }
 
-/// Returns the decoder protocol that the first word names, and the text after it.
+/// Returns the decoder protocol of the first word, and the text after the word.
 pub(crate) fn next_letter(text: &[u8]) -> (Letter, &[u8])
     ensures { (letter : Letter) (others : List (List ℕ))
         → text.now ≡ join_with_byte 32 (letter_word letter ∷ others)
@@ -148,7 +148,7 @@ pub(crate) fn next_letter(text: &[u8]) -> (Letter, &[u8])
     }
 }
 
-/// Returns whether the first word is 1, and the text after it.
+/// Returns whether the first word is 1, and the text after the word.
 pub(crate) fn next_bit(text: &[u8]) -> (bool, &[u8])
     ensures { (on : Bool) (others : List (List ℕ))
         → text.now ≡ join_with_byte 32 (bit_word on ∷ others)
@@ -161,7 +161,7 @@ pub(crate) fn next_bit(text: &[u8]) -> (bool, &[u8])
     }
 }
 
-/// Returns whether the first word is ON, and the text after it.
+/// Returns whether the first word is ON, and the text after the word.
 pub(crate) fn next_switch(text: &[u8]) -> (bool, &[u8])
     ensures { (on : Bool) (others : List (List ℕ))
         → text.now ≡ join_with_byte 32 (switch_word on ∷ others)

@@ -13,7 +13,7 @@ use crate::limits::{
 };
 use crate::value::{Bits, DriveMode, Text, Value};
 
-/// Returns whether a byte can stand in a word of a text: it is no control byte, space or DEL.
+/// Returns whether a byte can stand in a word of a text: control bytes, space and DEL cannot.
 fn is_text_byte(byte: u8) -> bool
     ensures { result ≡ is_text_byte byte }
 {
@@ -26,7 +26,7 @@ fn are_text_bytes(bytes: &[u8]) -> bool
     bytes.iter().all(|byte| is_text_byte(*byte))
 }
 
-/// Returns whether a word is one of a text: one such byte or more.
+/// Returns whether a word can stand in a text: at least 1 byte, each of which can stand in a word.
 fn is_text_word(word: &[u8]) -> bool
     ensures { result ≡ is_text_word word.now }
 {
@@ -47,8 +47,8 @@ fn are_text_words(text: &[u8]) -> bool
         .all(|word| is_text_word(word))
 }
 
-/// Returns whether a power row can show the text. It has at most 80 bytes, no control bytes and no DEL, and each of
-/// its spaces stands between two words.
+/// Returns whether a power row can show the text. Such a text has at most 80 bytes, no control bytes and no DEL. Each
+/// space stands between two words.
 pub fn is_text(text: &[u8]) -> bool
     ensures { result ≡ is_text text.now }
 {
@@ -75,7 +75,7 @@ fn is_address(group: Group, bus: u8, address: u32) -> bool
     }
 }
 
-/// Returns whether the group is one of locks.
+/// Returns whether the group has locks.
 fn is_lock(group: Group) -> bool
     ensures { result ≡ is_lock group }
 {
@@ -85,8 +85,8 @@ fn is_lock(group: Group) -> bool
     }
 }
 
-/// Returns whether a locomotive can have this speed. None is above the greatest, unless that is 0, and an emergency
-/// stop has speed 0.
+/// Returns whether a locomotive can have this speed. No speed is above the greatest, unless the greatest is 0. The
+/// speed of an emergency stop is 0.
 fn is_speed(mode: u32, v: u32, vmax: u32) -> bool
     ensures { IsTrue result ↔ IsSpeed mode v vmax }
 {

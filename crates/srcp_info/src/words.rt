@@ -35,7 +35,7 @@ pub(crate) fn switch_word(on: bool) -> &'static [u8]
     if on { b"ON" } else { b"OFF" }
 }
 
-/// Returns the number of the line of a value: 101 for what a device is, 100 for what it does.
+/// Returns the number of the line of a value: 101 for what a device is, 100 for what the device does.
 pub(crate) fn value_code(value: &Value) -> &'static [u8; 3]
     ensures { result.now ≡ value_code value.now }
 {

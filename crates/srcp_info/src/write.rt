@@ -16,11 +16,11 @@ use crate::words::{code_text, letter_word, mode_word, switch_word, value_code};
 use arrayvec::ArrayVec;
 use srcp_text::{put_bytes, put_number, put_stamp};
 
-/// Holds a line that is being written, with room for the longest line. Its bytes stand in the value itself, so it
-/// allocates no memory.
+/// Holds a line while its bytes are written, with room for the longest line. The bytes stand in the value itself: no
+/// memory is allocated.
 pub type InfoLine = ArrayVec<u8, LONGEST_LINE>;
 
-/// Appends a fixed number of bytes. They are pushed one by one, which costs less than a copy.
+/// Appends a fixed number of bytes by a push of each, which costs less than a copy.
 #[inline(always)]
 fn put_fixed<const M: usize, const N: usize>(bytes: &[u8; M], buffer: &mut ArrayVec<u8, N>)
     requires { array_vec_len buffer.old + length bytes.now ≤ N }
@@ -40,7 +40,7 @@ fn put_word<const N: usize>(word: &[u8], buffer: &mut ArrayVec<u8, N>)
     put_bytes(word, buffer);
 }
 
-/// Appends a space and a bit: 1 if it is on, else 0.
+/// Appends a space and a bit: 1 for on, 0 for off.
 fn put_bit<const N: usize>(on: bool, buffer: &mut ArrayVec<u8, N>)
     requires { array_vec_len buffer.old + 1 + length (bit_word on) ≤ N }
     ensures { buffer.new.items ≡ buffer.old.items ++ 32 ∷ bit_word on }
@@ -189,8 +189,8 @@ fn put_info<const N: usize>(
     put_group(group, buffer);
 }
 
-/// Writes the line of a row, with its LF, into an empty buffer with room for the longest line. It has at most 126
-/// bytes, and allocates no memory. It is the line that `write_change` writes of a change to this row.
+/// Writes the line of a row, LF included, into an empty buffer with room for the longest line. The line has at most 126
+/// bytes, and is the line by `write_change` of a change to this row. Allocates no memory.
 pub fn write_shown<const N: usize>(shown: &Shown, buffer: &mut ArrayVec<u8, N>)
     requires well_formed { IsWellFormedShown shown.now }
     requires fits { LONGEST_LINE ≤ N }
@@ -223,9 +223,9 @@ fn write_gone<const N: usize>(stamp: u64, device: &Device, buffer: &mut ArrayVec
     buffer.push(b'\n');
 }
 
-/// Writes the line of a change, with its LF, into an empty buffer with room for the longest line. It has at most 126
-/// bytes, and allocates no memory. The line's form is that of SRCP 0.8, with one space between two words, numbers
-/// without leading zeros, and capital letters alone.
+/// Writes the line of a change, LF included, into an empty buffer with room for the longest line. The line has at most
+/// 126 bytes. The form is from SRCP 0.8, with a single space between two words, numbers without leading zeros, and
+/// capital letters alone. Allocates no memory.
 pub fn write_change<const N: usize>(change: &Change, buffer: &mut ArrayVec<u8, N>)
     requires well_formed { IsWellFormed change.now }
     requires fits { LONGEST_LINE ≤ N }
@@ -252,7 +252,7 @@ fn write_text<const N: usize>(stamp: u64, text: &[u8], buffer: &mut ArrayVec<u8,
     buffer.push(b'\n');
 }
 
-/// Writes the reply to GO: the moment, and the id of the session that begins.
+/// Writes the reply to GO: the moment, and the id of the new session.
 fn write_go<const N: usize>(stamp: u64, id: u32, buffer: &mut ArrayVec<u8, N>)
     requires fits { LONGEST_LINE ≤ N }
     requires empty { buffer.old.items ≡ [] }
@@ -265,8 +265,9 @@ fn write_go<const N: usize>(stamp: u64, id: u32, buffer: &mut ArrayVec<u8, N>)
     buffer.push(b'\n');
 }
 
-/// Writes the line of a reply at a moment of `stamp` milliseconds, with its LF, into an empty buffer. A row that is
-/// shown keeps its own stamp. The line has at most 126 bytes, and at most 64 if it shows no row. Allocates no memory.
+/// Writes the line of a reply at a moment of `stamp` milliseconds, LF included, into an empty buffer with room for the
+/// longest line. A row in a reply keeps its own stamp. The line has at most 126 bytes, and at most 64 without a row.
+/// Allocates no memory.
 pub fn write_reply<const N: usize>(stamp: u64, reply: &Reply, buffer: &mut ArrayVec<u8, N>)
     requires well_formed { IsWellFormedReply reply.now }
     requires fits { LONGEST_LINE ≤ N }
