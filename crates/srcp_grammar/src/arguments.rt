@@ -243,8 +243,8 @@ pub(crate) fn parse_drive(bus: &Bus, mut words: Words<'_>) -> Result<Drive, Code
     })
 }
 
-/// Reads the functions, each 0 or 1. More than a locomotive can have are 418, whatever they are. If one is neither, the
-/// inner result is 412.
+/// Reads the functions, each 0 or 1. More than a locomotive can have are 418, whatever the words are. The inner result
+/// is 412 if a word is neither 0 nor 1.
 fn parse_functions(mut words: Words<'_>) -> Result<Result<Bits, Code>, Code>
     ensures { result ≡ (if nat_lt MOST_FUNCTIONS (length words.entry) then Err TooLong else Ok (bits_of words.entry)) }
 {
@@ -266,8 +266,8 @@ fn parse_functions(mut words: Words<'_>) -> Result<Result<Bits, Code>, Code>
     Ok(Ok(functions))
 }
 
-/// Refuses a function that is neither 0 nor 1 behind `before` others. With those that follow they may be too many,
-/// which is 418.
+/// Refuses a function that is neither 0 nor 1 behind `before` others. Returns 418 if these and the words that follow
+/// are too many, else 412 inside.
 #[cold]
 fn refused(before: usize, mut words: Words<'_>, code: Code) -> Result<Result<Bits, Code>, Code>
     requires { before < MOST_FUNCTIONS }

@@ -16,7 +16,7 @@ pub const SERVER: Bus = Bus {
     fb_ports: 0,
 };
 
-/// Returns the bus of this number: the server or one of the layout.
+/// Returns the bus of this number: the server, or a bus of the layout. Returns `None` for any other number.
 pub(crate) fn bus_at(buses: &[Bus], number: u8) -> Option<Bus>
     ensures { result ≡ bus_at buses.now number }
 {
@@ -26,7 +26,7 @@ pub(crate) fn bus_at(buses: &[Bus], number: u8) -> Option<Bus>
     bus_numbered(buses, number).copied()
 }
 
-/// Returns whether the group that the third word of a command names is on the bus.
+/// Returns whether the bus has the group, given by the third word of a command.
 pub(crate) fn has_group(bus: &Bus, group: CommandGroup) -> bool
     ensures { result ≡ has_group bus.now group }
 {

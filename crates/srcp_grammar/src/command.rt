@@ -2,7 +2,7 @@
 
 use srcp_info::{Bits, Letter, Text};
 
-/// Lists the operations, which the first word of a command names.
+/// Lists the operations, named by the first word of a command.
 #[derive(Clone, Copy, Debug, PartialEq, Eq)]
 pub enum Operation {
     Get,
@@ -15,7 +15,7 @@ pub enum Operation {
     Reset,
 }
 
-/// Lists what the third word of a command names.
+/// Lists what the third word of a command can name.
 #[derive(Clone, Copy, Debug, PartialEq, Eq)]
 pub enum CommandGroup {
     Session,
@@ -26,7 +26,7 @@ pub enum CommandGroup {
     Lock,
 }
 
-/// Lists the groups whose devices can be locked, as the word behind LOCK names them.
+/// Lists the groups of lockable devices, as the word behind LOCK names them.
 #[derive(Clone, Copy, Debug, PartialEq, Eq)]
 pub enum DeviceGroup {
     /// Locomotives.
@@ -53,13 +53,13 @@ pub struct Drive {
     pub bus: u8,
     /// The locomotive's address.
     pub address: u32,
-    /// The number of its `DriveMode`.
+    /// The drive mode, by its number in `DriveMode`.
     pub mode: u32,
-    /// V, the speed, from 0 to 65535, and at most `vmax` unless that is 0. In an emergency stop it is kept as 0.
+    /// V, the speed, from 0 to 65535, and at most `vmax` unless `vmax` is 0. In an emergency stop 0 is kept.
     pub v: u32,
-    /// Vmax, the greatest speed, from 0 to 65535. If it is 0 there is none.
+    /// Vmax, the greatest speed, from 0 to 65535. Zero means no limit.
     pub vmax: u32,
-    /// The first functions, true if on, at most 29. Those that are not given keep their values.
+    /// The first functions, true if on, at most 29. Functions not given keep their values.
     pub functions: Bits,
 }
 
@@ -72,10 +72,10 @@ pub struct Switch {
     pub address: u32,
     /// The port, from 0 to one less than the bus gives each accessory.
     pub port: u8,
-    /// True if it is to be on, which is 1 in a line.
+    /// True for on, which is 1 in a line.
     pub on: bool,
-    /// After how many milliseconds a port that is on falls back, from 0 to 60000. It is `None` for the word -1. Both 0
-    /// and `None` are never.
+    /// After how many milliseconds a port that is on falls back, from 0 to 60000. The word -1 is `None`. Both 0 and
+    /// `None` mean never.
     pub time: Option<u32>,
 }
 
@@ -84,9 +84,9 @@ pub struct Switch {
 pub struct PowerSwitch {
     /// The bus.
     pub bus: u8,
-    /// True if it is to be on.
+    /// True for on.
     pub on: bool,
-    /// The reason, in the sender's words. It may be empty.
+    /// The reason, in the sender's words. May be empty.
     pub text: Text,
 }
 
@@ -95,9 +95,9 @@ pub struct PowerSwitch {
 pub struct Sensor {
     /// The bus.
     pub bus: u8,
-    /// The feedback port, from 1 to the last that the bus has.
+    /// The feedback port, from 1 to the last of the bus.
     pub port: u32,
-    /// True if it is to be on, which is 1 in a line.
+    /// True for on, which is 1 in a line.
     pub on: bool,
 }
 
@@ -106,7 +106,7 @@ pub struct Sensor {
 pub struct TimedLock {
     /// The device.
     pub target: Target,
-    /// For how many seconds, from 0 to 86400. If they are 0 it stays as long as the session.
+    /// For how many seconds, from 0 to 86400. A lock of 0 seconds stays as long as the session.
     pub seconds: u32,
 }
 
@@ -123,7 +123,7 @@ pub struct NewGl {
     pub version: u32,
     /// How many speed steps the decoder has, from 1 to 1000.
     pub steps: u32,
-    /// How many functions it has, from 0 to 29.
+    /// How many functions the locomotive has, from 0 to 29.
     pub functions: u32,
 }
 
@@ -140,18 +140,18 @@ pub struct NewGa {
     pub ports: u8,
 }
 
-/// A command of SRCP 0.8, one variant for each pair of an operation and a group, with the words as read. `bus` is the
-/// number of a bus, from 1 to 250. `address` is that of a device on it, from 1 to the greatest that the bus has.
+/// Holds a command of SRCP 0.8, with the words as read. Each pair of an operation and a group has a variant. `bus` is
+/// the number of a bus, from 1 to 250. `address` is the address of a device on the bus, from 1 to the greatest there.
 #[derive(Clone, Copy, Debug, PartialEq, Eq)]
 pub enum Command {
     /// Asks for the row of a session.
     GetSession {
-        /// The id that was named. No session has the id 0.
+        /// The named id. No session has the id 0.
         session: u32,
     },
-    /// Ends the session that sends it.
+    /// Ends the sender's session.
     TermSession {
-        /// The id that was named, if any.
+        /// The named id, if any.
         session: Option<u32>,
     },
     /// Asks for the power of a bus.
@@ -179,7 +179,7 @@ pub enum Command {
     SetGl(Drive),
     /// Answers as `SetGl` does, and changes nothing.
     CheckGl(Drive),
-    /// Makes a locomotive, or makes it anew if it has other parameters.
+    /// Makes a locomotive, or makes the locomotive anew if its parameters are others.
     InitGl(NewGl),
     /// Removes a locomotive, and its lock first.
     TermGl {
@@ -201,7 +201,7 @@ pub enum Command {
     SetGa(Switch),
     /// Answers as `SetGa` does, and changes nothing.
     CheckGa(Switch),
-    /// Makes an accessory, or makes it anew if it has another protocol.
+    /// Makes an accessory, or makes the accessory anew if its protocol is another.
     InitGa(NewGa),
     /// Removes an accessory, and its lock first.
     TermGa {
@@ -214,7 +214,7 @@ pub enum Command {
     GetFb {
         /// The bus.
         bus: u8,
-        /// The feedback port, from 1 to the last that the bus has.
+        /// The feedback port, from 1 to the last of the bus.
         port: u32,
     },
     /// Sets a feedback port, in place of a sensor.
@@ -228,7 +228,7 @@ pub enum Command {
     },
     /// Asks for the lock of a device.
     GetLock(Target),
-    /// Locks a device for the session, or renews its lock.
+    /// Locks a device for the session, or renews the lock.
     SetLock(TimedLock),
     /// Answers as `SetLock` does, and changes nothing.
     CheckLock(TimedLock),

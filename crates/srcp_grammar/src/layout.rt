@@ -7,19 +7,19 @@ use srcp_info::{GREATEST_BUS, GREATEST_FB, GREATEST_GA, GREATEST_GL, MOST_PORTS}
 use std::alloc::Global;
 use std::marker::Model;
 
-/// What a bus offers: a group whose field is 0 or false is not on it. Bus 0 of SRCP 0.8 is the server itself, and is in
-/// no layout.
+/// Says what a bus offers. A group with 0 or false in its field is not on the bus. Bus 0 of SRCP 0.8 is the server
+/// itself, and is in no layout.
 #[derive(Clone, Copy, Debug, PartialEq, Eq)]
 pub struct Bus {
-    /// Its number, from 1 to 250.
+    /// The number of the bus, from 1 to 250.
     pub number: u8,
-    /// True if its power can be switched.
+    /// True if the power of the bus can be switched.
     pub power: bool,
     /// The greatest address of a locomotive, at most 10239.
     pub gl_max: u32,
     /// The greatest address of an accessory, at most 2044.
     pub ga_max: u32,
-    /// How many ports an accessory has, from 2 to 8. It says nothing if `ga_max` is 0.
+    /// How many ports an accessory has, from 2 to 8. Says nothing if `ga_max` is 0.
     pub ga_ports: u8,
     /// How many feedback ports there are, at most 4096.
     pub fb_ports: u32,
@@ -86,7 +86,7 @@ impl Layout {
         }
     }
 
-    /// Adds a bus, in the order of the numbers.
+    /// Adds a bus at the place of its number.
     ///
     /// # Errors
     /// Returns the first of these that holds, and then the layout stays as it is:

@@ -6,15 +6,14 @@ ghost use Rattle.srcp_grammar.specs.Weight.{names_session, weight};
 use srcp_info::MOST_PORTS;
 use srcp_text::{Words, is_keyword, words};
 
-/// Limits the changes of a command: a lock and its device go, and an accessory has its row and those of its ports
-/// again.
+/// The most changes of a command: a lock and its device go, and an accessory gets its row and the rows of its ports.
 pub const MOST_CHANGES: usize = 3 + MOST_PORTS as usize;
 
-/// Returns how many changes a line of a command session can bring at most, by its words alone. Keywords are read in
+/// Returns how many changes a line of a command session can bring at most, by the words alone. Keywords are read in
 /// capital or small letters.
 /// - GET and CHECK bring none, nor does a line without words.
-/// - SET brings one.
-/// - GO, a line of the handshake, brings one: the row of its session.
+/// - SET brings 1.
+/// - GO, a line of the handshake, brings 1: the row of the session.
 /// - TERM 0 SESSION brings none, since what the end of a session changes is no change of the line.
 /// - Any other line brings at most `MOST_CHANGES`.
 pub fn weight(line: &[u8]) -> usize

@@ -21,8 +21,8 @@ use crate::single_words::{next_word, no_more, parse_group, parse_operation};
 use srcp_info::{Code, GREATEST_BUS};
 use srcp_text::{Words, read_number, words};
 
-/// Returns the command of the layout that a line of a command session is. Keywords are in capital or small letters.
-/// Spaces and tabs separate words.
+/// Returns the command of a line of a command session, by the layout. Keywords are in capital or small letters. Spaces
+/// and tabs separate words.
 ///
 /// # Errors
 /// Returns the first of these refusals:
@@ -33,7 +33,7 @@ use srcp_text::{Words, read_number, words};
 /// 5. 422 if the group is not on the bus;
 /// 6. 423 if the group does not have the operation;
 /// 7. 419 or 418 if words are missing or too many;
-/// 8. 412 or 420 for the first word that cannot stand where it does.
+/// 8. 412 or 420 for the first word not allowed at its place.
 pub fn parse_command(line: &[u8], layout: &Layout) -> Result<Command, Code>
     ensures reads { result ≡ reads layout.now line.now }
     ensures fits { IfOk result (IsCommandOf layout.now) }
@@ -54,7 +54,7 @@ fn parse_bus(buses: &[Bus], word: &[u8]) -> Result<Bus, Code>
     }
 }
 
-/// Reads the operation, the bus and the group, which has to be on it, and what the operation asks for.
+/// Reads the operation, the bus, the group, which has to be on the bus, and then the words of the operation.
 fn parse_words(buses: &[Bus], mut words: Words<'_>) -> Result<Command, Code>
     ensures { result ≡ parsed buses.now words.entry }
 {

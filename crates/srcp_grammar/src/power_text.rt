@@ -6,7 +6,7 @@ ghost use Rattle.srcp_grammar.specs.Grammar.{text_of};
 use srcp_info::{Code, LONGEST_TEXT, Text, is_text};
 use srcp_text::Words;
 
-/// Appends a word, for which there is room.
+/// Appends a word. The text must have room for the word.
 fn push_word(text: &mut Text, word: &[u8])
     requires { length text.old + length word.now ≤ LONGEST_TEXT }
     ensures { text.new ≡ text.old ++ word.now }
@@ -16,7 +16,7 @@ fn push_word(text: &mut Text, word: &[u8])
     }
 }
 
-/// Joins the words by one space each. If that can be no text it is 412.
+/// Joins the words by single spaces. Returns 412 if the result can be no text.
 pub(crate) fn parse_text(mut words: Words<'_>) -> Result<Text, Code>
     ensures { result ≡ text_of words.entry }
 {

@@ -13,7 +13,7 @@ use crate::layout::Bus;
 use srcp_info::{Code, Letter, MOST_MILLISECONDS};
 use srcp_text::{Words, is_keyword, read_number};
 
-/// Returns the next word. If there is none the command is too short: 419.
+/// Returns the next word. Without a word the command is too short: 419.
 pub(crate) fn next_word<'a>(words: &mut Words<'a>) -> Result<&'a [u8], Code>
     ensures { MatchResult result (λ word. words.old ≡ word.now ∷ words.new)
         (λ code. (words.old ≡ []) × (code ≡ TooShort)) }
@@ -24,7 +24,7 @@ pub(crate) fn next_word<'a>(words: &mut Words<'a>) -> Result<&'a [u8], Code>
     }
 }
 
-/// Checks that no word is left. If one is, the command is too long: 418.
+/// Checks for the end of the words. With a word left the command is too long: 418.
 pub(crate) fn no_more(mut words: Words<'_>) -> Result<(), Code>
     ensures { MatchResult result (λ _. words.entry ≡ [])
         (λ code. ((word : List ℕ) × (others : List (List ℕ)) × (words.entry ≡ word ∷ others)) × (code ≡ TooLong)) }
