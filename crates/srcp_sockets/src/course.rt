@@ -1,4 +1,4 @@
-//! Serving over the system.
+//! Serves real sockets: the theorem from the core to the system call.
 
 ghost use Rattle.std.specs.Prelude.{◌≡◌, ◌<◌, ◌+◌};
 ghost use Rattle.srcp_sockets.specs.Follows.{Follows};
@@ -10,9 +10,9 @@ use srcp_rules::Rows;
 use srcp_serve::{Served, serve};
 
 /// Serves the peers of a door for `turns` turns. Returns how many connections were opened, and how many calls of the
-/// door failed. Whatever the system answers, what socket k took is a prefix of what the course sends connection k,
-/// where connection k is fed a prefix of what socket k gave. In that course the core counted exactly the refusals of
-/// memory.
+/// door failed. Whatever the system answers, what socket k took is a prefix of what the course sends connection k.
+/// Connection k of that course is fed a prefix of what socket k gave. In that course the core counted exactly the
+/// refusals of memory.
 pub fn serve_sockets<R: Rows, S: System + Drop>(
     core: &mut Core<'_, R>,
     door: &mut SocketDoor<S>,

@@ -1,4 +1,4 @@
-//! What a door does at its end: it delivers what was taken.
+//! What a door does at its end: delivers the bytes that were taken.
 
 ghost use Rattle.std.specs.Prelude.{◌≡◌, length, All, true, false};
 ghost use Rattle.srcp_sockets.specs.Delivery.{HasEnded, HaveEnded, is_over};
@@ -9,10 +9,11 @@ ghost use Rattle.srcp_peers.specs.Peers.{is_waiting};
 use srcp_peers::peers::{flush, wake};
 use srcp_peers::{Flush, Peer, RETRY_DELAY, Ready, System};
 
-/// How often the door waits for the sockets at its end, at most.
+/// The most waits of a door for its sockets at its end.
 const MOST_LAST_WAITS: u32 = 1_000_000;
 
-/// Writes what is queued until the sockets took all, or until that time of the monotonic clock.
+/// Writes the queued bytes until the sockets took all, or until the monotonic clock shows `until`, in milliseconds.
+/// Gives up too if the clock cannot be read.
 pub(crate) fn deliver<S: System>(
     system: &mut S,
     peers: &mut [Peer],
@@ -43,14 +44,14 @@ pub(crate) fn deliver<S: System>(
     }
 }
 
-/// Returns whether nothing is queued that a socket may still take.
+/// Returns whether no byte is queued that a socket may still take.
 fn are_delivered(peers: &[Peer]) -> bool
     ensures { result ≡ true → All (λ peer. is_waiting peer ≡ false) peers.now }
 {
     peers.iter().all(|peer| !peer.is_owed())
 }
 
-/// Returns whether a clock shows that time or a later one, or cannot be read.
+/// Returns whether a clock shows `until` or a later time, or cannot be read.
 fn is_over(until: u64, clock: Option<u64>) -> bool
     ensures { result ≡ is_over until clock }
 {

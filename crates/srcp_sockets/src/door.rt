@@ -14,13 +14,13 @@ use srcp_peers::{MOST_LINGERING, Ready, System, Turn};
 use std::alloc::{AllocError, Global};
 use std::vec::Vec;
 
-/// How many peers there are at most: the 64 that are connected, one that is turned away, and 64 that linger.
+/// The most peers at once: 64 connected, a 65th that is turned away, and 64 that linger.
 const MOST_PEERS: usize = MOST_CONNECTIONS + 1 + MOST_LINGERING;
 
-/// How many sockets may be found ready at once.
+/// The most sockets that may be found ready at once.
 pub(crate) const MOST_READY: usize = 128;
 
-/// A door over the system's sockets. If it is dropped it delivers what was taken.
+/// Holds a door over the system's sockets. When dropped, the door delivers the bytes that were taken.
 pub struct SocketDoor<S: System + Drop> {
     pub(crate) sockets: Sockets<S>,
     alloc: Global,
@@ -30,11 +30,11 @@ pub struct SocketDoor<S: System + Drop> {
 }
 
 impl<S: System + Drop> SocketDoor<S> {
-    /// Opens a door over a system with an empty trace. Its moments begin with the wall clock at the start, and go on
-    /// with the monotonic clock, which showed `start` then; both in milliseconds.
+    /// Opens a door over a system with an empty trace. The moments begin with the wall clock `wall`, and go on with the
+    /// monotonic clock, which showed `start` then; both in milliseconds.
     ///
     /// # Errors
-    /// If memory is refused.
+    /// Returns an error if memory is refused.
     pub fn open(
         system: S,
         alloc: Global,
@@ -73,14 +73,14 @@ impl<S: System + Drop> SocketDoor<S> {
         self.sockets.wait_at_most(milliseconds);
     }
 
-    /// Returns the system below, which has the trace if it keeps one.
+    /// Returns the system below, which has the trace if the system keeps a trace.
     pub fn system(&self) -> &S
         ensures { result.now ≡ self.now.sockets.system }
     {
         &self.sockets.system
     }
 
-    /// Counts a call that failed.
+    /// Counts a failed call.
     fn failed(&mut self)
         ensures counted { self.new.faults ≡ one_more self.old.faults }
         ensures sockets { self.new.sockets ≡ self.old.sockets }
@@ -90,7 +90,7 @@ impl<S: System + Drop> SocketDoor<S> {
 }
 
 impl<S: System + Drop> Drop for SocketDoor<S> {
-    /// Delivers what was taken, for 10 seconds at most.
+    /// Delivers the bytes that were taken, for 10 seconds at most.
     fn drop(self) {
         let SocketDoor {
             sockets,

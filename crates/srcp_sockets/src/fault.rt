@@ -1,4 +1,4 @@
-//! Why a port is not listened at.
+//! Why a door does not listen.
 
 ghost use Rattle.std.specs.Prelude.{◌≡◌, Some};
 ghost use Rattle.std.specs.IoError.{error_kind};
@@ -8,10 +8,10 @@ use std::io::ErrorKind;
 use std::{fmt, io};
 use thiserror::Error;
 
-/// Why nothing is listened at.
+/// Names why a door does not listen.
 #[derive(Clone, Copy, Debug, PartialEq, Eq, Error)]
 pub enum ListenFault {
-    /// The port is taken or refused, or the system has no descriptors for it.
+    /// The port is taken or refused, or the system has no descriptors left for the port.
     Port,
     /// Memory was refused.
     Memory,
@@ -28,7 +28,7 @@ impl fmt::Display for ListenFault {
     }
 }
 
-/// What an error of the system means for a door that is to listen.
+/// Returns what an error of the system means for a door that is to listen.
 pub(crate) fn fault_of(error: &io::Error) -> ListenFault
     ensures { result ≡ listen_fault (error_kind error.now) }
 {

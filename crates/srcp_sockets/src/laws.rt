@@ -1,5 +1,5 @@
-//! What holds of every door over a system, whatever the system answered. Each function does nothing: what it ensures is
-//! a law.
+//! Laws of every door over a system, whatever the system answered. Each function does nothing: its `ensures` is the
+//! law.
 
 ghost use Rattle.std.specs.Prelude.{◌≡◌, ◌++◌, ◌∷◌, ◌==◌, ◌&&◌, ◌||◌, ◌*◌, ◌<◌, ◌≤◌, ◌⊎◌, ℕ, List, length};
 ghost use Rattle.std.specs.Prelude.{nat_lt, slice_index_or, Option, Some, Ok, Err, Result, true, false};
@@ -27,8 +27,8 @@ use srcp_door::MOST_WRITES;
 use srcp_info::LONGEST_LINE;
 use srcp_peers::{MOST_OUTGOING, System};
 
-/// What each socket took is a prefix of what the door said it took for its peer. What the door handed out of a peer is
-/// a prefix of what its socket gave.
+/// States that each socket took a prefix of what the door said to have taken for the peer. What the door handed out of
+/// a peer is a prefix of what the peer's socket gave.
 pub fn sockets_follow<S: System + Drop>(door: &SocketDoor<S>)
     ensures took { (log : List Step) → S.trace door.now.sockets.system ≡ Some log → (socket : ℕ)
         → StartsWith (taken socket log) (took socket log) }
@@ -38,7 +38,7 @@ pub fn sockets_follow<S: System + Drop>(door: &SocketDoor<S>)
     let _sockets = &door.sockets;
 }
 
-/// What a socket did not take of what the door said it took for its peer is held in order. That holds while the peer is
+/// States that bytes taken for a peer, and not yet taken by the socket, are held in order. This holds while the peer is
 /// there or is kept, unless a write found that the socket takes no more.
 pub fn untaken_is_held<S: System + Drop>(door: &SocketDoor<S>)
     ensures { (log : List Step) → S.trace door.now.sockets.system ≡ Some log → (k : ℕ) (d : Peer)
@@ -50,8 +50,8 @@ pub fn untaken_is_held<S: System + Drop>(door: &SocketDoor<S>)
     let _sockets = &door.sockets;
 }
 
-/// The end of a peer was reported only after a read of its socket had found it. By then all that came before it was
-/// handed out, and the socket had taken all that was taken for it.
+/// States that the end of a peer was reported only after a read of the peer's socket had found the end. By then all
+/// input before the end was handed out, and the socket had taken all bytes taken for the peer.
 pub fn ends_are_true<S: System + Drop>(door: &SocketDoor<S>)
     ensures { (before after : List Step) (socket : ℕ) (buffer : List ℕ)
         → S.trace door.now.sockets.system ≡ Some (before ++ Answers (ReadCall socket (Ok Got.Ended) buffer) ∷ after)
@@ -60,8 +60,8 @@ pub fn ends_are_true<S: System + Drop>(door: &SocketDoor<S>)
     let _sockets = &door.sockets;
 }
 
-/// A read was reported as failed only after a read or a write of that socket had failed, or if its peer was not there.
-/// A write was reported as failed only if its peer was not there.
+/// States that a read was reported as failed only if a read or a write of the socket had failed before, or the peer was
+/// not there. A write was reported as failed only if the peer was not there.
 pub fn faults_are_true<S: System + Drop>(door: &SocketDoor<S>)
     ensures read { (before after : List Step) (socket : ℕ) (fault : DoorFault) (buffer : List ℕ)
         → S.trace door.now.sockets.system ≡ Some (before ++ Answers (ReadCall socket (Err fault) buffer) ∷ after)
@@ -73,8 +73,8 @@ pub fn faults_are_true<S: System + Drop>(door: &SocketDoor<S>)
     let _sockets = &door.sockets;
 }
 
-/// A wait may leave a peer that is there with less than a piece held, and something that a read might find. Then the
-/// peer was read before the next moment was reported.
+/// States what a wait owes to a peer that is there. The wait may leave the peer with less than a piece held, and with
+/// something that a read might find. Then the peer was read before the next moment was reported.
 pub fn peers_are_read<S: System + Drop>(door: &SocketDoor<S>)
     ensures { (before after : List Step) (socket : ℕ) (answer : Result ℕ DoorFault)
         → S.trace door.now.sockets.system ≡ Some (before ++ Answers (NowCall answer) ∷ after)
@@ -83,7 +83,8 @@ pub fn peers_are_read<S: System + Drop>(door: &SocketDoor<S>)
     let _sockets = &door.sockets;
 }
 
-/// A wait longer than the retry delay found at rest each peer that was there, and the listener, which is socket 0.
+/// States that a wait longer than the retry delay found at rest each peer that was there, and the listener, which is
+/// socket 0.
 pub fn waits_are_safe<S: System + Drop>(door: &SocketDoor<S>)
     ensures { (before after : List Step) (most : Option ℕ) (count : ℕ) (ready : List Ready)
         → S.trace door.now.sockets.system ≡ Some (before ++ Waits most count ready ∷ after) → is_short_wait most ≡ false
@@ -93,10 +94,10 @@ pub fn waits_are_safe<S: System + Drop>(door: &SocketDoor<S>)
     let _sockets = &door.sockets;
 }
 
-/// A socket was shut down and closed once at most, after the core closed its peer. It was shut down when all that was
-/// taken for it was taken by the socket. It was closed when that was so and it was shut down, or a write had found that
-/// it takes no more, or 10 seconds were over by the clock that was read. A socket that was accepted and is not closed
-/// has a peer.
+/// States that a socket was shut down and closed at most once, after the core closed its peer. The socket was shut down
+/// when it had taken all bytes taken for the peer. There are three cases in which the socket was closed. First, it took
+/// all these bytes and was shut down. Second, a write had found that it takes no more. Third, 10 seconds were over by
+/// the clock that was read. An accepted socket that is not closed has a peer.
 pub fn closed_rightly<S: System + Drop>(door: &SocketDoor<S>)
     ensures shut { (before after : List Step) (socket : ℕ)
         → S.trace door.now.sockets.system ≡ Some (before ++ Shuts socket ∷ after)
@@ -110,9 +111,9 @@ pub fn closed_rightly<S: System + Drop>(door: &SocketDoor<S>)
     let _sockets = &door.sockets;
 }
 
-/// Each moment was the one that was to be reported by a clock that was read since the moment before. No wait ended past
-/// what the door expects to fall due; no wait began in a turn that was late. A wait longer than the retry delay came
-/// after a turn in which nothing happened, unless there was no panel. No input was handed out in a turn that was late.
+/// States that each moment was the moment to report by a clock that was read since the moment before. No wait ended
+/// past what the door expects to fall due, and no wait began in a late turn. A wait longer than the retry delay came
+/// after a turn in which nothing happened, unless there was no panel. No input was handed out in a late turn.
 pub fn times_are_kept<S: System + Drop>(door: &SocketDoor<S>)
     ensures { (log : List Step) → S.trace door.now.sockets.system ≡ Some log
         → AreKeptTimes (times door.now.sockets.turn.timekeeper.wall door.now.sockets.turn.timekeeper.start log) }
@@ -120,9 +121,9 @@ pub fn times_are_kept<S: System + Drop>(door: &SocketDoor<S>)
     let _sockets = &door.sockets;
 }
 
-/// The door answered `accept` as the system did. The answer was the number of the accepted connection, a fault if the
-/// system failed, or nobody if it found nobody or was interrupted. If the system was not asked, the answer was nobody;
-/// or a fault, since memory or the numbers ran out.
+/// States that the door answered `accept` as the system did. The answer was the number of the accepted connection, a
+/// fault if the system failed, or nobody if the system found nobody or was interrupted. If the system was not asked,
+/// the answer was nobody, or a fault since memory or the numbers ran out.
 pub fn accepts_are_true<S: System + Drop>(door: &SocketDoor<S>)
     ensures { (log : List Step) → S.trace door.now.sockets.system ≡ Some log
         → (times door.now.sockets.turn.timekeeper.wall door.now.sockets.turn.timekeeper.start log).honest ≡ true }
@@ -130,18 +131,19 @@ pub fn accepts_are_true<S: System + Drop>(door: &SocketDoor<S>)
     let _sockets = &door.sockets;
 }
 
-/// If the door answered `accept` by nobody, it had asked the system since `accept` was answered last, or the listener,
-/// which is socket 0, was found quiet, or there was no place. Then at least 128 sockets were accepted and are not
-/// closed, or 63 linger: there is no place with one more, and one may have been closed just now to make a place.
+/// States what is true if the door answered `accept` by nobody. The door had asked the system since the last answer of
+/// `accept`, or the listener (socket 0) was found quiet, or there was no place. No place means that at least 128
+/// accepted sockets are not closed, or 63 linger. With one more there is no place, and one may have been closed just
+/// now to make a place.
 pub fn accepts_are_asked<S: System + Drop>(door: &SocketDoor<S>)
     ensures { AreAsked (S.trace door.now.sockets.system) }
 {
     let _sockets = &door.sockets;
 }
 
-/// Each moment was reported as the next step behind a look at the clock: as a fault if that could not be read, and else
-/// as a time. If the door had not waited since it answered the call before, input of a peer was held that the core
-/// takes.
+/// States that each moment was reported as the next step behind a look at the clock: as a fault if the clock could not
+/// be read, else as a time. If the door had not waited since it answered the call before, input of a peer was held that
+/// the core takes.
 pub fn turns_wait<S: System + Drop>(door: &SocketDoor<S>)
     ensures clock { (before after : List Step) (answer : Result ℕ DoorFault)
         → S.trace door.now.sockets.system ≡ Some (before ++ Answers (NowCall answer) ∷ after)
@@ -153,9 +155,10 @@ pub fn turns_wait<S: System + Drop>(door: &SocketDoor<S>)
     let _sockets = &door.sockets;
 }
 
-/// A wait found no socket that lingers and has to be closed, unless 64 sockets were closed since the moment before. It
-/// has to be closed if a write found that it takes no more, or 10 seconds are over by the clock that was read. A
-/// socket that lingers and took all that was taken for it was shut down by then, unless a write found it so.
+/// States that a wait found no lingering socket that has to be closed, unless 64 sockets were closed since the moment
+/// before. A socket has to be closed if a write found that it takes no more, or 10 seconds are over by the clock read.
+/// By then each lingering socket that took all bytes taken for its peer was shut down, unless a write found that it
+/// takes no more.
 pub fn gone_are_closed<S: System + Drop>(door: &SocketDoor<S>)
     ensures closed { (before after : List Step) (most : Option ℕ) (count : ℕ) (ready : List Ready)
         → S.trace door.now.sockets.system ≡ Some (before ++ Waits most count ready ∷ after)
@@ -167,9 +170,10 @@ pub fn gone_are_closed<S: System + Drop>(door: &SocketDoor<S>)
     let _sockets = &door.sockets;
 }
 
-/// A wait of a turn in which nothing happened since the wait before, or without a panel, came behind a flush. Each
-/// socket that was not closed, and had not taken all that was taken for it, was written to since the door answered the
-/// call before; or a write had found that it takes nothing now, or no more.
+/// States that a flush came before two kinds of waits: in a turn in which nothing happened since the wait before, and
+/// without a panel. Consider each socket that was not closed, and had not taken all bytes taken for its peer. The
+/// socket was written to since the door answered the call before; or a write had found that it takes nothing now, or no
+/// more.
 pub fn queued_is_offered<S: System + Drop>(door: &SocketDoor<S>)
     ensures { (before after : List Step) (most : Option ℕ) (count : ℕ) (ready : List Ready)
         → S.trace door.now.sockets.system ≡ Some (before ++ Waits most count ready ∷ after)
@@ -182,9 +186,9 @@ pub fn queued_is_offered<S: System + Drop>(door: &SocketDoor<S>)
     let _sockets = &door.sockets;
 }
 
-/// Suppose input of a peer was held, and the turn was not late. Then a read of it reported no end. It handed out all of
-/// the piece that the buffer takes, if no line ends in that; and else no fewer lines than those at its start that weigh
-/// nothing.
+/// States what a read did if input of the peer was held and the turn was not late. The read reported no end. If no line
+/// ends in the piece that the buffer takes, the read handed out all of the piece. Else the read handed out at least the
+/// lines at the start of the piece that weigh nothing.
 pub fn input_is_handed_out<S: System + Drop>(door: &SocketDoor<S>)
     ensures { (before after : List Step) (socket : ℕ) (answer : Result Got DoorFault) (buffer : List ℕ)
         → S.trace door.now.sockets.system ≡ Some (before ++ Answers (ReadCall socket answer buffer) ∷ after)
@@ -197,8 +201,8 @@ pub fn input_is_handed_out<S: System + Drop>(door: &SocketDoor<S>)
     let _sockets = &door.sockets;
 }
 
-/// A read of a peer that was not there reported a fault. So did a read of one of which a read or a write had failed and
-/// nothing was held. The exceptions are a turn that was late, and one that had reported another end.
+/// States that a read of a peer that was not there reported a fault. So did a read of a peer with nothing held of which
+/// a read or a write had failed. The exceptions are a late turn, and a turn that had reported another end.
 pub fn faults_are_told<S: System + Drop>(door: &SocketDoor<S>)
     ensures { (before after : List Step) (socket : ℕ) (answer : Result Got DoorFault) (buffer : List ℕ)
         → S.trace door.now.sockets.system ≡ Some (before ++ Answers (ReadCall socket answer buffer) ∷ after)
@@ -209,10 +213,10 @@ pub fn faults_are_told<S: System + Drop>(door: &SocketDoor<S>)
     let _sockets = &door.sockets;
 }
 
-/// A read of a peer that was leaving reported its end. It was leaving if it was there and had not failed, a read of its
-/// socket had found the end, all before that was handed out, its socket had taken all that was taken for it, and a
-/// visit behind the end had no more for it: fewer than 300 writes, of which none was cut. The exceptions are a turn that
-/// was late, and one that had reported another end.
+/// States that a read of a leaving peer reported the peer's end. A leaving peer was there and had not failed. A read
+/// had found the end, all input before was handed out, and the socket had taken all bytes taken for the peer. A visit
+/// behind the end had no more for the peer: fewer than 300 writes, and no cut write. The exceptions are a late turn,
+/// and a turn that had reported another end.
 pub fn ends_are_told<S: System + Drop>(door: &SocketDoor<S>)
     ensures { (before after : List Step) (socket : ℕ) (answer : Result Got DoorFault) (buffer : List ℕ)
         → S.trace door.now.sockets.system ≡ Some (before ++ Answers (ReadCall socket answer buffer) ∷ after)
@@ -223,10 +227,11 @@ pub fn ends_are_told<S: System + Drop>(door: &SocketDoor<S>)
     let _sockets = &door.sockets;
 }
 
-/// The lines that were handed out from one moment to the next weighed at most the slack less 160. The slack is what the
-/// door was given before, or 256 if there was no panel. Suppose it leaves less than any line can weigh, and the clock
-/// had gone on since the moment before. Then a read handed out lines of at most that weight, and no other in that time
-/// lines that weigh something. Between two moments the end of one peer was reported at most.
+/// States that the lines handed out from one moment to the next weighed at most the slack less 160. The slack is what
+/// the door was given before, or 256 if there was no panel. Another bound holds if this leaves less than the greatest
+/// weight of a line, and the clock had gone on since the moment before. Then one read at most handed out lines that
+/// weigh something, and these weighed no more than a line can. Between two moments the end of at most one peer was
+/// reported.
 pub fn turns_are_paced<S: System + Drop>(door: &SocketDoor<S>)
     ensures { (log : List Step) → S.trace door.now.sockets.system ≡ Some log
         → ArePaced (times door.now.sockets.turn.timekeeper.wall door.now.sockets.turn.timekeeper.start log) }
@@ -234,7 +239,7 @@ pub fn turns_are_paced<S: System + Drop>(door: &SocketDoor<S>)
     let _sockets = &door.sockets;
 }
 
-/// The lines that a peer is written in a visit at most can be queued.
+/// States that the most lines that a peer is written in a visit can be queued.
 pub fn visits_fit()
     ensures { MOST_WRITES * LONGEST_LINE ≤ MOST_OUTGOING }
 {}

@@ -1,6 +1,6 @@
-//! The door over the system's sockets, proved down to the system call: over every list of answers that the system
-//! gives, the socket of each peer took a prefix of what the course sends it (`serve_sockets`, and the laws of every
-//! door in `laws`).
+//! The door over the system's sockets, proved down to the system call. Over every list of answers of the system, each
+//! peer's socket took a prefix of what the course sends the peer. `serve_sockets` states this, and `laws` has the laws
+//! of every door.
 //!
 //! `System` of `srcp_peers` is the small trait of system calls, `MioSystem` makes them, and `SocketDoor` is the door
 //! over any of them.

@@ -1,5 +1,5 @@
-//! The system as it is: mio's sockets and a clock. It keeps no trace. It finds the socket of a number and makes the
-//! call, and it rests after a wait that failed or was ended early.
+//! The system of the machine: mio's sockets and a clock, without a trace. Each call finds the socket of a number and
+//! makes the system call. A wait that failed or was ended early is followed by a rest.
 
 ghost use Rattle.std.specs.Prelude.{◌≡◌, ◌/◌, IfOk, ◌<◌, IfSome, length, min};
 ghost use Rattle.std.specs.Duration.{as_nanos};
@@ -17,10 +17,10 @@ use std::net::{Net, Shutdown, SocketAddr};
 use std::time::{Clock, Duration};
 use std::vec::Vec;
 
-/// The listener's token; a socket's is its number.
+/// The listener's token; the token of a socket is the socket's number.
 const LISTENER: Token = Token(0);
 
-/// How long it sleeps after a wait that failed, in milliseconds.
+/// How long the system sleeps after a wait that failed, in milliseconds.
 const FAILED_WAIT: u64 = 8;
 
 /// A socket with its number.
@@ -30,24 +30,24 @@ struct Socket {
     stream: TcpStream,
 }
 
-/// The sockets of the system, and a clock.
+/// Makes the calls of a door, with the sockets of the machine and a clock.
 #[derive(Drop)]
 pub struct MioSystem<C: Clock + Drop> {
-    /// The address at which it listens.
+    /// The address of the listener.
     pub address: SocketAddr,
-    /// What the wall clock showed before it listened, in milliseconds; 0 if it could not be read.
+    /// What the wall clock showed before the listener was opened, in milliseconds; 0 if the clock could not be read.
     pub wall: u64,
-    /// What the monotonic clock showed then.
+    /// What the monotonic clock showed then, in milliseconds.
     pub start: u64,
     listener: TcpListener,
     poll: Poll,
     events: Events<Global>,
     clock: C,
-    // What the clock showed last, in milliseconds.
+    // The last time that the clock showed, in milliseconds.
     shown: u64,
     // By rising numbers.
     sockets: Vec<Socket>,
-    // The index of the socket that was asked last.
+    // The index of the last socket that was asked.
     recent: usize,
 }
 
@@ -55,7 +55,7 @@ impl<C: Clock + Drop> MioSystem<C> {
     /// Listens at an address.
     ///
     /// # Errors
-    /// Those of the system, or if memory is refused.
+    /// Returns the error of the system, or an error if memory is refused.
     pub(crate) fn listen<N: Net>(
         net: &N,
         alloc: Global,
@@ -101,8 +101,8 @@ impl<C: Clock + Drop> MioSystem<C> {
         self.clock.monotonic().ok().map(milliseconds)
     }
 
-    /// Returns whether a wait of at most `most` milliseconds that found no socket ready was ended by something else
-    /// than its time. A signal does that.
+    /// Returns whether a wait that found no socket ready ended before its time of `most` milliseconds. A signal ends a
+    /// wait early.
     fn ends_early(&self, most: Option<u64>) -> bool {
         match most {
             Some(0) => false,
@@ -121,8 +121,8 @@ impl<C: Clock + Drop> MioSystem<C> {
         Ok(&mut self.sockets[index])
     }
 
-    /// Returns the index of a socket. It looks first behind the one that was asked last, since they are asked by rising
-    /// numbers.
+    /// Returns the index of a socket. The search begins behind the last socket that was asked, since sockets are asked
+    /// by rising numbers.
     fn index_of(&self, number: u32) -> Option<usize>
         ensures { IfSome result (λ index. index < length self.now.sockets.items) }
     {

@@ -13,12 +13,11 @@ use std::net::{IpAddr, Ipv4Addr, Net, SocketAddr};
 use std::time::Clock;
 
 impl<C: Clock + Drop> SocketDoor<MioSystem<C>> {
-    /// Opens a door at the port, at 127.0.0.1. Its moments begin with the wall clock as it stands now, and go on with
-    /// the monotonic clock. A clock that cannot be read, or stands before its zero, counts as 0.
+    /// Opens a door at a port of 127.0.0.1. The moments begin with the wall clock at the time of the call, and go on
+    /// with the monotonic clock. A clock that cannot be read, or stands before its zero, counts as 0.
     ///
-    /// # Errors
-    /// Fails with `Port` if the port is taken or refused, or the system has no descriptors for it, and with `Memory` if
-    /// memory is refused. Then it does not listen.
+    /// Returns `Port` if the port is taken or refused, or the system has no descriptors left for the port. Returns
+    /// `Memory` if memory is refused. In both cases nothing listens then.
     pub fn listen<N: Net>(
         net: &N,
         alloc: Global,

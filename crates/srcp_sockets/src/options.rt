@@ -1,4 +1,4 @@
-//! The options of the sockets. They are set at the listener, and each socket that it accepts has them too.
+//! The options of the sockets. They are set at the listener, and each accepted socket takes them over.
 
 ghost use Rattle.std.specs.Prelude.{◌↔◌, pos, ◌≤ℤ◌, IsOk};
 
@@ -7,24 +7,25 @@ use mio::net::TcpListener;
 use std::io;
 use std::os::fd::AsRawFd;
 
-/// How many bytes the system holds for a peer that does not read. It doubles them for what it notes beside the bytes.
+/// How many bytes the system holds for a peer that does not read. The system doubles this for its own notes beside the
+/// bytes.
 const SEND_BUFFER: u32 = 131_072;
 
-/// How many seconds after its last byte the system of a peer is asked whether it is there.
+/// How many seconds after the last byte of a peer the peer's system is asked whether the peer is there.
 const PROBE_AFTER: u32 = 10;
 
 /// How many seconds lie between two such questions.
 const PROBE_EVERY: u32 = 5;
 
-/// How many milliseconds the system of a peer may answer nothing, or take nothing of what is sent. Then the peer is
+/// For how many milliseconds the system of a peer may answer nothing, or take nothing of what is sent. Then the peer is
 /// lost.
 const LOST_AFTER: u32 = 30_000;
 
-/// Sets the options of a listener and of the sockets that it will accept: how much the system holds for a peer that
-/// does not read, and when a peer is lost that is gone.
+/// Sets the options of a listener and of the sockets that the listener will accept. They limit how much the system
+/// holds for a peer that does not read, and say when a peer that is gone is lost.
 ///
 /// # Errors
-/// Those of the system.
+/// Returns the error of the system.
 pub(crate) fn set_options(listener: &TcpListener) -> io::Result<()> {
     let fd = listener.as_raw_fd();
     let (socket, tcp) = (c::SOL_SOCKET, c::IPPROTO_TCP);
@@ -40,14 +41,14 @@ pub(crate) fn set_options(listener: &TcpListener) -> io::Result<()> {
     check(unsafe { c::setsockopt(fd, tcp, c::TCP_USER_TIMEOUT, &lost, 4) })
 }
 
-/// Returns the value of an option as the system reads it: its first four bytes.
+/// Returns the value of an option as the system reads the value: the first four bytes.
 fn value_of(number: u32) -> [u8; 16] {
     let mut value = [0; 16];
     value[..4].copy_from_slice(&number.to_ne_bytes());
     value
 }
 
-/// Returns the error of the call that answered this, if that is below 0.
+/// Returns the last error of the system if the status of a call is below 0.
 fn check(status: i32) -> io::Result<()>
     ensures { IsOk result ↔ (pos 0 ≤ℤ status) }
 {

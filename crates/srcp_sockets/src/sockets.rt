@@ -37,23 +37,23 @@ use srcp_peers::{
 use std::alloc::{AllocError, Global};
 use std::vec::Vec;
 
-/// The system's sockets, with their peers. Only `deliver` drops them: they are not `Drop`.
+/// Holds the system's sockets, with their peers. Only `deliver` drops a value: the type is not `Drop`.
 pub(crate) struct Sockets<S: System + Drop> {
     pub system: S,
     pub peers: Vec<Peer>,
     listening: Listening,
-    // The number of the peer that came last.
+    // The number of the last peer that came.
     last: u32,
-    // The index of the peer that was read or written last.
+    // The index of the last peer that was read or written.
     recent: usize,
     turn: Turn,
-    // How long a turn waits at most, in milliseconds, if that was said.
+    // The longest wait of a turn, in milliseconds, if a limit was set.
     pub most: Option<u64>,
-    // What the clock showed when all that was queued was flushed last, in milliseconds.
+    // What the clock showed when all queued bytes were last flushed, in milliseconds.
     flushed: u64,
-    // Whether a line of a peer's share was kept back since the turn began: the shares stay then.
+    // True if a line of a peer's share was kept back since the turn began: the shares stay then.
     refused: bool,
-    // The queues that were made for a connection that was not accepted: the next one has them.
+    // The queues made for a connection that was not accepted: the next connection has these.
     spare: Option<Queues>,
     ghost stands: { Stands (S.trace system) peers.items listening last } by { Stands-prop _ _ _ _ },
     ghost named: { IsNamed (S.trace system) last } by { IsNamed-prop (S.trace system) last },
@@ -65,7 +65,7 @@ pub(crate) struct Sockets<S: System + Drop> {
 }
 
 impl<S: System + Drop> Sockets<S> {
-    /// Notes what falls due next, and how much the panels can still take.
+    /// Notes what falls due next, and how many changes the panels can still take.
     pub(crate) fn expect(&mut self, due: Option<u64>, slack: Option<usize>)
         ensures trace { SaysOne (S.trace self.old.system) (ExpectCall due slack) (S.trace self.new.system) }
         ensures keeps { (self.new.flushed ≡ self.old.flushed) × (self.new.refused ≡ self.old.refused) }
@@ -83,8 +83,8 @@ impl<S: System + Drop> Sockets<S> {
         self.most = Some(milliseconds);
     }
 
-    /// Begins a turn: goes on with those that linger, flushes the peers, waits, and begins their visits. All that
-    /// is queued is flushed once the clock went on, or before a wait. Until then the system is not asked who is ready
+    /// Begins a turn: goes on with the lingering peers, flushes the peers, waits, and begins the visits. All queued
+    /// bytes are flushed once the clock went on, or before a wait. Until then the system is not asked who is ready
     /// while input is held.
     pub(crate) fn begin_turn(&mut self, ready: &mut [Ready])
         requires ready { length ready.old ≡ 128 }
@@ -110,24 +110,24 @@ impl<S: System + Drop> Sockets<S> {
         self.begin_visits(holds);
     }
 
-    /// Returns whether the clock went on since the flush before, or the turn stands still until it does.
+    /// Returns whether the clock went on since the flush before, or the turn waits until the clock does.
     fn has_ticked(&self) -> bool
         ensures { result ≡ has_ticked self.now.turn self.now.flushed }
     {
         self.turn.clock != self.flushed || self.turn.stop() > 0
     }
 
-    /// Returns whether the turn goes on with the input that is held, if `holds` says that some is: until the clock goes
-    /// on.
+    /// Returns whether the turn goes on with held input. `holds` says whether input is held. The turn does so until the
+    /// clock goes on.
     fn goes_on(&self, holds: bool) -> bool
         ensures { result ≡ (not (has_ticked self.now.turn self.now.flushed) && holds) }
     {
         !self.has_ticked() && holds
     }
 
-    /// Returns what is flushed, if `held` says whether the turn goes on with the input that is held: all before a wait,
-    /// or once the clock went on. If the panels can take less than a line may bring, their sockets are tried again
-    /// then.
+    /// Returns what is flushed: everything before a wait, or once the clock went on. `held` says whether the turn goes
+    /// on with held input. If the clock went on and the panels can take less than a line may bring, their sockets are
+    /// tried again.
     fn flushing(&self, held: bool) -> Flush
         ensures { result ≡ flushing (has_ticked self.now.turn self.now.flushed) held self.now.turn }
     {
@@ -147,7 +147,7 @@ impl<S: System + Drop> Sockets<S> {
         self.peers.iter().any(|peer| peer.holds_input())
     }
 
-    /// Returns how many milliseconds the turn waits at most; `None` if only a socket ends the wait.
+    /// Returns how many milliseconds the turn waits at most, or `None` if only a socket ends the wait.
     fn longest_wait(&self) -> Option<u64>
         ensures exact { result ≡ longest_wait self.now.peers.items self.now.listening self.now.turn self.now.most }
         ensures rest { is_short_wait result ≡ false → All (λ peer. is_resting peer ≡ true) self.now.peers.items }
@@ -158,7 +158,7 @@ impl<S: System + Drop> Sockets<S> {
         longest_wait(self.peers.as_slice(), self.listening, &self.turn, self.most)
     }
 
-    /// Waits, but not while input is held.
+    /// Waits unless `held` says that the turn goes on with held input.
     fn look(&mut self, held: bool, ready: &mut [Ready])
         requires ready { length ready.old ≡ 128 }
         requires may { held ≡ false → MayWait self.old.turn (S.trace self.old.system) }
@@ -179,7 +179,7 @@ impl<S: System + Drop> Sockets<S> {
         self.wait(ready);
     }
 
-    /// Flushes each peer that is there, and goes on with those that linger.
+    /// Flushes each peer that is there, and goes on with the lingering peers.
     fn flush(&mut self, what: Flush)
         ensures calls { SaysNothing (S.trace self.old.system) (S.trace self.new.system) }
         ensures offered { AreOffered what self.old.peers.items (S.trace self.old.system) (S.trace self.new.system) }
@@ -192,7 +192,8 @@ impl<S: System + Drop> Sockets<S> {
         flush(&mut self.system, self.peers.as_mut_slice(), what);
     }
 
-    /// Waits until a socket is ready, but no longer than until something else is to be done. Notes which are ready.
+    /// Waits until a socket is ready, but no longer than until there is other work to do. Notes which sockets are
+    /// ready.
     fn wait(&mut self, ready: &mut [Ready])
         requires ready { length ready.old ≡ 128 }
         requires may { MayWait self.old.turn (S.trace self.old.system) }
@@ -211,8 +212,8 @@ impl<S: System + Drop> Sockets<S> {
         self.turn.wait();
     }
 
-    /// Begins the visit of each peer; `holds` says whether input was held as the turn began. The share of each is a
-    /// whole piece again if no line of a share was kept back in the turn before.
+    /// Begins the visit of each peer; `holds` says whether input was held as the turn began. Each share is a whole
+    /// piece again if no line of a share was kept back in the turn before.
     fn begin_visits(&mut self, holds: bool)
         ensures calls { SaysNothing (S.trace self.old.system) (S.trace self.new.system) }
         ensures read { AreRead (S.trace self.new.system) }
@@ -230,14 +231,15 @@ impl<S: System + Drop> Sockets<S> {
     }
 
     /// Returns how many lines may be queued for a peer whose socket refuses more. While commands wait for the panels,
-    /// that is what the panels lack: so what may be queued for a panel lasts for as many lines, one a millisecond.
+    /// the result is the number of changes that the panels lack. The space of a panel then lasts for as many lines, one
+    /// a millisecond.
     fn room(&self, holds: bool) -> u32
         ensures { result ≡ room_of holds self.now.turn.slack }
     {
         if holds { self.turn.lack() } else { MOST_WRITES }
     }
 
-    /// Delivers what was taken, for 10 seconds at most, and returns the system.
+    /// Delivers the bytes that were taken, for 10 seconds at most, and returns the system.
     pub(crate) fn deliver(self, ready: &mut [Ready]) -> S
         requires ready { length ready.old ≡ 128 }
         ensures ended { HasEnded (linger_end self.turn.clock) (S.trace self.system) (S.trace result) }
@@ -260,10 +262,10 @@ impl<S: System + Drop> Sockets<S> {
         system
     }
 
-    /// Returns sockets with nobody in it, over a system with an empty trace.
+    /// Makes sockets without a peer, over a system with an empty trace.
     ///
     /// # Errors
-    /// If memory is refused.
+    /// Returns an error if memory is refused.
     pub(crate) fn new(
         system: S,
         alloc: Global,
@@ -290,7 +292,8 @@ impl<S: System + Drop> Sockets<S> {
         })
     }
 
-    /// Closes a peer. It lingers until its socket took what is queued and its input ended, 10 seconds at most.
+    /// Closes a peer, or returns `Close` if the peer is not there. A closed peer lingers until its socket took the
+    /// queued bytes and its input ended, for 10 seconds at most.
     pub(crate) fn close(&mut self, number: u32) -> Result<(), DoorFault>
         ensures trace { SaysOne (S.trace self.old.system) (CloseCall number result) (S.trace self.new.system) }
         ensures keeps { (self.new.flushed ≡ self.old.flushed) × (self.new.refused ≡ self.old.refused) }
@@ -307,7 +310,7 @@ impl<S: System + Drop> Sockets<S> {
         Ok(())
     }
 
-    /// Closes the sockets of the lingering peers for which nothing is left to do.
+    /// Closes the sockets of the lingering peers with nothing left to do, `MOST_LINGERING` sockets at most.
     fn close_gone(&mut self)
         ensures calls { SaysNothing (S.trace self.old.system) (S.trace self.new.system) }
         ensures last { self.new.last ≡ self.old.last }
@@ -347,10 +350,10 @@ impl<S: System + Drop> Sockets<S> {
         self.system.close(number);
     }
 
-    /// Returns the moment that is to be reported.
+    /// Returns the moment to report.
     ///
     /// # Errors
-    /// `Now` if the clock cannot be read.
+    /// Returns `Now` if the clock cannot be read.
     pub(crate) fn now(&mut self) -> Result<u64, DoorFault>
         requires read { AreRead (S.trace self.old.system) }
         requires may { MayTell (S.trace self.old.system) }
@@ -367,8 +370,9 @@ impl<S: System + Drop> Sockets<S> {
         answer
     }
 
-    /// Returns the index of the peer with that number, if one is there. It looks first where the last one was, since a
-    /// peer is written line by line, and then behind that, since peers are visited nearly as they came.
+    /// Returns the index of the peer with this number, if the peer is there. The search begins at the last index, since
+    /// a peer is written line by line. Next is the index behind, since peers are visited nearly in the order in which
+    /// they came.
     fn index_of(&self, number: u32) -> Option<usize>
         ensures found { IfSome result (λ index. (index < length self.now.peers.items)
             × ((d : Peer) → IsPresent number (slice_index_or self.now.peers.items index d))) }
@@ -384,7 +388,7 @@ impl<S: System + Drop> Sockets<S> {
         self.find(number)
     }
 
-    /// Returns whether the peer with that number is there, and has the index.
+    /// Returns whether the peer with this number is there, and has the index.
     fn is_at(&self, index: usize, number: u32) -> bool
         ensures yes { result ≡ true → (index < length self.now.peers.items)
             × ((d : Peer) → IsPresent number (slice_index_or self.now.peers.items index d)) }
@@ -398,7 +402,7 @@ impl<S: System + Drop> Sockets<S> {
         }
     }
 
-    /// Returns the index of the peer with that number, if one is there.
+    /// Returns the index of the peer with this number, if the peer is there.
     fn find(&self, number: u32) -> Option<usize>
         ensures found { IfSome result (λ index. (index < length self.now.peers.items)
             × ((d : Peer) → IsPresent number (slice_index_or self.now.peers.items index d))) }
@@ -419,7 +423,7 @@ impl<S: System + Drop> Sockets<S> {
         self.turn.late
     }
 
-    /// Hands out nothing of a peer, in a turn that is late.
+    /// Hands out nothing of a peer, in a late turn.
     pub(crate) fn hold_back(&mut self, number: u32, buffer: &[u8]) -> Result<Got, DoorFault>
         requires { self.old.turn.late ≡ true }
         ensures trace { SaysOne (S.trace self.old.system) (ReadCall number result buffer.now)
@@ -432,10 +436,10 @@ impl<S: System + Drop> Sockets<S> {
         answer
     }
 
-    /// Reads what has come from a peer.
+    /// Reads the bytes that came from a peer.
     ///
     /// # Errors
-    /// `Read` if the peer is lost, or is not there, and the turn reported no other end.
+    /// Returns `Read` if the peer is lost or not there, unless the turn reported another end.
     pub(crate) fn read(&mut self, number: u32, buffer: &mut [u8]) -> Result<Got, DoorFault>
         requires { self.old.turn.late ≡ false }
         ensures trace { SaysOne (S.trace self.old.system) (ReadCall number result buffer.new)
@@ -456,10 +460,10 @@ impl<S: System + Drop> Sockets<S> {
         handed.got
     }
 
-    /// Reports that a peer that is not there is lost, if the turn reported no other end.
+    /// Reports a peer that is not there as lost, unless the turn reported another end.
     ///
     /// # Errors
-    /// `Read` if it did not.
+    /// Returns `Read` unless the turn reported another end.
     fn read_nobody(&mut self, number: u32, buffer: &[u8]) -> Result<Got, DoorFault>
         requires { IsMissing number self.old.peers.items }
         ensures trace { SaysOne (S.trace self.old.system) (ReadCall number result buffer.now)
@@ -472,7 +476,7 @@ impl<S: System + Drop> Sockets<S> {
         answer
     }
 
-    /// Takes bytes for a peer.
+    /// Takes bytes for a peer, and returns how many, or `Write` if the peer is not there.
     pub(crate) fn write(&mut self, number: u32, bytes: &[u8]) -> Result<usize, DoorFault>
         ensures trace { SaysOne (S.trace self.old.system) (WriteCall number bytes.now result)
             (S.trace self.new.system) }
