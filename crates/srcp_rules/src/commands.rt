@@ -1,4 +1,4 @@
-//! Carries out a command, by one match of all that there are.
+//! Carries out a command, by a single match of all commands.
 
 ghost use Rattle.std.specs.Prelude.{◌≡◌, ◌≤◌, [], ◌∷◌, IsTrue, None, length};
 ghost use Rattle.std.specs.List.{AllByRecursion};
@@ -23,7 +23,7 @@ use crate::sender::Sender;
 use srcp_grammar::{Command, MOST_CHANGES, PowerSwitch, Sensor, Switch, Target};
 use srcp_info::{Code, Value};
 
-/// Answers TERM of a session. A session ends itself alone.
+/// Answers TERM of a session. Only the session itself may end its session.
 fn end_session(session: u32, named: Option<u32>, obeyed: &mut Obeyed)
     requires { IsTold (accepted []) obeyed.old }
     ensures { IsTold (term_session session named) obeyed.new }
@@ -113,15 +113,15 @@ fn answer<R: Rows>(rows: &mut R, sender: Sender, command: &Command, obeyed: &mut
 }
 
 /// Executes a command of a session, and returns the reply, the changes in order, and whether the session ends. A
-/// command that is refused changes nothing. Its reply is the first of these refusals:
-/// 1. 416 if what is named is not there. GET and TERM of a lock ask for the lock, and GET of a session for its row.
-///    All others but INIT ask for the device, SET and CHECK of a lock too.
+/// refused command changes nothing. The reply is the first of these refusals:
+/// 1. 416 if the thing named is not there. GET and TERM of a lock ask for the lock, and GET of a session for the row of
+///    the session. All others but INIT ask for the device, SET and CHECK of a lock too.
 /// 2. 418 if SET or CHECK of a locomotive has more functions than the locomotive.
 /// 3. 414 if another session has the device's lock: for SET, CHECK, INIT and TERM of a locomotive, an accessory or a
 ///    lock.
 /// 4. 415 if TERM names another session.
-/// 5. 500 if the command adds rows and memory was refused for them. INIT of a device that is not there adds rows, and
-///    so does SET of a lock if there is none. Nothing else takes memory.
+/// 5. 500 if the command adds rows and memory was refused for them. INIT of a device that is not there adds rows, as
+///    does SET of a lock if there is none. Nothing else takes memory.
 pub fn obey<R: Rows>(rows: &mut R, session: u32, moment: u64, command: &Command) -> Obeyed
     requires whole { IsWhole (R.buses rows.old) (R.state rows.old) }
     requires begun { IsTrue (is_there (session_device session) (R.state rows.old)) }
@@ -138,8 +138,8 @@ pub fn obey<R: Rows>(rows: &mut R, session: u32, moment: u64, command: &Command)
     obeyed
 }
 
-/// Executes a command as `obey` does, and writes the outcome over what `obeyed` holds. A caller that keeps one
-/// `Obeyed` does not clear the room for its changes at each command.
+/// Executes a command as `obey` does, and writes the outcome over what `obeyed` holds. A caller with a single `Obeyed`
+/// for all commands does not clear the room for changes at each.
 pub fn obey_into<R: Rows>(
     rows: &mut R,
     session: u32,

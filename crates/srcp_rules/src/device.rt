@@ -77,7 +77,7 @@ pub(crate) fn device_at(target: Target) -> Device
     }
 }
 
-/// Returns the lock of a locomotive or an accessory. It is a device of its own.
+/// Returns the lock of a locomotive or an accessory. The lock is a device of its own.
 pub(crate) fn lock_at(target: Target) -> Device
     ensures { result ≡ lock_at target }
 {

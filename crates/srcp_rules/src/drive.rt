@@ -18,8 +18,8 @@ use crate::sender::Sender;
 use srcp_grammar::{Command, Drive, Switch};
 use srcp_info::{Bits, Code, DriveMode, Value};
 
-/// Returns the functions of a locomotive, or `None` if it is not there. Its state row answers both, since a device has
-/// all its rows or none.
+/// Returns the functions of a locomotive, or `None` if the locomotive is not there. The state row answers both, since a
+/// device has all its rows or none.
 #[tactic(auto, using(crate::proofs::ObeyLaws::gl_there))]
 fn functions_of<R: Rows>(rows: &R, bus: u8, address: u32) -> Option<Bits>
     requires whole { IsWhole (R.buses rows.now) (R.state rows.now) }
@@ -35,7 +35,7 @@ fn functions_of<R: Rows>(rows: &R, bus: u8, address: u32) -> Option<Bits>
     }
 }
 
-/// Returns the functions given, followed by those of the locomotive that are not given.
+/// Returns the functions given, followed by the locomotive's own for the rest.
 fn functions_after(given: &Bits, before: &Bits) -> Bits
     requires { length given.now ≤ length before.now }
     ensures { result ≡ functions_after given.now before.now }
@@ -47,8 +47,8 @@ fn functions_after(given: &Bits, before: &Bits) -> Bits
     after
 }
 
-/// Returns the functions of the locomotive, or why the session may not drive it. It may not if the locomotive is not
-/// there, if it has fewer functions than are given, or if another session has its lock.
+/// Returns the functions of the locomotive, or why the session may not drive the locomotive. Refuses a locomotive that
+/// is not there, has fewer functions than are given, or is locked by another session.
 fn functions_to_drive<R: Rows>(rows: &R, session: u32, drive: &Drive) -> Result<Bits, Code>
     requires whole { IsWhole (R.buses rows.now) (R.state rows.now) }
     ensures before { IfOk result
@@ -68,7 +68,7 @@ fn functions_to_drive<R: Rows>(rows: &R, session: u32, drive: &Drive) -> Result<
     Ok(before)
 }
 
-/// Returns why the session may not drive the locomotive, or `None` if it may.
+/// Returns why the session may not drive the locomotive, or `None` if the session may.
 pub(crate) fn gl_refusal<R: Rows>(rows: &R, session: u32, drive: &Drive) -> Option<Code>
     requires whole { IsWhole (R.buses rows.now) (R.state rows.now) }
     ensures { result ≡ first_refusal (gl_refusals (R.state rows.now) session drive.now) }
@@ -109,7 +109,7 @@ pub(crate) fn set_gl<R: Rows>(rows: &mut R, sender: Sender, drive: &Drive, obeye
     set_one(rows, sender.moment, key, driven, None, obeyed);
 }
 
-/// Returns when a port that is set for a time goes back. That is `None` if it is set to 0, for no time or for ever.
+/// Returns when a port set for a time goes back, or `None` if the port is set to 0, for no time or for ever.
 fn port_end(moment: u64, on: bool, time: Option<u32>) -> Option<u64>
     ensures { result ≡ port_end moment on time }
 {

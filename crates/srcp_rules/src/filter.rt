@@ -8,7 +8,7 @@ use srcp_info::{Row, Value};
 /// Says which rows a search looks for.
 #[derive(Clone, Copy)]
 pub(crate) enum RowFilter {
-    /// Those whose due moment is not after this one.
+    /// Rows whose due moment is not after this moment.
     Due(u64),
     /// The locks of this session.
     HeldBy(u32),

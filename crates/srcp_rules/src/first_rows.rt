@@ -55,7 +55,7 @@ pub(crate) fn push_ports(rows: &mut Vec<Row>, bus: u8, ports: u32) -> Result<(),
     Ok(())
 }
 
-/// Makes the row of a device that is there from the moment 0 on.
+/// Makes the row of a device, there from the moment 0 on.
 fn first_row(device: Device, value: Value) -> Row
     ensures { result ≡ first_row 0 device value }
 {

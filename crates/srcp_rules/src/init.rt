@@ -126,7 +126,7 @@ fn has_init<R: Rows>(rows: &R, target: Target, init: &Value) -> bool
     }
 }
 
-/// Sets rows that are there.
+/// Replaces rows, each of which has to be there.
 fn set_all<R: Rows>(rows: &mut R, fresh: &[Row])
     requires { AllByRecursion (λ row. IsRowOf (R.buses rows.old) row
         × IsTrue (has_row row.shown.key (R.state rows.old)))
@@ -139,7 +139,7 @@ fn set_all<R: Rows>(rows: &mut R, fresh: &[Row])
     }
 }
 
-/// Appends the changes that tell of the rows.
+/// Appends the change of each row.
 fn push_puts(changes: &mut ArrayVec<Change, CHANGES_CAPACITY>, fresh: &[Row])
     requires { array_vec_len changes.old + length fresh.now ≤ CHANGES_CAPACITY }
     ensures { changes.new.items ≡ changes.old.items ++ map (λ row. (put_of row).change) fresh.now }
@@ -149,8 +149,8 @@ fn push_puts(changes: &mut ArrayVec<Change, CHANGES_CAPACITY>, fresh: &[Row])
     }
 }
 
-/// Resets a device that is there: removes its lock, and sets its rows to their first values. It takes no memory, since
-/// each of the rows is there.
+/// Resets a device that is there: removes the lock, and sets the rows to their first values. Takes no memory, since
+/// each row is there.
 fn remake<R: Rows>(
     rows: &mut R,
     moment: u64,
@@ -180,7 +180,7 @@ fn remake<R: Rows>(
     set_all(rows, fresh);
 }
 
-/// Carries out INIT of a locomotive or an accessory, whose rows are to be these.
+/// Carries out INIT of a locomotive or an accessory, whose rows are to be `fresh`.
 pub(crate) fn init_device<R: Rows>(
     rows: &mut R,
     sender: Sender,

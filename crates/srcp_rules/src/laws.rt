@@ -1,5 +1,5 @@
-//! Laws of every command, every moment, and every session's beginning and end. Each function does nothing: what it
-//! ensures is a law.
+//! Laws of every command, every moment, and every session's beginning and end. Each function does nothing: its
+//! `ensures` is a law.
 
 ghost use Rattle.srcp_rules.specs.Laws.{OpeningsAreWhole, UpdatesKeepRising, CommandsKeepWhole, MomentsKeepWhole};
 ghost use Rattle.srcp_rules.specs.Laws.{EndsKeepWhole, BeginningsKeepWhole};
@@ -96,7 +96,7 @@ pub fn beginnings_can_be_told()
     ensures { BeginningsCanBeTold }
 {}
 
-/// A command that is refused changes nothing and ends nothing.
+/// A refused command changes nothing and ends nothing.
 pub fn refusals_change_nothing()
     ensures { RefusalsChangeNothing }
 {}
@@ -106,7 +106,7 @@ pub fn checks_answer_as_sets()
     ensures { ChecksAnswerAsSets }
 {}
 
-/// No command of a session changes a device, or its lock, that another session has locked.
+/// No command of a session changes a device locked by another session, or the lock.
 pub fn locks_hold()
     ensures { LocksHold }
 {}
@@ -121,32 +121,32 @@ pub fn moments_keep_sessions()
     ensures { MomentsKeepSessions }
 {}
 
-/// The end of a session removes its locks and its row, and no other session's row.
+/// The end of a session removes the locks and the row of the session, and no other session's row.
 pub fn ends_free_all()
     ensures { EndsFreeAll }
 {}
 
-/// A moment changes each row that is due, whoever holds its lock: a lock is gone, and a port is 0. All other rows stay.
+/// A moment changes each due row, whoever holds the lock: a lock is gone, and a port is 0. All other rows stay.
 pub fn moments_carry_out()
     ensures { MomentsCarryOut }
 {}
 
-/// After a SET of a port that is accepted, the port has its due moment or none, whatever it had.
+/// After an accepted SET of a port, the port has its due moment or none, whatever the port had before.
 pub fn ports_are_set()
     ensures { PortsAreSet }
 {}
 
-/// After a SET of a lock that is accepted, the lock has its due moment or none, whatever it had.
+/// After an accepted SET of a lock, the lock has its due moment or none, whatever the lock had before.
 pub fn locks_are_set()
     ensures { LocksAreSet }
 {}
 
-/// A port that was set to 1 for a time is 1 at each moment before its end, and 0 at each from it on.
+/// A port set to 1 for a time is 1 at each moment before its end, and 0 at each from the end on.
 pub fn ports_fall_back()
     ensures { PortsFallBack }
 {}
 
-/// A lock that was set for a time is there at each moment before its end, and gone at each from it on.
+/// A lock set for a time is there at each moment before its end, and gone at each from the end on.
 pub fn locks_run_out()
     ensures { LocksRunOut }
 {}
@@ -156,41 +156,41 @@ pub fn moments_end()
     ensures { MomentsEnd }
 {}
 
-/// SET of power is accepted, on or off, whatever is locked. It is what GET shows next, and no other row changes.
+/// SET of power is accepted, on or off, whatever is locked. GET then shows the new power, and no other row changes.
 pub fn powers_are_set()
     ensures { PowersAreSet }
 {}
 
-/// SET of a feedback port is accepted, whatever is locked. It is what GET shows next, and no other row changes.
+/// SET of a feedback port is accepted, whatever is locked. GET then shows the new value, and no other row changes.
 pub fn sensors_are_set()
     ensures { SensorsAreSet }
 {}
 
-/// After a SET of a locomotive that is accepted, the locomotive drives as the command says, and GET shows it. Functions
-/// that the command does not give stay, and no other row changes.
+/// After an accepted SET of a locomotive, the locomotive drives as the command says, and GET shows so. Functions not in
+/// the command stay, and no other row changes.
 pub fn drives_are_set()
     ensures { DrivesAreSet }
 {}
 
-/// An emergency stop that gives no function is accepted if the locomotive is there and no other session has its lock.
-/// The locomotive stands then, with the functions that it had.
+/// An emergency stop without functions is accepted if the locomotive is there and no other session has its lock. The
+/// locomotive then stands, and the functions stay.
 pub fn stops_stop()
     ensures { StopsStop }
 {}
 
-/// An INIT of a locomotive that is accepted leaves it as it is if its parameters are the same. Any other locomotive
-/// stands still afterwards, forward, with all functions off.
+/// An accepted INIT of a locomotive leaves the locomotive as before if the parameters are the same. Any other
+/// locomotive stands still afterwards, forward, with all functions off.
 pub fn inits_stand_still()
     ensures { InitsStandStill }
 {}
 
-/// A session that has a lock keeps it over each of its commands but TERM of the lock and TERM and INIT of the device.
+/// A session keeps a lock of its own over each of its commands but TERM of the lock and TERM and INIT of the device.
 pub fn own_locks_last()
     ensures { OwnLocksLast }
 {}
 
-/// The end of a session changes no locomotive, no accessory, no power and no feedback port (`devices`). Nor does it
-/// change a lock that another session has (`locks`).
+/// The end of a session changes no locomotive, no accessory, no power and no feedback port (`devices`). Locks of other
+/// sessions stay too (`locks`).
 pub fn ends_change_no_device()
     ensures devices { EndsChangeNoDevice }
     ensures locks { EndsKeepOtherLocks }

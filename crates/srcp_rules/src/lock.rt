@@ -30,8 +30,8 @@ pub(crate) fn is_locked<R: Rows>(rows: &R, session: u32, target: Target) -> bool
     }
 }
 
-/// Returns why the session may not change the device, if it may not: the device is not there, or another session has
-/// its lock.
+/// Returns why the session may not change the device, or `None` if the session may. Refuses a device that is not there,
+/// or is locked by another session.
 pub(crate) fn refusal<R: Rows>(rows: &R, session: u32, target: Target) -> Option<Code>
     ensures { result ≡ first_refusal (refusals (R.state rows.now) session target.group target.bus target.address) }
 {
@@ -44,7 +44,7 @@ pub(crate) fn refusal<R: Rows>(rows: &R, session: u32, target: Target) -> Option
     None
 }
 
-/// Answers CHECK: with the refusal, if there is one, and else that SET would be accepted.
+/// Refuses with the code, if there is one. Otherwise leaves the answer: accepted, as SET would be.
 pub(crate) fn refuse_if(refusal: Option<Code>, obeyed: &mut Obeyed)
     requires { IsTold (accepted []) obeyed.old }
     ensures { IsTold (option_map_or refused refusal (accepted [])) obeyed.new }
@@ -54,7 +54,8 @@ pub(crate) fn refuse_if(refusal: Option<Code>, obeyed: &mut Obeyed)
     }
 }
 
-/// Returns when a lock of some seconds ends. One of 0 seconds does not end by itself (SRCP 0.8, LOCK).
+/// Returns when a lock of some seconds ends, or `None` for 0 seconds: such a lock has no end of its own (SRCP 0.8,
+/// LOCK).
 fn lock_end(moment: u64, seconds: u32) -> Option<u64>
     ensures { result ≡ lock_end moment seconds }
 {
@@ -64,7 +65,7 @@ fn lock_end(moment: u64, seconds: u32) -> Option<u64>
     Some(moment.saturating_add(1000 * u64::from(seconds)))
 }
 
-/// Carries out SET of a lock. It takes memory if the device has no lock.
+/// Carries out SET of a lock. Takes memory if the device has no lock.
 pub(crate) fn set_lock<R: Rows>(rows: &mut R, sender: Sender, lock: TimedLock, obeyed: &mut Obeyed)
     requires blank { IsTold (accepted []) obeyed.old }
     requires may { MayObey (R.buses rows.old) (R.state rows.old) sender.session

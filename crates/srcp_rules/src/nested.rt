@@ -24,7 +24,7 @@ use std::alloc::Global;
 use std::collections::BTreeMap;
 use std::marker::Model;
 
-/// Keeps the rows of a registry in a record for each bus. The first is that of the server's own bus.
+/// Keeps the rows of a registry in a record for each bus. The first record is of the server's own bus.
 #[derive(Drop)]
 pub struct Nested {
     buses: Vec<Bus>,
@@ -105,8 +105,8 @@ impl Rows for Nested {
 }
 
 impl Nested {
-    /// Finds the row with the least key beyond the cursor, if it is of the cursor's own group. Nearly each row of a
-    /// listing is.
+    /// Finds the row with the least key beyond the cursor, if the row is of the cursor's own group. Nearly each row of
+    /// a listing is.
     fn row_after_in_own_group(&self, cursor: Cursor) -> Option<&Row>
         ensures { IfSome result (λ row. Some row.now ≡ row_after cursor self.now.state) }
     {

@@ -1,4 +1,4 @@
-//! INIT of a locomotive and of an accessory: the rows that each begins with.
+//! INIT of a locomotive and of an accessory: the first rows of each.
 
 ghost use Rattle.std.specs.Prelude.{◌≡◌, ◌≤◌, [], ◌∷◌, false, map, replicate, None};
 ghost use Rattle.std.specs.List.{range_with_len};
@@ -17,7 +17,7 @@ use crate::sender::Sender;
 use srcp_grammar::{Command, NewGa, NewGl};
 use srcp_info::{Bits, Device, DriveMode, Letter, MOST_FUNCTIONS, MOST_PORTS, Row, Value};
 
-/// Makes the rows of a new locomotive: it stands still, forward, with all functions off.
+/// Makes the rows of a new locomotive, which stands still, forward, with all functions off.
 fn gl_rows(moment: u64, device: Device, init: &Value, functions: u32) -> [Row; 2]
     requires { functions ≤ MOST_FUNCTIONS }
     ensures { result
@@ -36,7 +36,7 @@ fn gl_rows(moment: u64, device: Device, init: &Value, functions: u32) -> [Row; 2
     ]
 }
 
-/// Carries out INIT of a locomotive: it stands still, forward, with all functions off.
+/// Carries out INIT of a locomotive. A new or changed locomotive stands still, forward, with all functions off.
 pub(crate) fn init_gl<R: Rows>(rows: &mut R, sender: Sender, decoder: &NewGl, obeyed: &mut Obeyed)
     requires blank { IsTold (accepted []) obeyed.old }
     requires may { MayObey (R.buses rows.old) (R.state rows.old) sender.session (Command.InitGl decoder.now) }
@@ -67,7 +67,7 @@ fn port_row(moment: u64, device: Device, port: u8) -> Row
     )
 }
 
-/// Makes the rows of a new accessory with the most ports that one can have.
+/// Makes the rows of a new accessory with the most ports of any accessory.
 fn ga_rows(moment: u64, device: Device, letter: Letter) -> [Row; MOST_ROWS]
     ensures { result
         ≡ row_put moment (key_at device 0) (value.GaInit letter) None
@@ -87,7 +87,7 @@ fn ga_rows(moment: u64, device: Device, letter: Letter) -> [Row; MOST_ROWS]
     ]
 }
 
-/// Carries out INIT of an accessory: all its ports are 0.
+/// Carries out INIT of an accessory. All ports of a new or changed accessory are 0.
 pub(crate) fn init_ga<R: Rows>(rows: &mut R, sender: Sender, decoder: &NewGa, obeyed: &mut Obeyed)
     requires blank { IsTold (accepted []) obeyed.old }
     requires may { MayObey (R.buses rows.old) (R.state rows.old) sender.session (Command.InitGa decoder.now) }

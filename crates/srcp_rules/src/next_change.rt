@@ -10,9 +10,9 @@ use crate::registry::{is_there, put_of, remove, row_put};
 use crate::rows::Rows;
 use srcp_info::{Change, Cursor, Row, Value};
 
-/// Carries out the first of the moment's changes beyond the cursor, in key order. It returns `None`, and changes
-/// nothing, if there is none. A lock that is due ends, and a port that is due becomes 0. So SRCP 0.8 has it (GA, LOCK).
-/// A row is due from the first moment on that is at or after its due moment.
+/// Carries out the first of the moment's changes beyond the cursor, in key order. Returns `None`, and changes nothing,
+/// if there is none. A due lock ends, and a due port becomes 0, as in SRCP 0.8 (GA, LOCK). A row is due from its due
+/// moment on.
 pub fn due_next<R: Rows>(rows: &mut R, moment: u64, cursor: Cursor) -> Option<Change>
     requires whole { IsWhole (R.buses rows.old) (R.state rows.old) }
     ensures change { result ≡ option_map (λ update. update.change) (due_after (R.state rows.old) moment cursor) }
@@ -26,7 +26,7 @@ pub fn due_next<R: Rows>(rows: &mut R, moment: u64, cursor: Cursor) -> Option<Ch
     Some(carry_out(rows, moment, &row))
 }
 
-/// Carries out the change of a row that is due.
+/// Carries out the change of a due row.
 fn carry_out<R: Rows>(rows: &mut R, moment: u64, row: &Row) -> Change
     requires whole { IsWhole (R.buses rows.old) (R.state rows.old) }
     requires there { row_at row.now.shown.key (R.state rows.old) ≡ Some row.now }
@@ -47,8 +47,9 @@ fn carry_out<R: Rows>(rows: &mut R, moment: u64, row: &Row) -> Change
     }
 }
 
-/// Carries out the first of the changes of a session's end: its locks are removed in key order, and its own row last.
-/// It returns `None`, and changes nothing, if the session has neither. Its locks go with a session by SRCP 0.8 (LOCK).
+/// Carries out the first of the changes of a session's end: the locks are removed in key order, and the session's row
+/// last. Returns `None`, and changes nothing, if the session has neither. Locks go with their session in SRCP 0.8
+/// (LOCK).
 pub fn free_next<R: Rows>(rows: &mut R, session: u32, moment: u64) -> Option<Change>
     requires whole { IsWhole (R.buses rows.old) (R.state rows.old) }
     ensures change { result

@@ -17,7 +17,7 @@ pub(crate) fn is_there<R: Rows>(rows: &R, device: Device) -> bool
     rows.row(&device.first_key()).is_some()
 }
 
-/// Makes the row that a Put at the moment makes.
+/// Makes the row of a Put at the moment.
 pub(crate) fn row_put(moment: u64, key: Key, value: Value, due: Option<u64>) -> Row
     ensures { result ≡ row_put moment key value due }
 {
@@ -29,14 +29,14 @@ pub(crate) fn row_put(moment: u64, key: Key, value: Value, due: Option<u64>) -> 
     Row { shown, due }
 }
 
-/// Returns the change that tells a client of a row that is set.
+/// Returns the change for a client when the row is set.
 pub(crate) fn put_of(row: &Row) -> Change
     ensures { result ≡ (put_of row.now).change }
 {
     Change::Put(row.shown)
 }
 
-/// Sets a row that is there, as all that a command does.
+/// Replaces a row, and makes this the only change of the command. The row has to be there.
 pub(crate) fn set_one<R: Rows>(
     rows: &mut R,
     moment: u64,

@@ -14,10 +14,10 @@ use srcp_grammar::Layout;
 use srcp_info::{Cursor, Device, Group, Key, MOST_PORTS, Row};
 use std::alloc::Global;
 
-/// Limits the rows of a device: an accessory with the most ports has them.
+/// The most rows of a device: an accessory with the most ports has as many.
 pub(crate) const MOST_ROWS: usize = 1 + MOST_PORTS as usize;
 
-/// Returns how many rows a device of the group has at most. Their ports are those below it.
+/// Returns how many rows a device of the group has at most. Each port of a row is below this number.
 pub fn most_rows(group: Group) -> u8
     ensures { result ≡ most_rows group }
 {
@@ -28,8 +28,7 @@ pub fn most_rows(group: Group) -> u8
     }
 }
 
-/// Keeps the rows of a registry, and the layout that they are of. The rows are in order of bus, group, address and
-/// port.
+/// Keeps the rows of a registry, and the layout of the registry. The rows are in order of bus, group, address and port.
 pub trait Rows: Drop {
     /// The buses of the layout.
     ghost buses: { Self → List Bus };
@@ -51,32 +50,32 @@ pub trait Rows: Drop {
     fn row_after(&self, cursor: Cursor) -> Option<&Row>
         ensures { option_copied result ≡ row_after cursor (state self.now) };
 
-    /// Finds the first row beyond the cursor, in key order, whose due moment has come, if there is one.
+    /// Finds the first row beyond the cursor, in key order, whose due moment has come. Returns `None` if there is no
+    /// such row.
     fn next_due(&mut self, moment: u64, cursor: Cursor) -> Option<Row>
         ensures row { result ≡ first_beyond cursor (is_due moment) (state self.old) }
         ensures layout { buses self.new ≡ buses self.old }
         ensures rows { state self.new ≡ state self.old };
 
-    /// Finds the first of the locks that the session holds, in key order, if it holds one.
+    /// Finds the first lock of the session, in key order. Returns `None` if the session holds no lock.
     fn first_held(&self, session: u32) -> Option<Row>
         ensures { result ≡ find (is_held_by session) (state self.now) };
 
-    /// Adds all the rows of one device that is not there, in key order. Fails, and changes nothing, if memory is
-    /// refused.
+    /// Adds all rows of a single new device, in key order. Fails, and changes nothing, if memory is refused.
     fn add(&mut self, added: &[Row]) -> Result<(), Memory>
         requires { (device : Device) × AreNewRowsOf (buses self.old) (state self.old) device added.now }
         ensures layout { buses self.new ≡ buses self.old }
         ensures ok { OnOk result (state self.new ≡ put_rows added.now (state self.old)) }
         ensures err { OnErr result (state self.new ≡ state self.old) };
 
-    /// Sets a row that is there.
+    /// Replaces the row at the key of `row`. A row with this key has to be there.
     fn set(&mut self, row: Row)
         requires there { IsTrue (has_row row.shown.key (state self.old)) }
         requires fits { IsRowOf (buses self.old) row }
         ensures layout { buses self.new ≡ buses self.old }
         ensures rows { state self.new ≡ put_row row (state self.old) };
 
-    /// Removes the rows of a device of a group that comes and goes, if it has any.
+    /// Removes the rows of a device, if there are any. The device has to be of a group that comes and goes.
     fn drop_device(&mut self, device: Device)
         requires { IsTrue (can_go device.group) }
         ensures layout { buses self.new ≡ buses self.old }

@@ -2,7 +2,7 @@
 
 ghost use Rattle.srcp_info.specs.WellFormed.{IsMoment};
 
-/// Names the session that sends a command, and the moment at which it does.
+/// Names the sender of a command, and the moment of sending.
 #[derive(Clone, Copy)]
 pub(crate) struct Sender {
     /// The id of the session.

@@ -12,8 +12,8 @@ use crate::registry::{put_of, row_put};
 use crate::rows::Rows;
 use srcp_info::{Change, Mode, Value};
 
-/// Adds the row of a session that begins, and returns its Put. Its id is at least 1 and not there. The registry is
-/// whole. So an id that is not there has no row at all, as `Rows::add` requires.
+/// Adds the row of a new session, and returns its Put. The id is at least 1 and not there, and the registry is whole.
+/// In a whole registry such an id has no row at all, as `Rows::add` requires.
 ///
 /// # Errors
 /// Returns `Memory`, and changes nothing, if memory is refused.

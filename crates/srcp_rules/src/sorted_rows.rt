@@ -11,8 +11,8 @@ use crate::filter::RowFilter;
 use crate::obeyed::Memory;
 use srcp_info::{Cursor, Device, Key, Row, compare};
 
-/// Searches rows by rising key. Returns `Ok` with the index of the row at the key, or `Err` with the index at which to
-/// insert it.
+/// Searches rows by rising key. Returns `Ok` with the index of the row at the key, or `Err` with the index for a new
+/// row there.
 pub(crate) fn index_of(rows: &[Row], key: &Key) -> Result<usize, usize>
     requires { IsRising rows.now }
     ensures at { IfOk result (HasKeyAt rows.now key.now) }
@@ -49,7 +49,7 @@ pub(crate) fn first_in(rows: &[Row], cursor: Cursor, filter: RowFilter) -> Optio
     rows.iter().find(|row| !cursor.has_reached(&row.shown.key) && filter.passes(row))
 }
 
-/// Sets the row at its key. There has to be room for one more row.
+/// Sets the row at its key. There has to be room for another row.
 fn put(rows: &mut Vec<Row>, row: Row)
     requires rising { IsRising rows.old.items }
     requires room { vec_len rows.old < vec_capacity rows.old }
@@ -78,7 +78,7 @@ pub(crate) fn add_all(rows: &mut Vec<Row>, added: &[Row]) -> Result<(), Memory>
     Ok(())
 }
 
-/// Sets a row that is there.
+/// Replaces a row, which has to be there.
 pub(crate) fn set_in(rows: &mut Vec<Row>, row: Row)
     requires rising { IsRising rows.old.items }
     requires there { IsTrue (has_row row.shown.key rows.old.items) }

@@ -22,13 +22,13 @@ use std::alloc::Global;
 /// Keeps the rows of one bus.
 #[derive(Drop)]
 pub(crate) struct BusRows {
-    /// The rows of the sessions, by rising number; the server's own bus alone has some.
+    /// The rows of the sessions, by rising number. Only the server's own bus has sessions.
     sessions: Vec<Row>,
-    /// Its power row, if the bus has one.
+    /// The power row, if the bus has power.
     power: Option<Row>,
     locomotives: Devices<2>,
     accessories: Devices<MOST_ROWS>,
-    /// The rows of its feedback ports, by rising port.
+    /// The rows of the feedback ports, by rising port.
     feedback: Vec<Row>,
     locomotive_locks: Devices<1>,
     accessory_locks: Devices<1>,
@@ -100,7 +100,7 @@ impl BusRows {
         }
     }
 
-    /// Adds the rows of a device that is not there, of a group that comes and goes.
+    /// Adds the rows of a new device, of a group that comes and goes. Fails if memory is refused.
     pub(crate) fn add(&mut self, first: &Row, added: &[Row]) -> Result<(), Memory>
         requires bus { AreRowsOfBus first.now.shown.key.bus self.old }
         requires comes { IsTrue (can_go first.now.shown.key.group) }
@@ -122,7 +122,7 @@ impl BusRows {
         }
     }
 
-    /// Sets a row that is there.
+    /// Replaces a row, which has to be there.
     pub(crate) fn set(&mut self, row: &Row)
         requires bus { AreRowsOfBus row.now.shown.key.bus self.old }
         requires there { IsTrue (has_row row.now.shown.key (bus_rows self.old)) }

@@ -9,7 +9,7 @@ use crate::sorted_rows::index_of;
 use srcp_info::{Key, Row};
 use std::marker::Model;
 
-/// Keeps the rows of one device by rising port: at most N, in the value itself. Contracts see the list of them.
+/// Keeps the rows of a device by rising port: at most N, in the value itself. Contracts see the list of the rows.
 #[derive(Drop)]
 pub(crate) struct DeviceRows<const N: usize> {
     rows: [Row; N],
@@ -28,7 +28,7 @@ impl<const N: usize> Model for DeviceRows<N> {
 }
 
 impl<const N: usize> DeviceRows<N> {
-    /// Keeps these rows, of which the first is one.
+    /// Keeps these rows. `first` is one of them.
     pub(crate) fn of(first: &Row, rows: &[Row]) -> DeviceRows<N>
         requires { length rows.now ≤ N }
         ensures { result ≡ rows.now }
@@ -48,7 +48,7 @@ impl<const N: usize> DeviceRows<N> {
         &self.rows[..self.count]
     }
 
-    /// Returns the row at a key of the device, whose rows differ by their ports alone.
+    /// Returns the row at a key of the device. The rows differ by their ports alone.
     pub(crate) fn row(&self, key: &Key) -> Option<&Row>
         requires { AreOfDevice key.now.bus key.now.group key.now.address self.now }
         ensures { option_copied result ≡ row_at key.now self.now }
@@ -69,7 +69,7 @@ impl<const N: usize> DeviceRows<N> {
             .find(|row| row.shown.key.port > last.port)
     }
 
-    /// Sets a row that is there.
+    /// Replaces a row, which has to be there.
     pub(crate) fn set(&mut self, row: &Row)
         requires rising { IsRising self.old }
         requires there { IsTrue (has_row row.now.shown.key self.old) }

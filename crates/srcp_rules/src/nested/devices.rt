@@ -20,8 +20,8 @@ use srcp_info::{Cursor, Device, Group, Key, Row};
 use std::alloc::Global;
 use std::marker::Model;
 
-/// Keeps the rows of devices of one group of one bus: at most N of each. There is a slot for each address up to the
-/// greatest that was added, so a look-up needs no search. Contracts see the devices that are there, by address.
+/// Keeps the rows of devices of a single group and bus: at most N of each. There is a slot for each address up to the
+/// greatest ever added: a look-up needs no search. Contracts see the devices that are there, by address.
 #[derive(Drop)]
 pub(crate) struct Devices<const N: usize> {
     slots: Vec<Option<Box<DeviceRows<N>>>>,
@@ -40,7 +40,7 @@ impl<const N: usize> Model for Devices<N> {
 }
 
 impl<const N: usize> Devices<N> {
-    /// Returns no device.
+    /// Makes a store of no device.
     pub(crate) fn new(alloc: Global) -> Devices<N>
         ensures { result ≡ [] }
     {
@@ -79,7 +79,7 @@ impl<const N: usize> Devices<N> {
         first_device(&self.slots, 0)?.as_slice().first()
     }
 
-    /// Returns the row with the least key beyond the cursor, if these are devices of this group of this bus.
+    /// Returns the row with the least key beyond the cursor. The devices have to be of this group and this bus.
     #[inline(always)]
     pub(crate) fn row_after(&self, bus: u8, group: Group, cursor: Cursor) -> Option<&Row>
         requires devices { AreDevices bus group self.now }
@@ -115,7 +115,7 @@ impl<const N: usize> Devices<N> {
             .first()
     }
 
-    /// Returns the row with the least key beyond a key, if it is of the key's own device.
+    /// Returns the row with the least key beyond a key, if the row is of the key's own device.
     #[inline(always)]
     fn row_beyond_in_device(&self, last: &Key) -> Option<&Row>
         requires devices { AreDevices last.now.bus last.now.group self.now }
@@ -126,7 +126,7 @@ impl<const N: usize> Devices<N> {
         self.device(last.address)?.row_after(last)
     }
 
-    /// Adds the rows of a device that is not there.
+    /// Adds the rows of a new device. Fails if memory is refused.
     pub(crate) fn add(&mut self, first: &Row, added: &[Row]) -> Result<(), Memory>
         requires devices { AreDevices first.now.shown.key.bus first.now.shown.key.group self.old }
         requires device { AreOfDevice first.now.shown.key.bus first.now.shown.key.group first.now.shown.key.address
@@ -148,7 +148,7 @@ impl<const N: usize> Devices<N> {
         Ok(())
     }
 
-    /// Sets a row that is there.
+    /// Replaces a row, which has to be there.
     pub(crate) fn set(&mut self, row: &Row)
         requires devices { AreDevices row.now.shown.key.bus row.now.shown.key.group self.old }
         requires there { IsTrue (has_row row.now.shown.key (device_rows self.old)) }
@@ -178,7 +178,7 @@ impl<const N: usize> Devices<N> {
     }
 }
 
-/// Returns the device in the first slot, from this one on, that has one.
+/// Returns the first device from this slot on, or `None` if all these slots are empty.
 #[inline(always)]
 fn first_device<const N: usize>(
     slots: &[Option<Box<DeviceRows<N>>>],
