@@ -1,4 +1,4 @@
-//! Pairs of a rank and a key in order, in memory that is reserved ahead.
+//! Pairs of a rank and a key in order, in memory reserved ahead.
 ghost use Rattle.std.specs.Prelude.{◌≡◌, ◌+◌, ◌<◌, ◌≤◌, ◌==◌, [], length, take, drop, find, fold, min, nat_le};
 ghost use Rattle.std.specs.Prelude.{take_while, true, false, IsTrue, IfOk, OnOk, slice_get};
 ghost use Rattle.std.specs.VecDeque.{deque_len, deque_capacity};
@@ -20,7 +20,7 @@ pub(crate) struct Pair {
     pub(crate) key: Key,
 }
 
-/// Compares two pairs. Ranks up to `since` are equal, and pairs of equal rank go by their keys.
+/// Compares two pairs. Ranks up to `since` are equal. Pairs of equal rank go by their keys.
 fn compare(since: u64, a: &Pair, b: &Pair) -> Ordering
     ensures { result ≡ order since a.now b.now }
 {
@@ -38,7 +38,7 @@ fn is_before(since: u64, a: &Pair, b: &Pair) -> bool
     compare(since, a, b).is_lt()
 }
 
-/// Returns how many pairs come before this one.
+/// Returns how many pairs come before this pair.
 fn count_before(pairs: &VecDeque<Pair>, since: u64, pair: &Pair) -> usize
     requires { IsInOrder (before since) pairs.now.items }
     ensures bound { result ≤ length pairs.now.items }
@@ -48,7 +48,7 @@ fn count_before(pairs: &VecDeque<Pair>, since: u64, pair: &Pair) -> usize
     pairs.partition_point(|x| is_before(since, x, pair))
 }
 
-/// Inserts a pair in order, if there is room.
+/// Inserts a pair in order. There has to be room for the pair.
 fn insert_in(pairs: &mut VecDeque<Pair>, since: u64, pair: Pair)
     requires order { IsInOrder (before since) pairs.old.items }
     requires room { deque_len pairs.old < deque_capacity pairs.old }
@@ -72,7 +72,7 @@ fn remove_from(pairs: &mut VecDeque<Pair>, since: u64, pair: Pair)
     }
 }
 
-/// Sorts pairs from the order of one moment into that of another. Only those whose rank is up to the later of the two
+/// Sorts pairs from the order of a moment into the order of another. Only pairs with a rank up to the later moment
 /// move.
 fn reorder(pairs: &mut [Pair], since: u64, moment: u64)
     requires { IsInOrder (before since) pairs.old }
@@ -84,7 +84,7 @@ fn reorder(pairs: &mut [Pair], since: u64, moment: u64)
     sort(front, moment);
 }
 
-/// Sorts the pairs of a ring from the order of one moment into that of another.
+/// Sorts the pairs of a ring from the order of a moment into the order of another.
 fn reorder_in(pairs: &mut VecDeque<Pair>, since: u64, moment: u64)
     requires { IsInOrder (before since) pairs.old.items }
     ensures pairs { pairs.new.items ≡ order_by (before moment) pairs.old.items }
@@ -129,7 +129,8 @@ fn first_in(pairs: &VecDeque<Pair>, rank: u64) -> Option<Pair>
     (pair.rank == rank).then_some(pair)
 }
 
-/// Returns the least of this rank and those up to `since`. The pairs of those come first, and it looks no further.
+/// Returns the least of `rank` and all ranks up to `since`. Pairs of such ranks come first, and the search ends behind
+/// them.
 fn least_due(pairs: &VecDeque<Pair>, since: u64, rank: u64) -> u64
     ensures { result
         ≡ fold (λ least pair. min least pair.rank) rank (take_while (λ pair. nat_le pair.rank since) pairs.now.items) }
@@ -140,7 +141,7 @@ fn least_due(pairs: &VecDeque<Pair>, since: u64, rank: u64) -> u64
         .fold(rank, |least, pair| least.min(pair.rank))
 }
 
-/// Returns the least rank.
+/// Returns the least rank, or `None` if there is no pair.
 fn least_in(pairs: &VecDeque<Pair>, since: u64) -> Option<u64>
     requires { IsInOrder (before since) pairs.now.items }
     ensures { IsLeastRank result pairs.now.items }
@@ -149,11 +150,11 @@ fn least_in(pairs: &VecDeque<Pair>, since: u64) -> Option<u64>
     Some(least_due(pairs, since, first.rank))
 }
 
-/// Holds pairs in the order of a moment. Contracts see that list, the moment, and the number of pairs that have room.
+/// Holds pairs in the order of a moment. Contracts see the list, the moment, and for how many pairs there is room.
 #[derive(Drop)]
 pub(crate) struct Index {
     since: u64,
-    /// The number of pairs that have room by `reserve`.
+    /// The number of pairs with room made by `reserve`.
     room: usize,
     pairs: VecDeque<Pair>,
 }
@@ -197,7 +198,7 @@ impl Index {
         Ok(())
     }
 
-    /// Inserts a pair.
+    /// Inserts a pair at its place in the order.
     pub(crate) fn insert(&mut self, pair: Pair)
         requires room { length self.old.pairs < self.old.room }
         ensures pairs { self.new.pairs ≡ insert_by (before self.old.since) pair self.old.pairs }
@@ -217,7 +218,7 @@ impl Index {
         remove_from(&mut self.pairs, self.since, pair);
     }
 
-    /// Sorts the pairs for the moment: those with a rank up to it come first, in the order of their keys.
+    /// Sorts the pairs for the moment. Pairs with a rank up to the moment come first, in the order of their keys.
     pub(crate) fn sort_for(&mut self, moment: u64)
         ensures pairs { self.new.pairs ≡ order_by (before moment) self.old.pairs }
         ensures since { self.new.since ≡ moment }

@@ -1,4 +1,4 @@
-//! The rows of a keeper, with an index of their due moments and one of the sessions that hold locks.
+//! The rows of a keeper, with an index of due moments, and another of the sessions with locks.
 ghost use Rattle.std.specs.Prelude.{◌≡◌, ◌+◌, ◌<◌, ◌≤◌, length};
 ghost use Rattle.std.specs.List.{AllByRecursion};
 ghost use Rattle.srcp_index.specs.Earliest.{IsEarliestDue};
@@ -44,7 +44,7 @@ impl<R: Rows> Rows for Indexed<R> {
     ghost state = { λ x. R.state x };
 
     fn empty(alloc: Global, layout: &Layout) -> Result<Self, Memory> {
-        // Called for its contract, which says the layout's limits.
+        // Called for the contract, which says the layout's limits.
         let _ = layout.buses();
         let rows = R::empty(alloc, layout)?;
         Ok(Indexed {

@@ -1,4 +1,4 @@
-//! The index of due moments and that of the sessions that hold locks.
+//! The index of due moments, and the index of the sessions with locks.
 ghost use Rattle.std.specs.Prelude.{◌≡◌, ◌+◌, ◌≤◌, IsSome, [], OnOk, length};
 ghost use Rattle.srcp_index.specs.Indexed.{HasRoom, due_of, pair_edited, row_edited, with_rows};
 ghost use Rattle.srcp_index.specs.Ordered.{insert_by, remove_by};
@@ -12,9 +12,9 @@ use std::alloc::Global;
 /// Holds both indexes of the rows of a registry.
 #[derive(Drop)]
 pub(crate) struct Indexes {
-    /// The due moments of the rows that have one.
+    /// The due moments of rows, if any.
     pub(crate) moments: Index,
-    /// The sessions that hold the locks.
+    /// The sessions with locks.
     pub(crate) sessions: Index,
 }
 
@@ -31,7 +31,7 @@ impl Indexes {
         }
     }
 
-    /// Makes room for the pairs of `total` rows in all.
+    /// Makes room for the pairs of `total` rows in all. Fails if memory is refused, and the pairs stay.
     pub(crate) fn reserve(&mut self, total: usize) -> Result<(), Memory>
         ensures moments { self.new.moments.pairs ≡ self.old.moments.pairs }
         ensures sessions { self.new.sessions.pairs ≡ self.old.sessions.pairs }
@@ -88,7 +88,7 @@ fn holder(row: &Row) -> Option<u64>
     }
 }
 
-/// Inserts the pair of a key, if it has a rank.
+/// Inserts the pair of a key, if the key has a rank.
 fn insert_ranked(index: &mut Index, rank: Option<u64>, key: Key)
     requires { IsSome rank → HasRoom index.old }
     ensures { index.new ≡ pair_edited insert_by rank key index.old }
@@ -98,7 +98,7 @@ fn insert_ranked(index: &mut Index, rank: Option<u64>, key: Key)
     }
 }
 
-/// Removes the pair of a key, if it has a rank.
+/// Removes the pair of a key, if the key has a rank.
 fn remove_ranked(index: &mut Index, rank: Option<u64>, key: Key)
     ensures { index.new ≡ pair_edited remove_by rank key index.old }
 {
