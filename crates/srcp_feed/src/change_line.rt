@@ -1,4 +1,4 @@
-//! A change with its line, and a line that was written.
+//! A change with its line, and a written line.
 
 ghost use Rattle.std.specs.Prelude.{◌≡◌, ◌≤◌, ◌==◌, [], length};
 ghost use Rattle.srcp_info.specs.WellFormed.{IsWellFormed};
@@ -7,11 +7,11 @@ ghost use Rattle.srcp_feed.specs.Feed.{IsLineOrNone};
 use srcp_info::{Change, InfoLine, LONGEST_LINE, write_change};
 use std::marker::Model;
 
-/// The bytes of a line in memory: a multiple of 16, so that a copy of them needs no call.
+/// The bytes of a line in memory: a multiple of 16, since a copy of such a length needs no call.
 const ROOM: usize = 128;
 
-/// Holds a written line: at most `LONGEST_LINE` bytes, which stand in the value itself. A copy costs the same whatever
-/// its length, and a clear writes none of its bytes. Contracts see the list of its bytes.
+/// Holds a written line: at most `LONGEST_LINE` bytes, which stand in the value itself. A copy costs the same for all
+/// lengths, and a clear writes none of the bytes. Contracts see the list of the bytes.
 #[derive(Drop)]
 pub struct WrittenLine {
     // The first `len` bytes are the line.
@@ -41,7 +41,7 @@ impl WrittenLine {
         }
     }
 
-    /// Becomes a line of the same bytes.
+    /// Becomes a line of the same bytes as `line`.
     pub(crate) fn put(&mut self, line: &InfoLine)
         ensures { self.new ≡ line.now.items }
     {
@@ -69,14 +69,14 @@ impl WrittenLine {
         self.len = line.len;
     }
 
-    /// Drops its bytes.
+    /// Drops all bytes.
     pub fn clear(&mut self)
         ensures { self.new ≡ [] }
     {
         self.len = 0;
     }
 
-    /// Returns how many bytes it has.
+    /// Returns the number of bytes.
     pub fn len(&self) -> usize
         ensures value { result ≡ length self.now }
         ensures most { result ≤ LONGEST_LINE }
@@ -84,14 +84,14 @@ impl WrittenLine {
         usize::from(self.len)
     }
 
-    /// Returns whether it has no bytes.
+    /// Returns whether there are no bytes.
     pub fn is_empty(&self) -> bool
         ensures { result ≡ (length self.now == 0) }
     {
         self.len == 0
     }
 
-    /// Returns its bytes.
+    /// Returns the bytes.
     pub fn as_slice(&self) -> &[u8]
         ensures value { result.now ≡ self.now }
         ensures most { length result.now ≤ LONGEST_LINE }
@@ -100,8 +100,8 @@ impl WrittenLine {
     }
 }
 
-/// Lends a change, and holds its line if that was written, so that one line serves all panels. Contracts see the change
-/// alone.
+/// Lends a change, and holds the line of the change if written: all panels then share the line. Contracts see the
+/// change alone.
 #[derive(Drop)]
 pub struct ChangeLine<'a> {
     change: &'a Change,
@@ -149,7 +149,7 @@ impl<'a> ChangeLine<'a> {
         self.change
     }
 
-    /// Lends the line, which has no bytes if it was not written.
+    /// Lends the line, which has no bytes if no line was written.
     pub fn line(&self) -> &WrittenLine
         ensures { IsLineOrNone result.now self.now }
     {

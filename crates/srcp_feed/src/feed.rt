@@ -1,4 +1,4 @@
-//! The feed of one information session.
+//! The feed of an information session.
 
 ghost use Rattle.std.specs.Prelude.{◌≡◌, ◌≢◌, ◌<◌, ◌≤◌, List, [], ◌++◌, drop, length, IfOk, IfSome, IfNone};
 ghost use Rattle.std.specs.Prelude.{option_copied, slice_get};
@@ -19,9 +19,9 @@ use std::marker::Model;
 /// Says what a feed did with a change.
 #[derive(Clone, Copy, Debug, PartialEq, Eq)]
 pub enum Told {
-    /// The listing has not come to its row, and will meet it.
+    /// The listing has not reached the row, and will meet the change there.
     Skipped,
-    /// It is queued.
+    /// The change is queued.
     Queued,
     /// The queue is full.
     Overrun,
@@ -30,7 +30,7 @@ pub enum Told {
 /// Says what an information session is given next.
 #[derive(Clone, Copy, Debug, PartialEq, Eq)]
 pub enum Next {
-    /// A change that waited.
+    /// A waiting change.
     Told(Change),
     /// The next row of the listing.
     Listed(Shown),
@@ -38,8 +38,8 @@ pub enum Next {
     Settled,
 }
 
-/// Gives one information session its changes and rows: the changes that wait, then the next rows of its listing. It
-/// holds the listing's cursor and the changes that wait, and no row.
+/// Gives an information session its changes and rows: the waiting changes, then the next rows of its listing. Holds the
+/// listing's cursor and the waiting changes, and no row.
 #[derive(Drop)]
 pub struct InfoFeed {
     cursor: Cursor,
@@ -55,8 +55,8 @@ impl Model for InfoFeed {
 }
 
 impl InfoFeed {
-    /// Begins a listing, for which no change waits. It allocates the slots of the changes that may wait, and no other
-    /// call allocates. Answers `Memory` if memory is refused.
+    /// Begins a listing with no waiting change. Allocates the slots of all changes that may wait. No other call
+    /// allocates. Fails with `Memory` if memory is refused.
     pub fn begin<R: Rows>(alloc: Global, _rows: &R) -> Result<InfoFeed, Memory>
         ensures { IfOk result (λ feed. feed ≡ beginning) }
     {
@@ -66,9 +66,9 @@ impl InfoFeed {
         })
     }
 
-    /// Takes in a change of the registry. A change of a row that the listing has passed is queued; any other is
-    /// skipped, since the listing meets it. Answers `Overrun` if it would be queued and `MOST_WAITING` changes wait
-    /// already. That leaves the feed as it is.
+    /// Takes in a change of the registry. A change of a row already passed by the listing is queued. Any other change
+    /// is skipped, since the listing meets the row. Answers `Overrun`, and leaves the feed unchanged, if the change
+    /// would be queued and `MOST_WAITING` changes wait already.
     pub fn tell(&mut self, change: &Change) -> Told
         ensures answer { result ≡ told_answer change.now self.old }
         ensures feed { self.new ≡ told change.now self.old }
@@ -80,7 +80,7 @@ impl InfoFeed {
         self.tell_line(&ChangeLine::without_line(change))
     }
 
-    /// Takes in a change as `tell` does, and keeps its line.
+    /// Takes in a change as `tell` does, and keeps the line of the change.
     pub fn tell_line(&mut self, change: &ChangeLine<'_>) -> Told
         ensures answer { result ≡ told_answer change.now self.old }
         ensures feed { self.new ≡ told change.now self.old }
@@ -95,21 +95,22 @@ impl InfoFeed {
         Told::Queued
     }
 
-    /// Returns whether the listing has passed the row of a change. One that is done has passed all, whatever the key.
+    /// Returns whether the listing has passed the row of a change. A listing that is done has passed all rows, whatever
+    /// the key.
     fn has_passed(&self, change: &Change) -> bool
         ensures { result ≡ concerns self.now.cursor change.now }
     {
         matches!(self.cursor, Cursor::Done) || self.cursor.has_reached(&change.key())
     }
 
-    /// Lends the first change that waits, with its line.
+    /// Lends the first waiting change, with its line, or `None` if no change waits.
     pub fn first(&self) -> Option<&Waiting>
         ensures { option_copied result ≡ slice_get self.now.queue 0 }
     {
         self.waiting.first()
     }
 
-    /// Drops the first change that waits, once the session was given it. One has to wait.
+    /// Drops the first waiting change, once the session was given the change. A change has to wait.
     pub fn drop_first(&mut self)
         requires { 0 < length self.old.queue }
         ensures { self.new ≡ record self.old { queue = drop 1 self.old.queue } }
@@ -117,8 +118,8 @@ impl InfoFeed {
         self.waiting.drop_first();
     }
 
-    /// Returns what the session is given next: the first change that waits, else the least row above the cursor, else
-    /// `Settled`. From `Settled` on the listing is done, and every change waits.
+    /// Returns what the session is given next: the first waiting change, else the least row above the cursor, else
+    /// `Settled`. From `Settled` on the listing is done, and every change is queued.
     pub fn next<R: Rows>(&mut self, rows: &R) -> Next
         ensures answer { result ≡ next_of (shown_rows (R.state rows.now)) self.old }
         ensures feed { self.new ≡ after_next (shown_rows (R.state rows.now)) self.old }
@@ -138,8 +139,8 @@ impl InfoFeed {
         }
     }
 
-    /// Returns the row that the session is given next, if no change waits, or `None` if no row is left. It advances
-    /// the listing as `next` does.
+    /// Returns the next row for the session, or `None` if no row is left. No change may wait. Advances the listing as
+    /// `next` does.
     pub fn list<'a, R: Rows>(&mut self, rows: &'a R) -> Option<&'a Row>
         requires { self.old.queue ≡ [] }
         ensures listed { IfSome result
@@ -163,7 +164,7 @@ impl InfoFeed {
         }
     }
 
-    /// Returns what `next` would, and advances nothing.
+    /// Returns the answer of `next`, and advances nothing.
     pub fn peek<R: Rows>(&self, rows: &R) -> Next
         ensures { result ≡ next_of (shown_rows (R.state rows.now)) self.now }
     {

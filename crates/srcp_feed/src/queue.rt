@@ -1,4 +1,4 @@
-//! The changes that wait for one information session.
+//! The waiting changes of an information session.
 
 ghost use Rattle.std.specs.Prelude.{◌≡◌, ◌<◌, ◌≤◌, ◌+◌, ◌-◌, [], ◌∷◌, ◌++◌, IfOk, take, drop, length, nat_lt, not};
 ghost use Rattle.std.specs.Prelude.{option_copied, slice_get, vec_capacity};
@@ -11,14 +11,13 @@ use std::alloc::Global;
 use std::marker::Model;
 use std::vec::Vec;
 
-/// The most changes that wait for one session. SRCP 0.8 has no such limit.
+/// The most changes to wait for a session. SRCP 0.8 has no such limit.
 pub const MOST_WAITING: usize = 256;
 
-/// The slots of a queue. They are used up once for `MOST_WAITING` changes at most.
+/// The slots of a queue: twice the limit. Waiting changes then move to the front at most once in `MOST_WAITING` pushes.
 const SLOTS: usize = 2 * MOST_WAITING;
 
-/// Holds the changes that wait, in the order in which they came, each with its line. Contracts see the list of the
-/// changes.
+/// Holds the waiting changes, in the order of their coming, each with its line. Contracts see the list of the changes.
 #[derive(Drop)]
 pub(crate) struct Queue {
     // The changes from `first` to `end` wait. Once none does, the next one is put into the first slot, which is still
@@ -42,10 +41,10 @@ impl Model for Queue {
 }
 
 impl Queue {
-    /// Makes an empty queue, with the memory of its slots. No other call allocates.
+    /// Makes an empty queue, with the memory of all slots. No other call allocates.
     ///
     /// # Errors
-    /// If memory is refused.
+    /// Fails with `Memory` if memory is refused.
     pub(crate) fn new(alloc: Global) -> Result<Queue, Memory>
         ensures { IfOk result (λ queue. queue ≡ []) }
     {
@@ -71,7 +70,7 @@ impl Queue {
         self.len() >= MOST_WAITING
     }
 
-    /// Lends the first change.
+    /// Lends the first change, or `None` if no change waits.
     pub(crate) fn first(&self) -> Option<&Waiting>
         ensures { option_copied result ≡ slice_get self.now 0 }
     {
@@ -133,11 +132,11 @@ fn move_to_front(slots: &mut Vec<Waiting>, first: usize)
     free[..waiting.len()].swap_with_slice(waiting);
 }
 
-/// Holds a change that waits: its line if that was written, else the change itself. Contracts see the change alone.
+/// Holds a waiting change: the line if written, else the change itself. Contracts see the change alone.
 #[derive(Drop)]
 pub struct Waiting {
     line: WrittenLine,
-    // Of no meaning if the line was written.
+    // Without meaning if the line was written.
     change: Change,
 }
 
@@ -164,7 +163,7 @@ impl Waiting {
         }
     }
 
-    /// Becomes a copy of a change. It copies the change itself only if its line was not written.
+    /// Becomes a copy of a change. Copies the change itself only if no line was written.
     pub(crate) fn copy_from(&mut self, change: &ChangeLine<'_>)
         ensures { self.new ≡ change.now }
     {
@@ -174,7 +173,7 @@ impl Waiting {
         }
     }
 
-    /// Returns the change. It reads the line if that was written.
+    /// Returns the change, read from the line if a line was written.
     pub fn change(&self) -> Change
         ensures { result ≡ self.now }
     {
@@ -189,7 +188,7 @@ impl Waiting {
         }
     }
 
-    /// Lends the line, which has no bytes if it was not written.
+    /// Lends the line, which has no bytes if no line was written.
     pub fn line(&self) -> &WrittenLine
         ensures { IsLineOrNone result.now self.now }
     {
