@@ -1,4 +1,4 @@
-//! Tests of `srcp_text`. They stand here so that it is proved once.
+//! Tests of `srcp_text`, in a crate of their own, since `srcp_text` is then proved once.
 #![tactic(auto)]
 
 #[cfg(test)]

@@ -1,11 +1,11 @@
-//! Lines of bytes that come in pieces.
+//! Lines of bytes, read in pieces.
 
 ghost use Rattle.std.specs.Prelude.{◌≤◌};
 
 use srcp_text::{Fed, LineReader};
 
-// Feeds a piece to a reader. Returns how many lines it finds, how many too long ones, and whether the last line found
-// is `last`.
+// Feeds a piece to a reader. Returns how many lines the reader finds, how many of them are too long, and whether the
+// last line found is `last`.
 fn lines_in(reader: &mut LineReader, piece: &[u8], last: &[u8]) -> (u32, u32, bool) {
     let mut found = (0u32, 0u32, false);
     let mut start = 0;

@@ -1,4 +1,4 @@
-//! Words of lines, and the numbers that they write.
+//! Words of lines, and the numbers in them.
 
 use srcp_text::{read_number, read_plain, words};
 
