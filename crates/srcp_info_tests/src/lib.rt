@@ -1,4 +1,4 @@
-//! Tests of `srcp_info`. They stand here so that it is proved once.
+//! Tests of `srcp_info`, in a crate of their own, since `srcp_info` is then proved once.
 #![tactic(auto)]
 
 #[cfg(test)]

@@ -1,4 +1,4 @@
-//! Each value at its least and its greatest, written and read back, and lines that no change has.
+//! Each value at the least and the greatest, written and read back, and lines of no change.
 
 use srcp_info::{
     Bits, Change, Device, Group, Key, Letter, Mode, Shown, Text, Value, read_change, write_change,

@@ -59,7 +59,7 @@ fn an_accessory_goes(rt: HostRuntime) {
     has_keys(&rt, &mirror, &keys);
 }
 
-// A lock is a device of its own.
+// A lock is a separate device.
 #[test]
 fn a_locomotive_goes_and_its_lock_stays(rt: HostRuntime) {
     let mut mirror = Mirror::new(rt.alloc());

@@ -63,7 +63,7 @@ fn refusals(rt: HostRuntime) {
     }
 }
 
-// The row keeps its own stamp.
+// The row keeps the row's own stamp.
 #[test]
 fn a_row(rt: HostRuntime) {
     let shown = Shown {
