@@ -1,4 +1,4 @@
-//! One keeper of rows against the other.
+//! The two keepers of rows, compared.
 
 use crate::served::Served;
 use srcp_info::Row;
@@ -7,8 +7,8 @@ use std::alloc::Global;
 use std::process::Abort;
 use std::test::Fail;
 
-/// Appends all rows of each keeper before the first line and after each line. Both keepers have to answer the same at
-/// it.
+/// Appends all rows of each keeper before the first line and after each line. Fails if the keepers differ in an
+/// answer.
 fn walk_at_each(
     served: &mut Served,
     alloc: Global,

@@ -1,4 +1,4 @@
-//! Layouts, and the registries that begin with them.
+//! Layouts, and their registries at the beginning.
 
 use crate::served::bus;
 use srcp_info::{Cursor, Device, Group};

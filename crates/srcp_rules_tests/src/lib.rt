@@ -1,4 +1,4 @@
-//! Tests of `srcp_rules`. They stand here so that it is proved once.
+//! Tests of `srcp_rules`, in a crate of their own, since `srcp_rules` is then proved once.
 #![tactic(auto)]
 
 #[cfg(test)]

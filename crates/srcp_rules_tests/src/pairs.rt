@@ -1,4 +1,4 @@
-//! Each pair of an operation and a group that is accepted.
+//! Each accepted pair of an operation and a group.
 
 use crate::served::{INIT_GL_3_AT_1, LOCK_GL_3_FOR_60_AT_1, bus, tells, tells_over};
 use srcp_rules::Bus;
@@ -169,7 +169,7 @@ fn locks(rt: HostRuntime) -> Result<(), Fail> {
     tells(&rt, rt.alloc(), &lines)
 }
 
-/// Makes a bus whose accessories have that many ports.
+/// Makes a bus whose accessories have this many ports.
 fn bus_of_ports(number: u8, ga_ports: u8) -> Bus {
     Bus {
         ga_ports,

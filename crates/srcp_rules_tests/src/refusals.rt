@@ -1,5 +1,5 @@
-//! The order of refusals, each against one that could come first: those of a line, those of the registry, and those of
-//! locks. At the end, INIT of a device that is there, while its lock is held.
+//! The order of refusals, each against another that could come first: those of a line, those of the registry, and
+//! those of locks. At the end, INIT of a device already there, while the device's lock is held.
 
 use crate::served::{
     GO_2, INIT_GA_5_AT_0, INIT_GA_5_AT_1, LOCK_GA_5_AT_0, Line, bus, refuses, refuses_over, tells,

@@ -1,4 +1,4 @@
-//! A registry for tests, kept by both kinds of keepers, and its answers to sessions.
+//! A registry for tests, kept by both kinds of keepers, and the answers to sessions.
 
 use crate::told::{push_begun, push_due, push_end, push_line, push_reply, push_rows};
 use srcp_info::{Code, Reply, Row};
@@ -68,7 +68,7 @@ impl Served {
         })
     }
 
-    /// Returns the change that the beginning of a command session brings, as its line.
+    /// Returns the line of the change at the beginning of a command session.
     fn begin(&mut self, alloc: Global, session: u32, moment: u64) -> Result<Vec<u8>, Fail> {
         let mut said = Vec::new(alloc);
         push_begun(&mut said, &mut self.flat, session, moment)?;
@@ -77,8 +77,8 @@ impl Served {
         agreed(said, &other)
     }
 
-    /// Returns the reply to a session's line and the changes that it makes, each as its line. A last line follows if
-    /// the session is to end.
+    /// Returns the reply to a session's line, and the line of each change made. A last line follows if the session is
+    /// to end.
     fn say(
         &mut self,
         alloc: Global,
@@ -107,7 +107,7 @@ impl Served {
         agreed(said, &other)
     }
 
-    /// Returns the changes that the moment brings, each as its line.
+    /// Returns the line of each change at the moment.
     fn at(&mut self, alloc: Global, moment: u64) -> Result<Vec<u8>, Fail> {
         let mut said = Vec::new(alloc);
         push_due(&mut said, &mut self.flat, moment)?;
@@ -116,7 +116,7 @@ impl Served {
         agreed(said, &other)
     }
 
-    /// Returns the changes that the end of a session brings, each as its line.
+    /// Returns the line of each change at the end of a session.
     fn end(&mut self, alloc: Global, session: u32, moment: u64) -> Result<Vec<u8>, Fail> {
         let mut said = Vec::new(alloc);
         push_end(&mut said, &mut self.flat, session, moment)?;
@@ -125,8 +125,8 @@ impl Served {
         agreed(said, &other)
     }
 
-    /// Returns the lines that a line brings at its moment. `go` begins its session, `end` ends it, and `now` is the
-    /// moment alone.
+    /// Returns the lines that follow a session's line at a moment. `go` begins the session, `end` ends the session, and
+    /// `now` is the moment alone.
     fn tell(
         &mut self,
         alloc: Global,
@@ -156,7 +156,7 @@ impl Served {
         push_rows(nested, &self.nested)
     }
 
-    /// Asserts what each line brings, one after another.
+    /// Asserts what follows each of these lines, in order.
     fn tells(&mut self, rt: &impl Abort, alloc: Global, lines: &[Line]) -> Result<(), Fail> {
         for (session, moment, line, want) in lines {
             let told = self.tell(alloc, *session, *moment, line)?;
@@ -166,9 +166,9 @@ impl Served {
     }
 }
 
-/// A session, a moment, a line of the session, and what it brings then. That is a reply and the changes, each as its
-/// line, and a last line if the session is to end. A line `go` begins its session, `end` ends it, and `now` is the
-/// moment alone.
+/// A session, a moment, a line of the session, and what follows then. This is the reply, the line of each change, and a
+/// last line if the session is to end. A line `go` begins the session, `end` ends the session, and `now` is the moment
+/// alone.
 pub(crate) type Line = (u32, u64, &'static str, &'static str);
 
 /// The session 1 begins.
@@ -212,7 +212,7 @@ pub(crate) const LOCK_GA_5_AT_0: Line = (
     "0.000 200 OK\n0.000 100 INFO 1 LOCK GA 5 0 1\n",
 );
 
-/// It ends after 60 seconds.
+/// The lock ends after 60 seconds.
 pub(crate) const LOCK_GL_3_FOR_60_AT_1: Line = (
     1,
     1000,
@@ -220,7 +220,7 @@ pub(crate) const LOCK_GL_3_FOR_60_AT_1: Line = (
     "1.000 200 OK\n1.000 100 INFO 1 LOCK GL 3 60 1\n",
 );
 
-/// Asserts over these buses that the session 1 begins, and then what each line brings, one after another.
+/// Begins the session 1 over these buses, and asserts what follows each of these lines, in order.
 pub(crate) fn tells_over(
     rt: &impl Abort,
     alloc: Global,
@@ -232,12 +232,13 @@ pub(crate) fn tells_over(
     served.tells(rt, alloc, lines)
 }
 
-/// Asserts this over bus 1 alone.
+/// Asserts the same over bus 1 alone.
 pub(crate) fn tells(rt: &impl Abort, alloc: Global, lines: &[Line]) -> Result<(), Fail> {
     tells_over(rt, alloc, &[bus(1)], lines)
 }
 
-/// Asserts over these buses that each line of the session 1 at the moment 1000 is refused so, and nothing else follows.
+/// Asserts over these buses that each line of the session 1 at the moment 1000 is refused with the given code, and
+/// nothing else follows.
 pub(crate) fn refuses_over(
     rt: &impl Abort,
     alloc: Global,
@@ -255,7 +256,7 @@ pub(crate) fn refuses_over(
     Ok(())
 }
 
-/// Asserts this over bus 1 alone.
+/// Asserts the same over bus 1 alone.
 pub(crate) fn refuses(rt: &impl Abort, alloc: Global, lines: &[(&str, Code)]) -> Result<(), Fail> {
     refuses_over(rt, alloc, &[bus(1)], lines)
 }

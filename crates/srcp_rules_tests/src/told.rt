@@ -69,7 +69,7 @@ fn has_session<R: Rows>(rows: &R, session: u32) -> bool
     rows.row(&own.first_key()).is_some()
 }
 
-/// Appends the change that the beginning of a command session brings.
+/// Appends the change at the beginning of a command session.
 pub(crate) fn push_begun<R: Rows>(
     said: &mut Vec<u8>,
     rows: &mut R,
@@ -89,7 +89,7 @@ pub(crate) fn push_begun<R: Rows>(
     }
 }
 
-/// Appends the reply to a session's line and the changes that it makes, and a last line if the session is to end.
+/// Appends the reply to a session's line, the changes made, and a last line if the session is to end.
 pub(crate) fn push_line<R: Rows>(
     said: &mut Vec<u8>,
     layout: &Layout,
@@ -119,7 +119,7 @@ pub(crate) fn push_line<R: Rows>(
     Ok(())
 }
 
-/// Appends the changes that a moment brings.
+/// Appends the changes at a moment.
 pub(crate) fn push_due<R: Rows>(said: &mut Vec<u8>, rows: &mut R, moment: u64) -> Result<(), Fail>
     requires whole { IsWhole (R.buses rows.old) (R.state rows.old) }
     ensures layout { R.buses rows.new ≡ R.buses rows.old }
@@ -136,7 +136,7 @@ pub(crate) fn push_due<R: Rows>(said: &mut Vec<u8>, rows: &mut R, moment: u64) -
     Err(Fail::from("more than 20 changes"))
 }
 
-/// Appends the changes that the end of a session brings.
+/// Appends the changes at the end of a session.
 pub(crate) fn push_end<R: Rows>(
     said: &mut Vec<u8>,
     rows: &mut R,
