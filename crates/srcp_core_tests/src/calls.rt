@@ -1,4 +1,4 @@
-//! Calls of a core, one by one.
+//! Single calls of a core.
 
 use crate::fixture::{
     assert_all, assert_answer, assert_refused, assert_state, open, open_command, over_core,
@@ -13,8 +13,8 @@ use std::vec::Vec;
 
 const WELCOME: &[u8] = b"srcp_server 1.0; SRCP 0.8.4; SRCPOTHER 0.8.3\n";
 
-/// Sends these bytes one by one. Until the last of them is sent the connection is neither ready nor closing, and
-/// refuses the piece.
+/// Sends these bytes singly. Until the last of them is sent the connection is neither ready nor closing, and refuses
+/// the piece.
 fn take_byte_by_byte(
     rt: &impl Abort,
     alloc: Global,
@@ -34,7 +34,7 @@ fn take_byte_by_byte(
     Ok(())
 }
 
-/// Opens a connection, and sends its welcome line byte by byte.
+/// Opens a connection, and sends the welcome line byte by byte.
 fn welcome(rt: &impl Abort, alloc: Global, core: &mut Core<'_, Flat>) -> Result<(), Fail> {
     let conn = core.connect()?;
     take_byte_by_byte(rt, alloc, core, conn, WELCOME, b"GO\n", CoreFault::Busy)?;
@@ -59,7 +59,7 @@ const PIECES: [(&[u8], &[u8]); 5] = [
     ),
 ];
 
-/// Sends a piece in and its replies out. The connection is ready if there are none, and once they are sent.
+/// Sends a piece in and the replies out. The connection is ready if there are none, and once they are sent.
 fn take_replies(
     rt: &impl Abort,
     alloc: Global,
@@ -90,7 +90,7 @@ fn ready_once_the_replies_are_taken(rt: HostRuntime) -> Result<(), Fail> {
     over_core(rt.alloc(), |core| hold_session(&rt, rt.alloc(), core))
 }
 
-/// Asserts that the connection is to be closed: it accepts no piece, and nothing of it is sent.
+/// Asserts that the connection is to be closed: the connection accepts no piece, and sends nothing.
 fn assert_closing(
     rt: &impl Abort,
     alloc: Global,
@@ -103,7 +103,7 @@ fn assert_closing(
     assert_all(rt, alloc, core, conn, b"")
 }
 
-/// Ends a command session by its own command, and sends its reply.
+/// Ends a command session by the session's own command, and sends the reply.
 fn end_session(rt: &impl Abort, alloc: Global, core: &mut Core<'_, Flat>) -> Result<(), Fail> {
     let conn = open_command(alloc, core)?;
     let piece = b"TERM 0 SESSION\nGET 1 POWER\n";
@@ -119,7 +119,7 @@ fn closing_once_the_last_reply_is_taken(rt: HostRuntime) -> Result<(), Fail> {
     over_core(rt.alloc(), |core| end_session(&rt, rt.alloc(), core))
 }
 
-/// Asserts that nothing is found under the key.
+/// Asserts that the key leads to nothing.
 fn assert_absent(rt: &impl Abort, core: &mut Core<'_, Flat>, conn: usize) {
     assert_eq!(rt; core.hangup(conn), Err(CoreFault::NoSuch));
     assert_refused(rt, core, conn, &[0; 257], CoreFault::NoSuch);
@@ -142,7 +142,7 @@ fn no_call_finds_a_connection_after_its_hang_up(rt: HostRuntime) -> Result<(), F
     over_core(rt.alloc(), |core| hang_up(&rt, rt.alloc(), core))
 }
 
-/// Asserts that the connection refuses a piece of 257 bytes, and accepts any number of 256 each.
+/// Asserts that the connection refuses a piece of 257 bytes, and accepts any number of pieces of 256 bytes.
 fn take_long_pieces(rt: &impl Abort, core: &mut Core<'_, Flat>, conn: usize) {
     let long = [b'x'; 257];
     assert_refused(rt, core, conn, &long, CoreFault::PieceTooLong);
@@ -153,7 +153,7 @@ fn take_long_pieces(rt: &impl Abort, core: &mut Core<'_, Flat>, conn: usize) {
     }
 }
 
-/// Sends pieces of a line that ends at last.
+/// Sends the pieces of a long line, to the end.
 fn send_long_line(rt: &impl Abort, alloc: Global, core: &mut Core<'_, Flat>) -> Result<(), Fail> {
     let conn = core.connect()?;
     assert_refused(rt, core, conn, &[b'x'; 257], CoreFault::Busy);

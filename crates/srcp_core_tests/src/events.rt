@@ -6,7 +6,7 @@ use std::alloc::Global;
 use std::test::Fail;
 use std::vec::Vec;
 
-/// Returns the event that these bytes of a connection come in.
+/// Returns the event of these bytes, received on a connection.
 pub(crate) fn bytes(alloc: Global, conn: usize, text: &[u8]) -> Result<Event, Fail> {
     Ok(Event::Bytes {
         conn,
@@ -14,7 +14,7 @@ pub(crate) fn bytes(alloc: Global, conn: usize, text: &[u8]) -> Result<Event, Fa
     })
 }
 
-/// Opens a connection and begins its session by these lines. Their replies are sent.
+/// Opens a connection, begins the session by these lines, and sends the replies.
 pub(crate) fn begin(
     alloc: Global,
     events: &mut Vec<Event>,
@@ -83,7 +83,7 @@ pub(crate) fn told(steps: usize, row: Shown) -> Item {
     }
 }
 
-/// Returns the row of the power of the bus, which is off.
+/// Returns the row of the power of the bus, with the power off.
 pub(crate) fn power_row() -> Shown {
     Shown {
         key: Key {

@@ -8,19 +8,19 @@ use srcp_rules::{Flat, Rows};
 use std::process::Abort;
 use std::test::Fail;
 
-/// Asserts that the feed gives the row, and has then listed it.
+/// Asserts that the feed gives the row, and has then listed this row.
 fn assert_listed(rt: &impl Abort, feed: &mut InfoFeed, rows: &Flat, row: &Shown) {
     assert!(rt; matches!(feed.next(rows), Next::Listed(listed) if listed == *row));
     assert_eq!(rt; feed.cursor(), Cursor::After(row.key));
 }
 
-/// Asserts that nothing is left that the feed could give.
+/// Asserts that the feed has nothing left to give.
 fn assert_settled(rt: &impl Abort, feed: &mut InfoFeed, rows: &Flat) {
     assert!(rt; matches!(feed.next(rows), Next::Settled));
     assert_eq!(rt; feed.cursor(), Cursor::Done);
 }
 
-/// Asserts that a new feed lists all rows, also one whose change it was told.
+/// Asserts that a new feed lists all rows, also a row whose change was told to the feed.
 fn assert_lists(rt: &impl Abort, feed: &mut InfoFeed, rows: &Flat) {
     assert_eq!(rt; feed.cursor(), Cursor::Start);
     assert_eq!(rt; feed.waiting(), 0);
@@ -54,7 +54,7 @@ fn tell_changes(rt: &impl Abort, feed: &mut InfoFeed, power: &Change, sensor: &C
     assert_eq!(rt; feed.waiting(), 256);
 }
 
-/// Asserts that the changes that wait are given before the next row.
+/// Asserts that the feed gives the waiting changes before the next row.
 fn take_changes(rt: &impl Abort, feed: &mut InfoFeed, rows: &Flat, power: &Change) {
     for _ in 0..256 {
         assert!(rt; matches!(feed.next(rows), Next::Told(change) if change == *power));

@@ -1,4 +1,4 @@
-//! A core that begins at a later moment.
+//! A core with a later first moment.
 
 use crate::fixture::{assert_all, assert_answer, one_bus, open_command, open_panel};
 use srcp_core::Core;
@@ -14,7 +14,7 @@ const LISTING: &[u8] = b"12.050 101 INFO 0 SESSION 1 COMMAND
 12.050 100 INFO 1 FB 2 0
 ";
 
-/// Asserts the lines of rows that were there from the beginning, listed at a later moment.
+/// Asserts the lines of rows present from the beginning, listed at a later moment.
 fn assert_told_later(
     rt: &impl Abort,
     alloc: Global,

@@ -1,5 +1,5 @@
-//! Layouts, connections and sessions that the tests begin with, and what several of them assert. A test leaves
-//! all but the layout and the core to functions that borrow them. So each function is proved in a few seconds.
+//! Layouts, connections and sessions for the tests, and what several of them assert. A test leaves all but the layout
+//! and the core to functions with a borrow of these. By this each function is proved in a few seconds.
 use srcp_core::{Core, CoreFault};
 use srcp_info::Mirror;
 use srcp_rules::{Bus, Flat, Layout};
@@ -8,7 +8,7 @@ use std::process::Abort;
 use std::test::Fail;
 use std::vec::Vec;
 
-/// The most lines that are sent at once.
+/// The most lines sent at once.
 const MOST_LINES: usize = 1000;
 
 /// Makes bus 1 with power, locomotives, accessories of two ports and 2 feedback ports.
@@ -25,7 +25,7 @@ pub(crate) fn one_bus(alloc: Global) -> Result<Layout, Fail> {
     Ok(layout)
 }
 
-/// Runs a test over a new core of one bus.
+/// Runs a test over a new core of a single bus.
 pub(crate) fn over_core<F: FnOnce(&mut Core<'_, Flat>) -> Result<(), Fail>>(
     alloc: Global,
     test: F,
@@ -37,7 +37,7 @@ pub(crate) fn over_core<F: FnOnce(&mut Core<'_, Flat>) -> Result<(), Fail>>(
     test(&mut core)
 }
 
-/// Sends at most `most` of the bytes that are lent. Returns how many these are.
+/// Sends at most `most` of the lent bytes. Returns how many were sent.
 pub(crate) fn take_lent(
     core: &mut Core<'_, Flat>,
     conn: usize,
@@ -51,7 +51,7 @@ pub(crate) fn take_lent(
     Ok(count)
 }
 
-/// Sends all that is lent, until nothing is.
+/// Sends all lent bytes, until none are lent.
 pub(crate) fn take_all(
     alloc: Global,
     core: &mut Core<'_, Flat>,
@@ -66,7 +66,7 @@ pub(crate) fn take_all(
     Ok(taken)
 }
 
-/// Sends a piece in, and what is lent once after it out.
+/// Sends a piece in, and the bytes lent once after the piece out.
 pub(crate) fn answer(
     alloc: Global,
     core: &mut Core<'_, Flat>,
@@ -79,7 +79,7 @@ pub(crate) fn answer(
     Ok(taken)
 }
 
-/// Opens a connection, and sends its welcome line.
+/// Opens a connection, and sends the welcome line.
 pub(crate) fn open(alloc: Global, core: &mut Core<'_, Flat>) -> Result<usize, Fail> {
     let conn = core.connect()?;
     let mut taken = Vec::new(alloc);
@@ -87,21 +87,21 @@ pub(crate) fn open(alloc: Global, core: &mut Core<'_, Flat>) -> Result<usize, Fa
     Ok(conn)
 }
 
-/// Opens a command session, and sends its replies.
+/// Opens a command session, and sends the replies.
 pub(crate) fn open_command(alloc: Global, core: &mut Core<'_, Flat>) -> Result<usize, Fail> {
     let conn = open(alloc, core)?;
     answer(alloc, core, conn, b"GO\n")?;
     Ok(conn)
 }
 
-/// Opens an information session, and sends its replies and no byte more.
+/// Opens an information session, and sends the replies and no byte more.
 pub(crate) fn open_panel(alloc: Global, core: &mut Core<'_, Flat>) -> Result<usize, Fail> {
     let conn = open(alloc, core)?;
     answer(alloc, core, conn, b"SET CONNECTIONMODE SRCP INFO\nGO\n")?;
     Ok(conn)
 }
 
-/// Sends a piece in, and asserts what is lent once after it.
+/// Sends a piece in, and asserts which bytes are lent once after the piece.
 pub(crate) fn assert_answer(
     rt: &impl Abort,
     alloc: Global,
@@ -115,7 +115,7 @@ pub(crate) fn assert_answer(
     Ok(())
 }
 
-/// Sends all that is lent, and asserts what that is.
+/// Sends all lent bytes, and asserts which bytes they are.
 pub(crate) fn assert_all(
     rt: &impl Abort,
     alloc: Global,
@@ -128,7 +128,7 @@ pub(crate) fn assert_all(
     Ok(())
 }
 
-/// Asserts whether a connection is ready, and whether it is to be closed.
+/// Asserts whether a connection is ready, and whether the connection is to be closed.
 pub(crate) fn assert_state(
     rt: &impl Abort,
     core: &Core<'_, Flat>,
@@ -140,7 +140,7 @@ pub(crate) fn assert_state(
     assert_eq!(rt; core.closing(conn), closing);
 }
 
-/// Asserts that a piece is refused.
+/// Asserts the refusal of a piece.
 pub(crate) fn assert_refused(
     rt: &impl Abort,
     core: &mut Core<'_, Flat>,

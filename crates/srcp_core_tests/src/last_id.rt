@@ -11,7 +11,7 @@ const REFUSED: &[u8] = b"0.000 500 ERROR out of resources\n";
 
 const CHOSEN: &[u8] = b"0.000 202 OK CONNECTIONMODE\n";
 
-/// Lines before a session, each with its reply.
+/// Lines before a session, each with the reply.
 const LINES: [(&[u8], &[u8]); 5] = [
     (b"GO\n", REFUSED),
     (b"SET CONNECTIONMODE SRCP INFO\n", CHOSEN),
@@ -20,7 +20,7 @@ const LINES: [(&[u8], &[u8]); 5] = [
     (b"go\n", REFUSED),
 ];
 
-/// Asserts that no line begins a session, and that the connection goes on.
+/// Asserts that no line begins a session, and the connection goes on.
 fn assert_no_session(
     rt: &impl Abort,
     alloc: Global,

@@ -1,4 +1,4 @@
-//! Tests of `srcp_core` and `srcp_feed`. They stand here so that those are proved once.
+//! Tests of `srcp_core` and `srcp_feed`, in a crate of their own, since those are then proved once.
 #![tactic(auto)]
 
 #[cfg(test)]

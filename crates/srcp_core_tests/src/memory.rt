@@ -1,4 +1,4 @@
-//! Memory that is given to all.
+//! Memory, given to all.
 
 use crate::fixture::{assert_answer, mirror_of, open_command, open_panel, over_core, take_all};
 use srcp_core::Core;
@@ -25,7 +25,7 @@ fn make_devices(
     Ok(())
 }
 
-/// Asserts that the mirror of all lines of a panel has that many rows.
+/// Asserts how many rows the mirror of all lines of a panel has.
 fn assert_mirrored(
     rt: &impl Abort,
     alloc: Global,

@@ -1,4 +1,4 @@
-//! A mirror of what a panel is sent.
+//! A mirror of the lines of a panel.
 
 use crate::events::{begin, bytes};
 use crate::fixture::{mirror_of, one_bus};
@@ -10,7 +10,7 @@ use std::process::Abort;
 use std::test::Fail;
 use std::vec::Vec;
 
-/// Pieces that a command session sends, each with the moment that comes after it.
+/// Pieces sent by a command session, each with the moment after the piece.
 const PIECES: [(&[u8], u64); 3] = [
     (
         b"INIT 1 GL 3 N 1 28 2\nINIT 1 GA 5 M\nINIT 1 GA 6 P\n",
@@ -23,7 +23,7 @@ const PIECES: [(&[u8], u64); 3] = [
     (b"TERM 1 GA 5\nSET 1 FB 2 1\nINIT 1 GL 3 N 2 28 1\n", 11_000),
 ];
 
-/// Appends the events that the command session sends a piece, the panel has a little room, and a moment comes.
+/// Appends these events: the command session sends a piece, the panel has a little room, and a moment comes.
 fn send(alloc: Global, events: &mut Vec<Event>, lines: &[u8], moment: u64) -> Result<(), Fail> {
     events.push(bytes(alloc, 1, lines)?)?;
     events.push(Event::Room {
@@ -35,7 +35,7 @@ fn send(alloc: Global, events: &mut Vec<Event>, lines: &[u8], moment: u64) -> Re
     Ok(())
 }
 
-/// Returns the events of a command session and of a panel that is settled in the end.
+/// Returns the events of a command session and of a panel, settled in the end.
 fn a_settled_panel(alloc: Global) -> Result<Vec<Event>, Fail> {
     let mut events = Vec::new(alloc);
     begin(alloc, &mut events, 1, b"GO\n")?;
@@ -50,7 +50,7 @@ fn a_settled_panel(alloc: Global) -> Result<Vec<Event>, Fail> {
     Ok(events)
 }
 
-/// Asserts that the mirror holds the same rows.
+/// Asserts that the mirror holds the same rows as the registry.
 fn assert_same_rows(rt: &impl Abort, mirror: &Mirror, rows: &[Row]) {
     assert_eq!(rt; mirror.rows().len(), rows.len());
     for (shown, row) in mirror.rows().zip(rows) {

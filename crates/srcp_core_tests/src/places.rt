@@ -17,19 +17,19 @@ fn open_all(alloc: Global, core: &mut Core<'_, Flat>) -> Result<Vec<usize>, Fail
     Ok(open)
 }
 
-/// Asserts that no more can be opened.
+/// Asserts that no more connections can be opened.
 fn assert_full(rt: &impl Abort, core: &mut Core<'_, Flat>) {
     assert_eq!(rt; core.connect(), Err(CoreFault::Full));
 }
 
-/// Asserts that one more can be opened after a hang-up, and no second.
+/// Asserts that a single connection more can be opened after a hang-up, and no second.
 fn open_anew(rt: &impl Abort, core: &mut Core<'_, Flat>, conn: usize) {
     assert_eq!(rt; core.hangup(conn), Ok(()));
     assert!(rt; core.connect().is_ok());
     assert_full(rt, core);
 }
 
-/// Hangs up one after the other, and opens another for it.
+/// Hangs up each connection in turn, and opens another in place of the lost connection.
 fn assert_limit(rt: &impl Abort, alloc: Global, core: &mut Core<'_, Flat>) -> Result<(), Fail> {
     let open = open_all(alloc, core)?;
     assert_full(rt, core);

@@ -40,14 +40,14 @@ fn carried_out(alloc: Global, events: &[Event]) -> Result<Record, Fail> {
     Ok(run::<Flat>(alloc, &layout, events)?)
 }
 
-/// Appends the event that a connection has room.
+/// Appends the event of room for a connection.
 fn give_room(events: &mut Vec<Event>, conn: usize, bytes: usize) -> Result<(), Fail> {
     events.push(Event::Room { conn, bytes })?;
     Ok(())
 }
 
-/// Appends events: a command session sets two sensors and sends a line that is none, and a moment comes and an earlier
-/// one.
+/// Appends events: a command session sets two sensors and sends an unknown command, and a moment comes, then an earlier
+/// moment.
 fn set_two_sensors(alloc: Global, events: &mut Vec<Event>) -> Result<(), Fail> {
     events.push(bytes(alloc, 2, b"SET 1 FB 2 1\nSET 1 FB 1 1\nNOISE\n")?)?;
     events.push(Event::At(7))?;
@@ -55,14 +55,14 @@ fn set_two_sensors(alloc: Global, events: &mut Vec<Event>) -> Result<(), Fail> {
     Ok(())
 }
 
-/// Appends the event that the command session ends by its own command.
+/// Appends events: the command session ends by the session's own command, and has room for the reply.
 fn end_session(alloc: Global, events: &mut Vec<Event>) -> Result<(), Fail> {
     events.push(bytes(alloc, 2, b"TERM 0 SESSION\n")?)?;
     give_room(events, 2, 13)
 }
 
-/// Returns the events of a panel that has room now and then, and of a command session. That sets two sensors, sends a
-/// line that is none, and ends by its own command.
+/// Returns the events of a panel with room now and then, and of a command session. The command session sets two
+/// sensors, sends an unknown command, and ends by the session's own command.
 fn a_panel_and_a_throttle(alloc: Global) -> Result<Vec<Event>, Fail> {
     let mut events = Vec::new(alloc);
     begin(alloc, &mut events, 1, PANEL)?;
@@ -76,7 +76,7 @@ fn a_panel_and_a_throttle(alloc: Global) -> Result<Vec<Event>, Fail> {
     Ok(events)
 }
 
-/// Returns the step that session 2 gave a command.
+/// Returns the step of a command, given by session 2.
 fn obeyed(moment: u64, command: Command) -> Step {
     Step::Obeyed {
         session: 2,
@@ -85,7 +85,7 @@ fn obeyed(moment: u64, command: Command) -> Step {
     }
 }
 
-/// Returns the command that sets a sensor of bus 1.
+/// Returns the command to set a sensor of bus 1.
 fn set_fb(port: u32) -> Command {
     Command::SetFb(Sensor {
         bus: 1,
@@ -158,7 +158,7 @@ fn assert_sessions(rt: &impl Abort, record: &Record) -> Result<(), Fail> {
     Ok(())
 }
 
-/// Asserts the steps of these events, and that nothing was refused.
+/// Asserts the steps of these events, and the absence of refusals.
 fn assert_steps(rt: &impl Abort, record: &Record) {
     assert_eq!(rt; record.steps.as_slice(), expected_steps().as_slice());
     assert_eq!(rt; record.denied, 0);
@@ -173,7 +173,7 @@ fn a_run_tells_steps_and_items(rt: HostRuntime) -> Result<(), Fail> {
     assert_sessions(&rt, &record)
 }
 
-/// Returns the events of a panel with more room than its listing needs.
+/// Returns the events of a panel with more room than the listing needs.
 fn a_listing_with_room_left(alloc: Global) -> Result<Vec<Event>, Fail> {
     let mut events = Vec::new(alloc);
     begin(alloc, &mut events, 1, PANEL)?;
@@ -183,7 +183,7 @@ fn a_listing_with_room_left(alloc: Global) -> Result<Vec<Event>, Fail> {
     Ok(events)
 }
 
-/// Asserts that the panel was given its four rows, and nothing else.
+/// Asserts that the panel was given the four rows, and nothing else.
 fn assert_rows_alone(rt: &impl Abort, record: &Record) -> Result<(), Fail> {
     let [panel] = record.connections.as_slice() else {
         return Err(Fail::from("not one connection"));
@@ -205,8 +205,8 @@ fn no_item_says_that_nothing_is_left(rt: HostRuntime) -> Result<(), Fail> {
     assert_rows_alone(&rt, &record)
 }
 
-/// Returns the events that a connection is opened, and that number 0 has room. No connection has that number, and no
-/// script can write it.
+/// Returns these events: a connection is opened, and number 0 has room. No connection has the number 0, and no script
+/// can give this number.
 fn room_for_none(alloc: Global) -> Result<Vec<Event>, Fail> {
     let mut events = Vec::new(alloc);
     events.push(Event::Open)?;
@@ -214,7 +214,7 @@ fn room_for_none(alloc: Global) -> Result<Vec<Event>, Fail> {
     Ok(events)
 }
 
-/// Asserts that the second event is refused, and no allocation.
+/// Asserts that the second event is refused, and no allocation is.
 fn assert_second_refused(rt: &impl Abort, record: &Record) -> Result<(), Fail> {
     let [refusal] = record.refused.as_slice() else {
         return Err(Fail::from("not one refused event"));
@@ -231,8 +231,8 @@ fn refusals_are_told_by_the_numbers_of_their_events(rt: HostRuntime) -> Result<(
     assert_second_refused(&rt, &record)
 }
 
-/// Appends the events that connection 1 sets the first sensor and its reply is sent. The third connection then has
-/// room, and with `with_room` the second too.
+/// Appends these events: connection 1 sets the first sensor, and the reply is sent. The third connection then has room,
+/// and with `with_room` the second too.
 fn set_sensor(alloc: Global, events: &mut Vec<Event>, with_room: bool) -> Result<(), Fail> {
     events.push(bytes(alloc, 1, b"SET 1 FB 1 1\n")?)?;
     give_room(events, 1, 13)?;
@@ -252,8 +252,8 @@ fn two_panels(alloc: Global, events: &mut Vec<Event>) -> Result<(), Fail> {
     give_room(events, 3, 10_000)
 }
 
-/// Returns the record of a command session and two panels, of which the second is settled. There are 300 changes. The
-/// third has room after each of them, and with `with_room` the second too.
+/// Returns the record of a command session and two panels, the later of them settled. There are 300 changes. The third
+/// connection has room after each of them, and with `with_room` the second too.
 fn beside_a_panel(alloc: Global, with_room: bool) -> Result<Record, Fail> {
     let mut events = Vec::new(alloc);
     two_panels(alloc, &mut events)?;
@@ -270,7 +270,8 @@ fn assert_same_registry(rt: &impl Abort, quick: &Record, slow: &Record) {
     assert_eq!(rt; quick.rows.as_slice(), slow.rows.as_slice());
 }
 
-/// Asserts that a panel with room was sent the lines of 300 changes more than the slow one, which overran.
+/// Asserts that a panel with room was sent the lines of 300 changes more than the slow panel, and the slow panel
+/// overran.
 fn assert_told(rt: &impl Abort, panel: &ConnRecord, slow: &ConnRecord) {
     assert_eq!(rt; panel.finish, Finish::Live);
     assert_eq!(rt; slow.finish, Finish::Overrun);
@@ -286,7 +287,7 @@ fn assert_told(rt: &impl Abort, panel: &ConnRecord, slow: &ConnRecord) {
     );
 }
 
-/// Asserts that of three connections the second alone differs.
+/// Asserts that the second of three connections alone differs.
 fn assert_same_others(rt: &impl Abort, quick: &Record, slow: &Record) -> Result<(), Fail> {
     let [command, panel, third] = quick.connections.as_slice() else {
         return Err(Fail::from("not three connections"));
