@@ -1,4 +1,4 @@
-//! Turns of a server: what it asks of its door in each, and what it does with the answers.
+//! Turns of a server: what a server asks of the door in each turn, and what the server does with the answers.
 
 ghost use Rattle.std.specs.Prelude.{◌≡◌, ◌<◌, ◌≤◌, ◌+◌, replicate, None, Some, is_none, length, position, slice_set};
 ghost use Rattle.srcp_core.specs.declared.limits.TheConstants.{MOST_CONNECTIONS};
@@ -18,7 +18,7 @@ use srcp_rules::Rows;
 use std::marker::Model;
 use visit::Client;
 
-// The most changes that may wait for a panel are those that may come before one overruns for which none waits.
+// As many changes may wait for a panel as may come before a panel overruns for which none waits.
 const _: () = prove!(MOST_SLACK == MOST_WAITING);
 
 /// The counts of a server that ended.
@@ -28,7 +28,7 @@ pub struct Served {
     pub turns: u64,
     /// The number of peers that got a connection.
     pub opened: u64,
-    /// The number of calls of the door that failed. It stops at the greatest u64.
+    /// The number of calls of the door that failed. The count stops at the greatest u64.
     pub faults: u64,
 }
 
@@ -46,9 +46,9 @@ struct Server<'d, D: Door> {
 /// were opened, and how many calls of the door failed.
 ///
 /// Each turn advances the core to the door's time, accepts one peer, and visits each peer that has a slot. A visit
-/// reads the peer if its connection accepts bytes, and writes what the core lends. It closes the peer if that is lost
-/// or its connection is to be closed. Serving goes on after a call that fails, and if memory is refused. A new peer is
-/// closed then, or a line is answered 500.
+/// reads the peer if the peer's connection accepts bytes, and writes what the core lends. The visit closes the peer if
+/// the peer is lost or the connection is to be closed. Serving goes on after a call that fails, and if memory is
+/// refused. A new peer is closed then, or a line is answered 500.
 pub fn serve<R: Rows, D: Door>(core: &mut Core<'_, R>, door: &mut D, turns: u64) -> Served
     ensures turns { result.turns ≡ turns }
     ensures faults { D.faults door.new < 18446744073709551615 → D.faults door.old + result.faults ≡ D.faults door.new }
@@ -68,7 +68,7 @@ pub fn serve<R: Rows, D: Door>(core: &mut Core<'_, R>, door: &mut D, turns: u64)
     }
 }
 
-/// Returns the count, and one more if `counts` says so.
+/// Returns the count, plus 1 if `counts` is true.
 fn one_more_if(counts: bool, count: u64) -> u64
     requires { count < 18446744073709551615 }
     ensures { result ≡ count + one_if counts }
@@ -118,7 +118,7 @@ impl<'d, D: Door> Server<'d, D> {
         }
     }
 
-    /// Visits the peer of the slot, if it has one. Frees the slot if the visit closed the peer.
+    /// Visits the peer of the slot, if any. Frees the slot if the visit closed the peer.
     fn visit_slot<R: Rows>(&mut self, core: &mut Core<'_, R>, slot: usize)
         requires counted { self.old.tally.faults ≤ D.faults self.old.door.now }
         requires within { slot < MOST_CONNECTIONS }
@@ -135,8 +135,8 @@ impl<'d, D: Door> Server<'d, D> {
         }
     }
 
-    /// Tells the door what to expect, asks it for the time, and advances the core to that. If the door fails, the core
-    /// keeps its moment.
+    /// Tells the door what to expect, asks the door for the time, and advances the core to that time. If the door
+    /// fails, the core keeps its moment.
     fn take_moment<R: Rows>(&mut self, core: &mut Core<'_, R>)
         requires { self.old.tally.faults ≤ D.faults self.old.door.now }
         ensures slots { self.new.slots ≡ self.old.slots }
@@ -152,7 +152,7 @@ impl<'d, D: Door> Server<'d, D> {
         }
     }
 
-    /// Accepts one peer, if one is pending. Returns whether it got a slot.
+    /// Accepts one peer, if one is pending. Returns whether the peer got a slot.
     fn accept_one<R: Rows>(&mut self, core: &mut Core<'_, R>) -> bool
         requires { self.old.tally.faults ≤ D.faults self.old.door.now }
         ensures calls { CallsDoor D.faults D.trace AreAccept self.old self.new }
@@ -192,7 +192,7 @@ impl<'d, D: Door> Server<'d, D> {
     }
 }
 
-/// Holds the slots, each with the peer that has it. Contracts see them as a list.
+/// Holds the slots, each with the peer that has it. Contracts see a list.
 #[derive(Drop)]
 struct Slots {
     clients: [Option<Client>; MOST_CONNECTIONS],
@@ -225,7 +225,7 @@ impl Slots {
         }
     }
 
-    /// Returns the end of the slots in use: all from it on are free.
+    /// Returns the end of the slots in use: all slots from the end on are free.
     fn end(&self) -> usize
         ensures free { AreFreeFrom result self.now }
         ensures most { result ≤ MOST_CONNECTIONS }
@@ -234,7 +234,7 @@ impl Slots {
         self.end
     }
 
-    /// Returns the peer of the slot, if it has one.
+    /// Returns the peer of the slot, if any.
     fn client(&self, slot: usize) -> Option<Client>
         requires { slot < MOST_CONNECTIONS }
         ensures { result ≡ slice_index_or self.now slot None }
@@ -242,7 +242,7 @@ impl Slots {
         self.clients[slot]
     }
 
-    /// Returns the first free slot, if there is one.
+    /// Returns the first free slot, if any.
     fn first_free(&self) -> Option<usize>
         ensures first { result ≡ position is_none self.now }
         ensures all { length self.now ≡ MOST_CONNECTIONS }

@@ -3,7 +3,7 @@
 ghost use Rattle.std.specs.Prelude.{◌≡◌};
 ghost use Rattle.srcp_door.specs.Calls.{one_more};
 
-/// Counts the calls of a door that failed. It stops at the greatest u64.
+/// Counts the calls of a door that failed. The count stops at the greatest u64.
 #[derive(Drop)]
 pub(crate) struct Tally {
     /// The number of calls that failed.
