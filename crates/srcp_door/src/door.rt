@@ -1,4 +1,4 @@
-//! The door of a server: what it asks of the outside.
+//! The door of a server: the calls by which a server reaches the outside.
 
 ghost use Rattle.std.specs.Prelude.{◌≡◌, ℕ, ◌<◌, ◌≤◌, List, Option, None, length, OnOk, OnErr, IfOk, IfErr};
 ghost use Rattle.srcp_door.specs.Calls.{Call, Tells, one_more};
@@ -9,7 +9,7 @@ ghost use Rattle.srcp_door.specs.Calls.{ExpectCall, NowCall, AcceptCall, ReadCal
 pub enum DoorFault {
     /// The time is not known.
     Now,
-    /// No peer could be accepted, or the one that was is lost.
+    /// No peer could be accepted, or the accepted peer is lost.
     Accept,
     /// A peer could not be read.
     Read,
@@ -22,7 +22,7 @@ pub enum DoorFault {
 /// The answer to a read.
 #[derive(Clone, Copy, Debug, PartialEq, Eq)]
 pub enum Got {
-    /// This many bytes, at the start of the buffer. They are at least one.
+    /// The number of bytes read, at least 1. The bytes are at the start of the buffer.
     Bytes(usize),
     /// No bytes are here yet, and more may come.
     Nothing,
@@ -33,18 +33,18 @@ pub enum Got {
 /// The most writes to a peer in a visit.
 pub const MOST_WRITES: u32 = 300;
 
-/// What a server asks of the outside: the time, and the input and output of its peers. A failure names its call, and
-/// the door counts it.
+/// Gives a server the time, and the input and output of the server's peers. A failure names the call, and the door
+/// counts the failure.
 pub trait Door {
-    /// The number of calls that failed. It stops at the greatest u64.
+    /// The number of calls that failed. The count stops at the greatest u64.
     ghost faults: { Self → ℕ };
 
     /// The calls with their answers, if the door keeps them.
     ghost trace: { Self → Option (List Call) } = { λ _. None };
 
-    /// Tells the door when the next row falls due, and how many more changes each information session can take. Each
-    /// is `None` if there is none. `serve` calls it right before `now`, so that a door knows how long it may wait. The
-    /// door also knows how much input it may then hand out.
+    /// Tells the door when the next row falls due, and how many more changes each information session can take. Either
+    /// is `None` if there is no such row or no such session. `serve` makes this call right before `now`. A door then
+    /// knows how long a wait may take, and how much input may be handed out.
     fn expect(&mut self, due: Option<u64>, slack: Option<usize>)
         ensures faults { faults self.new ≡ faults self.old }
         ensures trace { Tells (trace self.old) (ExpectCall due slack) (trace self.new) };
@@ -60,11 +60,11 @@ pub trait Door {
         ensures fault { IfErr result (λ fault. fault ≡ DoorFault.Now) }
         ensures trace { Tells (trace self.old) (NowCall result) (trace self.new) };
 
-    /// Accepts a pending peer, if there is one, and returns its number. All later calls name the peer by that number,
-    /// and no later peer gets it.
+    /// Accepts a pending peer, if any, and returns the peer's number. All later calls name the peer by that number, and
+    /// no later peer gets the number.
     ///
     /// # Errors
-    /// Returns `Accept` if no peer could be accepted, or the one that was is lost.
+    /// Returns `Accept` if no peer could be accepted, or the accepted peer is lost.
     fn accept(&mut self) -> Result<Option<u32>, DoorFault>
         ensures ok { OnOk result (faults self.new ≡ faults self.old) }
         ensures err { OnErr result (faults self.new ≡ one_more (faults self.old)) }
@@ -83,11 +83,11 @@ pub trait Door {
         ensures count { (n : ℕ) → result ≡ Ok (Got.Bytes n) → (0 < n) × (n ≤ length buf.old) }
         ensures trace { Tells (trace self.old) (ReadCall peer result buf.new) (trace self.new) };
 
-    /// Writes to a peer as many bytes as it takes, from the first on. Returns how many these were. The others have to
-    /// be written again.
+    /// Writes to a peer as many bytes as the peer takes, from the first on, and returns how many. The other bytes have
+    /// to be written again.
     ///
     /// # Errors
-    /// Returns `Write` if the peer cannot be written to. It took none of these bytes then, and is lost.
+    /// Returns `Write` if the peer cannot be written to. The peer took none of these bytes then, and is lost.
     fn write(&mut self, peer: u32, bytes: &[u8]) -> Result<usize, DoorFault>
         ensures ok { OnOk result (faults self.new ≡ faults self.old) }
         ensures err { OnErr result (faults self.new ≡ one_more (faults self.old)) }
@@ -95,10 +95,10 @@ pub trait Door {
         ensures count { IfOk result (λ n. n ≤ length bytes.now) }
         ensures trace { Tells (trace self.old) (WriteCall peer bytes.now result) (trace self.new) };
 
-    /// Closes a peer. No later call names it.
+    /// Closes a peer. No later call names the peer.
     ///
     /// # Errors
-    /// Returns `Close` if that fails. The peer is closed all the same.
+    /// Returns `Close` if the system fails to close the peer. The peer is closed all the same.
     fn close(&mut self, peer: u32) -> Result<(), DoorFault>
         ensures ok { OnOk result (faults self.new ≡ faults self.old) }
         ensures err { OnErr result (faults self.new ≡ one_more (faults self.old)) }

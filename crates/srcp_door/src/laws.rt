@@ -5,8 +5,8 @@ ghost use Rattle.std.specs.Prelude.{◌+◌, ◌≤◌};
 use crate::pacing::{MOST_SLACK, RESERVE};
 use srcp_grammar::MOST_CHANGES;
 
-/// States that the reserve for moments and ends of sessions is enough for a session that ends with 150 locks. What
-/// remains is enough for any line while no change waits for a panel.
+/// States that the reserve for moments and ends of sessions is enough for a session that ends with 150 locks. The rest
+/// of the slack is enough for any line while no change waits for a panel.
 pub fn turns_suffice()
     ensures ends { 150 + 1 ≤ RESERVE }
     ensures lines { RESERVE + MOST_CHANGES ≤ MOST_SLACK }

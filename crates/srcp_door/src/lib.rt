@@ -1,8 +1,8 @@
-//! The door of a server: what it is asked and answers (`Door`). Beside that the parts of a door that know neither
+//! The door of a server, with its calls and answers (`Door`). The crate also has the parts of a door that know neither
 //! sockets nor peers: how lines are paced (`Pace`), and the clock (`Timekeeper`).
 //!
-//! It makes no system call. Of the protocol it knows only that a line ends in LF; `srcp_grammar` says what a line
-//! weighs.
+//! The crate makes no system call. Of the protocol, only the LF that ends a line is known here; `srcp_grammar` says
+//! what a line weighs.
 #![tactic(auto)]
 
 mod door;

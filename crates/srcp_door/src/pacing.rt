@@ -9,7 +9,8 @@ ghost use Rattle.srcp_door.specs.Pacing.{lines, pace_of, share_after, spent, wei
 use memchr::memchr;
 use srcp_grammar::{MOST_CHANGES, weight};
 
-/// The most changes of a turn before a panel overruns, if no panel is there at its beginning: one may begin in it.
+/// The most changes of a turn before a panel overruns, if the turn begins without a panel: a panel may begin in the
+/// turn.
 pub const MOST_SLACK: usize = 256;
 
 /// The changes of a turn that are reserved for moments and the ends of sessions.
@@ -28,8 +29,8 @@ pub enum Line {
 }
 
 impl Line {
-    /// Returns the weight of the line that ends behind these bytes. If it began in an earlier piece, its weight is the
-    /// greatest of any line, since only a part of its bytes is here.
+    /// Returns the weight of the line that ends behind these bytes. A line that began in an earlier piece gets the
+    /// greatest weight of any line, since only a part of the line's bytes is here.
     fn weight(self, text: &[u8]) -> usize
         ensures weight { result ≡ line_weight self text.now }
         ensures most { result ≤ MOST_CHANGES }
@@ -40,7 +41,7 @@ impl Line {
         }
     }
 
-    /// Returns the state after bytes that follow.
+    /// Returns the state after these further bytes.
     fn after(self, bytes: &[u8]) -> Line
         ensures { result ≡ line_after self bytes.now }
     {
@@ -57,7 +58,8 @@ impl Line {
 pub struct Share {
     /// The line that is being handed out.
     pub line: Line,
-    /// How many bytes of its piece may still go, if their lines weigh something. It is 0 if it had its share.
+    /// How many bytes of the peer's piece may still go, if their lines weigh something; 0 for a peer that had its
+    /// share.
     pub rest: usize,
 }
 
@@ -66,16 +68,16 @@ pub struct Share {
 pub enum Pace {
     /// Lines of this weight in all.
     Paced { left: usize },
-    /// One line of any weight: the clock lets it through.
+    /// A single line of any weight: the clock lets this line through.
     OneLine,
 }
 
 /// Says what may be handed out of a piece.
 #[derive(Clone, Copy)]
 pub struct Allowed {
-    /// The number of its first bytes.
+    /// The number of bytes that may go, from the first on.
     pub count: usize,
-    /// What the lines weigh that end in them.
+    /// The weight of the lines that end in these bytes.
     pub weight: usize,
     /// True if a line of the peer's share is kept back.
     pub refused: bool,
@@ -83,8 +85,8 @@ pub struct Allowed {
 
 impl Pace {
     /// Returns what may be let through in a turn. `slack` is the number of changes before a panel overruns, if a panel
-    /// is there. With `tick` it is one line even if the panels take nothing, so that no peer starves behind a panel
-    /// that does not read.
+    /// is there. With `tick` a line may go even if the panels take nothing. No peer starves then behind a panel that
+    /// does not read.
     pub fn of_turn(slack: Option<usize>, tick: bool) -> Pace
         ensures { result ≡ pace_of slack tick }
     {
@@ -96,7 +98,7 @@ impl Pace {
         }
     }
 
-    /// Returns what may be let through after lines of that weight.
+    /// Returns what may be let through after lines of this weight.
     fn after(self, weight: usize) -> Pace
         ensures { result ≡ spent self weight }
     {
@@ -109,10 +111,10 @@ impl Pace {
         }
     }
 
-    /// Returns how many bytes of a peer's piece may be handed out. A piece in which no line ends goes out whole. Of
-    /// any other go whole lines, as many as the pace and the peer's share let through. A peer that had its share gets
-    /// no line that weighs something. One whose share the pace cuts keeps what is left of it, but if the clock lets one
-    /// line through, that is its share.
+    /// Returns how many bytes of a peer's piece may be handed out. A piece in which no line ends goes out whole. Of any
+    /// other piece whole lines go, as many as the pace and the peer's share let through. A peer that had its share gets
+    /// no line that weighs something. A peer whose share the pace cuts keeps the rest of the share. If the clock lets a
+    /// line through, that line is the whole share.
     pub fn allow(&mut self, share: &mut Share, piece: &[u8]) -> Allowed
         ensures allowed { Allows self.old share.old piece.now result.count }
         ensures within { result.count ≤ length piece.now }
@@ -150,9 +152,9 @@ impl Pace {
 /// A prefix of a piece.
 #[derive(Clone, Copy)]
 struct Prefix {
-    // The number of its bytes.
+    // The number of bytes.
     count: usize,
-    // The number of lines that end in it.
+    // The number of lines that end in the prefix.
     lines: usize,
 }
 
@@ -160,25 +162,25 @@ struct Prefix {
 #[derive(Clone, Copy)]
 struct WeighedPrefix {
     prefix: Prefix,
-    // The weight of the lines that end in it.
+    // The weight of the lines that end in the prefix.
     weight: usize,
     // True if a line ends in the rest of the piece, and the weight of the next such line.
     more: bool,
     next: usize,
 }
 
-/// What goes of a peer's piece.
+/// The part of a peer's piece that goes.
 #[derive(Clone, Copy)]
 struct Granted {
-    // The number of its bytes.
+    // The number of bytes.
     count: usize,
-    // The weight of the lines that end in it.
+    // The weight of the lines that end in these bytes.
     weight: usize,
     // True if a line of the peer's share is kept back.
     more: bool,
 }
 
-/// Returns the prefix of a piece that goes of a peer whose share is the first `rest` bytes, if lines may weigh `most`.
+/// Returns the prefix of a piece that goes, if lines may weigh `most`. The peer's share is the first `rest` bytes.
 fn grant(piece: &[u8], line: Line, rest: usize, most: usize) -> Granted
     ensures share { IsShare line most rest piece.now result.count }
     ensures weight { result.weight ≡ weight_of line (take result.count piece.now) }
@@ -199,8 +201,8 @@ fn grant(piece: &[u8], line: Line, rest: usize, most: usize) -> Granted
     }
 }
 
-/// Returns the prefix of a piece whose lines weigh at most `most`. A piece in which no line ends is taken whole, else
-/// whole lines are.
+/// Returns the longest prefix of a piece whose lines weigh at most `most`. If no line ends in the piece, the prefix is
+/// the whole piece. Else the prefix is whole lines.
 fn longest_prefix(piece: &[u8], line: Line, most: usize) -> WeighedPrefix
     ensures longest { IsLongest line most piece.now result.prefix.count }
     ensures lines { result.prefix.lines ≡ lines (take result.prefix.count piece.now) }

@@ -37,8 +37,8 @@ impl Timekeeper {
         }
     }
 
-    /// Jumps to the present, but only up to the moment before the deadline `due`, if there is one. So only time with
-    /// deadlines is caught up in steps.
+    /// Jumps to the present, but only up to the moment before the deadline `due`, if any. Only time with deadlines is
+    /// caught up in steps.
     pub fn pass(&mut self, elapsed: u64, due: Option<u64>)
         ensures { self.new ≡ record self.old { last = passed self.old.last (target self.old elapsed) due } }
     {
@@ -47,8 +47,8 @@ impl Timekeeper {
         self.last = self.last.max(goal.min(before_due));
     }
 
-    /// Returns the next moment, if the monotonic clock shows `elapsed`. It is at most `step` milliseconds after the
-    /// last one, unless that lags by more than 10 minutes.
+    /// Returns the next moment, if the monotonic clock shows `elapsed`. The step from the last moment is at most `step`
+    /// milliseconds, unless the last moment lags by more than 10 minutes.
     pub fn report(&mut self, elapsed: u64, step: u64) -> u64
         ensures reported { result ≡ next_moment step ten_minutes self.old.last (target self.old elapsed) }
         ensures new { self.new ≡ record { wall = self.old.wall; start = self.old.start; last = result } }
@@ -73,7 +73,7 @@ impl Timekeeper {
         self.last < self.goal(elapsed)
     }
 
-    /// Returns how many milliseconds are left from the last moment to that one, or 0 if it has come.
+    /// Returns how many milliseconds are left from the last moment to `moment`, or 0 if `moment` has come.
     pub fn left_until(&self, moment: u64) -> u64
         ensures { result ≡ moment - self.now.last }
     {
