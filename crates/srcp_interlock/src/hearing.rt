@@ -9,7 +9,7 @@ use srcp_info::{Change, Key, Value, read_change};
 use srcp_routes::{Device, Event};
 use srcp_text::{Words, words};
 
-/// Returns whether these words of a reply, behind its code, say that a command session begins.
+/// Returns whether these words of a reply, behind the code, say that a command session begins.
 fn is_go(mut words: Words<'_>) -> bool
     ensures { result ≡ is_go words.entry }
 {
@@ -32,7 +32,7 @@ fn is_refusal(code: &[u8]) -> bool
     }
 }
 
-/// Returns the event that a code and the words behind it tell of as those of a reply.
+/// Returns the event of a reply with this code and the words behind, if any.
 fn coded_event(code: &[u8], more: Words<'_>) -> Option<Event>
     ensures { result ≡ coded_event code.now more.entry }
 {
@@ -50,7 +50,7 @@ fn coded_event(code: &[u8], more: Words<'_>) -> Option<Event>
     }
 }
 
-/// Returns the event that a line tells of as a reply.
+/// Returns the event of a line as a reply, if any.
 fn reply_event(line: &[u8]) -> Option<Event>
     ensures { result ≡ reply_event (words_of line.now) }
 {
@@ -60,7 +60,7 @@ fn reply_event(line: &[u8]) -> Option<Event>
     coded_event(code, words)
 }
 
-/// Returns what a port that is 1 says of the route at a place. `row` is one above the port's number.
+/// Returns what a port with the value 1 says of the route at a place, if anything. `row` is the port's number plus 1.
 fn port_event(row: u8, place: usize) -> Option<Event>
     ensures { result ≡ port_event row place }
 {
@@ -71,14 +71,14 @@ fn port_event(row: u8, place: usize) -> Option<Event>
     }
 }
 
-/// Returns the place of the route with this number.
+/// Returns the place of the route with this number, if any.
 fn place_of(numbers: &[u32], number: u32) -> Option<usize>
     ensures { result ≡ place_of numbers.now number }
 {
     numbers.iter().position(|other| *other == number)
 }
 
-/// Returns the event that a row tells of.
+/// Returns the event of a row with this key and value, if any.
 fn row_event(own: u8, numbers: &[u32], key: Key, value: Value) -> Option<Event>
     ensures { result ≡ row_event own numbers.now key value }
 {
@@ -98,7 +98,7 @@ fn row_event(own: u8, numbers: &[u32], key: Key, value: Value) -> Option<Event>
     }
 }
 
-/// Returns the event that a change tells of.
+/// Returns the event of a change, if any.
 fn change_event(own: u8, numbers: &[u32], change: Change) -> Option<Event>
     ensures { result ≡ change_event own numbers.now change }
 {
@@ -108,7 +108,7 @@ fn change_event(own: u8, numbers: &[u32], change: Change) -> Option<Event>
     }
 }
 
-/// Returns the event that a line tells of, if it tells of one: as a reply, or as that of a change.
+/// Returns the event of a line, as a reply or as a change, if any.
 pub(crate) fn hear(own: u8, numbers: &[u32], line: &[u8]) -> Option<Event>
     ensures { Hears own numbers.now line.now result }
 {

@@ -1,7 +1,7 @@
-//! The two sides of a signal box: each line that it is sent is taken as an event of its routes, and each order of its
+//! The two sides of a signal box. Each line sent to the box is taken as an event of the box's routes. Each order of the
 //! routes is written as a line of the protocol.
 //!
-//! It reads no input and sends nothing; its callers hand it lines, and carry its own away.
+//! The crate reads no input and sends nothing. Callers hand lines to the box, and carry the box's lines away.
 #![tactic(auto)]
 
 mod hearing;

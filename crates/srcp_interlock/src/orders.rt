@@ -6,11 +6,11 @@ ghost use Rattle.srcp_interlock.specs.Orders.{set_line, order_line};
 use srcp_routes::{Device, Order, Setting};
 use srcp_text::{LineBuf, put_bytes, put_number};
 
-/// Returns the line of a command session, with its LF, in which a box sends an order. `own` is the bus of its routes:
-/// the sensor of it that has a route's number tells whether that route is set.
+/// Returns the line of a command session, with its LF, in which a box sends an order. `own` is the bus of the box's
+/// routes. The sensor on this bus with a route's number tells whether the route is set.
 ///
-/// A turnout is thrown and a signal is shown by a port that falls back to 0 by itself. So no port of theirs stays at 1,
-/// and the port that was set to 1 last tells where the accessory lies.
+/// A turnout is thrown and a signal is shown by a port that falls back to 0 by itself. No port of these accessories
+/// stays at 1, and the last port that was set to 1 tells where the accessory lies.
 pub fn order_line(own: u8, order: Order) -> LineBuf
     ensures { result.items ≡ order_line own order }
 {
@@ -22,7 +22,7 @@ pub fn order_line(own: u8, order: Order) -> LineBuf
     }
 }
 
-/// Begins a line: its command word, a bus, its group words, and an address.
+/// Begins a line: a command word, a bus, group words, and an address.
 fn begun(command: &[u8], bus: u8, group: &[u8], address: u32) -> LineBuf
     requires { length command.now + length group.now ≤ 64 }
     ensures text { result.items ≡ command.now ++ decimal bus ++ group.now ++ decimal address }

@@ -12,8 +12,8 @@ use std::alloc::{AllocError, Global};
 use std::marker::Model;
 use std::vec::Vec;
 
-/// Sets the routes of a plan and gives them back, by the lines that it is sent: those of a panel, and the replies of
-/// the command session that sends its lines.
+/// Sets the routes of a plan and gives them back, by the lines sent to the box. These are the lines of a panel, and the
+/// replies of the command session that sends the box's lines.
 #[derive(Drop)]
 pub struct SignalBox {
     own: u8,
@@ -29,7 +29,7 @@ impl Model for SignalBox {
     ghost view = { λ b. record { own = b.own; numbers = b.numbers.items; table = b.interlocking } };
 }
 
-/// Returns the numbers of routes.
+/// Returns the number of each route.
 fn numbers_of(alloc: Global, routes: &[Route]) -> Result<Vec<u32>, AllocError>
     ensures { IfOk result (λ numbers. numbers.items ≡ map (λ (route : RouteRecord). route.number) routes.now) }
 {
@@ -37,12 +37,12 @@ fn numbers_of(alloc: Global, routes: &[Route]) -> Result<Vec<u32>, AllocError>
 }
 
 impl SignalBox {
-    /// Makes the box of these routes, which is to be told first that a command session has begun. `own` is the bus of
-    /// the routes. Accessory n of it asks for route n (port 1) and gives it back (port 0), and sensor n tells whether
-    /// route n is set. No other call takes memory.
+    /// Makes the box of these routes, which first has to be told that a command session has begun. `own` is the bus of
+    /// the routes. Accessory n of this bus asks for route n (port 1) and gives route n back (port 0). Sensor n tells
+    /// whether route n is set. No other call takes memory.
     ///
     /// # Errors
-    /// If memory is refused.
+    /// Returns an error if memory is refused.
     pub fn new(alloc: Global, own: u8, routes: Vec<Route>) -> Result<SignalBox, AllocError>
         ensures { IfOk result (λ signal_box. signal_box ≡ box_of own routes.items) }
     {
@@ -55,8 +55,8 @@ impl SignalBox {
         })
     }
 
-    /// Takes in a line, without its LF, and returns the line to send then, with its LF, if there is one. What tells of
-    /// no event changes nothing.
+    /// Takes in a line, without its LF, and returns the line to send then, with its LF, if any. A line that tells of no
+    /// event changes nothing.
     pub fn step(&mut self, line: &[u8]) -> Option<LineBuf>
         ensures { TakesIn self.old line.now self.new (option_map (λ sent. sent.items) result) }
     {
