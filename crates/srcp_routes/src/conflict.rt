@@ -14,11 +14,11 @@ use std::vec::Vec;
 pub(crate) struct Sensed {
     /// The sensor.
     pub(crate) sensor: Device,
-    /// True if it was told to be 0, and not told to be anything else since.
+    /// True if the sensor was last told to be 0.
     pub(crate) is_free: bool,
 }
 
-/// Returns whether these are one device.
+/// Returns whether two devices are the same.
 pub(crate) fn is_same(a: Device, b: Device) -> bool
     ensures { result ≡ is_same a b }
 {
@@ -86,7 +86,7 @@ fn blocks_meet(route: &Route, other: &Route) -> bool
     route.blocks.iter().any(|block| has_block(other, *block))
 }
 
-/// Returns whether an accessory or a block of one route is one of the other.
+/// Returns whether the signal, a turnout or a block of one route belongs to the other too.
 fn meets(route: &Route, other: &Route) -> bool
     ensures { result ≡ meets route.now other.now }
 {
@@ -116,7 +116,7 @@ pub(crate) fn are_free(sensors: &[Sensed], blocks: &[Device]) -> bool
     blocks.iter().all(|block| is_free(sensors, *block))
 }
 
-/// Returns what is known of a sensor after one was told to be on or off.
+/// Returns what is known of a sensor after `sensor` was told to be on or off.
 fn told(known: Sensed, sensor: Device, is_on: bool) -> Sensed
     ensures { result ≡ told_sensor sensor is_on known }
 {
@@ -130,7 +130,7 @@ fn told(known: Sensed, sensor: Device, is_on: bool) -> Sensed
     }
 }
 
-/// Takes in what a sensor was told to be.
+/// Takes in whether a sensor was told to be on or off.
 pub(crate) fn sense(sensors: &mut [Sensed], sensor: Device, is_on: bool)
     ensures { sensors.new ≡ map (told_sensor sensor is_on) sensors.old }
 {

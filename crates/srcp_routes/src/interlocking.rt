@@ -1,4 +1,4 @@
-//! All routes of a plan: which of them sends its order next, and what each event makes of them.
+//! All routes of a plan: which route sends an order next, and what each event makes of the routes.
 
 ghost use Rattle.std.specs.Prelude.{◌≡◌, ◌<◌, false, IfOk, IfSome, is_some, length, map};
 ghost use Rattle.srcp_routes.specs.Plan.{conflict_at, stage_at, wanted_at, is_clear, is_freed, freed_below, lost_at};
@@ -15,7 +15,7 @@ use std::alloc::{AllocError, Global};
 use std::marker::Model;
 use std::vec::Vec;
 
-/// What comes to an interlocking. Routes are named by their places in the plan.
+/// Names an event of an interlocking. A route is named by its place in the plan.
 #[derive(Clone, Copy, Debug, PartialEq, Eq)]
 pub enum Event {
     /// A route is asked for.
@@ -26,11 +26,11 @@ pub enum Event {
     Told(Device, bool),
     /// The order that was sent is accepted, or refused.
     Reply(bool),
-    /// A command session has begun: the locks of the one before it are gone.
+    /// A command session has begun: the locks of the session before are gone.
     Lost,
 }
 
-/// Sets routes and gives them back: one order at a time, each by the reply to the one before.
+/// Sets routes and gives routes back: one order at a time, each after the reply to the order before.
 #[derive(Drop)]
 pub struct Interlocking {
     routes: Vec<Route>,
@@ -92,7 +92,7 @@ fn wanted_at(wanted: &[bool], n: usize) -> bool
     }
 }
 
-/// Returns whether no route that conflicts with one has left `Idle`.
+/// Returns whether each route that conflicts with the route at a place is `Idle`.
 fn is_clear(routes: &[Route], stages: &[Stage], n: usize) -> bool
     ensures { result ≡ is_clear routes.now stages.now n }
 {
@@ -104,7 +104,7 @@ fn is_clear(routes: &[Route], stages: &[Stage], n: usize) -> bool
     true
 }
 
-/// Returns whether the route at a place is held, and the fall of this sensor gives it back.
+/// Returns whether the route at a place is held, and the fall of this sensor gives the route back.
 fn is_freed(routes: &[Route], stages: &[Stage], sensor: Device, n: usize) -> bool
     ensures { result ≡ is_freed routes.now stages.now sensor n }
 {
@@ -145,7 +145,7 @@ fn lost_stages(alloc: Global, routes: &[Route]) -> Result<Vec<Stage>, AllocError
     routes.iter().map(|route| lost(route)).collect(alloc)
 }
 
-/// Returns for each route that it is not wanted.
+/// Returns `false` for each route: no route is wanted.
 fn none_wanted(alloc: Global, routes: &[Route]) -> Result<Vec<bool>, AllocError>
     ensures { IfOk result (λ wanted. wanted.items ≡ map (λ route. false) routes.now) }
 {
@@ -171,11 +171,11 @@ fn want_none(wanted: &mut [bool])
 }
 
 impl Interlocking {
-    /// Makes the interlocking of a plan, which waits for the event that a command session has begun. No other call
-    /// takes memory.
+    /// Makes the interlocking of a plan, which first waits for the event that a command session has begun. No other
+    /// call takes memory.
     ///
     /// # Errors
-    /// If memory is refused.
+    /// Returns an error if memory is refused.
     pub fn new(alloc: Global, routes: Vec<Route>) -> Result<Interlocking, AllocError>
         ensures { IfOk result (λ table. table ≡ start routes.items) }
     {
@@ -221,7 +221,7 @@ impl Interlocking {
         }
     }
 
-    /// Returns the order that the route at a place may send next.
+    /// Returns the order that the route at a place may send next, if any.
     fn order_at(&self, n: usize) -> Option<Order>
         ensures { result ≡ order_at self.now n }
     {
@@ -231,7 +231,7 @@ impl Interlocking {
         }
     }
 
-    /// Returns the first route that may send an order, of those at the first `count` places.
+    /// Returns the place of the first route that may send an order, among the first `count` places, if any.
     fn due(&self, count: usize) -> Option<usize>
         ensures first { result ≡ first_below (λ n. is_some (order_at self.now n)) count }
         ensures below { IfSome result (λ n. n < count) }
@@ -244,7 +244,8 @@ impl Interlocking {
         None
     }
 
-    /// Sends the next order, if none waits for its reply.
+    /// Returns the next order to send, and notes that the order waits for a reply. Returns `None` while another order
+    /// waits.
     fn next(&mut self) -> Option<Order>
         ensures table { self.new ≡ (next self.old).table }
         ensures order { result ≡ (next self.old).order }
@@ -284,7 +285,7 @@ impl Interlocking {
         }
     }
 
-    /// Notes what a sensor was told to be.
+    /// Notes whether a sensor was told to be on or off.
     fn tell(&mut self, sensor: Device, is_on: bool)
         ensures { self.new ≡ told self.old sensor is_on }
     {
@@ -294,7 +295,7 @@ impl Interlocking {
         sense(&mut self.sensors, sensor, is_on);
     }
 
-    /// Returns the stage of the route at a place after the reply to its order.
+    /// Returns the stage of the route at a place after the reply to the route's order.
     fn stage_replied(&self, n: usize, ok: bool) -> Stage
         ensures { result ≡ stage_replied self.now n ok }
     {
@@ -304,7 +305,7 @@ impl Interlocking {
         }
     }
 
-    /// Notes the reply to the order that waits for one.
+    /// Notes the reply to the waiting order.
     fn reply(&mut self, ok: bool)
         ensures { self.new ≡ replied self.old ok }
     {
@@ -343,7 +344,7 @@ impl Interlocking {
         }
     }
 
-    /// Takes in an event, and returns the order to send then, if there is one.
+    /// Takes in an event, and returns the order to send then, if any.
     pub fn step(&mut self, event: Event) -> Option<Order>
         ensures table { self.new ≡ (step self.old event).table }
         ensures order { result ≡ (step self.old event).order }

@@ -1,7 +1,8 @@
-//! The interlocking of a signal box: which command its routes send next, and what a reply, an ask, a give-back and a
-//! sensor make of them.
+//! The interlocking of a signal box: which command the routes send next, and what a reply, an ask, a give-back and a
+//! sensor make of the routes.
 //!
-//! It sends nothing itself; its callers carry out its orders. It knows no file, no line of the protocol and no socket.
+//! The crate sends nothing; callers carry out the orders. The crate knows no file, no line of the protocol and no
+//! socket.
 #![tactic(auto)]
 
 mod conflict;

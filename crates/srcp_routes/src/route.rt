@@ -1,4 +1,4 @@
-//! What a plan says of one route, and the orders that routes send.
+//! What a plan says of a route, and the orders that routes send.
 
 use std::vec::Vec;
 
@@ -7,7 +7,7 @@ use std::vec::Vec;
 pub struct Device {
     /// The bus.
     pub bus: u8,
-    /// The address on it.
+    /// The address on the bus.
     pub address: u32,
 }
 
@@ -34,15 +34,15 @@ pub struct Signal {
 /// Describes a route.
 #[derive(Drop)]
 pub struct Route {
-    /// Its number, by which it is asked for and reported.
+    /// The number by which the route is asked for and reported.
     pub number: u32,
-    /// The turnouts, each with the port that it wants.
+    /// The turnouts, each with the port that the route wants.
     pub turnouts: Vec<Setting>,
     /// The sensors that have to be 0.
     pub blocks: Vec<Device>,
-    /// Its signal, if it has one.
+    /// The signal, if any.
     pub signal: Option<Signal>,
-    /// The sensor whose fall gives it back, if it has one.
+    /// The sensor whose fall gives the route back, if any.
     pub frees: Option<Device>,
 }
 
@@ -57,7 +57,7 @@ pub enum Order {
     Show(Setting),
     /// Shows "stop".
     Stop(Setting),
-    /// Reports whether the route of this number is set.
+    /// Reports whether the route with this number is set.
     Report(u32, bool),
     /// Gives up the lock of a turnout.
     Unlock(Device),

@@ -1,4 +1,4 @@
-//! The stages of one route: its order at each, and what comes after it.
+//! The stages of a route: the order at each stage, and what comes after the order.
 
 ghost use Rattle.std.specs.Prelude.{◌≡◌};
 ghost use Rattle.srcp_routes.specs.Stages.{left_stage, leaving_stage, thrown_stage, shown_stage, first_stage};
@@ -11,38 +11,38 @@ use crate::{Order, Route, Setting, Signal};
 /// Says how far a route has come.
 #[derive(Clone, Copy, Debug, PartialEq, Eq)]
 pub enum Stage {
-    /// It holds nothing, and its signal shows "stop".
+    /// The route holds nothing, and the signal shows "stop".
     Idle,
-    /// It holds nothing, and its signal is to be stopped.
+    /// The route holds nothing, and the signal is to be stopped.
     Clearing,
-    /// It holds nothing, and its signal could not be stopped.
+    /// The route holds nothing, and the signal could not be stopped.
     Blocked,
-    /// It holds nothing, and is to be reported as not set.
+    /// The route holds nothing, and is to be reported as not set.
     Closing,
     /// This number of turnouts is locked, and the next is being locked.
     Locking(usize),
-    /// All turnouts are locked, this number of them is thrown, and the next is being thrown.
+    /// All turnouts are locked, this number is thrown, and the next is being thrown.
     Throwing(usize),
     /// All turnouts are thrown, and the signal waits for the blocks.
     Ready,
     /// The signal is being shown.
     Showing,
-    /// It is to be reported as set.
+    /// The route is to be reported as set.
     Reporting,
-    /// It is set.
+    /// The route is set.
     Set,
-    /// Its signal is to be stopped, and it holds its locks.
+    /// The signal is to be stopped, and the route holds its locks.
     Stopping,
-    /// Its signal could not be stopped, and it keeps its locks.
+    /// The signal could not be stopped, and the route keeps its locks.
     Stuck,
-    /// It is to be reported as not set, and holds its locks.
+    /// The route is to be reported as not set, and holds its locks.
     Hiding,
     /// This number of turnouts stays locked, and the next is being unlocked.
     Unlocking(usize),
 }
 
 impl Stage {
-    /// Returns whether a route holds nothing at this stage, and its signal shows "stop".
+    /// Returns whether a route holds nothing at this stage, and the signal shows "stop".
     pub(crate) fn is_idle(self) -> bool
         ensures { result ≡ is_idle self }
     {
@@ -80,7 +80,7 @@ fn stop_setting(signal: Signal) -> Setting
     }
 }
 
-/// Returns the stage of a route that has this number of locks to give up.
+/// Returns the stage of a route with this number of locks to give up.
 fn left_stage(left: usize) -> Stage
     ensures { result ≡ left_stage left }
 {
@@ -111,7 +111,7 @@ fn thrown_stage(route: &Route) -> Stage
     }
 }
 
-/// Returns the stage in which a route without turnouts begins, whose blocks are free.
+/// Returns the stage in which a route without turnouts begins, if the blocks are free.
 fn shown_stage(route: &Route) -> Stage
     ensures { result ≡ shown_stage route.now }
 {
@@ -132,7 +132,7 @@ fn first_stage(route: &Route) -> Stage
     }
 }
 
-/// Returns the stage of a route as a command session begins, which holds no lock.
+/// Returns the stage of a route as a command session begins: the route holds no lock.
 pub(crate) fn lost(route: &Route) -> Stage
     ensures { result ≡ lost_stage route.now }
 {
@@ -153,7 +153,7 @@ pub(crate) fn retried(stage: Stage) -> Stage
     }
 }
 
-/// Returns the order of a route at a stage, if it has one.
+/// Returns the order of a route at a stage, if any.
 pub(crate) fn order_of(route: &Route, stage: Stage) -> Option<Order>
     ensures { result ≡ order_of route.now stage }
 {
@@ -256,7 +256,8 @@ fn turned_back(route: &Route, stage: Stage) -> Stage
     }
 }
 
-/// Returns the stage whose order a route may send next: whether it is wanted, its blocks are free, and it may begin.
+/// Returns the stage whose order a route may send next, by whether the route is wanted, the blocks are free, and the
+/// route may begin.
 pub(crate) fn ready(
     route: &Route,
     is_wanted: bool,
