@@ -1,4 +1,4 @@
-//! Tests of `srcp_serve`. They stand here so that it is proved once.
+//! Tests of `srcp_serve`, in a crate of their own, since `srcp_serve` is then proved once.
 #![tactic(auto)]
 
 #[cfg(test)]

@@ -11,17 +11,17 @@ use srcp_serve::{Door, DoorFault, Got};
 use std::alloc::{AllocError, Global};
 use std::vec::Vec;
 
-/// Holds a peer, with what it sends and what was written to it.
+/// Holds a peer, with the bytes from the peer and the bytes written to the peer.
 #[derive(Drop)]
 pub(crate) struct ScriptPeer<'a> {
-    /// The answers to reads, one after another. An empty piece is the end, and after the last piece nothing comes.
+    /// The answers to reads, in order. An empty piece is the end, and after the last piece nothing comes.
     pieces: &'a [&'a [u8]],
-    /// The most bytes that a write takes.
+    /// The most bytes taken by a write.
     at_once: usize,
-    /// The number of pieces that were read.
+    /// The number of pieces read.
     reads: usize,
     written: Vec<u8>,
-    /// The number of times that the peer was closed.
+    /// How many times the peer was closed.
     closes: u32,
 }
 
@@ -64,21 +64,21 @@ impl<'a> ScriptPeer<'a> {
     }
 }
 
-/// A door to peers that come in their order, one a call. One call of the door may fail. The door keeps its calls, up
-/// to the first one for which memory is refused.
+/// A door to peers in order: each accept lets in the next peer. A single call of the door may fail. The door keeps the
+/// calls, up to the first for which memory is refused.
 #[derive(Drop)]
 pub(crate) struct ScriptDoor<'a> {
     alloc: Global,
     /// The moments of the turns, and 0 after them.
     moments: &'a [u64],
     peers: Vec<ScriptPeer<'a>>,
-    /// The number of the call that fails, counted from 1, or 0 if none does.
+    /// The number of the failing call, counted from 1, or 0 if none fails.
     failing: u32,
-    /// The number of peers that have come.
+    /// How many peers have come.
     arrived: u32,
     pub calls: u32,
     faults: u64,
-    /// The calls with their answers, unless memory for one was refused.
+    /// The calls with their answers, or `None` if memory was refused for a call.
     trace: Option<Vec<Asked>>,
 }
 
@@ -121,7 +121,7 @@ impl<'a> ScriptDoor<'a> {
         }
     }
 
-    /// Returns the events that the calls make.
+    /// Returns the events made by the calls.
     ///
     /// # Errors
     /// Fails if memory is refused, or was refused to a call.
@@ -132,7 +132,7 @@ impl<'a> ScriptDoor<'a> {
         }
     }
 
-    /// Counts one more call. It fails if `failing` is its number.
+    /// Counts a call. Fails if the number of this call is `failing`.
     fn call(&mut self, fault: DoorFault) -> Result<(), DoorFault>
         ensures ok { OnOk result (self.new.faults ≡ self.old.faults) }
         ensures err { OnErr result (self.new.faults ≡ one_more self.old.faults) }
@@ -148,7 +148,7 @@ impl<'a> ScriptDoor<'a> {
         }
     }
 
-    /// Keeps a call with its answer.
+    /// Keeps a call with the answer.
     fn tell(&mut self, asked: Asked)
         ensures faults { self.new.faults ≡ self.old.faults }
         ensures trace { MatchOption self.old.trace (self.new.trace ≡ None) (λ old.

@@ -28,7 +28,7 @@ const MANY_PORTS: Bus = Bus {
     fb_ports: 1000,
 };
 
-/// What a panel sends.
+/// The pieces sent by a panel.
 const PANEL: [&[u8]; 1] = [b"SET CONNECTIONMODE SRCP INFO\nGO\n"];
 
 /// Returns the counts of serving without a failure, if `opened` peers were let in.
@@ -40,7 +40,7 @@ fn all_served(turns: u64, opened: u64) -> Served {
     }
 }
 
-/// Serves the peers of a door for this many turns, and runs the events that its calls make.
+/// Serves the peers of a door for this many turns, and runs the events made by the door's calls.
 fn serve_and_run(
     alloc: Global,
     layout: &Layout,

@@ -1,4 +1,4 @@
-//! The calls of a door in memory, and the events that they make.
+//! The calls of a door in memory, and the events made by them.
 
 use srcp_core::{Event, Piece};
 use srcp_serve::{DoorFault, Got};
@@ -8,7 +8,7 @@ use std::vec::Vec;
 /// The most writes of a visit.
 const MOST_WRITES: usize = 300;
 
-/// A call of the door, with its answer.
+/// A call of the door, with the answer.
 #[derive(Drop)]
 pub(crate) enum Asked {
     Expect {
@@ -17,13 +17,13 @@ pub(crate) enum Asked {
     },
     Now(Result<u64, DoorFault>),
     Accept(Result<Option<u32>, DoorFault>),
-    /// The buffer as it is afterwards.
+    /// The buffer after the call.
     Read {
         peer: u32,
         answer: Result<Got, DoorFault>,
         buffer: Vec<u8>,
     },
-    /// The bytes that were to be written.
+    /// The bytes to write.
     Write {
         peer: u32,
         bytes: Vec<u8>,
@@ -36,7 +36,7 @@ pub(crate) enum Asked {
 }
 
 impl Asked {
-    /// Returns whether the call is about that peer.
+    /// Returns whether the call is about this peer.
     fn is_about(&self, who: u32) -> bool {
         match self {
             Asked::Expect { .. } | Asked::Now(_) | Asked::Accept(_) => false,
@@ -55,7 +55,7 @@ impl Asked {
         }
     }
 
-    /// Returns the event that the call makes, if it makes one; `conn` is the connection of its peer.
+    /// Returns the event made by the call, or `None` if the call makes no event; `conn` is the connection of the peer.
     fn event(&self, alloc: Global, conn: usize) -> Result<Option<Event>, AllocError> {
         Ok(match self {
             Asked::Read {
@@ -76,14 +76,14 @@ impl Asked {
     }
 }
 
-/// A peer that has a slot, and the number of its connection.
+/// A peer with a slot, and the number of the peer's connection.
 #[derive(Clone, Copy)]
 struct Client {
     peer: u32,
     conn: usize,
 }
 
-/// Returns the events that these calls make.
+/// Returns the events made by these calls.
 pub(crate) fn events_of(alloc: Global, calls: &[Asked]) -> Result<Vec<Event>, AllocError> {
     let mut events = Vec::new(alloc);
     let mut slots = Vec::new(alloc);
@@ -104,7 +104,7 @@ pub(crate) fn events_of(alloc: Global, calls: &[Asked]) -> Result<Vec<Event>, Al
     Ok(events)
 }
 
-/// Returns whether the peer that was accepted is closed before anything else is asked of it.
+/// Returns whether the first call about the accepted peer closes the peer.
 fn turns_away(turn: &[Asked], peer: u32) -> bool {
     let first = turn.iter().find(|call| call.is_about(peer));
     first.is_some_and(|call| matches!(call, Asked::Close { .. }))
@@ -133,7 +133,7 @@ fn push_visits(
     Ok(())
 }
 
-/// Appends the events of the visit of the peer of the slot, if it has one. Frees the slot if the visit closes the
+/// Appends the events of the visit of the slot's peer, if there is such a peer. Frees the slot if the visit closes the
 /// peer.
 fn push_visit(
     alloc: Global,
