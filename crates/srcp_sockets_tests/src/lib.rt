@@ -1,4 +1,4 @@
-//! Tests of `srcp_sockets`. They stand here so that it is proved once.
+//! Tests of `srcp_sockets`, in a crate of their own, since `srcp_sockets` is then proved once.
 #![tactic(auto)]
 
 #[cfg(test)]

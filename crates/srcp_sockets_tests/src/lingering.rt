@@ -6,7 +6,7 @@ use crate::scene::{AMPLE, all_served, serve_events, took_lines};
 use std::test::Fail;
 use std::vec::Vec;
 
-/// The bytes that are sent to a session that begins and ends itself in the first ten milliseconds: the welcome line
+/// How many bytes are sent to a session, begun and ended by commands in the first ten milliseconds: the welcome line
 /// and two replies.
 const ALL: usize = 76;
 
@@ -87,7 +87,7 @@ fn gives_up_nobody_who_is_owed_for_one_who_is_not(rt: HostRuntime) -> Result<(),
         took_lines(rt.alloc(), &door, 1)?.as_slice(),
         lines.as_bytes()
     );
-    // The first peer that was turned away was dropped for one that came later.
+    // The first peer turned away was dropped for a later peer.
     let first = closed_at(door.system().entries()?, 66).unwrap_or(u64::MAX);
     assert!(rt; first < 1_000, "it was closed at {first} ms");
     Ok(())

@@ -13,7 +13,7 @@ use std::time::{Clock, Duration};
 
 const BOTH_LINES: &[u8] = b"srcp_server 1.0; SRCP 0.8.4; SRCPOTHER 0.8.3\n0.000 200 OK GO 1\n";
 
-/// A clock that stands at 0.
+/// A clock standing at 0.
 #[derive(Clone, Copy)]
 struct Still;
 
@@ -27,7 +27,7 @@ impl Clock for Still {
     }
 }
 
-/// A clock that is set by hand, in milliseconds.
+/// A clock set by hand, in milliseconds.
 #[derive(Drop)]
 struct Hands {
     wall: Cell<u64>,
@@ -44,7 +44,7 @@ impl Clock for Hands {
     }
 }
 
-/// A clock that cannot be read.
+/// An unreadable clock.
 #[derive(Clone, Copy)]
 struct Broken;
 

@@ -13,19 +13,19 @@ const LOOKS: u64 = 4;
 /// What happens to a socket.
 #[derive(Clone, Copy)]
 pub(crate) enum Happens<'a> {
-    /// Its client connects.
+    /// The client connects.
     Connects,
-    /// Its client sends bytes.
+    /// The client sends bytes.
     Sends(&'a [u8]),
-    /// Its client sends bytes behind urgent data: a read ends at that.
+    /// The client sends bytes behind urgent data: a read ends at the urgent data.
     SendsUrgently(&'a [u8]),
-    /// Its client sends no more.
+    /// The client sends no more.
     HalfCloses,
-    /// Its client is gone: no call finds anything of it.
+    /// The client is gone: no call finds anything of the client.
     Resets,
-    /// Its client makes room for that many more bytes.
+    /// The client makes room for this many more bytes.
     Receives(usize),
-    /// The server stands still for that many milliseconds, whatever the socket.
+    /// The server stands still for this many milliseconds, whatever the socket.
     StandsStill(u64),
 }
 
@@ -42,24 +42,24 @@ pub(crate) fn at(at: u64, socket: u32, what: Happens<'_>) -> Event<'_> {
     Event { at, socket, what }
 }
 
-/// A socket, with what its client and the server did to it.
+/// A socket, with what the client and the server did.
 #[derive(Drop)]
 struct Socket {
     number: u32,
     accepted: bool,
-    // What the client sent. The server has read a prefix of it.
+    // The bytes from the client. The server has read a prefix of these.
     sent: Vec<u8>,
     read: usize,
-    // The index of the byte that comes behind the last urgent data.
+    // The index of the byte behind the last urgent data.
     mark: usize,
     over: bool,
     reset: bool,
-    // The server shut it for writing, and closed it.
+    // Whether the server shut the socket for writing, and whether the server closed the socket.
     shut: bool,
     closed: bool,
-    // The number of bytes that have room.
+    // How many bytes have room.
     room: usize,
-    // Its readiness since the last wait.
+    // The socket's readiness since the last wait.
     edge: Option<Ready>,
 }
 
@@ -68,7 +68,7 @@ struct Socket {
 pub(crate) struct Network<'a> {
     alloc: Global,
     events: &'a [Event<'a>],
-    // The number of events that have happened.
+    // How many events have happened.
     happened: usize,
     now: u64,
     looks: u64,
@@ -76,7 +76,7 @@ pub(crate) struct Network<'a> {
     interrupts: bool,
     calls: u64,
     sockets: Vec<Socket>,
-    // The readiness of the listener, which is socket 0.
+    // The readiness of the listener: socket 0.
     wanted: bool,
 }
 
@@ -123,7 +123,7 @@ impl Socket {
         Ok(count)
     }
 
-    /// Takes as many bytes as there is room for.
+    /// Takes as many bytes as have room.
     fn write(&mut self, bytes: &[u8]) -> Result<usize, ErrorKind>
         ensures { IfOk result (λ count. count ≤ length bytes.now) }
     {
@@ -138,7 +138,7 @@ impl Socket {
         Ok(count)
     }
 
-    /// Applies an event, and records its readiness.
+    /// Applies an event, and records the readiness of the event's socket.
     fn take(&mut self, what: Happens<'_>) -> Result<(), AllocError> {
         match what {
             Happens::Connects => self.ready(true, false, false, true),
@@ -204,7 +204,7 @@ impl<'a> Network<'a> {
         }
     }
 
-    /// Accepts the first client that connects.
+    /// Accepts the first connecting client.
     pub(crate) fn accept(&mut self) -> Result<(), ErrorKind> {
         if self.is_interrupted() {
             return Err(ErrorKind::Interrupted);
@@ -256,7 +256,8 @@ impl<'a> Network<'a> {
         }
     }
 
-    /// Waits until a socket is ready, at most `most` milliseconds if that is given. Returns how many are ready.
+    /// Waits until a socket is ready, at most `most` milliseconds if `most` is given. Returns how many sockets are
+    /// ready.
     pub(crate) fn wait(&mut self, most: Option<u64>, ready: &mut [Ready]) -> usize
         ensures { result ≤ length ready.new }
     {
@@ -277,7 +278,7 @@ impl<'a> Network<'a> {
         self.take_edges(ready)
     }
 
-    /// Reads the clock, which advances with each read.
+    /// Reads the clock. Each read advances the clock.
     pub(crate) fn clock(&mut self) -> u64 {
         self.looks = self.looks.saturating_add(1);
         if self.looks % LOOKS == 0 {
@@ -318,7 +319,7 @@ impl<'a> Network<'a> {
         }
     }
 
-    /// Writes the readiness since the last wait to the beginning of `ready`. Returns how many sockets that is.
+    /// Writes the readiness since the last wait to the beginning of `ready`. Returns for how many sockets.
     fn take_edges(&mut self, ready: &mut [Ready]) -> usize
         ensures { result ≤ length ready.new }
     {
@@ -352,7 +353,7 @@ impl<'a> Network<'a> {
     }
 }
 
-/// Returns the index of a socket. Sockets are numbered from 1 on, as they come.
+/// Returns the index of a socket. The first socket has the number 1, and each later socket the next number.
 fn index_of(number: u32) -> usize {
     (number as usize).saturating_sub(1)
 }

@@ -1,4 +1,4 @@
-//! The calls of a system with their answers, and those of its door.
+//! The calls of a system with their answers, and those of the system's door.
 
 use srcp_serve::{DoorFault, Got};
 use srcp_sockets::Ready;
@@ -6,20 +6,20 @@ use std::alloc::{AllocError, Global};
 use std::io::ErrorKind;
 use std::vec::Vec;
 
-/// Holds a call of the system with its answer, or a call of the door.
+/// Holds a call of the system with the answer, or a call of the door.
 #[derive(Drop)]
 pub(crate) enum Entry {
     Accepts {
         number: u32,
         answer: Result<(), ErrorKind>,
     },
-    /// The buffer as it is afterwards.
+    /// The buffer after the call.
     Reads {
         socket: u32,
         buffer: Vec<u8>,
         answer: Result<usize, ErrorKind>,
     },
-    /// The bytes that were to be written.
+    /// The bytes to write.
     Writes {
         socket: u32,
         bytes: Vec<u8>,
@@ -31,7 +31,7 @@ pub(crate) enum Entry {
     Closes {
         socket: u32,
     },
-    /// All of `ready`, as it is afterwards.
+    /// All of `ready` after the call.
     Waits {
         most: Option<u64>,
         count: usize,
@@ -44,13 +44,13 @@ pub(crate) enum Entry {
     },
     Now(Result<u64, DoorFault>),
     Accept(Result<Option<u32>, DoorFault>),
-    /// The buffer as it is afterwards.
+    /// The buffer after the call.
     Read {
         peer: u32,
         answer: Result<Got, DoorFault>,
         buffer: Vec<u8>,
     },
-    /// The bytes that were to be written.
+    /// The bytes to write.
     Write {
         peer: u32,
         bytes: Vec<u8>,
@@ -62,7 +62,7 @@ pub(crate) enum Entry {
     },
 }
 
-/// Returns the bytes that a socket took, all writes joined.
+/// Returns the bytes taken by a socket, all writes joined.
 pub(crate) fn took_of(
     alloc: Global,
     entries: &[Entry],
@@ -83,7 +83,7 @@ pub(crate) fn took_of(
     Ok(took)
 }
 
-/// Returns what the clock showed when a socket took the last bytes with that line, if it took such bytes.
+/// Returns what the clock showed when a socket took the last bytes with this line, or `None` without such bytes.
 pub(crate) fn time_of(entries: &[Entry], number: u32, line: &[u8]) -> Option<u64> {
     let mut shown = None;
     let mut time = None;
@@ -101,14 +101,14 @@ pub(crate) fn time_of(entries: &[Entry], number: u32, line: &[u8]) -> Option<u64
     time
 }
 
-/// Returns whether one of the lines ends so.
+/// Returns whether any of the lines has this end.
 fn has_line(bytes: &[u8], end: &[u8]) -> bool {
     bytes
         .split_inclusive(|byte| *byte == b'\n')
         .any(|line| line.ends_with(end))
 }
 
-/// Returns the most lines that were handed out in one turn.
+/// Returns the most lines handed out in a turn.
 pub(crate) fn most_lines(entries: &[Entry]) -> usize {
     let mut most = 0;
     let mut lines = 0usize;
@@ -127,12 +127,12 @@ pub(crate) fn most_lines(entries: &[Entry]) -> usize {
     most
 }
 
-/// Returns how many lines end in bytes.
+/// Returns how many line ends are in bytes.
 pub(crate) fn lines_in(bytes: &[u8]) -> usize {
     bytes.iter().filter(|byte| **byte == b'\n').count()
 }
 
-/// Returns what the clock showed last when a socket was closed, if it was.
+/// Returns what the clock showed last when a socket was closed, or `None` if the socket was not closed.
 pub(crate) fn closed_at(entries: &[Entry], number: u32) -> Option<u64> {
     let mut shown = None;
     for entry in entries {

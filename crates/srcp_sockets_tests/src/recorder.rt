@@ -1,4 +1,4 @@
-//! A system that records its calls.
+//! A system with a record of the calls.
 
 ghost use Rattle.std.specs.Prelude.{◌≡◌, ◌∷◌, ◌++◌, [], None, IfSome, MatchOption};
 
@@ -18,7 +18,7 @@ pub(crate) struct Recorder<'a> {
     trace: Option<Vec<Entry>>,
 }
 
-/// Opens a door to a network, whose clocks show 0.
+/// Opens a door to a network, with clocks at 0.
 pub(crate) fn open<'a>(
     alloc: Global,
     network: Network<'a>,
@@ -40,7 +40,7 @@ impl<'a> Recorder<'a> {
     /// Returns all calls.
     ///
     /// # Errors
-    /// Fails if memory was refused for one of them.
+    /// Fails if memory was refused for any of them.
     pub(crate) fn entries(&self) -> Result<&[Entry], AllocError> {
         match &self.trace {
             Some(entries) => Ok(entries.as_slice()),

@@ -11,10 +11,10 @@ use std::alloc::{AllocError, Global};
 use std::test::Fail;
 use std::vec::Vec;
 
-/// The number of turns, which is more than all events need.
+/// The number of turns, more than all events need.
 const TURNS: u64 = 2_000;
 
-/// The bytes for which a client that reads makes room.
+/// The room made by a reading client, in bytes.
 pub(crate) const AMPLE: usize = 100_000;
 
 const BUS: Bus = Bus {
@@ -48,7 +48,7 @@ pub(crate) fn all_served(opened: u64) -> Served {
     }
 }
 
-/// Returns lines without their stamps. The welcome line has none, and stays as it is.
+/// Returns lines without their stamps. Copies the welcome line whole, since there is no stamp.
 fn without_stamps(alloc: Global, lines: &[u8]) -> Result<Vec<u8>, AllocError> {
     let mut rest = Vec::new(alloc);
     for line in lines.split_inclusive(|byte| *byte == b'\n') {
@@ -60,7 +60,7 @@ fn without_stamps(alloc: Global, lines: &[u8]) -> Result<Vec<u8>, AllocError> {
     Ok(rest)
 }
 
-/// Returns what the socket of a client took, without stamps.
+/// Returns the lines taken by the socket of a client, without stamps.
 pub(crate) fn took_lines(
     alloc: Global,
     door: &SocketDoor<Recorder<'_>>,

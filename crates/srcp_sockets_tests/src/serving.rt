@@ -38,7 +38,7 @@ fn serves_all_who_come(rt: HostRuntime) -> Result<(), Fail> {
             "to client {client}"
         );
     }
-    // Then nothing happens, and no event wakes it.
+    // Then nothing happens, and no event wakes the server.
     assert!(rt; sleeps(door.system().entries()?) > 300);
     Ok(())
 }
@@ -52,7 +52,7 @@ fn writes_what_a_socket_takes(rt: HostRuntime) -> Result<(), Fail> {
             at(5, 1, Happens::Receives(room)),
             at(20, 1, Happens::Receives(AMPLE)),
         ];
-        // Up to the moment at which it makes more room, and to the end.
+        // Up to the moment at which the client makes more room, and to the end.
         for (count, all) in [(3, room), (4, 63)] {
             let network = Network::new(rt.alloc(), events.get(..count).unwrap_or(&[]), false);
             let (served, door) = serve_events(rt.alloc(), network)?;
@@ -137,7 +137,7 @@ fn turns_away_who_finds_no_slot(rt: HostRuntime) -> Result<(), Fail> {
     }
     let (served, door) = serve_events(rt.alloc(), Network::new(rt.alloc(), &events, false))?;
     assert_eq!(rt; served, all_served(64));
-    // The peers that were turned away go, and then no event wakes it.
+    // The peers turned away go, and then no event wakes the server.
     assert!(rt; sleeps(door.system().entries()?) > 200);
     Ok(())
 }
@@ -145,7 +145,7 @@ fn turns_away_who_finds_no_slot(rt: HostRuntime) -> Result<(), Fail> {
 #[test]
 fn hands_out_as_many_lines_as_panels_take(rt: HostRuntime) -> Result<(), Fail> {
     let mut commands = Vec::new(rt.alloc());
-    // Lines of 16 bytes, so that no piece of 256 ends within one.
+    // Lines of 16 bytes: no piece of 256 bytes ends within a line.
     for _ in 0..96 {
         commands.extend_from_slice(b"SET 1 FB 1 1   \n")?;
     }
@@ -164,8 +164,8 @@ fn hands_out_as_many_lines_as_panels_take(rt: HostRuntime) -> Result<(), Fail> {
     let (served, door) = serve_events(rt.alloc(), Network::new(rt.alloc(), &events, false))?;
     assert_eq!(rt; served, all_served(9));
     let entries = door.system().entries()?;
-    // Three lines of the handshake, the rows of its session, of POWER and of the sensor, one row of each other session,
-    // and each change.
+    // Three lines of the handshake, the rows of the panel's session, of POWER and of the sensor, a row of each other
+    // session, and each change.
     assert_eq!(rt; lines_in(&took_of(rt.alloc(), entries, 1)?), 782);
     assert_eq!(rt; most_lines(entries), 96);
     Ok(())
