@@ -88,7 +88,7 @@ fn serves_so_many_turns(rt: HostRuntime) -> Result<(), Fail> {
     Ok(())
 }
 
-/// Returns what is wrong with the words, and the status of that.
+/// Returns what is wrong with the words, and the status of the refusal.
 fn refused(alloc: Global, words: &[&str]) -> Option<(ErrorKind, i32)> {
     let words = given(alloc, words).ok()?;
     let error = read_words(alloc, &words).err()?;

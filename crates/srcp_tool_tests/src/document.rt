@@ -1,4 +1,4 @@
-//! Configurations as documents. The cases of `tests/tables.py` say why one is refused.
+//! Configurations as documents. The cases of `tests/tables.py` say why a configuration is refused.
 
 use srcp_layout_file::read_layout;
 use std::alloc::Global;
@@ -33,7 +33,7 @@ fn reads_a_bus_with_four_groups(rt: HostRuntime) {
     }
 }
 
-/// Returns the port, the number of buses, and the ports of the accessories of the first.
+/// Returns the port, the number of buses, and the ports of the accessories of the first bus.
 fn outline(alloc: Global, document: &str) -> Option<(u16, usize, u8)> {
     let config = read_layout(alloc, document.as_bytes()).ok()?;
     let buses = config.layout.buses();

@@ -1,4 +1,4 @@
-//! A signal box over a stream. The cases of `tests/cases` run it with more plans.
+//! A signal box over a stream. The cases of `tests/cases` run the box with more plans.
 
 use crate::memory_io::{Sink, Source};
 use crate::streams::written;
@@ -9,7 +9,7 @@ use std::io::{Read, Write};
 use std::test::Fail;
 use std::vec::Vec;
 
-/// A plan of one route.
+/// A plan of a single route.
 const PLAN: &[u8] = b"bus = 9
 [[route]]
 number = 1
@@ -18,7 +18,7 @@ blocks = [[1, 5]]
 signal = [1, 40, 1, 0]
 ";
 
-/// Lines that set the route and give it back, each with what the box sends by it.
+/// Lines by which the route is set and given back, each with what the box sends by the line.
 const STEPS: [(&[u8], &[u8]); 15] = [
     (b"0.000 200 OK GO 7\n", b"SET 1 GA 40 0 1 250\n"),
     (b"0.100 200 OK\n", b"SET 9 FB 1 0\n"),
@@ -93,7 +93,7 @@ fn sends_a_prefix_if_a_write_fails(rt: HostRuntime) -> Result<(), Fail> {
     Ok(())
 }
 
-/// Returns the start of a session, and behind it a reply in a line of this length.
+/// Returns the start of a session, followed by a reply in a line of this length.
 fn replied(alloc: Global, length: usize) -> Result<Vec<u8>, AllocError> {
     let mut input = Vec::from_slice(alloc, b"0.000 200 OK GO 7\n0.100 200 OK ")?;
     for _ in 13..length {

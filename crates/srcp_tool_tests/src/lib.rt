@@ -1,4 +1,5 @@
-//! Tests of `srcp_tool`, `srcp_script` and `srcp_layout_file`. They stand here so that those are proved once.
+//! Tests of `srcp_tool`, `srcp_script` and `srcp_layout_file`, in a crate of their own, since those are then proved
+//! once.
 #![tactic(auto)]
 
 #[cfg(test)]

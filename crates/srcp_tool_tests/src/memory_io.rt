@@ -5,7 +5,7 @@ use std::io;
 use std::io::{Read, Write};
 use std::vec::Vec;
 
-/// Gives its bytes a few at a time, and then ends or fails.
+/// Gives bytes a few at a time, and then ends or fails.
 #[derive(Drop)]
 pub(crate) struct Source<'a> {
     bytes: &'a [u8],
@@ -36,7 +36,7 @@ impl Read for Source<'_> {
     }
 }
 
-/// Takes a byte at a time while it has room. Then it takes nothing, or fails.
+/// Takes a byte at a time while there is room. Then takes nothing, or fails.
 #[derive(Drop)]
 pub(crate) struct Sink {
     pub taken: Vec<u8>,

@@ -26,7 +26,7 @@ fn reads_an_input_in_pieces(rt: HostRuntime) -> Result<(), Fail> {
     Ok(())
 }
 
-/// Writes `rows 0` and an LF, which is the record of an empty script over no bus.
+/// Writes `rows 0` and an LF: the record of an empty script over no bus.
 fn write_no_rows(rt: HostRuntime, sink: &mut Sink) -> Result<(), ToolFault> {
     let layout = Layout::new(rt.alloc());
     let mut script = Source::new(b"", 1, false);

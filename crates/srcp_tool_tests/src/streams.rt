@@ -1,4 +1,4 @@
-//! Streams that fail after some bytes, and inputs that end after some.
+//! Streams failing after some bytes, and inputs ending after some.
 
 use crate::memory_io::{Sink, Source};
 use crate::mirroring::ROWS;
@@ -26,12 +26,12 @@ const PLAN: &[u8] = b"bus = 9\nroute = [{number = 1, turnouts = [[1, 12, 1]]}]";
 
 const TABLE: &[u8] = b"bus 9\nroute 1\n";
 
-/// Makes a reader that fails after these bytes.
+/// Makes a reader to give these bytes and then fail.
 fn failing(bytes: &[u8]) -> Source<'_> {
     Source::new(bytes, 7, true)
 }
 
-/// Makes a reader that ends after these bytes.
+/// Makes a reader to give these bytes and then end.
 fn ending(bytes: &[u8]) -> Source<'_> {
     Source::new(bytes, 7, false)
 }
