@@ -1,4 +1,4 @@
-//! Tests of `srcp_plan_file`. They stand here so that it is proved once.
+//! Tests of `srcp_plan_file`, in a crate of their own, since `srcp_plan_file` is then proved once.
 #![tactic(auto)]
 
 #[cfg(test)]

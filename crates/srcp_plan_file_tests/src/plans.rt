@@ -1,10 +1,10 @@
-//! Plans as documents: what is printed of each, or why it is refused.
+//! Plans as documents: what is printed of each, or why the plan is refused.
 
 use srcp_plan_file::{print_plan, read_plan};
 use std::alloc::Global;
 use std::string::String;
 
-/// Returns the locking table of a plan, or the text of its fault.
+/// Returns the locking table of a plan, or the text of the plan's fault.
 fn told(alloc: Global, document: &str) -> Option<String> {
     match read_plan(alloc, document.as_bytes()) {
         Ok(plan) => {
