@@ -1,4 +1,4 @@
-//! Calls that allocate memory, one by one.
+//! Allocating calls, each alone.
 use crate::outcome::{Outcome, Refused};
 use clap::error::ErrorKind;
 use srcp_core::{Core, CoreFault};
@@ -12,17 +12,17 @@ use std::alloc::Global;
 use std::string::String;
 use std::vec::Vec;
 
-/// The most changes that wait for a panel.
+/// The most changes waiting for a panel.
 const MOST_WAITING: usize = 256;
 
-/// A configuration of one bus.
+/// A configuration of a single bus.
 const CONFIGURATION: &[u8] =
     b"port = 4303\n[[bus]]\nnumber = 1\ngroups = [\"POWER\", \"GL\"]\ngl_max = 9\n";
 
 /// A script of three events.
 const SCRIPT: &[u8] = b"open\nbytes 1 GO\\n\nroom 1 1000\n";
 
-/// Lines of rows that a mirror has not.
+/// Lines of rows absent from a mirror.
 const LINES: [&[u8]; 6] = [
     b"0.000 100 INFO 1 FB 6 0",
     b"0.000 100 INFO 1 FB 5 0",
@@ -44,7 +44,7 @@ pub(crate) fn bus(number: u8) -> Bus {
     }
 }
 
-/// Makes a layout of one bus.
+/// Makes a layout of a single bus.
 pub(crate) fn one_bus(alloc: Global) -> Result<Layout, Refused> {
     let mut layout = Layout::new(alloc);
     layout.add(bus(1))?;
@@ -71,7 +71,7 @@ pub(crate) fn feed(alloc: Global) -> Result<Outcome, Refused> {
     })
 }
 
-/// Applies lines to a mirror. A refusal leaves the mirror as it was, and the same call with memory succeeds.
+/// Applies lines to a mirror. A refusal does not change the mirror, and the same call with memory succeeds.
 pub(crate) fn mirror(alloc: Global) -> Outcome {
     let mut mirror = Mirror::new(alloc);
     let mut outcome = Outcome::Granted;

@@ -1,4 +1,4 @@
-//! Serving two peers, of which one is refused its memory.
+//! Serving two peers, with memory refused to either of them.
 ghost use Rattle.srcp_door.specs.Calls.{one_more};
 
 use crate::calls::one_bus;
@@ -8,7 +8,7 @@ use srcp_rules::Nested;
 use srcp_serve::{Door, DoorFault, Got, Served, serve as serve_turns};
 use std::alloc::Global;
 
-/// A door to two peers, which connect in the first two turns, send nothing and take all.
+/// A door to two peers. They connect in the first two turns, send nothing and take all.
 #[derive(Drop)]
 struct TwoPeers {
     came: u32,
@@ -46,7 +46,8 @@ impl Door for TwoPeers {
     }
 }
 
-/// Serves three turns over that door. If a connection is refused its memory, its peer is closed, and the other served.
+/// Serves three turns over this door. If memory is refused to a connection, the connection's peer is closed, and the
+/// other peer is served.
 pub(crate) fn serve(alloc: Global) -> Result<Outcome, Refused> {
     let layout = one_bus(alloc)?;
     let mut core = Core::<Nested>::new(alloc, &layout, 0, 0)?;

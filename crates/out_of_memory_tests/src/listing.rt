@@ -1,4 +1,4 @@
-//! A run over the script of a trial, with its whole record printed.
+//! A run over the script of a trial, with the whole record printed.
 ghost use Rattle.std.specs.List.{AllByRecursion};
 ghost use Rattle.srcp_info.specs.WellFormed.{IsWellFormedShown};
 
@@ -13,8 +13,8 @@ use srcp_text::LineBuf;
 use std::alloc::Global;
 use std::io::{self, Write};
 
-/// Runs the script and prints its record. `tests/listing_out_of_memory.py` has the records that are expected. If the
-/// record itself is refused its memory there is none, and nothing is printed.
+/// Runs the script and prints the record. `tests/listing_out_of_memory.py` has the expected records. If memory is
+/// refused to the record itself there is no record, and nothing is printed.
 pub(crate) fn listing<R: Rows, W: Write>(
     alloc: Global,
     script: &[u8],
@@ -54,7 +54,7 @@ fn print_record<W: Write>(run: &Record, out: &mut W) -> io::Result<()>
     Ok(())
 }
 
-/// Prints the record of one connection, and the bytes that it was sent.
+/// Prints the record of a connection, and the bytes sent to this connection.
 fn print_connection<W: Write>(
     connection: &ConnRecord,
     rows: &[Row],
@@ -71,7 +71,7 @@ fn print_connection<W: Write>(
     out.write_all(connection.sent.as_slice())
 }
 
-/// Prints how many steps there were before an item, and the index of the row that it lists, if it lists one.
+/// Prints how many steps there were before an item, and the index of the listed row, if the item lists a row.
 fn print_item<W: Write>(item: &Item, rows: &[Row], out: &mut W) -> io::Result<()> {
     let steps = item.steps;
     let place = rows
@@ -80,7 +80,7 @@ fn print_item<W: Write>(item: &Item, rows: &[Row], out: &mut W) -> io::Result<()
     writeln!(out, "item {steps} {place:?}")
 }
 
-/// Prints the moment at which a row changes by itself, and its line.
+/// Prints the moment at which a row changes by itself, and the row's line.
 fn print_row<W: Write>(row: &Row, out: &mut W) -> io::Result<()>
     requires { IsWellFormedShown row.now.shown }
 {

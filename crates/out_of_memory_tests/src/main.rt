@@ -1,8 +1,8 @@
-//! One trial of what is left if memory is refused, for `tests/run_out_of_memory.py`. Standard input names the trial
-//! and the number of allocations that come first. `rt try --fail-alloc N` refuses the Nth allocation of a program, so
-//! that number says which allocation of the trial is refused. The program prints the outcome. The lines after the
-//! first are the script of a listing, whose record is printed first. Without a name all trials without a script are
-//! made, and each has to be granted.
+//! A trial of what is left if memory is refused, for `tests/run_out_of_memory.py`. Standard input names the trial and
+//! the number of allocations before the trial. `rt try --fail-alloc N` refuses the Nth allocation of a program. By this
+//! the number of allocations says which allocation of the trial is refused. The program prints the outcome. The lines
+//! after the first are the script of a listing, whose record is printed first. Without a name all trials without a
+//! script are made, and each has to be granted.
 #![tactic(auto)]
 
 mod calls;
@@ -37,7 +37,7 @@ const TRIALS: [&[u8]; 11] = [
     b"play-nested",
 ];
 
-/// Makes the trial that is asked for.
+/// Makes the trial named by standard input, or all trials without a script if there is no name.
 fn main(rt: HostRuntime) -> ExitCode {
     let mut input = [0; 1024];
     let count = match rt.stdin().read(&mut input) {
@@ -63,7 +63,7 @@ fn main(rt: HostRuntime) -> ExitCode {
     ExitCode::SUCCESS
 }
 
-/// Returns what stands before the first LF, and what follows it.
+/// Returns the text before the first LF, and the text behind this LF.
 fn cut_at_line_feed(text: &[u8]) -> (&[u8], &[u8]) {
     match text.iter().position(|byte| *byte == b'\n') {
         Some(place) => (&text[..place], &text[place + 1..]),
@@ -71,7 +71,7 @@ fn cut_at_line_feed(text: &[u8]) -> (&[u8], &[u8]) {
     }
 }
 
-/// Makes `before` allocations, and then the trial of that name.
+/// Makes `before` allocations, and then the trial of this name.
 fn trial_after<W: Write>(
     alloc: Global,
     before: u32,
@@ -90,7 +90,7 @@ fn trial_after<W: Write>(
     }
 }
 
-/// Makes one allocation, and then `count`.
+/// Makes a first allocation, and then `count` more.
 fn allocations(alloc: Global, count: u32) -> Result<Vec<Vec<u32>>, Refused> {
     let mut made = Vec::with_capacity(alloc, MOST_BEFORE as usize)?;
     for index in 0..count {
@@ -101,7 +101,7 @@ fn allocations(alloc: Global, count: u32) -> Result<Vec<Vec<u32>>, Refused> {
     Ok(made)
 }
 
-/// Makes the trial of that name.
+/// Makes the trial of this name.
 fn trial<W: Write>(
     alloc: Global,
     name: &[u8],

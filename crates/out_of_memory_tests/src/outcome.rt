@@ -7,13 +7,13 @@ use std::fmt;
 /// The outcome of a trial.
 #[derive(Clone, Copy, Debug, PartialEq, Eq)]
 pub(crate) enum Outcome {
-    /// No allocation of the call was refused, and its answer is right.
+    /// No allocation of the call was refused, and the call's answer is right.
     Granted,
     /// An allocation was refused outside of the call.
     Unprepared,
-    /// An allocation of the call was refused, and its answer and what it left are right.
+    /// An allocation of the call was refused, and the call's answer and what the call left are right.
     Refused,
-    /// The call's answer, or what it left, is wrong.
+    /// The call's answer, or what the call left, is wrong.
     Broken,
 }
 

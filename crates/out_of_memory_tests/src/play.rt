@@ -1,4 +1,4 @@
-//! A run of throttles and a panel, in which each command that may need memory is sent twice.
+//! A run of throttles and a panel. Each command that may need memory is sent twice.
 use crate::calls::one_bus;
 use crate::outcome::{Outcome, Refused};
 use srcp_core::{CoreFault, Record, run};
@@ -7,8 +7,8 @@ use srcp_script::read_script;
 use std::alloc::Global;
 use std::vec::Vec;
 
-/// One connection more is opened than is used, so that a refused one is not missed. Before and after each piece of
-/// commands everything is sent to the panel.
+/// Opens a connection more than the run uses, since memory may be refused to a connection. Before and after each piece
+/// of commands everything is sent to the panel.
 const SCRIPT: &[u8] = b"open
 open
 open
@@ -30,12 +30,12 @@ room 1 1000
 room 2 10000
 ";
 
-/// The number of rows at its end.
+/// The number of rows at the end of the run.
 const ROWS: usize = 12;
 
-/// Runs the script. If an allocation is refused there is no record, or one with one refusal. Its rows are then those
-/// of a run without a refusal, since the refused command was sent again. Its panel was sent the same lines before the
-/// locks, then one for each accepted lock, and none for what was refused.
+/// Runs the script. If an allocation is refused there is no record, or a record with a single refusal. The record's
+/// rows are then those of a run without a refusal, since the refused command was sent again. The panel was sent the
+/// same lines before the locks, then a line for each accepted lock, and none for what was refused.
 pub(crate) fn play<R: Rows>(alloc: Global) -> Result<Outcome, Refused> {
     let layout = one_bus(alloc)?;
     let events = read_script(alloc, SCRIPT)?;
@@ -74,7 +74,7 @@ fn refusals(record: &Record) -> usize {
     )
 }
 
-/// Returns how many lines that begin with `prefix` all connections were sent.
+/// Returns how many lines with `prefix` at the beginning were sent, to all connections together.
 fn lines_like(record: &Record, prefix: &[u8]) -> usize {
     let mut count: usize = 0;
     for connection in record.connections.as_slice() {
@@ -87,7 +87,7 @@ fn lines_like(record: &Record, prefix: &[u8]) -> usize {
     count
 }
 
-/// Returns the information lines that information sessions were sent before the locks.
+/// Returns the information lines sent to information sessions before the locks.
 fn panel_lines(alloc: Global, record: &Record) -> Result<Vec<u8>, Refused> {
     let mut lines = Vec::new(alloc);
     for connection in record.connections.as_slice() {
