@@ -61,7 +61,7 @@ pub fn ends_are_true<S: System + Drop>(door: &SocketDoor<S>)
 }
 
 /// States that a read was reported as failed only if a read or a write of the socket had failed before, or the peer was
-/// not there. A write was reported as failed only if the peer was not there.
+/// not there. A failed write was reported only if the peer was not there.
 pub fn faults_are_true<S: System + Drop>(door: &SocketDoor<S>)
     ensures read { (before after : List Step) (socket : ℕ) (fault : DoorFault) (buffer : List ℕ)
         → S.trace door.now.sockets.system ≡ Some (before ++ Answers (ReadCall socket (Err fault) buffer) ∷ after)

@@ -16,8 +16,9 @@ impl<C: Clock + Drop> SocketDoor<MioSystem<C>> {
     /// Opens a door at a port of 127.0.0.1. The moments begin with the wall clock at the time of the call, and go on
     /// with the monotonic clock. A clock that cannot be read, or stands before its zero, counts as 0.
     ///
+    /// # Errors
     /// Returns `Port` if the port is taken or refused, or the system has no descriptors left for the port. Returns
-    /// `Memory` if memory is refused. In both cases nothing listens then.
+    /// `Memory` if memory is refused. In both cases no socket listens then.
     pub fn listen<N: Net>(
         net: &N,
         alloc: Global,

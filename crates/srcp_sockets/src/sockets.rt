@@ -231,8 +231,8 @@ impl<S: System + Drop> Sockets<S> {
     }
 
     /// Returns how many lines may be queued for a peer whose socket refuses more. While commands wait for the panels,
-    /// the result is the number of changes that the panels lack. The space of a panel then lasts for as many lines, one
-    /// a millisecond.
+    /// the result is the number of changes that the panels lack. What may be queued for a panel then lasts for as many
+    /// lines, one a millisecond.
     fn room(&self, holds: bool) -> u32
         ensures { result ≡ room_of holds self.now.turn.slack }
     {
