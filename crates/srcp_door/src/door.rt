@@ -19,7 +19,7 @@ pub enum DoorFault {
     Close,
 }
 
-/// The answer to a read.
+/// Answers a read.
 #[derive(Clone, Copy, Debug, PartialEq, Eq)]
 pub enum Got {
     /// The number of bytes read, at least 1. The bytes are at the start of the buffer.

@@ -43,7 +43,7 @@ enum Due {
     Fault,
 }
 
-/// A peer and its socket.
+/// Holds a peer and the state of the peer's socket.
 #[derive(Drop)]
 pub struct Peer {
     /// The number of the socket.
@@ -70,7 +70,7 @@ pub struct Peer {
     pub asked: bool,
 }
 
-/// The outcome of a read of a peer.
+/// Holds the outcome of a read of a peer.
 #[derive(Clone, Copy)]
 pub struct Handed {
     /// The answer of the read.

@@ -19,7 +19,7 @@ pub const MOST_INCOMING: usize = 4_096;
 /// The bytes written to a peer that its socket did not take yet.
 pub type Outgoing = Queue<MOST_OUTGOING>;
 
-/// The queues of a peer that is still to come. Both are empty.
+/// Holds the two queues of a peer that is still to come. Both are empty.
 #[derive(Drop)]
 pub struct Queues {
     /// The queue of what the peer is written.
@@ -45,7 +45,7 @@ impl Queues {
     }
 }
 
-/// A bounded FIFO queue of at most `MOST` bytes. Contracts see a list.
+/// Holds at most `MOST` bytes, first in, first out. Contracts see a list.
 #[derive(Drop)]
 pub struct Queue<const MOST: usize> {
     // The bytes from `start` to `end` are held.

@@ -8,7 +8,7 @@ ghost use Rattle.srcp_peers.specs.Peers.{woken_output};
 use crate::queue::{MOST_INCOMING, Outgoing, Queue};
 use crate::system::Refusal;
 
-/// What a read of a socket may find.
+/// Says what a read of a socket may find.
 #[derive(Clone, Copy)]
 pub enum Input {
     /// A read may return data.
@@ -23,7 +23,7 @@ pub enum Input {
     Failed,
 }
 
-/// What a write to a socket may find.
+/// Says what a write to a socket may find.
 #[derive(Clone, Copy)]
 pub enum Output {
     /// A write may be taken.

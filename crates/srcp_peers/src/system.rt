@@ -45,8 +45,8 @@ pub fn refusal_of(fault: ErrorKind) -> Refusal
     }
 }
 
-/// The calls of the system, and between these the answers of a door, each noted at its end. An implementation for the
-/// system only makes the calls, and does nothing with the notes.
+/// Makes the calls of the system, and notes the answers of a door between these, each at its end. An implementation for
+/// the system only makes the calls, and does nothing with the notes.
 pub trait System {
     /// The calls and answers up to now, if the implementation keeps them.
     ghost trace: { Self → Option (List Step) } = { λ _. None };

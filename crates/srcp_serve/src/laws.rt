@@ -15,7 +15,7 @@ pub fn sent_is_taken()
 {}
 
 /// States that each connection was fed, to the byte, what the door handed out of the connection's peer. The calls are
-/// as those of `sent_is_taken`.
+/// those of `sent_is_taken`.
 pub fn fed_is_handed()
     ensures { (buses : List Bus) → FedIsHanded buses }
 {}

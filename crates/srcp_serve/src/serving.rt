@@ -21,7 +21,7 @@ use visit::Client;
 // As many changes may wait for a panel as may come before a panel overruns for which none waits.
 const _: () = prove!(MOST_SLACK == MOST_WAITING);
 
-/// The counts of a server that ended.
+/// Counts what a server did until its end.
 #[derive(Clone, Copy, Debug, PartialEq, Eq)]
 pub struct Served {
     /// The number of turns.
@@ -225,7 +225,7 @@ impl Slots {
         }
     }
 
-    /// Returns the end of the slots in use: all slots from the end on are free.
+    /// Returns the end of the slots in use: all slots from this end on are free.
     fn end(&self) -> usize
         ensures free { AreFreeFrom result self.now }
         ensures most { result ≤ MOST_CONNECTIONS }
