@@ -1,4 +1,4 @@
-//! The line that accepts a command.
+//! The line of an accepted command.
 
 ghost use Rattle.std.specs.Prelude.{◌≡◌, ◌≤◌, length};
 ghost use Rattle.srcp_info.specs.Line.{reply_line};
@@ -7,8 +7,7 @@ ghost use Rattle.srcp_info.specs.declared.change.Reply.{Reply};
 use srcp_info::{InfoLine, LONGEST_SHORT_REPLY, Reply, write_reply};
 use std::marker::Model;
 
-/// Holds the line of `200 OK` at a moment, which is written once for all commands of that moment. Contracts see the
-/// moment.
+/// Holds the line of `200 OK` at a moment, written once for all commands of the moment. Contracts see the moment.
 #[derive(Drop)]
 pub(crate) struct Accepted {
     moment: u64,

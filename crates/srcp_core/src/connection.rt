@@ -1,4 +1,4 @@
-//! One connection.
+//! A connection.
 ghost use Rattle.std.specs.Prelude.{◌≡◌, ◌≤◌, ◌+◌, ◌++◌, ◌⊎◌, [], length, drop, true, ◌&&◌, ◌||◌, IfOk, Some};
 ghost use Rattle.std.specs.Prelude.{option_map, vec_capacity};
 ghost use Rattle.srcp_rules.specs.State.{shown_rows};
@@ -30,16 +30,16 @@ const WELCOME: &[u8] = b"srcp_server 1.0; SRCP 0.8.4; SRCPOTHER 0.8.3\n";
 /// Says which changes a connection is told.
 #[derive(Drop)]
 pub(crate) enum Panel {
-    /// None: it has no information session.
+    /// None: there is no information session.
     Absent,
-    /// Those of the feed of its information session.
+    /// Those of the information session's feed.
     Listening(InfoFeed),
-    /// None: the change queue of its information session overflowed.
+    /// None: the change queue of the information session overflowed.
     Overran,
 }
 
 impl Panel {
-    /// Allocates a feed for an information session, at its beginning. A command session needs none.
+    /// Allocates a feed for a new information session. A command session needs none.
     pub(crate) fn of_mode<R: Rows>(alloc: Global, mode: Mode, rows: &R) -> Result<Panel, Memory>
         ensures { IfOk result (λ panel. panel ≡ panel_for mode) }
     {
@@ -50,14 +50,14 @@ impl Panel {
     }
 }
 
-/// One connection.
+/// Holds the state of a connection.
 #[derive(Drop)]
 pub struct Connection {
     reader: LineReader,
     mode: Mode,
     session: u32,
     ended: bool,
-    // The line of an information session, or else the replies: one of the two is empty. The last `left` bytes are
+    // The line of an information session, or else the replies: `line` or `reply` is empty. The last `left` bytes are
     // unsent.
     line: PanelLine,
     reply: Vec<u8>,
@@ -91,7 +91,7 @@ impl Model for Connection {
 }
 
 impl Connection {
-    /// Allocates the whole reply buffer, and puts the welcome line into it.
+    /// Allocates the whole reply buffer, and puts in the welcome line.
     pub(crate) fn new(alloc: Global) -> Result<Connection, Memory>
         ensures { IfOk result (λ c. c ≡ fresh_place) }
     {
@@ -109,21 +109,21 @@ impl Connection {
         })
     }
 
-    /// Returns whether it accepts no more bytes: it ended, or it overran.
+    /// Returns whether no more bytes are accepted: the session ended, or overran.
     pub(crate) fn is_over(&self) -> bool
         ensures { result ≡ (self.now.ended || has_overrun self.now.panel) }
     {
         self.ended || self.overran()
     }
 
-    /// Returns whether its change queue overflowed.
+    /// Returns whether the change queue overflowed.
     pub(crate) fn overran(&self) -> bool
         ensures { result ≡ has_overrun self.now.panel }
     {
         matches!(self.panel, Panel::Overran)
     }
 
-    /// Returns whether its session ended by its own command and all its replies are sent.
+    /// Returns whether the session ended by its own command and all replies are sent.
     pub(crate) fn is_done(&self) -> bool
         ensures { result ≡ (self.now.ended && is_nil self.now.unsent) }
     {
@@ -137,7 +137,7 @@ impl Connection {
         self.left == 0
     }
 
-    /// Returns the session, if it began and did not end by its own command.
+    /// Returns the session, or `None` if no session began or the session ended by its own command.
     pub(crate) fn live_session(&self) -> Option<u32>
         ensures { result ≡ live_session_of (Some self.now) }
     {
@@ -189,7 +189,7 @@ impl Connection {
         self.put(line.as_slice());
     }
 
-    /// Drops the first `count` unsent bytes, since they were sent.
+    /// Drops the first `count` unsent bytes, since the peer took them.
     pub(crate) fn took(&mut self, count: usize)
         requires { count ≤ length self.old.unsent }
         ensures { self.new ≡ without_sent count self.old }
@@ -197,8 +197,8 @@ impl Connection {
         self.left -= count;
     }
 
-    /// Tells an information session a change. If its queue is full the session overruns: the waiting changes, the
-    /// listing and the unsent bytes are dropped.
+    /// Tells an information session a change. With a full queue the session overruns: the waiting changes, the listing
+    /// and the unsent bytes are dropped.
     pub(crate) fn tell(&mut self, change: &ChangeLine<'_>)
         requires { IsWellFormed change.now }
         ensures { self.new ≡ told_place change.now self.old }
@@ -214,8 +214,8 @@ impl Connection {
         }
     }
 
-    /// Reads a piece on from `start`. Returns the offset after its next line, and writes what that asks for to `asked`:
-    /// a command is large, and would be copied on its way out.
+    /// Reads a piece on from `start`. Returns the offset after the next line, and writes to `asked` what the line asks
+    /// for. A command is large: a result would copy the command.
     #[inline(always)]
     pub(crate) fn hear(
         &mut self,
@@ -241,7 +241,7 @@ impl Connection {
         }
     }
 
-    /// Writes what the line that was found asks for.
+    /// Writes what the found line asks for.
     fn ask(&self, layout: &Layout, asked: &mut Asked)
         ensures { asked.new ≡ asked_of layout.now self.now (Line self.now.reader.line) }
     {
@@ -263,7 +263,7 @@ impl Connection {
         }
     }
 
-    /// Returns what a line of more than 1,000 bytes asks for: its refusal.
+    /// Returns what a line of more than 1,000 bytes asks for: a refusal.
     fn asked_too_long(&self) -> Asked
         ensures { result ≡ asked_of [] self.now TooLong }
     {
@@ -283,15 +283,15 @@ impl Connection {
         }
     }
 
-    /// Returns whether it has an information session.
+    /// Returns whether there is an information session.
     pub(crate) fn is_panel(&self) -> bool
         ensures { result ≡ is_panel self.now.panel }
     {
         !matches!(self.panel, Panel::Absent)
     }
 
-    /// Returns how many more changes its information session can queue, if it has one. The answer is 256 after an
-    /// overrun.
+    /// Returns how many more changes the information session can queue, or `None` without such a session. Returns 256
+    /// after an overrun.
     pub(crate) fn slack(&self) -> Option<usize>
         ensures { result ≡ slack_in self.now.panel }
     {
@@ -302,14 +302,14 @@ impl Connection {
         }
     }
 
-    /// Sets the mode of its session to come.
+    /// Sets the mode of the session to come.
     pub(crate) fn choose(&mut self, mode: Mode)
         ensures { self.new ≡ record self.old { mode = mode } }
     {
         self.mode = mode;
     }
 
-    /// Begins its session under the id.
+    /// Begins the session under the id.
     pub(crate) fn enter(&mut self, id: u32, panel: Panel)
         requires { queue_of panel ≡ [] }
         ensures { self.new ≡ entered_place id panel self.old }
@@ -318,7 +318,7 @@ impl Connection {
         self.panel = panel;
     }
 
-    /// Ends its session by its own command.
+    /// Ends the session by its own command.
     pub(crate) fn end(&mut self)
         ensures { self.new ≡ record self.old { ended = true } }
     {
@@ -343,7 +343,7 @@ impl Connection {
         self.left = self.line.len();
     }
 
-    /// Returns what `fill` would append, if anything.
+    /// Returns what `fill` would append, or `None` for nothing.
     pub(crate) fn item<R: Rows>(&self, rows: &R) -> Option<Next>
         ensures { result ≡ item_from (shown_rows (R.state rows.now)) self.now.unsent (feed_in self.now.panel) }
     {
@@ -357,7 +357,7 @@ impl Connection {
     }
 }
 
-/// Writes the line that the session is given next, or no bytes if nothing is left.
+/// Writes the next line of the session, or no bytes if nothing is left.
 #[inline(always)]
 fn give<R: Rows>(feed: &mut InfoFeed, rows: &R, line: &mut PanelLine)
     requires well_formed { AllByRecursion IsWellFormed feed.old.queue }

@@ -6,7 +6,7 @@ use std::alloc::{AllocError, Global};
 use std::marker::Model;
 use std::vec::Vec;
 
-/// A list in a record, in order.
+/// Holds a list of a record, in order. Contracts see the list of the entries.
 #[derive(Drop)]
 pub struct Entries<T: Drop> {
     entries: Vec<T>,
@@ -37,7 +37,7 @@ impl<T: Drop> Entries<T> {
         Entries { entries }
     }
 
-    /// Appends an entry. If memory is refused, the list is as it was and the entry is dropped.
+    /// Appends an entry. If memory is refused, the list stays as before and the entry is dropped.
     pub(crate) fn push(&mut self, entry: T) -> Result<(), AllocError>
         ensures ok { OnOk result (self.new ≡ self.old ++ entry ∷ []) }
         ensures err { OnErr result (self.new ≡ self.old) }
@@ -54,7 +54,7 @@ impl<T: Drop> Entries<T> {
 }
 
 impl<T: Copy + Drop> Entries<T> {
-    /// Appends entries. If memory is refused, the list is as it was.
+    /// Appends entries. If memory is refused, the list stays as before.
     pub(crate) fn extend(&mut self, more: &[T]) -> Result<(), AllocError>
         ensures ok { OnOk result (self.new ≡ self.old ++ more.now) }
         ensures err { OnErr result (self.new ≡ self.old) }

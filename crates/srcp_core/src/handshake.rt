@@ -1,4 +1,4 @@
-//! A line of the handshake of SRCP 0.8, which comes before the session.
+//! A line of the handshake of SRCP 0.8, before the session.
 ghost use Rattle.std.specs.Prelude.{◌≡◌};
 ghost use Rattle.std.specs.Char.{is_ascii_digit};
 ghost use Rattle.std.specs.List.{list_all};
@@ -11,17 +11,17 @@ use srcp_text::{Words, is_keyword, words};
 /// Says what a line of the handshake asks for.
 #[derive(Clone, Copy)]
 pub(crate) enum Greeting {
-    /// It names the protocol of this server.
+    /// The line names the protocol of this server.
     Speaks,
-    /// It chooses the mode of the session to come.
+    /// The line chooses the mode of the session to come.
     Chooses(Mode),
-    /// It begins the session.
+    /// The line begins the session.
     Goes,
-    /// It is refused.
+    /// The line is refused.
     Refuses(Code),
 }
 
-/// Returns what the line asks for, or its refusal. The lines and their codes are those of SRCP 0.8. They may come in
+/// Returns what the line asks for, or a refusal. The lines and their codes are those of SRCP 0.8. The lines may come in
 /// any order.
 pub(crate) fn greet(line: &[u8]) -> Greeting
     ensures { result ≡ greets (Line line.now) }

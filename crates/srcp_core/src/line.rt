@@ -1,4 +1,4 @@
-//! The task of a line, and the record of it in a run.
+//! What a line asks for, and what a recorded run keeps of the line.
 ghost use Rattle.std.specs.Prelude.{◌≡◌, true, false, Some, None};
 
 use crate::handshake::Greeting;
@@ -9,9 +9,9 @@ use srcp_rules::Command;
 /// Says what a line asks for, by the state of its connection.
 #[derive(Clone, Copy)]
 pub(crate) enum Asked {
-    /// Nothing: the session is an information session, or it ended.
+    /// Nothing: there is an information session, or the session ended.
     Dropped,
-    /// A line before the session, with the mode that was chosen last.
+    /// A line before the session, with the mode chosen last.
     Greets {
         mode: Mode,
         greeting: Greeting,
@@ -28,14 +28,14 @@ pub(crate) enum Asked {
 pub(crate) struct LineRecord {
     /// False if memory was refused to the line.
     pub granted: bool,
-    /// The command that was carried out or the session that began, if any.
+    /// The command carried out or the session begun, if any.
     pub step: Option<Step>,
-    /// The end of the session, if its own command ended it.
+    /// The end of the session, if ended by its own command.
     pub end: Option<Step>,
 }
 
 impl LineRecord {
-    /// Makes the record of a line that leaves the registry as it was.
+    /// Makes the record of a line without effect on the registry.
     pub(crate) fn nothing() -> LineRecord
         ensures { result ≡ record { granted = true; step = None; end = None } }
     {
@@ -46,7 +46,7 @@ impl LineRecord {
         }
     }
 
-    /// Makes the record of a session that was to begin, and was refused memory.
+    /// Makes the record of a new session refused for want of memory.
     pub(crate) fn denied() -> LineRecord
         ensures { result ≡ record { granted = false; step = None; end = None } }
     {
@@ -56,7 +56,7 @@ impl LineRecord {
         }
     }
 
-    /// Makes the record of a line that made this step.
+    /// Makes the record of a line with this step.
     pub(crate) fn of(step: Step) -> LineRecord
         ensures { result ≡ record { granted = true; step = Some step; end = None } }
     {

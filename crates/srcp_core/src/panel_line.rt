@@ -1,4 +1,4 @@
-//! The line of an information session that is sent.
+//! The line of an information session, on its way out.
 
 ghost use Rattle.std.specs.Prelude.{◌≡◌, ◌≤◌, ◌==◌, [], length};
 ghost use Rattle.srcp_info.specs.Line.{line};
@@ -9,11 +9,11 @@ use srcp_feed::{Waiting, WrittenLine};
 use srcp_info::{InfoLine, LONGEST_LINE, Shown, write_change, write_shown};
 use std::marker::Model;
 
-/// Holds the line that is sent to an information session. The line of a change is copied; that of a row is written
-/// here. Contracts see the list of its bytes.
+/// Holds the line sent to an information session. The line of a change is copied, and the line of a row is written
+/// here. Contracts see the list of the bytes.
 #[derive(Drop)]
 pub(crate) struct PanelLine {
-    // One of the two is empty.
+    // `copied` or `written` is empty.
     copied: WrittenLine,
     written: InfoLine,
 }
@@ -39,7 +39,7 @@ impl PanelLine {
         }
     }
 
-    /// Returns its bytes.
+    /// Returns the bytes.
     pub(crate) fn as_slice(&self) -> &[u8]
         ensures value { result.now ≡ self.now }
         ensures most { length result.now ≤ LONGEST_LINE }
@@ -51,21 +51,21 @@ impl PanelLine {
         }
     }
 
-    /// Returns how many bytes it has.
+    /// Returns the number of bytes.
     pub(crate) fn len(&self) -> usize
         ensures { result ≡ length self.now }
     {
         self.copied.len() + self.written.len()
     }
 
-    /// Returns whether it has no bytes.
+    /// Returns whether there are no bytes.
     pub(crate) fn is_empty(&self) -> bool
         ensures { result ≡ (length self.now == 0) }
     {
         self.len() == 0
     }
 
-    /// Drops its bytes.
+    /// Drops all bytes.
     pub(crate) fn clear(&mut self)
         ensures { self.new ≡ [] }
     {
@@ -75,7 +75,7 @@ impl PanelLine {
         }
     }
 
-    /// Puts in the line of a change. It is written here only if the change has no line.
+    /// Puts in the line of a change, written here only if the change has no line.
     pub(crate) fn put_change(&mut self, change: &Waiting)
         requires { IsWellFormed change.now }
         ensures line { self.new ≡ line change.now }

@@ -17,7 +17,7 @@ use srcp_rules::{Memory, Rows};
 use std::alloc::Global;
 use std::marker::{Model, PhantomData};
 
-/// How much of a run is kept.
+/// Says how much of a run is kept.
 pub(crate) trait Detail {
     ghost use Rattle.std.specs.Prelude.{Bool};
 
@@ -49,7 +49,7 @@ impl Detail for Outline {
     const IN_FULL: bool = false;
 }
 
-/// Keeps the record of a run. A connection is named by its number, from 1 on.
+/// Keeps the record of a run. Connections are named by their numbers, from 1 on.
 #[derive(Drop)]
 pub(crate) struct Recorder<D: Detail> {
     alloc: Global,
@@ -90,7 +90,7 @@ impl<D: Detail> Recorder<D> {
         }
     }
 
-    /// Returns the key of a connection that is open.
+    /// Returns the key of an open connection, or `None` if the connection is not open.
     pub(crate) fn key(&self, conn: usize) -> Option<usize>
         ensures { result ≡ key_of conn self.now.keys }
     {
@@ -98,7 +98,7 @@ impl<D: Detail> Recorder<D> {
         *self.keys.get(index)?
     }
 
-    /// Records that a connection was opened under a key.
+    /// Records the opening of a connection under a key.
     pub(crate) fn opened(&mut self, key: usize) -> Result<(), Memory>
         ensures { OnOk result (Becomes D.IN_FULL (opened key) self.old self.new) }
     {
@@ -114,7 +114,7 @@ impl<D: Detail> Recorder<D> {
         Ok(())
     }
 
-    /// Records that a connection was hung up.
+    /// Records the hang-up of a connection.
     pub(crate) fn shut(&mut self, conn: usize)
         ensures { Becomes D.IN_FULL (shut conn) self.old self.new }
     {
@@ -122,7 +122,7 @@ impl<D: Detail> Recorder<D> {
         finish(&mut self.connections, conn, Finish::Shut);
     }
 
-    /// Records that the event of that number was refused.
+    /// Records the refusal of the event of this number.
     pub(crate) fn refused(&mut self, event: usize, fault: CoreFault) -> Result<(), Memory>
         ensures { OnOk result (Becomes D.IN_FULL (with_refusal event fault) self.old self.new) }
     {
@@ -139,7 +139,7 @@ impl<D: Detail> Recorder<D> {
         Ok(self.steps.extend_from_slice(&[*step])?)
     }
 
-    /// Records that a line of a connection was answered.
+    /// Records the answer to a line of a connection.
     pub(crate) fn answered(&mut self, conn: usize, line: &LineRecord) -> Result<(), Memory>
         ensures { OnOk result (Becomes D.IN_FULL (noted conn (steps_in line.now)) self.old self.new) }
     {
@@ -161,7 +161,7 @@ impl<D: Detail> Recorder<D> {
         Ok(())
     }
 
-    /// Records that a session began, if the step says so.
+    /// Records the beginning of a session, if the step is one.
     fn began(&mut self, conn: usize, step: &Step)
         ensures { Becomes D.IN_FULL (began conn step.now) self.old self.new }
     {
@@ -174,7 +174,7 @@ impl<D: Detail> Recorder<D> {
         }
     }
 
-    /// Records what an information session is given next. Nothing is recorded if nothing is left.
+    /// Records what an information session is given next, or nothing if nothing is left.
     pub(crate) fn gave<R: Rows>(
         &mut self,
         conn: usize,
@@ -192,14 +192,14 @@ impl<D: Detail> Recorder<D> {
         }
     }
 
-    /// Records that these bytes of a connection were sent.
+    /// Records the sending of these bytes of a connection.
     pub(crate) fn took(&mut self, conn: usize, bytes: &[u8]) -> Result<(), Memory>
         ensures { OnOk result (Becomes D.IN_FULL (took conn bytes.now) self.old self.new) }
     {
         take(&mut self.connections, conn, bytes)
     }
 
-    /// Returns the record of the run, with the state of the core at its end.
+    /// Returns the record of the run, with the state of the core at the end.
     pub(crate) fn record<R: Rows>(mut self, core: &Core<'_, R>) -> Result<Record, Memory>
         ensures well_formed { IfOk result (λ run. AllByRecursion (λ row. IsWellFormedShown row.shown) run.rows) }
         ensures steps { IfOk result (λ run. run.steps ≡ self.steps) }
@@ -246,7 +246,7 @@ fn free(keys: &mut Vec<Option<usize>>, conn: usize)
     }
 }
 
-/// Records that a session of the connection of the number began.
+/// Records the beginning of a session of the connection of the number.
 fn begin(connections: &mut Vec<ConnRecord>, conn: usize, session: u32, mode: Mode, go_step: usize)
     ensures { connections.new.items
         ≡ changed_record conn (λ one. record one { session = session; info = is_info mode; go_step = go_step })
@@ -262,7 +262,7 @@ fn begin(connections: &mut Vec<ConnRecord>, conn: usize, session: u32, mode: Mod
     }
 }
 
-/// Records that the connection of the number was given a line.
+/// Records a line given to the connection of the number.
 fn give(
     connections: &mut Vec<ConnRecord>,
     conn: usize,
@@ -280,7 +280,7 @@ fn give(
     }
 }
 
-/// Records that bytes of the connection of the number were sent.
+/// Records the sending of bytes of the connection of the number.
 fn take(connections: &mut Vec<ConnRecord>, conn: usize, bytes: &[u8]) -> Result<(), Memory>
     ensures { OnOk result
         (connections.new.items

@@ -28,19 +28,19 @@ impl From<Memory> for RunFault {
     }
 }
 
-/// Carries out the events over the registry of the layout, and returns the record of the run. It begins at moment 0,
-/// and session ids at 1. A refused event changes nothing, and the run goes on.
+/// Carries out the events over the registry of the layout, and returns the record of the run. The first moment is 0,
+/// and the first session id is 1. A refused event changes nothing, and the run goes on.
 ///
-/// `promised` says that memory answered each event in some way (`grants`), and of the events under these answers:
-/// - The record is that of their course (`is`).
-/// - Each connection is served rightly (`connections`). One that is no information session is sent its replies alone,
-///   rooms add up, and nothing is sent after an overrun.
-/// - Each information session is told rightly (`connections`), however its writes are cut. On a registry that stays the
-///   same, its listing is sent, and each device that is there all the time is listed exactly once. A client that
-///   applies all lines holds the registry once the session is settled.
+/// `promised` says: memory answered each event in some way (`grants`), and of the events under these answers:
+/// - The record is the record of their course (`is`).
+/// - Each connection is served rightly (`connections`). A connection without an information session is sent its replies
+///   alone, rooms add up, and nothing is sent after an overrun.
+/// - Each information session is told rightly (`connections`), however the writes are cut. While the registry stays the
+///   same, the listing is sent. Once the session is settled, each device that was there all the time was listed exactly
+///   once, and a client that applies all lines holds the registry.
 /// - The registry is whole after each step (`world`).
-/// - The record counts exactly the answers that refused (`counted`), each of which was asked for (`asked`). If it
-///   counts none, memory gave in each event (`given`), and the course is the one with ample memory
+/// - The record counts exactly the answers that refused (`counted`), each of them asked for (`asked`). If none is
+///   counted, memory gave in each event (`given`), and the course is the course with ample memory
 ///   (`laws::ample_memory`).
 ///
 /// # Errors
@@ -52,10 +52,10 @@ pub fn run<R: Rows>(alloc: Global, layout: &Layout, events: &[Event]) -> Result<
     carry_out::<R, Full>(alloc, layout, events)
 }
 
-/// Carries out the events as `run` does, and returns the outline of its record. It has no steps, and of each
-/// connection only what was sent to it and how it is. The rows and the refused events are the same.
+/// Carries out the events as `run` does, and returns the outline of the record: no steps, and of each connection only
+/// what was sent and how the connection is at the end. The rows and the refused events are the same.
 ///
-/// It allocates less, since it keeps no change beside each line of a panel.
+/// Allocates less than `run`, since no change is kept beside each line of a panel.
 ///
 /// # Errors
 /// Returns `Memory` if memory is refused to the core when it is made, or to the record.
@@ -70,7 +70,7 @@ pub fn run_in_outline<R: Rows>(
     carry_out::<R, Outline>(alloc, layout, events)
 }
 
-/// Carries out all events, and keeps the record in that detail.
+/// Carries out all events, and keeps the record in the detail `D`.
 fn carry_out<R: Rows, D: Detail>(
     alloc: Global,
     layout: &Layout,
@@ -81,7 +81,7 @@ fn carry_out<R: Rows, D: Detail>(
     ensures moments { IfOk result (λ _. PlainMoments events.now) }
     ensures laid_out { IfOk result (λ _. IsLayout layout.now) }
 {
-    // Called for its contract, which says the layout's limits.
+    // Called for the contract, which says the layout's limits.
     let _ = layout.buses();
     let mut core = Core::<R>::new(alloc, layout, 0, 0)?;
     let mut recorder = Recorder::<D>::new(alloc);
@@ -91,7 +91,7 @@ fn carry_out<R: Rows, D: Detail>(
     Ok(recorder.record(&core)?)
 }
 
-/// Carries out the event of that number, and records a refusal.
+/// Carries out the event of this number, and records a refusal.
 fn follow<R: Rows, D: Detail>(
     core: &mut Core<'_, R>,
     recorder: &mut Recorder<D>,
@@ -107,7 +107,7 @@ fn follow<R: Rows, D: Detail>(
     Ok(())
 }
 
-/// Carries out an event. Returns why it is refused, if it is.
+/// Carries out an event. Returns why the event is refused, if refused.
 fn happen<R: Rows, D: Detail>(
     core: &mut Core<'_, R>,
     recorder: &mut Recorder<D>,
@@ -126,7 +126,8 @@ fn happen<R: Rows, D: Detail>(
     }
 }
 
-/// Opens a connection, and records its key. Returns why it is refused, if it is, as each of these functions does.
+/// Opens a connection, and records the key. Returns why the opening is refused, if refused, as each of these functions
+/// does.
 fn open<R: Rows, D: Detail>(
     core: &mut Core<'_, R>,
     recorder: &mut Recorder<D>,
@@ -168,7 +169,7 @@ fn bytes<R: Rows, D: Detail>(
     Ok(None)
 }
 
-/// Sends `bytes` bytes of a connection, or all that is owed to it if that is less.
+/// Sends `bytes` bytes of a connection, or all bytes owed if there are fewer.
 fn room<R: Rows, D: Detail>(
     core: &mut Core<'_, R>,
     recorder: &mut Recorder<D>,
@@ -234,7 +235,7 @@ fn advance<R: Rows, D: Detail>(
     Ok(None)
 }
 
-/// Hangs up a connection, and records the end of its session if that goes on.
+/// Hangs up a connection, and records the end of the session if the session goes on.
 fn shut<R: Rows, D: Detail>(
     core: &mut Core<'_, R>,
     recorder: &mut Recorder<D>,

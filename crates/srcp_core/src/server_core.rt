@@ -33,12 +33,12 @@ use walk::{PanelKeys, carry_out_due, free_all, least_slack, panel_keys};
 
 /// Holds the registry of a layout, and the connections to it with their sessions.
 ///
-/// A server calls it in this order, over and over:
+/// A server calls a core in this order, over and over:
 /// 1. `advance` with the present moment;
 /// 2. `connect` for a new peer, which returns the key of its connection;
-/// 3. for each connection, `receive` with at most 256 bytes that came in, if `ready` says that it takes them;
-/// 4. `outgoing` for the bytes to send and `sent` with how many of them were taken, until it lends none;
-/// 5. `hangup` if the peer is gone, or if `closing` says that the connection is to be closed.
+/// 3. for each connection, `receive` with at most 256 new bytes, if `ready` returns true;
+/// 4. `outgoing` for the bytes to send and `sent` with the number of bytes taken, until `outgoing` lends none;
+/// 5. `hangup` if the peer is gone, or if `closing` returns true.
 ///
 /// ```
 /// core.advance(now);
@@ -60,12 +60,12 @@ pub struct Core<'a, R: Rows> {
     moment: u64,
     last_id: u32,
     connections: Slab<Connection>,
-    /// The keys of the connections that have an information session.
+    /// The keys of the connections with an information session.
     panels: PanelKeys,
     denied: u64,
-    /// The line of `200 OK` at the moment of the last reply that had it.
+    /// The line of `200 OK` at the moment of the last such reply.
     accepted: Accepted,
-    /// The result of the last command, kept so that its buffers are allocated once.
+    /// The outcome of the last command, kept to allocate the buffers once.
     obeyed: Obeyed,
 }
 
@@ -101,9 +101,9 @@ impl<'a, R: Rows> Model for Core<'a, R> {
 }
 
 impl<'a, R: Rows> Core<'a, R> {
-    /// Makes a core with no connection, and with the registry of the layout at a moment in milliseconds. Each bus with
-    /// power has it off, and each feedback port is 0, stamped with that moment. `last_id` is the session id that was
-    /// used last, or 0. Its law is `first` of `laws::calls_follow`.
+    /// Makes a core with no connection, and with the registry of the layout at a moment in milliseconds. The power of
+    /// each bus is off, and each feedback port is 0, stamped with this moment. `last_id` is the last used session id,
+    /// or 0. Law: `first` of `laws::calls_follow`.
     ///
     /// # Errors
     /// Returns `Memory` if memory is refused to the registry or to the 64 slots of connections.
@@ -115,7 +115,7 @@ impl<'a, R: Rows> Core<'a, R> {
     ) -> Result<Core<'a, R>, Memory>
         ensures { IfOk result (λ core. core ≡ opening_held layout.now moment last_id) }
     {
-        // Called for its contract, which says the layout's limits.
+        // Called for the contract, which says the layout's limits.
         let _ = layout.buses();
         let mut rows = Indexed::empty(alloc, layout)?;
         stamp::stamp_all(&mut rows, moment);
@@ -134,9 +134,9 @@ impl<'a, R: Rows> Core<'a, R> {
         })
     }
 
-    /// Advances to the moment, in milliseconds, and carries out every row that is due then, in key order. Accessories
-    /// fall back and locks end, as SRCP 0.8 has it. A moment that is earlier than the last counts as the last. Its law
-    /// is `moment` of `laws::calls_follow`.
+    /// Advances to the moment, in milliseconds, and carries out every row due then, in key order. Accessories fall back
+    /// and locks end, as in SRCP 0.8. A moment earlier than the last counts as the last. Law: `moment` of
+    /// `laws::calls_follow`.
     pub fn advance(&mut self, moment: u64)
         ensures { self.new ≡ advanced moment self.old }
     {
@@ -150,7 +150,7 @@ impl<'a, R: Rows> Core<'a, R> {
     }
 
     /// Returns the moment at which the first of the rows falls due, in milliseconds, or `None` if no row has a due
-    /// moment. Until then `advance` changes no row, if nothing else is called meanwhile. Its law is `due` of
+    /// moment. Until then `advance` changes no row, if nothing else is called meanwhile. Law: `due` of
     /// `laws::calls_follow`.
     pub fn earliest_due(&self) -> Option<u64>
         ensures { IsEarliestDue result self.now.rows }
@@ -158,13 +158,13 @@ impl<'a, R: Rows> Core<'a, R> {
         self.rows.earliest_due()
     }
 
-    /// Opens a connection, and returns its key. Its reply buffer is allocated whole before anything changes, and holds
-    /// the welcome line of SRCP 0.8. Its laws are `opened`, `not_opened`, `accepts`, `refuses`, `named` and `counted`
-    /// of `laws::calls_follow`.
+    /// Opens a connection, and returns the key of the connection. The reply buffer is allocated whole before anything
+    /// changes, and holds the welcome line of SRCP 0.8. Laws: `opened`, `not_opened`, `accepts`, `refuses`, `named` and
+    /// `counted` of `laws::calls_follow`.
     ///
     /// # Errors
-    /// Returns `Full` if 64 connections are open, and `Memory` if memory is refused, which is counted. All else stays
-    /// as it is.
+    /// Returns `Full` if 64 connections are open, and `Memory` if memory is refused. The refusal is counted, and all
+    /// else stays as before.
     #[tactic(auto, using(crate::proofs::Invariants::PanelsStay::panels_inserted))]
     pub fn connect(&mut self) -> Result<usize, CoreFault>
         ensures admitted { IfOk result (λ key. IsAdmitted key self.old self.new) }
@@ -182,9 +182,9 @@ impl<'a, R: Rows> Core<'a, R> {
         }
     }
 
-    /// Removes a connection. Its session then ends, if it has one that did not end: its locks are removed in key
-    /// order, and then its own row. Locks end with their session in SRCP 0.8. Its laws are `shut`, `shuts` and `there`
-    /// of `laws::calls_follow`.
+    /// Removes a connection, and ends the session of the connection if the session goes on: the locks are removed in
+    /// key order, and then the session's row. Locks end with their session in SRCP 0.8. Laws: `shut`, `shuts` and
+    /// `there` of `laws::calls_follow`.
     ///
     /// # Errors
     /// Returns `NoSuch` if there is no such connection, and then nothing changes.
@@ -210,7 +210,7 @@ impl<'a, R: Rows> Core<'a, R> {
     }
 
     /// Returns whether `receive` accepts a piece of at most 256 bytes: the connection is open, did not end or overrun,
-    /// and has no unsent bytes. Its laws are `bytes` and `takes` of `laws::calls_follow`.
+    /// and has no unsent bytes. Laws: `bytes` and `takes` of `laws::calls_follow`.
     pub fn ready(&self, conn: usize) -> bool
         ensures { result ≡ is_none (bytes_fault conn [] self.now) }
     {
@@ -220,8 +220,8 @@ impl<'a, R: Rows> Core<'a, R> {
         }
     }
 
-    /// Returns whether the connection is to be closed: it overran, or its session ended by its own command and all its
-    /// replies are sent. Returns false if there is no such connection. Its law is `closes` of `laws::calls_follow`.
+    /// Returns whether the connection is to be closed: the connection overran, or the session ended by its own command
+    /// and all replies are sent. Returns false if there is no such connection. Law: `closes` of `laws::calls_follow`.
     pub fn closing(&self, conn: usize) -> bool
         ensures { result ≡ is_last (finish_at conn self.now) }
     {
@@ -236,9 +236,9 @@ impl<'a, R: Rows> Core<'a, R> {
         self.denied
     }
 
-    /// Returns how many more changes each information session can queue: 256 less the most that wait for one. Returns
-    /// `None` if there is no such session. No change waits for a session that overran, so it counts as 256 until it is
-    /// hung up. Its law is `slack` of `laws::calls_follow`.
+    /// Returns how many more changes each information session can queue: 256 less the most changes waiting for any
+    /// session. Returns `None` if there is no information session. No change waits for an overrun session, which counts
+    /// as 256 until the hang-up. Law: `slack` of `laws::calls_follow`.
     pub fn slack(&self) -> Option<usize>
         ensures { result ≡ least (map slack_at self.now.places) }
     {
@@ -255,14 +255,14 @@ impl<'a, R: Rows> Core<'a, R> {
         self.moment
     }
 
-    /// Returns the session of a connection, if it has one that did not end.
+    /// Returns the session of a connection, or `None` if no session began or the session ended.
     pub(crate) fn live_session(&self, conn: usize) -> Option<u32>
         ensures { result ≡ live_session conn self.now }
     {
         self.connections.get(conn)?.live_session()
     }
 
-    /// Returns the state of a connection, which is `Shut` if none has that key.
+    /// Returns the state of a connection, or `Shut` if no connection has this key.
     pub(crate) fn finish(&self, conn: usize) -> Finish
         ensures { result ≡ finish_at conn self.now }
     {

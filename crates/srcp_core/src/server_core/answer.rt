@@ -26,7 +26,7 @@ use srcp_info::{Code, LONGEST_LINE, LONGEST_SHORT_REPLY, Mode, Reply};
 use srcp_rules::{Command, Memory, Rows, begin_session, obey_into};
 
 impl<'a, R: Rows> Core<'a, R> {
-    /// Answers a line. Returns the record of it.
+    /// Answers a line. Returns the record of the line.
     #[inline(always)]
     pub(super) fn answer(&mut self, conn: usize, asked: &Asked) -> LineRecord
         requires asked { IsAsked conn asked.now self.old }
@@ -35,7 +35,7 @@ impl<'a, R: Rows> Core<'a, R> {
         ensures steps { steps_in result ≡ steps_answered result.granted asked.now self.old }
         ensures counted { self.new.denied ≡ denied_by self.old.denied (result.granted ∷ []) }
     {
-        // Read for the invariant of the type, which says that the core is sound.
+        // Read for the invariant of the type: the core is sound.
         let _ = &self.layout;
         match asked {
             Asked::Dropped => LineRecord::nothing(),
@@ -176,8 +176,8 @@ impl<'a, R: Rows> Core<'a, R> {
         }
     }
 
-    /// Carries out a command, tells every connection its changes, and appends its reply. Returns whether it ends its
-    /// session, or `None` if an allocation was refused, and then nothing changes.
+    /// Carries out a command, tells every connection the changes, and appends the reply. Returns whether the command
+    /// ends its session. Returns `None`, and changes nothing, if an allocation was refused.
     fn carry_out(&mut self, conn: usize, session: u32, command: &Command) -> Option<bool>
         requires row { is_there (session_device session) self.old.rows ≡ true }
         requires command { IsCommandOf self.old.buses command.now }
@@ -211,7 +211,7 @@ impl<'a, R: Rows> Core<'a, R> {
         Some(ends)
     }
 
-    /// Ends a session by its own command: removes its locks, and then its own row.
+    /// Ends a session by its own command: removes the locks, and then the session's row.
     fn end(&mut self, conn: usize, session: u32)
         requires { IsSessionAt session conn self.old }
         ensures { self.new ≡ freed_of session (changed_at conn (λ p. record p { ended = true }) self.old) }
@@ -250,7 +250,7 @@ impl<'a, R: Rows> Core<'a, R> {
         self.reply(conn, &Reply::Refused(Code::OUT_OF_RESOURCES));
     }
 
-    /// Counts one more refused allocation.
+    /// Counts another refused allocation.
     pub(super) fn count_denied(&mut self)
         ensures { self.new ≡ one_denied self.old }
     {
@@ -258,7 +258,7 @@ impl<'a, R: Rows> Core<'a, R> {
     }
 }
 
-/// Returns whether the reply says that memory was refused.
+/// Returns whether the reply says: memory was refused.
 fn is_denied(reply: &Reply) -> bool
     ensures denied { result ≡ true → reply.now ≡ Refused C500 }
     ensures given { result ≡ false → reply.now ≢ Refused C500 }

@@ -13,9 +13,9 @@ impl<'a, R: Rows> Core<'a, R> {
     ghost use Rattle.std.specs.Borrow.{sem};
     ghost use Rattle.srcp_core.specs.Lending.{EndsAs};
 
-    /// Lends the unsent bytes of a connection, from its own buffer and without a copy. If an information session has
-    /// none, its next line is appended first, which has at most 126 bytes. Once all replies are sent, at most one line
-    /// is lent. Its laws are `lent`, `lends`, `lends_none`, `lends_line` and `there` of `laws::calls_follow`.
+    /// Lends the unsent bytes of a connection, from the connection's own buffer and without a copy. If an information
+    /// session has none, the next line is appended first, at most 126 bytes. Once all replies are sent, at most a
+    /// single line is lent. Laws: `lent`, `lends`, `lends_none`, `lends_line` and `there` of `laws::calls_follow`.
     ///
     /// # Errors
     /// Returns `NoSuch` if there is no such connection, and then nothing changes.
@@ -53,8 +53,9 @@ impl<'a, R: Rows> Core<'a, R> {
         self.connections.get(conn)?.item(&self.rows)
     }
 
-    /// Drops the first `count` unsent bytes of a connection, since they were sent. The connection has to be open, and
-    /// to have as many. Its laws are `sent`, `none_sent` and `lent_and_sent` of `laws::calls_follow`.
+    /// Drops the first `count` unsent bytes of a connection, since the peer took them. The connection has to be open,
+    /// and to have at least `count` unsent bytes. Laws: `sent`, `none_sent` and `lent_and_sent` of
+    /// `laws::calls_follow`.
     pub fn sent(&mut self, conn: usize, count: usize)
         requires open { IsSome (at self.old conn) }
         requires unsent { count ≤ length (unsent_at conn self.old) }

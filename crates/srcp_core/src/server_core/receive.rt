@@ -1,4 +1,4 @@
-//! Bytes that come in: the lines that end in them, and what each of them asks for.
+//! Bytes that come in: the lines ended by them, and what each line asks for.
 ghost use Rattle.std.specs.Prelude.{◌≡◌, ◌≤◌, [], length, Some, None, IfNone, IfSome, OnOk, OnErr, MatchResult};
 ghost use Rattle.std.specs.Prelude.{option_map};
 ghost use Rattle.srcp_core.specs.Held.{IsSound};
@@ -11,13 +11,14 @@ use srcp_info::MOST_IN_PIECE;
 use srcp_rules::Rows;
 
 impl<'a, R: Rows> Core<'a, R> {
-    /// Reads bytes that came in on a connection, of any part of a line, and answers each line that ends in them.
-    /// Before the session that is the handshake of SRCP 0.8, and after it a command. Lines to an information session
-    /// are dropped. Its laws are `accepted`, `refused`, `bytes` and `takes` of `laws::calls_follow`.
+    /// Reads new bytes of a connection, of any part of a line, and answers each line that ends in them. A line before
+    /// the session is of the handshake of SRCP 0.8, a line after it a command. Lines to an information session are
+    /// dropped. Laws: `accepted`, `refused`, `bytes` and `takes` of `laws::calls_follow`.
     ///
     /// # Errors
     /// Returns the first of these that applies, and then nothing changes: `NoSuch` if there is no such connection,
-    /// `Closing` if it ended or overran, `Busy` while bytes of it are unsent, `PieceTooLong` for more than 256 bytes.
+    /// `Closing` if the connection ended or overran, `Busy` while bytes are unsent, `PieceTooLong` for more than 256
+    /// bytes.
     pub fn receive(&mut self, conn: usize, piece: &[u8]) -> Result<(), CoreFault>
         ensures fault { MatchResult result (λ _. bytes_fault conn piece.now self.old ≡ None)
             (λ fault. bytes_fault conn piece.now self.old ≡ Some fault) }
@@ -31,7 +32,7 @@ impl<'a, R: Rows> Core<'a, R> {
         Ok(())
     }
 
-    /// Returns the first cause for which bytes are refused, if there is one.
+    /// Returns the first cause to refuse the bytes, or `None` if there is none.
     pub(crate) fn bytes_fault(&self, conn: usize, piece: &[u8]) -> Option<CoreFault>
         ensures { result ≡ bytes_fault conn piece.now self.now }
     {
@@ -62,8 +63,8 @@ impl<'a, R: Rows> Core<'a, R> {
         }
     }
 
-    /// Reads the piece on from `start` and answers its next line. Returns the offset after that line, and the record
-    /// of it. It is inlined with all that it calls, so that no record is made if no run is recorded.
+    /// Reads the piece on from `start` and answers the next line. Returns the offset after the line, and the record of
+    /// the line. Inlined with all callees, since then no record is made unless a run is recorded.
     #[inline(always)]
     pub(crate) fn answer_line(
         &mut self,
@@ -81,7 +82,7 @@ impl<'a, R: Rows> Core<'a, R> {
         Some((stop, self.answer(conn, &asked)))
     }
 
-    /// Reads the piece on from `start`. Returns the offset after its next line, and writes what that line asks for.
+    /// Reads the piece on from `start`. Returns the offset after the next line, and writes what the line asks for.
     #[inline(always)]
     fn hear(&mut self, conn: usize, piece: &[u8], start: usize, asked: &mut Asked) -> Option<usize>
         requires { start ≤ length piece.now }

@@ -1,4 +1,4 @@
-//! The stamps of the rows that a registry begins with.
+//! The stamps of the first rows of a registry.
 ghost use Rattle.std.specs.Prelude.{◌≡◌};
 ghost use Rattle.srcp_grammar.specs.Layout.{IsLayout};
 ghost use Rattle.srcp_rules.specs.State.{opening};

@@ -16,10 +16,10 @@ use srcp_feed::{ChangeLine, MOST_WAITING};
 use srcp_info::{Change, Cursor};
 use srcp_rules::{Rows, due_next, free_next};
 
-/// The keys of the connections that have an information session.
+/// Holds the keys of the connections with an information session.
 pub(crate) type PanelKeys = ArrayVec<usize, MOST_CONNECTIONS>;
 
-/// Returns the keys of the connections that have an information session, in order.
+/// Returns the keys of the connections with an information session, in order.
 pub(crate) fn panel_keys(connections: &Slab<Connection>) -> PanelKeys
     requires { count_by is_some connections.now.slots ≤ MOST_CONNECTIONS }
     ensures { result.items ≡ panel_keys connections.now.slots }
@@ -46,7 +46,7 @@ pub(crate) fn least_slack(connections: &Slab<Connection>) -> usize
     least
 }
 
-/// Tells every connection the change. `panels` are the keys of those that have an information session.
+/// Tells every connection the change. `panels` are the keys of the connections with an information session.
 #[tactic(auto, using(crate::proofs::Invariants::EveryPlaceIsTold::told_panels))]
 pub(crate) fn tell_all(connections: &mut Slab<Connection>, panels: &[usize], change: &Change)
     requires panels { panels.now ≡ panel_keys connections.old.slots }
@@ -78,7 +78,7 @@ pub(crate) fn tell_each(connections: &mut Slab<Connection>, panels: &[usize], ch
     }
 }
 
-/// Ends a session: its locks are removed, then its own row, and every connection is told.
+/// Ends a session: removes the locks, then the session's row, and tells every connection.
 pub(crate) fn free_all<R: Rows>(
     rows: &mut R,
     connections: &mut Slab<Connection>,
@@ -99,7 +99,7 @@ pub(crate) fn free_all<R: Rows>(
     }
 }
 
-/// Carries out the rows that are due at the moment, in key order. Every connection is told.
+/// Carries out the rows due at the moment, in key order, and tells every connection.
 pub(crate) fn carry_out_due<R: Rows>(
     rows: &mut R,
     connections: &mut Slab<Connection>,
