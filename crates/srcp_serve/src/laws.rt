@@ -9,7 +9,7 @@ ghost use Rattle.srcp_serve.specs.Settling.{SettlesSoon, WaitsAreGoneAfterAVisit
 ghost use Rattle.srcp_serve.specs.Pacing.{IsLight, IsPaced, LinesGoOn, PiecesWeighEnough, ServingSparesAll, TurnsSpare};
 
 /// States that each peer took, to the byte, what the course of the calls sends the peer's connection. The calls are
-/// those of some turns, no peer was accepted twice, and each answer is one that a door may give.
+/// those of some turns, no peer was accepted twice, and each answer is allowed to a door.
 pub fn sent_is_taken()
     ensures { (buses : List Bus) → SentIsTaken buses }
 {}
@@ -20,7 +20,7 @@ pub fn fed_is_handed()
     ensures { (buses : List Bus) → FedIsHanded buses }
 {}
 
-/// States that memory was given in all calls, if the core counted exactly the refusals in them, and counts none.
+/// States that memory was given in all calls, if the core counted exactly their refusals, and counts none.
 pub fn gives_unless_counted()
     ensures { GivesUnlessCounted }
 {}

@@ -28,7 +28,7 @@ pub struct Served {
     pub turns: u64,
     /// The number of peers that got a connection.
     pub opened: u64,
-    /// The number of calls of the door that failed. The count stops at the greatest u64.
+    /// The number of failed calls of the door. The count stops at the greatest u64.
     pub faults: u64,
 }
 
@@ -42,12 +42,12 @@ struct Server<'d, D: Door> {
     buffer: [u8; MOST_IN_PIECE],
 }
 
-/// Serves the peers of a door for this many turns, over a core that has no connection. Returns how many connections
-/// were opened, and how many calls of the door failed.
+/// Serves the peers of a door for `turns` turns, over a core without connections. Returns how many connections were
+/// opened, and how many calls of the door failed.
 ///
-/// Each turn advances the core to the door's time, accepts one peer, and visits each peer that has a slot. A visit
-/// reads the peer if the peer's connection accepts bytes, and writes what the core lends. The visit closes the peer if
-/// the peer is lost or the connection is to be closed. Serving goes on after a call that fails, and if memory is
+/// Each turn advances the core to the door's time, accepts one pending peer, if any, and visits each peer with a slot.
+/// A visit reads the peer if the peer's connection accepts bytes, and writes what the core lends. The visit closes the
+/// peer if the peer is lost or the connection is to be closed. Serving goes on after a failed call, and if memory is
 /// refused. A new peer is closed then, or a line is answered 500.
 pub fn serve<R: Rows, D: Door>(core: &mut Core<'_, R>, door: &mut D, turns: u64) -> Served
     ensures turns { result.turns ≡ turns }
@@ -105,7 +105,7 @@ impl<'d, D: Door> Server<'d, D> {
         opens
     }
 
-    /// Visits the peers that have slots, in the order of the slots.
+    /// Visits the peers with slots, in the order of the slots.
     fn visit_slots<R: Rows>(&mut self, core: &mut Core<'_, R>)
         requires { self.old.tally.faults ≤ D.faults self.old.door.now }
         ensures calls { CallsDoor D.faults D.trace AreAboutPeers self.old self.new }
@@ -215,7 +215,7 @@ impl Model for Slots {
 }
 
 impl Slots {
-    /// Makes slots that are all free.
+    /// Makes free slots.
     fn new() -> Slots
         ensures { result ≡ replicate MOST_CONNECTIONS None }
     {

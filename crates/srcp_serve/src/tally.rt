@@ -3,10 +3,10 @@
 ghost use Rattle.std.specs.Prelude.{◌≡◌};
 ghost use Rattle.srcp_door.specs.Calls.{one_more};
 
-/// Counts the calls of a door that failed. The count stops at the greatest u64.
+/// Counts the failed calls of a door. The count stops at the greatest u64.
 #[derive(Drop)]
 pub(crate) struct Tally {
-    /// The number of calls that failed.
+    /// The number of failed calls.
     pub faults: u64,
 }
 
