@@ -111,7 +111,7 @@ fn number_beside(before: &Layout, members: &Table) -> Result<u8, ConfigFault>
     }
 }
 
-/// Reads how many ports an accessory has, if the bus has accessories.
+/// Reads how many ports an accessory has. Returns 2 if the bus has no accessories.
 fn ports_if(is_there: bool, members: &Table) -> Result<u8, ConfigFault>
     ensures ports { result
         ≡ if_named is_there 2 (given_or 2 2 8 field.GaPorts (table_view members.now)) }

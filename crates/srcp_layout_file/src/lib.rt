@@ -1,8 +1,8 @@
 //! The file with the layout to serve. `read_layout` reads a TOML document into the port and the buses, `ConfigFault`
 //! names the document's first fault, and `print_config` prints what the document says.
 //!
-//! This crate opens no file: callers hand over bytes. There is no registry of the layout here, no script, no
-//! connection, and none of the program's words.
+//! This crate opens no file: callers hand over bytes. This crate makes no registry of the layout, and knows no script,
+//! no connection and none of the program's words.
 #![tactic(auto)]
 
 mod config;

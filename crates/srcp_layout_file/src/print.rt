@@ -11,8 +11,11 @@ use std::alloc::{AllocError, Global};
 use std::string::String;
 use std::vec::Vec;
 
-/// Prints what a configuration says: the port, then each bus by rising number, with its groups and their sizes. The
-/// ports of an accessory are printed if there are more than two.
+/// Returns the text of a configuration: the port, then each bus by rising number, with the groups of the bus and their
+/// sizes. The text has the ports of an accessory if there are more than two.
+///
+/// # Errors
+/// Fails if memory is refused.
 pub fn print_config(alloc: Global, config: &Config) -> Result<Vec<u8>, AllocError>
     ensures { IfOk result (λ text. text.items ≡ checked config.now) }
 {

@@ -17,7 +17,7 @@ pub(super) struct Groups {
     pub(super) fb: bool,
 }
 
-/// Returns the groups named by the values, read from left to right.
+/// Returns the groups named by the values, read from left to right, or the first fault.
 pub(super) fn groups_in(values: &[Value]) -> Result<Groups, ConfigFault>
     ensures { result ≡ groups_in no_groups (map data_of values.now) }
 {
@@ -33,7 +33,8 @@ pub(super) fn groups_in(values: &[Value]) -> Result<Groups, ConfigFault>
     Ok(groups)
 }
 
-/// Returns the name of one of the four groups.
+/// Returns the name of a group. Returns `UnknownGroup` for any other text, and `OutOfRange` for a value of another
+/// type.
 fn group_in(value: &Value) -> Result<&str, ConfigFault>
     ensures { Shows (λ name. name.now) result (group_in (data_of value.now)) }
 {

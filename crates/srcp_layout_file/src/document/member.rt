@@ -29,7 +29,7 @@ pub(super) fn required(members: &Table, field: Field) -> Result<&Value, ConfigFa
     }
 }
 
-/// Returns the values of an array.
+/// Returns the values of an array. Returns `OutOfRange` for a value of another type.
 pub(super) fn array_in(value: &Value, field: Field) -> Result<&[Value], ConfigFault>
     ensures { Shows (λ values. map data_of values.now) result (array_in field (data_of value.now)) }
 {
@@ -39,7 +39,7 @@ pub(super) fn array_in(value: &Value, field: Field) -> Result<&[Value], ConfigFa
     }
 }
 
-/// Returns an integer from `low` to `high`.
+/// Returns an integer from `low` to `high`. Returns `OutOfRange` for any other value.
 fn ranged(value: &Value, field: Field, low: u32, high: u32) -> Result<u32, ConfigFault>
     ensures value { result ≡ ranged low high field (data_of value.now) }
     ensures within { IfOk result (λ n. (low ≤ n) × (n ≤ high)) }
@@ -53,7 +53,8 @@ fn ranged(value: &Value, field: Field, low: u32, high: u32) -> Result<u32, Confi
     }
 }
 
-/// Returns the integer at the key. Returns `Missing` if there is no value.
+/// Returns the integer at the key, from `low` to `high`. Returns `Missing` if there is no value, and `OutOfRange` for
+/// any other value.
 pub(super) fn number_in(
     members: &Table,
     field: Field,
@@ -66,7 +67,8 @@ pub(super) fn number_in(
     ranged(required(members, field)?, field, low, high)
 }
 
-/// Returns the integer at the key, or the default if there is no value.
+/// Returns the integer at the key, from `low` to `high`, or the default if there is no value. Returns `OutOfRange` for
+/// any other value.
 pub(super) fn given_or(
     members: &Table,
     field: Field,
@@ -84,7 +86,8 @@ pub(super) fn given_or(
     }
 }
 
-/// Returns the integer at the key if the bus has the group, else 0.
+/// Returns the integer at the key, from `low` to `high`, if the bus has the group, else 0. With the group, returns
+/// `Missing` if there is no value, and `OutOfRange` for any other value.
 pub(super) fn number_if(
     is_there: bool,
     members: &Table,
