@@ -6,7 +6,7 @@ ghost use Rattle.srcp_plan_file.specs.Plan.{has_accessory};
 
 use srcp_routes::{Device, Setting};
 
-/// Returns whether these are one device.
+/// Returns whether these are the same device.
 pub(crate) fn is_same(a: Device, b: Device) -> bool
     ensures { result ≡ is_same a b }
 {

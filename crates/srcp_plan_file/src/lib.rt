@@ -1,7 +1,7 @@
 //! The plan of a signal box. `read_plan` reads a TOML document into routes, `PlanFault` names the document's first
 //! fault, and `print_plan` prints which routes conflict.
 //!
-//! This crate opens no file: callers hand over bytes. The crate sets no route, and knows no line of the protocol and
+//! This crate opens no file: callers hand over bytes. This crate sets no route, and knows no line of the protocol and
 //! none of the program's words.
 #![tactic(auto)]
 

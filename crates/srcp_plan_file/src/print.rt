@@ -13,8 +13,11 @@ use srcp_routes::Route;
 use std::alloc::{AllocError, Global};
 use std::vec::Vec;
 
-/// Prints the locking table of a plan: the routes' own bus, the number of each route, and a line for each two
+/// Returns the locking table of a plan: the routes' own bus, the number of each route, and a line for each two
 /// conflicting routes. The line says by which turnouts, signal and blocks of the first the two conflict.
+///
+/// # Errors
+/// Fails if memory is refused.
 pub fn print_plan(alloc: Global, plan: &Plan) -> Result<Vec<u8>, AllocError>
     ensures { IfOk result (λ text. text.items ≡ printed plan.now) }
 {

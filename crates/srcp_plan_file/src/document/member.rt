@@ -26,7 +26,7 @@ pub(super) fn required(members: &Table, field: Field) -> Result<&Value, PlanFaul
     }
 }
 
-/// Returns the values of an array.
+/// Returns the values of an array. Returns the fault `beyond` for a value of another type.
 pub(super) fn array_in(value: &Value, beyond: PlanFault) -> Result<&[Value], PlanFault>
     ensures { Shows (λ values. map data_of values.now) result (array_in beyond (data_of value.now)) }
 {
@@ -36,7 +36,7 @@ pub(super) fn array_in(value: &Value, beyond: PlanFault) -> Result<&[Value], Pla
     }
 }
 
-/// Returns an integer from `low` to `high`.
+/// Returns an integer from `low` to `high`. Returns the fault `beyond` for any other value.
 pub(super) fn ranged(
     value: &Value,
     low: u32,
@@ -55,7 +55,8 @@ pub(super) fn ranged(
     }
 }
 
-/// Returns the integer at the key. Returns `Missing` if there is no value.
+/// Returns the integer at the key, from `low` to `high`. Returns `Missing` if there is no value, and `OutOfRange` for
+/// any other value.
 pub(super) fn number_in(
     members: &Table,
     field: Field,
