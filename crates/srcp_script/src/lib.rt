@@ -4,7 +4,7 @@
 //! connection (`line_end`), and what follows the connections (`print_end`). `cut_at` cuts a text at a byte, as the
 //! lines and words of a script are cut.
 //!
-//! This crate runs no event: `srcp_core` does. There is no input or output here, and no configuration is known.
+//! This crate runs no event: `srcp_core` does. This crate does no input or output, and knows no configuration.
 #![tactic(auto)]
 
 mod cut;

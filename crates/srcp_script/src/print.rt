@@ -70,7 +70,10 @@ fn finish_word(finish: Finish) -> &'static str
     }
 }
 
-/// Prints what follows the connections of a run: the refused events, and the rows in key order.
+/// Returns the text behind the connections of a run: the refused events, and the rows in key order.
+///
+/// # Errors
+/// Fails if memory is refused.
 pub fn print_end(alloc: Global, run: &Record) -> Result<Vec<u8>, AllocError>
     requires { AllByRecursion (λ row. IsWellFormedShown row.shown) run.now.rows }
     ensures { IfOk result (λ text. text.items ≡ printed_end run.now) }
@@ -132,7 +135,10 @@ fn rows_line(alloc: Global, rows: &[Row]) -> Result<String, AllocError>
     format!(in alloc; "rows {count}\n")
 }
 
-/// Prints the line of a row.
+/// Appends the line of a row to a text.
+///
+/// # Errors
+/// Fails if memory is refused.
 pub fn print_shown(shown: &Shown, text: &mut Vec<u8>) -> Result<(), AllocError>
     requires { IsWellFormedShown shown.now }
     ensures { OnOk result (text.new.items ≡ text.old.items ++ line (change.Put shown.now)) }
