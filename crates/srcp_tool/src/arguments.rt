@@ -20,9 +20,9 @@ const ONE_FILE: &str = "check needs either --config or --plan";
 /// Returns what the words ask for, the program's name first.
 ///
 /// # Errors
-/// Returns the answer of `clap` if the program does nothing of what the words ask, or if they ask for `--help` or
-/// `--version`. The answer has a text, the stream for the text, and the status. The answer's kind is `OutOfMemory` if
-/// memory is refused, and `MissingRequiredArgument` if a check is of no file, or of two.
+/// Returns the answer of `clap` if the words ask for no task of the program, or for `--help` or `--version`. The answer
+/// has a text, the stream for the text, and the status. The answer's kind is `OutOfMemory` if memory is refused, and
+/// `MissingRequiredArgument` if a check is of no file, or of two.
 pub fn read_words<'a>(alloc: Global, words: &'a [String]) -> Result<Tool<'a>, Error>
     ensures task { IfOk result (λ tool. Some (task_of tool) ≡ task (map string_bytes words.entry.now)) }
     ensures kinds { FailsBy (refusal_of (map string_bytes words.entry.now)) result }

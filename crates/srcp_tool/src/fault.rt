@@ -114,8 +114,9 @@ impl From<RunFault> for ToolFault {
 }
 
 impl ToolFault {
-    /// Returns the status with which the program ends: 1 if input or output failed or memory was refused, and 2 if the
-    /// input or the configuration is refused.
+    /// Returns the status with which the program ends. This is 1 if input or output failed, a file cannot be read, the
+    /// port cannot be listened on, or memory was refused. This is 2 if the input, the configuration or the plan is
+    /// refused.
     pub fn status(&self) -> u8
         ensures { result ≡ fault_status self.now }
     {

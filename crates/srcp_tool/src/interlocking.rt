@@ -13,9 +13,9 @@ use std::alloc::Global;
 use std::io::{Read, Write};
 use std::vec::Vec;
 
-/// Sets the routes of a plan and gives them back, by the lines on the input. These are the lines sent to a panel, and
-/// the replies to the written lines, each reply to a line. Flushes each written line before the next is read. Lines
-/// end in LF, and a CR just before the LF is dropped. A line of more than 1,000 bytes tells of nothing.
+/// Sets the routes of a plan and gives them back, by the lines on the input. These are the lines sent to a panel, and a
+/// reply to each written line. Flushes each written line before the next line is read. Lines end in LF, and a CR just
+/// before the LF is dropped. A line of more than 1,000 bytes tells of nothing.
 ///
 /// # Errors
 /// Returns `Input` if a read fails, and `TooLarge` after 18,446,744,073,709,551,615 reads. Everything given by the

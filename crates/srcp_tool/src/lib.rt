@@ -1,7 +1,7 @@
 //! The program but for serving. This crate reads the program's words (`read_words`) and a configuration's bytes
-//! (`read_config`). Each task of the program is a function: replay a script (`replay`), mirror the lines of a panel
-//! (`mirror`), run a signal box over a stream (`interlock`), check a configuration (`check`) or a plan (`check_plan`).
-//! `ToolFault` says why the program stops, with which text and which status.
+//! (`read_config`). `replay` replays a script, `mirror` mirrors the lines of a panel, and `interlock` runs a signal box
+//! over a stream. `check` checks a configuration, and `check_plan` a plan. `ToolFault` says why the program stops, with
+//! which text and which status.
 //!
 //! `check_text` is what `check` writes, as bytes in memory.
 //!
