@@ -119,7 +119,7 @@ fn closing_once_the_last_reply_is_taken(rt: HostRuntime) -> Result<(), Fail> {
     over_core(rt.alloc(), |core| end_session(&rt, rt.alloc(), core))
 }
 
-/// Asserts that the key leads to nothing.
+/// Asserts that no call finds a connection under the key.
 fn assert_absent(rt: &impl Abort, core: &mut Core<'_, Flat>, conn: usize) {
     assert_eq!(rt; core.hangup(conn), Err(CoreFault::NoSuch));
     assert_refused(rt, core, conn, &[0; 257], CoreFault::NoSuch);

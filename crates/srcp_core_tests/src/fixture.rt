@@ -1,5 +1,5 @@
 //! Layouts, connections and sessions for the tests, and what several of them assert. A test leaves all but the layout
-//! and the core to functions with a borrow of these. By this each function is proved in a few seconds.
+//! and the core to functions that borrow these two. Each function is then proved in a few seconds.
 use srcp_core::{Core, CoreFault};
 use srcp_info::Mirror;
 use srcp_rules::{Bus, Flat, Layout};

@@ -29,7 +29,7 @@ fn open_anew(rt: &impl Abort, core: &mut Core<'_, Flat>, conn: usize) {
     assert_full(rt, core);
 }
 
-/// Hangs up each connection in turn, and opens another in place of the lost connection.
+/// Hangs up each connection in turn, and opens another in its place.
 fn assert_limit(rt: &impl Abort, alloc: Global, core: &mut Core<'_, Flat>) -> Result<(), Fail> {
     let open = open_all(alloc, core)?;
     assert_full(rt, core);
