@@ -164,8 +164,8 @@ fn hands_out_as_many_lines_as_panels_take(rt: HostRuntime) -> Result<(), Fail> {
     let (served, door) = serve_events(rt.alloc(), Network::new(rt.alloc(), &events, false))?;
     assert_eq!(rt; served, all_served(9));
     let entries = door.system().entries()?;
-    // Three lines of the handshake, the rows of the panel's session, of POWER and of the sensor, a row of each other
-    // session, and each change.
+    // Three lines of the handshake, and the rows of the panel's session, of POWER and of the sensor. Then a row of
+    // each other session, and each change.
     assert_eq!(rt; lines_in(&took_of(rt.alloc(), entries, 1)?), 782);
     assert_eq!(rt; most_lines(entries), 96);
     Ok(())
