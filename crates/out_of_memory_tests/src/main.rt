@@ -1,8 +1,8 @@
 //! A trial of what is left if memory is refused, for `tests/run_out_of_memory.py`. Standard input names the trial and
-//! the number of allocations before the trial. `rt try --fail-alloc N` refuses the Nth allocation of a program. By this
-//! the number of allocations says which allocation of the trial is refused. The program prints the outcome. The lines
-//! after the first are the script of a listing, whose record is printed first. Without a name all trials without a
-//! script are made, and each has to be granted.
+//! the number of allocations before the trial. `rt try --fail-alloc N` refuses the Nth allocation of a program. This
+//! number of allocations therefore says which allocation of the trial is refused. The program prints the outcome. The
+//! lines after the first are the script of a listing, whose record is printed first. Without a name all trials without
+//! a script are made, and each has to be granted.
 #![tactic(auto)]
 
 mod calls;
