@@ -35,7 +35,7 @@ use walk::{PanelKeys, carry_out_due, free_all, least_slack, panel_keys};
 ///
 /// A server calls a core in this order, over and over:
 /// 1. `advance` with the present moment;
-/// 2. `connect` for a new peer, which returns the key of its connection;
+/// 2. `connect` for a new peer, which returns the key of the connection;
 /// 3. for each connection, `receive` with at most 256 new bytes, if `ready` returns true;
 /// 4. `outgoing` for the bytes to send and `sent` with the number of bytes taken, until `outgoing` lends none;
 /// 5. `hangup` if the peer is gone, or if `closing` returns true.
@@ -102,8 +102,8 @@ impl<'a, R: Rows> Model for Core<'a, R> {
 
 impl<'a, R: Rows> Core<'a, R> {
     /// Makes a core with no connection, and with the registry of the layout at a moment in milliseconds. The power of
-    /// each bus is off, and each feedback port is 0, stamped with this moment. `last_id` is the last used session id,
-    /// or 0. Law: `first` of `laws::calls_follow`.
+    /// each bus with power is off, and each feedback port is 0, stamped with this moment. `last_id` is the last used
+    /// session id, or 0. Law: `first` of `laws::calls_follow`.
     ///
     /// # Errors
     /// Returns `Memory` if memory is refused to the registry or to the 64 slots of connections.

@@ -258,7 +258,7 @@ impl<'a, R: Rows> Core<'a, R> {
     }
 }
 
-/// Returns whether the reply says: memory was refused.
+/// Returns whether the reply says that memory was refused.
 fn is_denied(reply: &Reply) -> bool
     ensures denied { result ≡ true → reply.now ≡ Refused C500 }
     ensures given { result ≡ false → reply.now ≢ Refused C500 }
