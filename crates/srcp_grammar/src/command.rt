@@ -70,7 +70,7 @@ pub struct Switch {
     pub bus: u8,
     /// The accessory's address.
     pub address: u32,
-    /// The port, from 0 to one less than the bus gives each accessory.
+    /// The port, from 0 on and below the number of ports of each accessory on the bus.
     pub port: u8,
     /// True for on, which is 1 in a line.
     pub on: bool,
@@ -117,7 +117,7 @@ pub struct NewGl {
     pub bus: u8,
     /// The locomotive's address.
     pub address: u32,
-    /// The protocol of its decoder.
+    /// The protocol of the decoder.
     pub letter: Letter,
     /// The version of that protocol, from 0 to 255.
     pub version: u32,
@@ -134,7 +134,7 @@ pub struct NewGa {
     pub bus: u8,
     /// The accessory's address.
     pub address: u32,
-    /// The protocol of its decoder.
+    /// The protocol of the decoder.
     pub letter: Letter,
     /// How many ports the bus gives each accessory, from 2 to 8.
     pub ports: u8,
@@ -194,7 +194,7 @@ pub enum Command {
         bus: u8,
         /// The accessory's address.
         address: u32,
-        /// The port, from 0 to one less than the bus gives each accessory.
+        /// The port, from 0 on and below the number of ports of each accessory on the bus.
         port: u8,
     },
     /// Switches a port of an accessory.

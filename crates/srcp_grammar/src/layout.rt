@@ -91,7 +91,7 @@ impl Layout {
     /// # Errors
     /// Returns the first of these that holds, and then the layout stays as it is:
     /// 1. a field is beyond its limits (`OutOfRange`);
-    /// 2. the layout has a bus of its number (`Twice`);
+    /// 2. the layout has a bus of this number (`Twice`);
     /// 3. memory is refused (`Memory`).
     pub fn add(&mut self, bus: Bus) -> Result<(), LayoutFault>
         ensures ok { OnOk result (self.new ≡ with_bus bus self.old) }

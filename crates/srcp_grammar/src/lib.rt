@@ -1,6 +1,6 @@
-//! The layout of a server, which line is which command of it, and how many changes a line can bring.
+//! The layout of a server, which line is which command of the layout, and how many changes a line can bring.
 //!
-//! It is no registry: what a command changes, and whether a session may give it, `srcp_rules` says.
+//! No registry is kept here: `srcp_rules` says what a command changes, and whether a session may give the command.
 #![tactic(auto)]
 
 ghost use Rattle.std.specs.Prelude.{◌≡◌, ℕ, List, [], ◌∷◌};

@@ -6,7 +6,7 @@ ghost use Rattle.srcp_grammar.specs.Weight.{names_session, weight};
 use srcp_info::MOST_PORTS;
 use srcp_text::{Words, is_keyword, words};
 
-/// The most changes of a command: a lock and its device go, and an accessory gets its row and the rows of its ports.
+/// Limits the changes of a command: a lock and its device go, and an accessory gets its row and the rows of its ports.
 pub const MOST_CHANGES: usize = 3 + MOST_PORTS as usize;
 
 /// Returns how many changes a line of a command session can bring at most, by the words alone. Keywords are read in

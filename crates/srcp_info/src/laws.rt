@@ -23,7 +23,7 @@ pub fn lines_read_again()
     ensures { LinesReadAgain }
 {}
 
-/// States that bytes are the lines of a single list of changes, and then a single begun line.
+/// States that bytes hold the lines of at most one list of changes, and then at most one begun line.
 pub fn bytes_hold_once()
     ensures { BytesHoldOnce }
 {}

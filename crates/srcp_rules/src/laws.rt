@@ -14,183 +14,186 @@ ghost use Rattle.srcp_rules.specs.Laws.{MomentsEnd};
 ghost use Rattle.srcp_rules.specs.SafetyLaws.{DrivesAreSet, EndsChangeNoDevice, EndsKeepOtherLocks, PowersAreSet};
 ghost use Rattle.srcp_rules.specs.SafetyLaws.{InitsStandStill, OwnLocksLast, SensorsAreSet, StopsStop};
 
-/// The registry of a layout begins whole.
+/// States: the registry of a layout begins whole.
 pub fn openings_are_whole()
     ensures { OpeningsAreWhole }
 {}
 
-/// Each update leaves the keys rising.
+/// States: each update leaves the keys rising.
 pub fn updates_keep_rising()
     ensures { UpdatesKeepRising }
 {}
 
-/// A command leaves a whole registry whole.
+/// States: a command leaves a whole registry whole.
 pub fn commands_keep_whole()
     ensures { CommandsKeepWhole }
 {}
 
-/// Each change of a moment leaves a whole registry whole, and the later changes still to come.
+/// States: each change of a moment leaves a whole registry whole, and the later changes still to come.
 pub fn moments_keep_whole()
     ensures { MomentsKeepWhole }
 {}
 
-/// Each change of a session's end leaves a whole registry whole, and the later changes still to come.
+/// States: each change of a session's end leaves a whole registry whole, and the later changes still to come.
 pub fn ends_keep_whole()
     ensures { EndsKeepWhole }
 {}
 
-/// The beginning of a session leaves a whole registry whole.
+/// States: the beginning of a session leaves a whole registry whole.
 pub fn beginnings_keep_whole()
     ensures { BeginningsKeepWhole }
 {}
 
-/// No Put of a command gives a row to a device that has rows.
+/// States: no Put of a command gives a row to a device that has rows.
 pub fn commands_add_no_row()
     ensures { CommandsAddNoRow }
 {}
 
-/// No Put of a moment gives a row to a device that has rows.
+/// States: no Put of a moment gives a row to a device that has rows.
 pub fn moments_add_no_row()
     ensures { MomentsAddNoRow }
 {}
 
-/// No Put of a session's end gives a row to a device that has rows.
+/// States: no Put of a session's end gives a row to a device that has rows.
 pub fn ends_add_no_row()
     ensures { EndsAddNoRow }
 {}
 
-/// The Put of a session's beginning gives no row to a device that has rows.
+/// States: the Put of a session's beginning gives no row to a device that has rows.
 pub fn beginnings_add_no_row()
     ensures { BeginningsAddNoRow }
 {}
 
-/// A command makes at most 11 changes.
+/// States: a command makes at most 11 changes.
 pub fn commands_change_little()
     ensures { CommandsChangeLittle }
 {}
 
-/// A line brings at most its weight, which is at most 11, and 1 of a line whose first word is GO.
+/// States: a line brings at most its weight, which is at most 11, and 1 of a line whose first word is GO.
 pub fn lines_weigh_enough()
     ensures enough { LinesWeighEnough }
     ensures small { WeightsAreSmall }
     ensures goes { GoesWeighOne }
 {}
 
-/// The changes of a command can be written as lines, and its reply too.
+/// States: the changes of a command can be written as lines, and its reply too.
 pub fn commands_can_be_told()
     ensures { CommandsCanBeTold }
 {}
 
-/// The changes of a moment can be written as lines.
+/// States: the changes of a moment can be written as lines.
 pub fn moments_can_be_told()
     ensures { MomentsCanBeTold }
 {}
 
-/// The changes of a session's end can be written as lines.
+/// States: the changes of a session's end can be written as lines.
 pub fn ends_can_be_told()
     ensures { EndsCanBeTold }
 {}
 
-/// The change of a session's beginning can be written as a line.
+/// States: the change of a session's beginning can be written as a line.
 pub fn beginnings_can_be_told()
     ensures { BeginningsCanBeTold }
 {}
 
-/// A refused command changes nothing and ends nothing.
+/// States: a refused command changes nothing and ends nothing.
 pub fn refusals_change_nothing()
     ensures { RefusalsChangeNothing }
 {}
 
-/// CHECK answers what SET would, and changes nothing.
+/// States: CHECK answers what SET would, and changes nothing.
 pub fn checks_answer_as_sets()
     ensures { ChecksAnswerAsSets }
 {}
 
-/// No command of a session changes a device locked by another session, or the lock.
+/// States: no command of a session changes a device locked by another session, or the lock.
 pub fn locks_hold()
     ensures { LocksHold }
 {}
 
-/// No command touches the row of a session.
+/// States: no command touches the row of a session.
 pub fn commands_keep_sessions()
     ensures { CommandsKeepSessions }
 {}
 
-/// No moment touches the row of a session.
+/// States: no moment touches the row of a session.
 pub fn moments_keep_sessions()
     ensures { MomentsKeepSessions }
 {}
 
-/// The end of a session removes the locks and the row of the session, and no other session's row.
+/// States: the end of a session removes the locks and the row of the session, and no other session's row.
 pub fn ends_free_all()
     ensures { EndsFreeAll }
 {}
 
-/// A moment changes each due row, whoever holds the lock: a lock is gone, and a port is 0. All other rows stay.
+/// States: a moment changes each due row, whoever holds the lock: a lock is gone, and a port is 0. All other rows stay.
 pub fn moments_carry_out()
     ensures { MomentsCarryOut }
 {}
 
-/// After an accepted SET of a port, the port has its due moment or none, whatever the port had before.
+/// States: after an accepted SET of a port, the port has its due moment or none, whatever the port had before.
 pub fn ports_are_set()
     ensures { PortsAreSet }
 {}
 
-/// After an accepted SET of a lock, the lock has its due moment or none, whatever the lock had before.
+/// States: after an accepted SET of a lock, the lock has its due moment or none, whatever the lock had before.
 pub fn locks_are_set()
     ensures { LocksAreSet }
 {}
 
-/// A port set to 1 for a time is 1 at each moment before its end, and 0 at each from the end on.
+/// States: a port set to 1 for a time is 1 at each moment before its end, and 0 at each from the end on.
 pub fn ports_fall_back()
     ensures { PortsFallBack }
 {}
 
-/// A lock set for a time is there at each moment before its end, and gone at each from the end on.
+/// States: a lock set for a time is there at each moment before its end, and gone at each from the end on.
 pub fn locks_run_out()
     ensures { LocksRunOut }
 {}
 
-/// A moment past the greatest is the greatest.
+/// States: a moment past the greatest is the greatest.
 pub fn moments_end()
     ensures { MomentsEnd }
 {}
 
-/// SET of power is accepted, on or off, whatever is locked. GET then shows the new power, and no other row changes.
+/// States: SET of power is accepted, on or off, whatever is locked. GET then shows the new power, and no other row
+/// changes.
 pub fn powers_are_set()
     ensures { PowersAreSet }
 {}
 
-/// SET of a feedback port is accepted, whatever is locked. GET then shows the new value, and no other row changes.
+/// States: SET of a feedback port is accepted, whatever is locked. GET then shows the new value, and no other row
+/// changes.
 pub fn sensors_are_set()
     ensures { SensorsAreSet }
 {}
 
-/// After an accepted SET of a locomotive, the locomotive drives as the command says, and GET shows so. Functions not in
-/// the command stay, and no other row changes.
+/// States: after an accepted SET of a locomotive, the locomotive drives as the command says, and GET shows so.
+/// Functions not in the command stay, and no other row changes.
 pub fn drives_are_set()
     ensures { DrivesAreSet }
 {}
 
-/// An emergency stop without functions is accepted if the locomotive is there and no other session has its lock. The
-/// locomotive then stands, and the functions stay.
+/// States: an emergency stop without functions is accepted if the locomotive is there and no other session has its
+/// lock. The locomotive then stands, and the functions stay.
 pub fn stops_stop()
     ensures { StopsStop }
 {}
 
-/// An accepted INIT of a locomotive leaves the locomotive as before if the parameters are the same. Any other
+/// States: an accepted INIT of a locomotive leaves the locomotive as before if the parameters are the same. Any other
 /// locomotive stands still afterwards, forward, with all functions off.
 pub fn inits_stand_still()
     ensures { InitsStandStill }
 {}
 
-/// A session keeps a lock of its own over each of its commands but TERM of the lock and TERM and INIT of the device.
+/// States: a session keeps a lock of its own over each of its commands but TERM of the lock and TERM and INIT of the
+/// device.
 pub fn own_locks_last()
     ensures { OwnLocksLast }
 {}
 
-/// The end of a session changes no locomotive, no accessory, no power and no feedback port (`devices`). Locks of other
-/// sessions stay too (`locks`).
+/// States: the end of a session changes no locomotive, no accessory, no power and no feedback port (`devices`). Locks
+/// of other sessions stay too (`locks`).
 pub fn ends_change_no_device()
     ensures devices { EndsChangeNoDevice }
     ensures locks { EndsKeepOtherLocks }

@@ -14,7 +14,7 @@ use srcp_grammar::Layout;
 use srcp_info::{Cursor, Device, Group, Key, MOST_PORTS, Row};
 use std::alloc::Global;
 
-/// The most rows of a device: an accessory with the most ports has as many.
+/// Limits the rows of a device: an accessory with the most ports has as many.
 pub(crate) const MOST_ROWS: usize = 1 + MOST_PORTS as usize;
 
 /// Returns how many rows a device of the group has at most. Each port of a row is below this number.
@@ -42,7 +42,7 @@ pub trait Rows: Drop {
         ensures layout { IfOk result (λ kept. buses kept ≡ layout.now) }
         ensures rows { IfOk result (λ kept. state kept ≡ opening layout.now 0) };
 
-    /// Returns the row at the key, or `None` if no row has it.
+    /// Returns the row at the key, or `None` if no row has this key.
     fn row(&self, key: &Key) -> Option<&Row>
         ensures { option_copied result ≡ row_at key.now (state self.now) };
 

@@ -52,7 +52,7 @@ fn put_four_digits<const N: usize>(number: u64, line: &mut ArrayVec<u8, N>)
     line.push(b'0' + (number % 10) as u8);
 }
 
-/// Appends a number of five digits or more. In a call of its own, since a short number needs no buffer.
+/// Appends a number of five digits or more. A call of its own spares shorter numbers the buffer.
 #[inline(never)]
 fn put_long_number<const N: usize>(number: u64, line: &mut ArrayVec<u8, N>)
     requires { array_vec_len line.old + length (decimal number) ≤ N }

@@ -14,7 +14,7 @@ const LONGEST: usize = 1000;
 /// Says what a feed found.
 #[derive(Clone, Copy, Debug, PartialEq, Eq)]
 pub enum Fed {
-    /// A line of at most 1,000 bytes, the CR counted. `LineReader::line` lends it.
+    /// A line of at most 1,000 bytes, the CR counted. `LineReader::line` lends the line.
     Line {
         /// The offset in the piece after the LF. The next feed goes on there.
         stop: usize,
