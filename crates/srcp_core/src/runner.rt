@@ -37,7 +37,7 @@ impl From<Memory> for RunFault {
 ///   alone, rooms add up, and nothing is sent after an overrun.
 /// - Each information session is told rightly (`connections`), however the writes are cut. While the registry stays the
 ///   same, the listing is sent. Once the session is settled, each device that was there all the time was listed exactly
-///   once, and a client that applies all lines holds the registry.
+///   once. A client that applies all lines then holds the registry.
 /// - The registry is whole after each step (`world`).
 /// - The record counts exactly the answers that refused (`counted`), each of them asked for (`asked`). If none is
 ///   counted, memory gave in each event (`given`), and the course is the course with ample memory
