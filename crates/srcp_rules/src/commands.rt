@@ -23,7 +23,7 @@ use crate::sender::Sender;
 use srcp_grammar::{Command, MOST_CHANGES, PowerSwitch, Sensor, Switch, Target};
 use srcp_info::{Code, Value};
 
-/// Answers TERM of a session. Only the session itself may end its session.
+/// Answers TERM of a session. A session can end no session but its own.
 fn end_session(session: u32, named: Option<u32>, obeyed: &mut Obeyed)
     requires { IsTold (accepted []) obeyed.old }
     ensures { IsTold (term_session session named) obeyed.new }

@@ -69,14 +69,14 @@ pub fn commands_change_little()
     ensures { CommandsChangeLittle }
 {}
 
-/// States: a line brings at most its weight, which is at most 11, and 1 of a line whose first word is GO.
+/// States: a line brings at most its weight. The weight is at most 11, and 1 if the first word is GO.
 pub fn lines_weigh_enough()
     ensures enough { LinesWeighEnough }
     ensures small { WeightsAreSmall }
     ensures goes { GoesWeighOne }
 {}
 
-/// States: the changes of a command can be written as lines, and its reply too.
+/// States: the changes and the reply of a command can be written as lines.
 pub fn commands_can_be_told()
     ensures { CommandsCanBeTold }
 {}
@@ -141,12 +141,12 @@ pub fn locks_are_set()
     ensures { LocksAreSet }
 {}
 
-/// States: a port set to 1 for a time is 1 at each moment before its end, and 0 at each from the end on.
+/// States: a port set to 1 for a time is 1 at each moment before the end of the time, and 0 from the end on.
 pub fn ports_fall_back()
     ensures { PortsFallBack }
 {}
 
-/// States: a lock set for a time is there at each moment before its end, and gone at each from the end on.
+/// States: a lock set for a time is there at each moment before the end of the time, and gone from the end on.
 pub fn locks_run_out()
     ensures { LocksRunOut }
 {}
