@@ -75,7 +75,7 @@ fn is_address(group: Group, bus: u8, address: u32) -> bool
     }
 }
 
-/// Returns whether the group has locks.
+/// Returns whether the devices of the group are locks.
 fn is_lock(group: Group) -> bool
     ensures { result ≡ is_lock group }
 {
