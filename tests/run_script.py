@@ -42,7 +42,7 @@ idle: low
 srcp_server: left right
 low_tests: low
 """
-HOW_LONG = "building the program and proving it: half an hour the first time, on four processors\n"
+HOW_LONG = "building the program and proving it: 25 minutes the first time, on four processors\n"
 NO_ROWS = "rows 1\n0.000 100 INFO 1 POWER OFF\n"
 
 
