@@ -22,7 +22,8 @@ class Box:
     are set."""
 
     def __init__(self, asked):
-        self.asked, self.interlock = asked, None
+        self.asked = asked
+        self.interlock = None
         self.joined: asyncio.Queue = asyncio.Queue()
         self.set: set[int] = set()
         self.mirror: Mirror = Mirror(asked, self.told, lambda anew: self.joined.put_nowait(self.mirror.session),

@@ -26,7 +26,10 @@ MESSAGE = re.compile(
 class DccEx(Station):
     """The text of DCC-EX: commands and messages stand between < and >."""
     END = b">"
-    HELLO, ALIVE, STOP_ALL, SENSORS = b"<s>\n", b"<#>\n", b"<!>\n", b"<Q>\n"
+    HELLO = b"<s>\n"
+    ALIVE = b"<#>\n"
+    STOP_ALL = b"<!>\n"
+    SENSORS = b"<Q>\n"
 
     def __init__(self, asked):
         super().__init__(asked)

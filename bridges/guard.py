@@ -15,7 +15,9 @@ class Guard:
     """`freed` has, by locomotive, when it lost its lock (None: at a moment that nobody told), and whose that was."""
 
     def __init__(self, asked):
-        self.mirror, self.freed, self.stops = Mirror(asked, self.told), {}, set()
+        self.mirror = Mirror(asked, self.told)
+        self.freed = {}
+        self.stops = set()
 
     def told(self, change):
         """As a session ends, its locks go at the same moment. After an overrun it is not known: in doubt it stops."""

@@ -56,8 +56,12 @@ def makes(command):
 
 class Keeper:
     def __init__(self, asked):
-        self.path, self.power, self.rest = asked.file, asked.power, asked.rest
-        self.changed, self.session, self.written = asyncio.Event(), None, []
+        self.path = asked.file
+        self.power = asked.power
+        self.rest = asked.rest
+        self.changed = asyncio.Event()
+        self.session = None
+        self.written = []
         self.mirror = Mirror(asked, lambda change: self.changed.set(), lambda anew: self.changed.set())
 
     async def run(self):
@@ -80,7 +84,9 @@ class Keeper:
 
     async def restore(self, session):
         """Has the server make what FILE holds and it does not have, and waits until the panel has told all of it."""
-        self.written, absent, ordered = self.held(), set(), set()
+        self.written = self.held()
+        absent = set()
+        ordered = set()
         for command in self.written:
             device = device_of(command)
             if device and makes(command) and not await self.mirror.has(device):

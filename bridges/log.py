@@ -39,7 +39,8 @@ class Log:
     """`since` is when the newest session began. A row that is older was listed as this program's panel began."""
 
     def __init__(self, asked):
-        self.names, self.since = names(asked.names), 0.0
+        self.names = names(asked.names)
+        self.since = 0.0
         self.mirror = Mirror(asked, self.told, self.joined, self.left)
 
     def joined(self, anew):

@@ -45,10 +45,16 @@ class Bridge:
     """
 
     def __init__(self, asked):
-        self.asked, self.prefix, self.wanted, self.there = asked, asked.prefix.strip("/") + "/", {}, {}
-        self.node, self.names = node(self.prefix), names(asked.names)
+        self.asked = asked
+        self.prefix = asked.prefix.strip("/") + "/"
+        self.wanted = {}
+        self.there = {}
+        self.node = node(self.prefix)
+        self.names = names(asked.names)
         self.client: Any = None  # paho's
-        self.following, self.late, self.behind = False, set(), asyncio.Event()
+        self.following = False
+        self.late = set()
+        self.behind = asyncio.Event()
         self.mirror = Mirror(asked, self.told, lambda anew: self.online(), self.online)
         self.orders = Orders(self.mirror, self.refused)
 
@@ -158,7 +164,9 @@ class Bridge:
 
     async def follow(self):
         """One connection to the broker: reads what it shows, has it show what is wanted, until it is lost."""
-        joined, self.lost, self.marked = asyncio.Event(), asyncio.Event(), asyncio.Event()
+        joined = asyncio.Event()
+        self.lost = asyncio.Event()
+        self.marked = asyncio.Event()
         self.there, self.other = {}, None
         words = self.node + "-bridge", self.prefix + "online", self.heard, joined, self.lost
         client = self.client = await asyncio.to_thread(connect, self.asked, *words, asyncio.get_running_loop())

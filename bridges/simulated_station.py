@@ -34,8 +34,15 @@ class Station:
     """
 
     def __init__(self, link, show=lambda text: None):
-        self.link, self.show, self.boot, self.faults, self.ids, self.stalled = link, show, 0.0, [], {}, False
-        self.rate, self.late, self.slots = 0, 0.0, 50  # commands a second, 0 for no limit
+        self.link = link
+        self.show = show
+        self.boot = 0.0
+        self.faults = []
+        self.ids = {}
+        self.stalled = False
+        self.rate = 0  # commands a second, 0 for no limit
+        self.late = 0.0
+        self.slots = 50
         self.decoder: dict[int, int] | None = dict(DECODER)
         self.open()
 
@@ -52,7 +59,11 @@ class Station:
 
     def reset(self):
         """Knows what a station knows when its power comes: nothing."""
-        self.power, self.cabs, self.functions, self.turnouts, self.log = 0, {}, {}, {}, []
+        self.power = 0
+        self.cabs = {}
+        self.functions = {}
+        self.turnouts = {}
+        self.log = []
         self.reports, self.known = [], set()  # what is told late; cabs that have a slot
         self.deaf_until = time.monotonic() + self.boot
 

@@ -18,8 +18,14 @@ from simulated_station import DECODER
 if sys.version_info < (3, 11):
     sys.exit("-- this takes Python 3.11 or later")
 STEPS = {0: (14, 0), 2: (28, 2), 3: (126, 4)}  # by the format of a command: how many, and the format of its reports
-STOPS_ALL, NO_POWER, SHORT, PROGRAMMING = 1, 2, 4, 32
-TO_ALL, TO_PANELS, TO_HANDS = 1, 2, 0x10000  # flags of who is told of power and turnouts, sensors, locomotives
+STOPS_ALL = 1
+NO_POWER = 2
+SHORT = 4
+PROGRAMMING = 32
+# Flags of who is told of what.
+TO_ALL = 1  # power and turnouts
+TO_PANELS = 2  # sensors
+TO_HANDS = 0x10000  # locomotives
 LONG_ON = 30.0  # seconds after which a turnout's coil burns
 SPEEDS = {28: [0, -1, *(2 * code - 3 for code in range(2, 16)), 0, -1, *(2 * code - 2 for code in range(2, 16))]}
 
@@ -34,8 +40,16 @@ class Z21:
     """
 
     def __init__(self, port, show=lambda text: None, loses=0.1):
-        self.port, self.show, self.loses, self.patience, self.chance = port, show, loses, 60.0, random.Random(port)
-        self.stalled, self.deaf, self.faults, self.sensors, self.log = False, False, [], set(), []
+        self.port = port
+        self.show = show
+        self.loses = loses
+        self.patience = 60.0
+        self.chance = random.Random(port)
+        self.stalled = False
+        self.deaf = False
+        self.faults = []
+        self.sensors = set()
+        self.log = []
         self.decoder: dict[int, int] | None = dict(DECODER)
         self.open()
 
@@ -50,9 +64,18 @@ class Z21:
 
     def reset(self):
         """Knows what it knows when its power comes. The track's is on."""
-        self.status, self.cabs, self.functions, self.turnouts, self.log = 0, {}, {}, {}, []
+        self.status = 0
+        self.cabs = {}
+        self.functions = {}
+        self.turnouts = {}
+        self.log = []
         self.commanded, self.asked = 0.0, 0
-        self.steps, self.clients, self.heard, self.outputs, self.pulses, self.last = {}, {}, {}, {}, {}, {}
+        self.steps = {}
+        self.clients = {}
+        self.heard = {}
+        self.outputs = {}
+        self.pulses = {}
+        self.last = {}
         self.taken = set()  # locomotives that a hand drove last: reports of them have three bits more
 
     restart = reset

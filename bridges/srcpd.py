@@ -26,7 +26,8 @@ from srcp_bridges.program import arguments, run, say
 from srcp_bridges.service_mode import ServiceMode
 from srcp_bridges.state import SELF
 
-CLIENTS, OF_ONE = 40, 20  # that are served: in all, and of one address
+CLIENTS = 40  # that are served in all
+OF_ONE = 20  # those of one address
 LONGEST = 1000  # bytes of a line that the server reads
 WAITING = 1000  # lines of a client that may wait
 LINGER = 10.0  # seconds for which a WAIT goes on once its client has closed its side
@@ -37,7 +38,8 @@ class Proxy:
     """The clients, and what they share."""
 
     def __init__(self, asked):
-        self.asked, self.places = asked, Places(CLIENTS, OF_ONE)
+        self.asked = asked
+        self.places = Places(CLIENTS, OF_ONE)
         self.clients: set[Client] = set()
         self.answers = Answers(asked, lambda text: self.tell(text, lambda client: client.asked_time))
 
@@ -68,11 +70,17 @@ class Client:
     """The connection of a client, and its own to the server. Its lines are carried out one after the other."""
 
     def __init__(self, proxy: Proxy, reader: asyncio.StreamReader, writer: asyncio.StreamWriter):
-        self.proxy, self.reader, self.writer = proxy, reader, writer
+        self.proxy = proxy
+        self.reader = reader
+        self.writer = writer
         self.lines: asyncio.Queue[bytes | None] = asyncio.Queue(WAITING)
         self.replies: asyncio.Queue[None] = asyncio.Queue()  # how many came, and one more at the end
-        self.mode, self.id, self.is_panel, self.asked_time = "COMMAND", 0, False, False
-        self.peer, self.port = writer.get_extra_info("peername")[0], proxy.answers.mirror.server[1]
+        self.mode = "COMMAND"
+        self.id = 0
+        self.is_panel = False
+        self.asked_time = False
+        self.peer = writer.get_extra_info("peername")[0]
+        self.port = proxy.answers.mirror.server[1]
         self.service_mode = ServiceMode(self.port)
 
     def say(self, text: str):

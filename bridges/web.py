@@ -26,11 +26,14 @@ from srcp_bridges.state import stations
 from srcp_bridges.stop import stop_all
 
 AT_ONCE = 4  # pages of one browser: it has 6 connections, and STOP ALL needs one that is free
-MOST, MOST_OF_ONE = 400, 100  # connections, in all and of one address
-KEPT, KEPT_OF_ONE = 40, 4  # further ones, for stops alone
+MOST = 400  # connections in all
+MOST_OF_ONE = 100  # those of one address
+KEPT = 40  # further ones, for stops alone
+KEPT_OF_ONE = 4
 LOOK = 1.0  # seconds until it is looked again at what drivers tell
 FOLDER = pathlib.Path(__file__).resolve().parent / "srcp_bridges"
-HTML, JSON = "text/html; charset=utf-8", "application/json"
+HTML = "text/html; charset=utf-8"
+JSON = "application/json"
 KINDS = {".css": "text/css; charset=utf-8", ".js": "text/javascript; charset=utf-8"}
 FILES = {f"/{path.name}": path for path in FOLDER.iterdir() if path.suffix in KINDS}
 EVENTS = "HTTP/1.1 200 OK\r\nContent-Type: text/event-stream\r\nCache-Control: no-store\r\nConnection: close\r\n\r\n"
@@ -63,14 +66,18 @@ def enter(entrance, writer, asked, guest):
 
 class Web:
     def __init__(self, asked):
-        self.asked, self.plan, self.pages = asked, read_plan(asked.plan), {}
+        self.asked = asked
+        self.plan = read_plan(asked.plan)
+        self.pages = {}
         self.names = self.plan.names | names(asked.names)
         self.mirror = Mirror(asked, self.told, lambda anew: self.tell(event("here", True)),
                              lambda: self.tell(event("here", False)))
         address = address_of(asked.bind)
         self.word = asked.word or (None if address and address.is_loopback else secrets.token_hex(4))
         self.entrance = Entrance(self.word, asked.web) if self.word else None
-        self.places, self.kept, self.turned_away = Places(MOST, MOST_OF_ONE), Places(KEPT, KEPT_OF_ONE), None
+        self.places = Places(MOST, MOST_OF_ONE)
+        self.kept = Places(KEPT, KEPT_OF_ONE)
+        self.turned_away = None
         self.left_out: dict[str, str] = {}
 
     async def look_at_drivers(self):
@@ -182,7 +189,9 @@ class Web:
         first += event("leftOut", self.left_out)
         rows = [row_event(self.mirror, *item) for item in self.mirror.rows.items()]
         writer.write("".join([EVENTS, first, *rows]).encode())
-        self.pages[key], peer, why = page, writer.get_extra_info("peername")[0], "gone"
+        self.pages[key] = page
+        peer = writer.get_extra_info("peername")[0]
+        why = "gone"
         for other in [other for other in self.pages.values() if browser and other.browser == browser][:-AT_ONCE]:
             other.tell(event("elsewhere", None))
         say(f"page {peer}: joined, {len(self.pages)} are open")

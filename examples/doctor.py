@@ -28,8 +28,11 @@ class Chain:
     """The links between a throttle and a locomotive. Each method is one: it says how its link is, or is Broken."""
 
     def __init__(self, asked):
-        self.at, self.seconds, self.names = (asked.host, asked.port), asked.seconds, names(asked.port)
-        self.bus, self.address = asked.bus, asked.address
+        self.at = (asked.host, asked.port)
+        self.seconds = asked.seconds
+        self.names = names(asked.port)
+        self.bus = asked.bus
+        self.address = asked.address
         self.stations = [told["station"] for told in programs() if told["station"].get("bus") == asked.bus]
         self.rows = {}
 

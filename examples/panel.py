@@ -51,7 +51,9 @@ def apply(rows, line):
 
 def watch(host, port):
     """Joins the server and prints what it tells, until it closes the connection."""
-    rows, replies, told = {}, 3, False
+    rows = {}
+    replies = 3
+    told = False
     with socket.create_connection((host, port)) as connection:
         connection.sendall(b"SET CONNECTIONMODE SRCP INFO\nGO\n")
         for line in lines_of(connection):

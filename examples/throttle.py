@@ -12,8 +12,12 @@ import sys
 
 if sys.version_info < (3, 11):
     sys.exit("this takes Python 3.11 or later")
-STEPS, FASTEST, SECONDS = 28, 65535, 5
-BACKWARD, FORWARD, EMERGENCY_STOP = 0, 1, 2
+STEPS = 28
+FASTEST = 65535
+SECONDS = 5
+BACKWARD = 0
+FORWARD = 1
+EMERGENCY_STOP = 2
 ENDS = (signal.SIGINT, signal.SIGTERM, signal.SIGHUP)
 
 
@@ -24,7 +28,9 @@ class Throttle:
         """Begins the session. It makes the locomotive only if there is none: a second INIT would stop a train."""
         self.stream = socket.create_connection((host, port), SECONDS).makefile("rw", encoding="latin-1", newline="\n")
         self.stream.readline()  # the welcome line
-        self.locomotive, self.direction, self.drive_said = f"{bus} GL {address}", FORWARD, None
+        self.locomotive = f"{bus} GL {address}"
+        self.direction = FORWARD
+        self.drive_said = None
         self.ask("SET CONNECTIONMODE SRCP COMMAND")
         self.ask("GO")
         if " 416 ERROR " in self.send(f"GET {self.locomotive}"):

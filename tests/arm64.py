@@ -15,7 +15,9 @@ from serving import SECONDS, TriedNothing
 
 SOURCES = TOP / "packaging" / "arm64"
 TESTS = Path(__file__).resolve().parent
-EMULATOR, COMPILER, LIBRARY = "qemu-aarch64", "aarch64-linux-gnu-gcc", Path("/usr/aarch64-linux-gnu")
+EMULATOR = "qemu-aarch64"
+COMPILER = "aarch64-linux-gnu-gcc"
+LIBRARY = Path("/usr/aarch64-linux-gnu")
 EMULATED = [EMULATOR, "-L", LIBRARY]
 # of a Raspberry Pi 3, 4 and 5
 PROCESSORS = ("cortex-a53", "cortex-a72", "cortex-a76")
@@ -24,7 +26,8 @@ SERVED = ("panels-hold-the-registry", "peer-65-is-turned-away", "client-that-hal
           "one-session-sends-a-million-commands", "end-of-a-session-with-locks", "half-closed-panel-beside-many")
 # A limit of memory is on the emulator too. So its C library takes 64 MB at the start, which the program cannot have.
 # An emulator that is refused memory ends, or answers the program's calls with ENOMEM.
-RESERVE, RESERVED = "MALLOC_TOP_PAD_", 64 << 20
+RESERVE = "MALLOC_TOP_PAD_"
+RESERVED = 64 << 20
 MINUTES = 10
 NOT_BUILT = 3  # the status of packaging/arm64/build if there is nothing to build it over
 VERSION = "srcp_server 1.0\n"

@@ -253,7 +253,9 @@ def peers_that_were_let_go_and_stay(program):
             return len(os.listdir(f"/proc/{server.pid}/fd"))
 
         stayer = Client(port, "COMMAND")
-        before, leavers, most = descriptors(), [], 0
+        before = descriptors()
+        leavers = []
+        most = 0
         for _ in range(LEAVERS):
             leavers.append(Client(port, "COMMAND"))
             leavers[-1].asks("TERM 0 SESSION")

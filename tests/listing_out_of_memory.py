@@ -21,7 +21,9 @@ STEPS = ["Moment(1000)", "Began { session: 1, moment: 1000, mode: Command }"] + 
         "SetLock(TimedLock { target: Target { bus: 1, group: Gl, address: 3 }, seconds: 60 })")
 ] + ["Began { session: 2, moment: 1000, mode: Info }"]
 # a connection's session, `true` if that is an information session, and the number of steps once it had begun
-NO_SESSION, THROTTLE_SESSION, PANEL_SESSION = "0 false 0", "1 false 2", "2 true 7"
+NO_SESSION = "0 false 0"
+THROTTLE_SESSION = "1 false 2"
+PANEL_SESSION = "2 true 7"
 NO_MEMORY = "1.000 500 ERROR out of resources"
 NO_DATA = "1.000 416 ERROR no data"
 UNKNOWN = "1.000 410 ERROR unknown command"

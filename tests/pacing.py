@@ -250,7 +250,9 @@ def panels_closed_by_pauses(program, senders, seconds):
 def end_of_a_session_with_locks(program):
     """A session that ends with 150 locks, beside 16 that send without end, closes no panel."""
     with served(program) as (port, _):
-        holder, panel, ended = Client(port, "COMMAND"), Client(port, "INFO"), []
+        holder = Client(port, "COMMAND")
+        panel = Client(port, "INFO")
+        ended = []
         holder.asks_many([f"INIT 1 GL {address} N 1 28 0" for address in range(1, LOCKS + 1)])
         with running([threading.Thread(target=reads_to_the_end, args=(panel, ended))]):
             with sending_without_end([Client(port, "COMMAND") for _ in range(16)]):

@@ -23,7 +23,9 @@ def is_in(text, word):
 
 def walk_of_the_architecture_page(_):
     """Each file of the walk is there, and each name beside it stands in it or in a file of the rows above."""
-    rows, passed, named = rows_under("architecture.md", "A command on its way"), "", set()
+    rows = rows_under("architecture.md", "A command on its way")
+    passed = ""
+    named = set()
     for number, files, told in rows:
         if missing := [file for file in quoted(files) if not (CRATES / file).is_file()]:
             return f"step {number}: no file {missing}"

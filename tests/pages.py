@@ -27,7 +27,8 @@ STAYS = ("./run serve", "nc ", "ssh ", "python3 examples/panel.py", "python3 bri
 LISTENS = {"./run serve": "4303", "ssh ": "5303"}
 PACKING = 120  # seconds that ./package may take on a busy machine: it asks each program for its help
 BLOCK = re.compile(r"^```(\w*)\n(.*?)^```$", re.M | re.S)
-ENDED, SILENT = "(the end)", "(nothing more)"
+ENDED = "(the end)"
+SILENT = "(nothing more)"
 PAUSE = re.compile(r"-- \d+ rows$")  # what a panel prints after a pause, of which a busy machine may make more
 STAMP = re.compile(r"^\d{9,}\.\d{3} (?=\d{3} )")
 
@@ -83,7 +84,9 @@ class Reader:
     """One who goes through a page, and does what it says."""
 
     def __init__(self, folder, environment, ports):
-        self.folder, self.environment, self.ports = folder, environment, ports
+        self.folder = folder
+        self.environment = environment
+        self.ports = ports
         self.programs = []
 
     def at_ports(self, text):

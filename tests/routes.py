@@ -14,7 +14,9 @@ from serving import SECONDS
 sys.path.insert(0, str(Path(__file__).resolve().parent / "stand_ins"))
 from interlocking import Interlocking  # noqa: E402
 
-PLANS, LISTS, EVENTS = 250, 20, 40  # plans, lists of events of each, and events of each list
+PLANS = 250
+LISTS = 20  # of events, of each plan
+EVENTS = 40  # of each list
 OWN = 9  # the bus of the routes
 TURNOUTS = [(bus, address) for bus in (1, 2) for address in range(1, 6)]
 SIGNALS = [(bus, address) for bus in (1, 2) for address in range(11, 14)]

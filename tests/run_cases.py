@@ -195,7 +195,8 @@ def configuration_past_its_limit(program):
 
 
 PLAN_OF_ONE_ROUTE = b"bus = 9\n[[route]]\nnumber = 1\nturnouts = [[1, 12, 1]]\n"
-BEGUN, ASKED = b"0.000 200 OK GO 1\n0.000 200 OK\n", b"0.000 100 INFO 9 GA 1 1 1\n"
+BEGUN = b"0.000 200 OK GO 1\n0.000 200 OK\n"
+ASKED = b"0.000 100 INFO 9 GA 1 1 1\n"
 
 
 @contextmanager

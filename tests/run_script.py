@@ -168,8 +168,9 @@ def run_that_builds_two_at_a_time(program):
     built in another, and each processor has its memory; else, and later, one after another. No tree but the first is
     left. A crate that fails ends the other."""
     others = "left", "right", "srcp_server"
-    first, in_turn, with_fewer_jobs = (begun_and_ended(4, "low"), begun_and_ended(4, *others),
-                                       begun_and_ended(3, *others))
+    first = begun_and_ended(4, "low")
+    in_turn = begun_and_ended(4, *others)
+    with_fewer_jobs = begun_and_ended(3, *others)
     at_once = [sorted(with_fewer_jobs[0:4:2]), sorted(with_fewer_jobs[1:4:2]), *with_fewer_jobs[4:]]
     tried = begun_and_ended(1, "low")  # in the second tree, in which it is not there
     for memory, keeps, want in ((4, True, at_once), (4, False, tried + in_turn), (3, True, in_turn)):

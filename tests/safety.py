@@ -128,7 +128,9 @@ def overrun_is_no_restart(program):
     """A command session that is kept open goes on after an overrun, and tells by the panel's id that both are of one
     server. It ends with the server."""
     with served(program) as (port, server):
-        kept, throttle, panel = Client(port, "COMMAND"), Client(port, "COMMAND"), Client(port, "INFO")
+        kept = Client(port, "COMMAND")
+        throttle = Client(port, "COMMAND")
+        panel = Client(port, "INFO")
         throttle.asks_many([f"INIT 1 GL {address} N 1 28 0" for address in range(1, LOCKS + 1)])
         panel.hears_until(SENSORS)
         if fault := first_unlike((kept, f"GET 0 SESSION {panel.session}", f"101 INFO 0 SESSION {panel.session} INFO")):

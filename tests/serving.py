@@ -261,7 +261,9 @@ def memory_that_runs_out(program):
     """The locomotive that there is no memory for is refused and changes nothing; with memory it can be made. Meanwhile
     a port falls back in time, and a session that ends itself is let go."""
     with served(program) as (port, server):
-        throttle, leaver, panel = Client(port, "COMMAND"), Client(port, "COMMAND"), Client(port, "INFO")
+        throttle = Client(port, "COMMAND")
+        leaver = Client(port, "COMMAND")
+        panel = Client(port, "INFO")
         throttle.asks("INIT 1 GA 5 N")
         limit_memory(server, 1 << 20)
         for address in range(1, 10240):

@@ -52,8 +52,10 @@ REFUSED_DOCUMENTS = {
     b'bus = [{number = 1, groups = ["FB"]}]': "fb_ports missing",
     b'bus = [{number = 1, groups = ["FB"], fb_ports = 4097}]': "fb_ports out of range",
 }
-A_SIGNAL, A_TURNOUT = b"{number = 3, signal = [1, 40, 1, 0]}", b"{number = 5, turnouts = [[1, 40, 1]]}"
-MIXED, CROSSED = "a signal of one is a turnout of the other", "a port is go for one and stop for the other"
+A_SIGNAL = b"{number = 3, signal = [1, 40, 1, 0]}"
+A_TURNOUT = b"{number = 5, turnouts = [[1, 40, 1]]}"
+MIXED = "a signal of one is a turnout of the other"
+CROSSED = "a port is go for one and stop for the other"
 # What is refused of a plan, or of the routes of one whose bus is 9
 REFUSED_PLANS = {
     b"bus =": "not TOML",

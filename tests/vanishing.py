@@ -8,7 +8,8 @@ from faults import Filter
 from serving import SECONDS, Client, served
 
 PANELS = 62
-ROUNDS, COMMANDS = 20, 500
+ROUNDS = 20
+COMMANDS = 500
 # What the system may hold for a socket: twice what the server asks for.
 MOST_HELD = 2 * 131_072
 SMALL = 4096
@@ -57,7 +58,9 @@ def peers_that_vanish(program):
     """A session and a panel whose systems answer no more are lost after half a minute, and the lock of the session with
     it. So is a session whose system takes no more, since it does not read its replies."""
     with served(program) as (port, _):
-        throttle, panel, other = Client(port, "COMMAND"), Client(port, "INFO"), Client(port, "COMMAND")
+        throttle = Client(port, "COMMAND")
+        panel = Client(port, "INFO")
+        other = Client(port, "COMMAND")
         stuck = Client(port, "COMMAND", SMALL)
         throttle.asks("INIT 1 GL 3 N 1 28 4", "SET 1 LOCK GL 3 0")
         vanish(throttle)

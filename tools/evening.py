@@ -29,7 +29,9 @@ class Account:
     """`driven` has the locomotives that somebody had drive since the last loss; `powered`: whether power was put on."""
 
     def __init__(self):
-        self.driven, self.taken, self.powered = set(), set(), False
+        self.driven = set()
+        self.taken = set()
+        self.powered = False
 
     def lost(self):
         """The station, its driver or the server was lost: all that was commanded before is over."""
@@ -73,7 +75,8 @@ REST = 3.0  # seconds after a loss, in which nothing may start
 AWAY = 12.0  # seconds for which the server hangs: trains stand within 8
 QUIET = 4.0  # seconds until all has come to rest
 TROUBLE = 15.0  # seconds between two troubles
-LOCOMOTIVES, TURNOUTS = range(1, 21), range(1, 31)
+LOCOMOTIVES = range(1, 21)
+TURNOUTS = range(1, 31)
 
 
 def moment():
@@ -86,14 +89,22 @@ class Evening:
     def __init__(self, program, seed):
         from simulated_station import Station
         common.SERVER, self.draw = program, random.Random(seed)
-        self.server, self.broker, folder = common.Server(), test_mqtt.Broker(), common.new_folder()
+        self.server = common.Server()
+        self.broker = test_mqtt.Broker()
+        folder = common.new_folder()
         self.file, link = os.path.join(folder, "layout.srcp"), os.path.join(folder, "ttyACM0")
-        self.station, self.web, self.phones = Station(link), common.free_port(), common.free_port()
+        self.station = Station(link)
+        self.web = common.free_port()
+        self.phones = common.free_port()
         self.words = {"dcc_ex": ["--station", link], "web": ["--web", self.web], "guard": [],
                       "withrottle": ["--listen", self.phones], "keep": [self.file, "--rest", "0.2"],
                       "mqtt": ["--broker-port", self.broker.port, "--home-assistant"]}
-        self.programs, self.count, self.troubles = {}, 0, []
-        self.account, self.wrong, self.leaves = Account(), [], []
+        self.programs = {}
+        self.count = 0
+        self.troubles = []
+        self.account = Account()
+        self.wrong = []
+        self.leaves = []
         for name in self.words:
             self.starts(name)
         until(lambda: all("server: joined" in started.told() for started in self.programs.values()), "all have joined")
@@ -129,7 +140,9 @@ class Evening:
 
     def command(self):
         """A command for a throttle or a page."""
-        draw, loco, turnout = self.draw, self.draw.choice(LOCOMOTIVES), self.draw.choice(TURNOUTS)
+        draw = self.draw
+        loco = self.draw.choice(LOCOMOTIVES)
+        turnout = self.draw.choice(TURNOUTS)
         functions = " ".join(draw.choice("01") for _ in range(draw.randint(0, 5)))
         commands = [f"INIT 1 GL {loco} N 1 {draw.choice([28, 126])} {draw.choice([5, 9])}",
                     f"SET 1 GL {loco} {draw.choice([0, 1, 1, 2])} {draw.randint(0, 28)} 28 {functions}",
@@ -243,7 +256,9 @@ class Evening:
 
     def run(self, seconds):
         now = time.monotonic()
-        end, next_trouble, restarts = now + seconds, now + TROUBLE, now + seconds / 2
+        end = now + seconds
+        next_trouble = now + TROUBLE
+        restarts = now + seconds / 2
         while time.monotonic() < end:
             try:
                 self.change()
@@ -273,7 +288,9 @@ class Evening:
     def track(self, rows):
         """Returns what the station should know."""
         from srcp_bridges.rows import position
-        cabs, functions, turnouts = {}, set(), {}
+        cabs = {}
+        functions = set()
+        turnouts = {}
         for (bus, group, address, part), row in rows.items():
             if (bus, group, part) == (1, "GL", "does"):
                 most = row.v_max or rows[bus, group, address, "is"].steps

@@ -14,7 +14,8 @@ sys.path.insert(0, str(Path(__file__).resolve().parent.parent / "tests"))
 TICKS = os.sysconf("SC_CLK_TCK")
 UNANSWERED = 2048
 COMMAND = b"SET 1 GL 3 1 5 28" + b" 0 1" * 9 + b"\n"
-LOCOMOTIVES, ACCESSORIES = 10_239, 2_044
+LOCOMOTIVES = 10_239
+ACCESSORIES = 2_044
 FULL_BUS = b'[[bus]]\nnumber = 1\ngroups = ["GL", "GA"]\ngl_max = 10239\nga_max = 2044\n'
 MOMENTS = 100
 LINES = 500_000
@@ -137,7 +138,8 @@ class LongRun:
     def __init__(self, seed):
         self.draw = random.Random(seed)
         self.opened = 0
-        self.throttles, self.panels = [], []
+        self.throttles = []
+        self.panels = []
         self.moment = 0
 
     def number(self, most):

@@ -12,12 +12,16 @@ from pathlib import Path
 from bridge_tests import common
 from bridge_tests.common import until
 
-OWN, BUSES, ROUTES = 9, (1, 2), 8  # the routes' own bus, those of what they use, and how many routes there are
+OWN = 9  # the routes' own bus
+BUSES = (1, 2)  # those of the devices of a route
+ROUTES = 8  # how many there are
 DEVICES = [(bus, address) for bus in BUSES for address in range(1, 6)]  # turnouts, and as many sensors
 SIGNALS = [(bus, address) for bus in BUSES for address in (11, 12)]
 LAYOUT = "port = {port}\n" + "".join(
     f'[[bus]]\nnumber = {bus}\ngroups = ["GA", "FB"]\nga_max = 12\nfb_ports = 12\n' for bus in (*BUSES, OWN))
-PACE, TROUBLE, THROTTLES = 0.005, 6.0, 3
+PACE = 0.005
+TROUBLE = 6.0
+THROTTLES = 3
 READY = f"none of {ROUTES} routes is set"
 
 
@@ -35,7 +39,8 @@ def plan_of(draw):
 class Route:
     def __init__(self, given):
         self.turnouts = {(bus, address): port for bus, address, port in given["turnouts"]}
-        self.signal, self.blocks = tuple(given["signal"][:2]), {tuple(block) for block in given["blocks"]}
+        self.signal = tuple(given["signal"][:2])
+        self.blocks = {tuple(block) for block in given["blocks"]}
 
     def conflicts(self, other):
         return bool(self.turnouts.keys() & other.turnouts.keys() or self.blocks & other.blocks
@@ -125,12 +130,17 @@ class Watch:
 
 class Soak:
     def __init__(self, program, seed):
-        common.SERVER, self.draw, self.program = program, random.Random(seed), program
+        common.SERVER = program
+        self.draw = random.Random(seed)
+        self.program = program
         text = plan_of(self.draw)
         self.path = Path(common.new_folder(), "plan.toml")
         self.path.write_text(text)
-        self.watch, self.server = Watch(tomllib.loads(text)), common.Server(LAYOUT)
-        self.way, self.running, self.troubles = common.Way(self.server), True, 0
+        self.watch = Watch(tomllib.loads(text))
+        self.server = common.Server(LAYOUT)
+        self.way = common.Way(self.server)
+        self.running = True
+        self.troubles = 0
         self.threads = [threading.Thread(target=work, daemon=True) for work in (self.look, *[self.drive] * THROTTLES)]
         for thread in self.threads:
             thread.start()

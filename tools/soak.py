@@ -43,7 +43,10 @@ LAST = b" 100 INFO 1 POWER ON last\n"
 
 
 def replay(program: str, wanted: int = 1_000_000) -> int:
-    done, seconds, peak, seed = 0, 0.0, 0, 1
+    done = 0
+    seconds = 0.0
+    peak = 0
+    seed = 1
     with replays(program, LONG_RUN) as (words, source, printed):
         while done < wanted:
             text, count = script_of_a_long_run(seed, min(EVENTS_A_SCRIPT, wanted - done))
@@ -54,7 +57,10 @@ def replay(program: str, wanted: int = 1_000_000) -> int:
                 sys.exit(f"script {seed}: {len(record)} bytes printed, which are no record")
             overruns = len(re.findall(rb"^connection \d+ \d+ overrun\n", record, re.M))
             print(f"script {seed}: {count} events, {len(record)} bytes printed, {overruns} panels overran", flush=True)
-            done, seconds, peak, seed = done + count, seconds + took, max(peak, held), seed + 1
+            done = done + count
+            seconds = seconds + took
+            peak = max(peak, held)
+            seed = seed + 1
     print(f"{done} events in {seconds:.1f} s: {done / seconds:.0f} events a second, peak {peak} KiB")
     return 0
 

@@ -7,7 +7,12 @@ import re
 from dataclasses import dataclass, field
 
 # Sides of a cell, in eighths of a turn.
-EAST, SOUTHEAST, SOUTHWEST, WEST, NORTHWEST, NORTHEAST = 0, 1, 3, 4, 5, 7
+EAST = 0
+SOUTHEAST = 1
+SOUTHWEST = 3
+WEST = 4
+NORTHWEST = 5
+NORTHEAST = 7
 DOWN = {"\\": (SOUTHEAST, NORTHWEST, 1), "/": (SOUTHWEST, NORTHEAST, -1)}  # the lower side, the upper one, and its way
 PIECES = re.compile(r"\w+|[^ ]")
 PLAIN = ("=", "/", "\\")

@@ -37,7 +37,11 @@ class Driver:
     """
 
     def __init__(self, mirror, bus):
-        self.mirror, self.bus, self.taken, self.name, self.beginning = mirror, bus, {}, "", asyncio.Lock()
+        self.mirror = mirror
+        self.bus = bus
+        self.taken = {}
+        self.name = ""
+        self.beginning = asyncio.Lock()
         self.session: Session | None = None
         self.unused: set[int] = set()
 

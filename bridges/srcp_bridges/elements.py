@@ -5,7 +5,10 @@ from srcp_bridges.drawing import Fault, Node, Point
 from srcp_bridges.lines import Lines
 from srcp_bridges.tracks import Ways, block, check_pass, legs, opposite
 
-BUSES, ACCESSORIES, SENSORS, PORTS = range(1, 251), range(1, 2045), range(1, 4097), range(8)
+BUSES = range(1, 251)
+ACCESSORIES = range(1, 2045)
+SENSORS = range(1, 4097)
+PORTS = range(8)
 TURNOUT = (BUSES, ACCESSORIES, range(2))
 KINDS = {"turnout": ("GA", TURNOUT, "[bus, address, port of the branch]"),
          "signal": ("GA", (BUSES, ACCESSORIES, PORTS, PORTS), "[bus, address, port of go, port of stop]"),

@@ -26,7 +26,9 @@ class Entrance:
     """
 
     def __init__(self, word: str, port: int, now=time.monotonic):
-        self.word, self.cookie, self.now = word, f"srcp_word_{port}", now
+        self.word = word
+        self.cookie = f"srcp_word_{port}"
+        self.now = now
         self.tokens: dict[str, None] = {}
         self.rested: dict[str, float] = {}
 

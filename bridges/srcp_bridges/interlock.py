@@ -13,7 +13,8 @@ from srcp_bridges.rows import Key, Port, Row, Rows
 
 RUN = Path(__file__).resolve().parent.parent.parent / "run"  # that of the repository, if this file is in it
 FAULT = re.compile(r"^(?:srcp_server: plan|srcp_server|error): (.*)", re.M)
-LOCK, REPORT = re.compile(r"SET (\d+) LOCK GA (\d+) 0"), re.compile(r"SET \d+ FB (\d+) ([01])")
+LOCK = re.compile(r"SET (\d+) LOCK GA (\d+) 0")
+REPORT = re.compile(r"SET \d+ FB (\d+) ([01])")
 Accessory = tuple[int, int]  # bus, address
 
 
@@ -27,7 +28,8 @@ class RoutePlan:
     turnouts. `signals` has those of all."""
 
     def __init__(self, program: str, path: str):
-        self.program, self.path = program, path
+        self.program = program
+        self.path = path
         words = program, "interlock", "--plan", path
         try:
             done = subprocess.run(words, stdin=subprocess.DEVNULL, capture_output=True, text=True)
@@ -67,7 +69,10 @@ class Interlock:
 
     def __init__(self, process: asyncio.subprocess.Process, bus: int):
         assert process.stdin and process.stdout
-        self.process, self.input, self.output, self.bus = process, process.stdin, process.stdout, bus
+        self.process = process
+        self.input = process.stdin
+        self.output = process.stdout
+        self.bus = bus
 
     @classmethod
     async def begin(cls, plan: RoutePlan, session: int, rows: Rows) -> "Interlock":

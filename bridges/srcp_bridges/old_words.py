@@ -9,8 +9,12 @@ from srcp_bridges.srcp import Mirror
 
 NUMBER = re.compile("[0-9]{1,9}")
 GROUPS = {"POWER": "POWER", "GL": "GL 1", "GA": "GA 1 0", "FB": "FB 1"}  # and a question for each
-SHORT, LONG, WRONG = "419 ERROR list too short", "418 ERROR list too long", "412 ERROR wrong value"
-NO_DATA, LATE, FORBIDDEN = "416 ERROR no data", "417 ERROR timeout", "415 ERROR forbidden"
+SHORT = "419 ERROR list too short"
+LONG = "418 ERROR list too long"
+WRONG = "412 ERROR wrong value"
+NO_DATA = "416 ERROR no data"
+LATE = "417 ERROR timeout"
+FORBIDDEN = "415 ERROR forbidden"
 UNSUPPORTED = "423 ERROR unsupported operation"
 LISTED = 1.0  # seconds until what was made is told of
 DAY = 99999, 23, 59, 59  # the most that the words of a time may be
@@ -35,13 +39,20 @@ class Clock:
     """The time of the layout, in seconds. It stands until it is told how fast it goes."""
 
     def __init__(self):
-        self.at, self.since, self.speed, self.is_set, self.turned = 0.0, 0.0, 0.0, False, asyncio.Event()
+        self.at = 0.0
+        self.since = 0.0
+        self.speed = 0.0
+        self.is_set = False
+        self.turned = asyncio.Event()
 
     def now(self) -> float:
         return self.at + (time.monotonic() - self.since) * self.speed
 
     def turn(self, at: float, speed: float, is_set: bool = True):
-        self.at, self.since, self.speed, self.is_set = at, time.monotonic(), speed, is_set
+        self.at = at
+        self.since = time.monotonic()
+        self.speed = speed
+        self.is_set = is_set
         self.turned.set()
 
     def row(self, at: float | None = None) -> str:
@@ -54,7 +65,9 @@ class Answers:
     sessions that asked for the time."""
 
     def __init__(self, asked, tell: Callable[[str], None]):
-        self.mirror, self.tell, self.clock = Mirror(asked, self.told), tell, Clock()
+        self.mirror = Mirror(asked, self.told)
+        self.tell = tell
+        self.clock = Clock()
         self.waits: set[asyncio.Queue] = set()  # the changes that come to each WAIT
 
     def told(self, change):

@@ -23,7 +23,8 @@ class Orders:
     """
 
     def __init__(self, mirror, refused):
-        self.mirror, self.refused = mirror, refused
+        self.mirror = mirror
+        self.refused = refused
         self.waits: asyncio.Queue[Order] = asyncio.Queue(WAITING)
         self.stops: set[asyncio.Task] = set()
         self.beside: set[asyncio.Task] = set()

@@ -35,9 +35,15 @@ class Page:
     """
 
     def __init__(self, mirror, browser):
-        self.mirror, self.browser, self.session, self.taken, self.drives = mirror, browser, None, set(), {}
+        self.mirror = mirror
+        self.browser = browser
+        self.session = None
+        self.taken = set()
+        self.drives = {}
         self.events: collections.deque[str] = collections.deque()
-        self.more, self.turn, self.open = asyncio.Event(), asyncio.Lock(), True
+        self.more = asyncio.Event()
+        self.turn = asyncio.Lock()
+        self.open = True
         self.heard = asyncio.get_running_loop().time()
 
     def tell(self, text):

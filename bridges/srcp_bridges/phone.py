@@ -16,15 +16,19 @@ AT_ONCE = 32  # lines that are read at once from a phone that has sent too many
 UNREAD = 1 << 20  # bytes that wait for a phone; one that is further behind is gone
 VANISHED = {socket.TCP_KEEPIDLE: 5, socket.TCP_KEEPINTVL: 2, socket.TCP_KEEPCNT: 3,
             socket.TCP_USER_TIMEOUT: 11000}  # type: ignore[attr-defined]
-STOP_EVERY, END = "M*A*<;>X", "Q"
+STOP_EVERY = "M*A*<;>X"
+END = "Q"
 
 
 class Phone:
     """The connection of a phone. `waiting` has its lines in the order in which they are carried out."""
 
     def __init__(self, layout: Layout, reader: asyncio.StreamReader, writer: asyncio.StreamWriter):
-        self.layout, self.reader, self.writer = layout, reader, writer
-        self.driver, self.watched = Driver(layout.mirror, layout.bus), False
+        self.layout = layout
+        self.reader = reader
+        self.writer = writer
+        self.driver = Driver(layout.mirror, layout.bus)
+        self.watched = False
         self.view = View(layout, self.driver.taken, self.say)
         self.words = Words(layout, self.driver, self.view, self.say)
         self.waiting: asyncio.PriorityQueue[Line] = asyncio.PriorityQueue()

@@ -16,11 +16,14 @@ from srcp_bridges.srcp import Mirror
 if TYPE_CHECKING:
     from srcp_bridges.phone import Phone
 
-PHONES, OF_ONE = 40, 8  # phones that are served: in all, and of one address
+PHONES = 40  # phones that are served in all
+OF_ONE = 8  # those of one address
 MOMENT = 0.3  # seconds for which changes of a list are gathered
 STAND_EVERY = "M*A*<;>V0"  # as a phone says that all stands that it has taken
 ROUTES = "routes"  # a list, beside those of the groups GL and GA
-UNKNOWN, CLOSED, THROWN = "1", "2", "4"
+UNKNOWN = "1"
+CLOSED = "2"
+THROWN = "4"
 KINDS = "PTT]\\[Turnouts}|{Turnout]\\[Closed}|{2]\\[Thrown}|{4]\\[Unknown}|{1"
 
 
@@ -29,7 +32,9 @@ class Layout:
 
     def __init__(self, asked):
         plan = read_plan(asked.plan)
-        self.asked, self.bus, self.places = asked, asked.bus, Places(PHONES, OF_ONE)
+        self.asked = asked
+        self.bus = asked.bus
+        self.places = Places(PHONES, OF_ONE)
         self.names = plan.names | names(asked.names)
         self.phones: set[Phone] = set()
         self.due: set[str] = set()  # the lists that are about to be told anew

@@ -3,7 +3,8 @@ from srcp_bridges.plan import Plan
 from srcp_bridges.rows import position
 from srcp_bridges.srcp import Mirror
 
-ACTIVE, INACTIVE = "2", "4"
+ACTIVE = "2"
+INACTIVE = "4"
 NO_ROUTES = "PRL"
 KINDS = f"PRT]\\[Routes}}|{{Route]\\[Active}}|{{{ACTIVE}]\\[Inactive}}|{{{INACTIVE}"
 
@@ -14,7 +15,8 @@ class Routes:
 
     def __init__(self, mirror: Mirror, plan: Plan):
         drawing = plan.drawing or {"bus": None, "routes": []}
-        self.mirror, self.bus = mirror, drawing["bus"]
+        self.mirror = mirror
+        self.bus = drawing["bus"]
         self.names: dict[int, str] = {route["number"]: route["name"] for route in drawing["routes"]}
 
     def is_there(self, number: int) -> bool:

@@ -10,7 +10,10 @@ class View:
     """
 
     def __init__(self, layout, taken, say):
-        self.layout, self.taken, self.say, self.shown = layout, taken, say, {}
+        self.layout = layout
+        self.taken = taken
+        self.say = say
+        self.shown = {}
 
     def begin(self):
         """Tells a phone that has come what there is."""

@@ -14,7 +14,8 @@ from srcp_bridges.stop import stop_one
 HORN = 2  # the function that is on for as long as it is pressed, if a phone says nothing else; others toggle
 STEPS = "s1"  # the protocol's name for 126 steps, and a stop
 PULSE = 250  # milliseconds for which the port of a turnout is on
-URGENT, USUAL = 0, 1  # what stops goes before what waits
+URGENT = 0  # what stops goes before what waits
+USUAL = 1
 STOPS = re.compile(r"M(.)A([^<]*)<;>(?:X|I|Q|V-[0-9]{1,5}|V0{1,5})")
 EVERY = "*"  # throttle, or key
 POWER = ("", "power")
@@ -36,7 +37,11 @@ class Words:
     throttle and key, and by address."""
 
     def __init__(self, layout: Layout, driver: Driver, view: View, say: Callable[[str], None]):
-        self.layout, self.bus, self.driver, self.view, self.say = layout, layout.bus, driver, view, say
+        self.layout = layout
+        self.bus = layout.bus
+        self.driver = driver
+        self.view = view
+        self.say = say
         self.lines = 0
         self.stopped: dict[Which | int, int] = {}
         self.own: Counter[int] = Counter()  # stops that this phone ordered, by address

@@ -16,7 +16,8 @@ class Places:
     """Counts the connections that are open, by address."""
 
     def __init__(self, most: int, most_of_one: int):
-        self.most, self.most_of_one = most, most_of_one
+        self.most = most
+        self.most_of_one = most_of_one
         self.open: collections.Counter[str] = collections.Counter()
 
     @contextlib.contextmanager

@@ -53,7 +53,8 @@ def number(least, most):
     return of
 
 
-PORT, BUS = number(1, 65535), number(1, 250)
+PORT = number(1, 65535)
+BUS = number(1, 250)
 
 
 class Arguments(argparse.ArgumentParser):

@@ -11,8 +11,11 @@ class Routes:
     """Reads the routes of a document whose drawing has these elements."""
 
     def __init__(self, document: dict[str, Any], lines: Lines, elements: Elements, ways: Ways):
-        self.lines, self.elements, self.ways = lines, elements, ways
-        self.bus, self.given = document.get("bus"), document.get("route", [])
+        self.lines = lines
+        self.elements = elements
+        self.ways = ways
+        self.bus = document.get("bus")
+        self.given = document.get("route", [])
         if not isinstance(self.given, list) or not all(isinstance(each, dict) for each in self.given):
             raise Fault(lines.of("route"), "a route is a table: [[route]]")
         if self.given and not is_within([self.bus], (BUSES,)):

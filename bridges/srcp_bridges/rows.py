@@ -62,7 +62,9 @@ class Change(NamedTuple):
 
 KINDS: dict[tuple[str, str | int], Callable[..., Row]] = {
     ("SESSION", "is"): Peer, ("GL", "is"): Locomotive, ("GA", "is"): Accessory, ("FB", "does"): Sensor}
-BACKWARD, FORWARD, EMERGENCY_STOP = 0, 1, 2
+BACKWARD = 0
+FORWARD = 1
+EMERGENCY_STOP = 2
 NOT_SRCP = (ValueError, KeyError, IndexError, TypeError)  # what reading a line raises that the server does not send
 
 

@@ -25,7 +25,11 @@ class Session(asyncio.Protocol):
 
     def __init__(self, port):
         loop = asyncio.get_running_loop()
-        self.take, self.port, self.begun, self.id, self.ended = None, port, b"", None, loop.create_future()
+        self.take = None
+        self.port = port
+        self.begun = b""
+        self.id = None
+        self.ended = loop.create_future()
         self.waiting = deque([loop.create_future()])  # for the welcome line
 
     @classmethod
@@ -125,10 +129,19 @@ class Mirror:
     """
 
     def __init__(self, asked, told=lambda change: None, joined=lambda anew: None, left=lambda: None, keeps_place=False):
-        self.server, self.again, self.here, self.anew = (asked.host, asked.port), asked.again, False, True
-        self.keeps_place, self.spare = keeps_place, None
-        self.told, self.joined, self.left = told, joined, left
-        self.rows, self.ways, self.stops, self.stale = Rows(), {}, Stops(), {}
+        self.server = (asked.host, asked.port)
+        self.again = asked.again
+        self.here = False
+        self.anew = True
+        self.keeps_place = keeps_place
+        self.spare = None
+        self.told = told
+        self.joined = joined
+        self.left = left
+        self.rows = Rows()
+        self.ways = {}
+        self.stops = Stops()
+        self.stale = {}
         self.session: Session | None = None
 
     async def run(self):

@@ -17,7 +17,8 @@ class Stops:
     """
 
     def __init__(self):
-        self.all, self.running = 0, 0
+        self.all = 0
+        self.running = 0
         self.each: Counter = Counter()
         self.due: Counter = Counter()
         self.under_way: Counter = Counter()

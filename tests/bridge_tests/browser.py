@@ -48,7 +48,10 @@ class Chromium:
                                         pass_fds=(read, write), start_new_session=True, stdin=subprocess.DEVNULL,
                                         stdout=subprocess.DEVNULL, stderr=subprocess.DEVNULL)
         os.close(read), os.close(write)
-        self.count, self.writing, self.waiting, self.pages = 0, threading.Lock(), {}, {}
+        self.count = 0
+        self.writing = threading.Lock()
+        self.waiting = {}
+        self.pages = {}
         atexit.register(self.end)
         threading.Thread(target=self.listen, daemon=True).start()
         self.call("Browser.getVersion")
@@ -98,7 +101,10 @@ class Browser:
     """
 
     def __init__(self, chromium, language="en-GB"):
-        self.chromium, self.faults, self.asked, self.session = chromium, [], set(), None
+        self.chromium = chromium
+        self.faults = []
+        self.asked = set()
+        self.session = None
         self.user = chromium.call("Target.createBrowserContext")["browserContextId"]
         target = chromium.call("Target.createTarget", url="about:blank", browserContextId=self.user)["targetId"]
         self.session = chromium.call("Target.attachToTarget", targetId=target, flatten=True)["sessionId"]

@@ -142,7 +142,8 @@ def program(name, *words, **more):
 
 class Server:
     def __init__(self, layout=LAYOUT):
-        self.config, self.process = os.path.join(new_folder(), "layout.toml"), None
+        self.config = os.path.join(new_folder(), "layout.toml")
+        self.process = None
         while not self.process or self.process.process.poll() is not None:  # another process has taken the port
             self.port = free_port()
             Path(self.config).write_text(layout.format(port=self.port))
@@ -210,9 +211,15 @@ class Way:
     """
 
     def __init__(self, server):
-        self.server, self.door, self.panels = server, listener(), []
-        self.open, self.enter = threading.Event(), threading.Event()
-        self.port, self.listed, self.late, self.cuts = self.door.getsockname()[1], None, None, 0
+        self.server = server
+        self.door = listener()
+        self.panels = []
+        self.open = threading.Event()
+        self.enter = threading.Event()
+        self.port = self.door.getsockname()[1]
+        self.listed = None
+        self.late = None
+        self.cuts = 0
         self.free()
         threading.Thread(target=self.accept, daemon=True).start()
 

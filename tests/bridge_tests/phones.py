@@ -34,7 +34,8 @@ class Phone:
     """Begins as Engine Driver does: its name, its id, then perhaps heartbeats."""
 
     def __init__(self, port, watched=False, begin=("Nphone", "HU42"), address="127.0.0.1"):
-        self.lines, self.seen = [], 0
+        self.lines = []
+        self.seen = 0
         self.socket = socket.create_connection(("127.0.0.1", port), WAIT, (address, 0))
         self.socket.settimeout(None)
         threading.Thread(target=self.read, daemon=True).start()

@@ -18,7 +18,10 @@ class StationCase(Case):
     `top` is the number of steps in which locomotive 3 drives there, and `slowest` the first of them, of 126.
     """
     words = ("--patience", 0.5, "--silence", 1.5, "--turnout-pace", 20)
-    where, greeting, top, slowest = "", "", 126, 1
+    where = ""
+    greeting = ""
+    top = 126
+    slowest = 1
     station: Any
 
     def opens(self):

@@ -26,7 +26,8 @@ IS_THERE = unittest.skipUnless(paho and MOSQUITTO and interpreter("mqtt.py"),
 
 class Broker:
     def __init__(self, *more, port=None):
-        self.folder, self.port = new_folder(), port or free_port()
+        self.folder = new_folder()
+        self.port = port or free_port()
         lines = [f"listener {self.port} 127.0.0.1", "allow_anonymous true", "log_type none", "user root", *more, ""]
         Path(self.folder, "conf").write_text("\n".join(lines).format(folder=self.folder))
         self.start()
@@ -43,7 +44,9 @@ class Client:
     """Follows topics; `topics` has what was retained or came since, `came` all payloads in order by topic."""
 
     def __init__(self, port, *levels):
-        self.topics, self.came, self.ready = {}, {}, threading.Event()
+        self.topics = {}
+        self.came = {}
+        self.ready = threading.Event()
         self.levels = levels or ("srcp/#", "homeassistant/#")
         version = [paho.CallbackAPIVersion.VERSION1] if hasattr(paho, "CallbackAPIVersion") else []
         self.client = paho.Client(*version)

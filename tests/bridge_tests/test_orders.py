@@ -6,14 +6,16 @@ import unittest
 from .common import until
 from .test_mqtt import MqttCase, new_bridge, paho
 
-AWAY, DROPPED = "the server is away", "all was stopped meanwhile"
+AWAY = "the server is away"
+DROPPED = "all was stopped meanwhile"
 
 
 class SlowSession:
     """A session whose replies do not come until `replies` or `ended` is done."""
 
     def __init__(self, row):
-        self.row, self.asked = row, []
+        self.row = row
+        self.asked = []
         self.replies, self.ended = (asyncio.get_running_loop().create_future() for _ in range(2))
 
     async def ask(self, command):

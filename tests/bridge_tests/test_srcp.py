@@ -76,7 +76,9 @@ class Following(Case):
     def run_mirror(self, port, steps):
         """Runs a mirror, and the steps beside it in a thread, which may block."""
         from srcp_bridges import srcp
-        srcp.say, self.changes, self.joins = lambda text: None, [], []
+        srcp.say = lambda text: None
+        self.changes = []
+        self.joins = []
 
         async def main():
             asked = argparse.Namespace(host="127.0.0.1", port=port, again=0.05)
@@ -180,7 +182,9 @@ class Following(Case):
         from srcp_bridges.stop import send, stop_all, stop_one
 
         async def steps(mirror):
-            stops, seen, locomotive = mirror.stops, mirror.stops.count(1, 3), (1, "GL", 3, "does")
+            stops = mirror.stops
+            seen = mirror.stops.count(1, 3)
+            locomotive = (1, "GL", 3, "does")
             self.throttle.order("INIT 1 GL 3 N 1 28 2", "SET 1 GL 3 0 9 28")
             await self.comes(lambda: locomotive in mirror.rows and mirror.rows[locomotive].v)
             self.throttle.order("SET 1 GL 3 2 0 28")  # another stops it, and a command of before is late

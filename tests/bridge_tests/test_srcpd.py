@@ -13,8 +13,12 @@ from .test_dcc_ex import DccExCase
 
 HELLO = "SET PROTOCOL SRCP 0.8.4", "201 OK PROTOCOL SRCP"
 COMMAND = "SET CONNECTIONMODE SRCP COMMAND", "202 OK CONNECTIONMODE"
-OK, NO_DATA, WRONG = "200 OK", "416 ERROR no data", "412 ERROR wrong value"
-SHORT, LONG, UNSUPPORTED = "419 ERROR list too short", "418 ERROR list too long", "423 ERROR unsupported operation"
+OK = "200 OK"
+NO_DATA = "416 ERROR no data"
+WRONG = "412 ERROR wrong value"
+SHORT = "419 ERROR list too short"
+LONG = "418 ERROR list too long"
+UNSUPPORTED = "423 ERROR unsupported operation"
 PROTOCOL = "420 ERROR unsupported device protocol"
 SEQUENCES = {  # of a command session: what is sent, and the reply without its stamp, one after the other
     "what a server offers": [
@@ -247,7 +251,9 @@ class Srcpd(Case):
         self.assertEqual(waits.line(), "417 ERROR timeout")
 
     def test_a_server_that_ends(self):
-        client, panel, waits = self.client(), self.client("INFO"), self.client()
+        client = self.client()
+        panel = self.client("INFO")
+        waits = self.client()
         waits.send("WAIT 1 FB 9 1 86400")
         time.sleep(0.3)
         joined = self.proxy.told().count("server: joined")

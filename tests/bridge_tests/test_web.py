@@ -16,9 +16,18 @@ class Events:
     """A page without a browser. One that does not `answer` leaves the beats of web.py without a reply."""
 
     def __init__(self, port, answers=True, own="127.0.0.1", **headers):
-        self.rows, self.here, self.key, self.port, self.gone, self.events = {}, None, None, port, [], []
-        self.stops, self.ways, self.lies = {}, {}, {}
-        self.answers, self.headers, self.own = answers, headers, own
+        self.rows = {}
+        self.here = None
+        self.key = None
+        self.port = port
+        self.gone = []
+        self.events = []
+        self.stops = {}
+        self.ways = {}
+        self.lies = {}
+        self.answers = answers
+        self.headers = headers
+        self.own = own
         self.connection = self.connect()
         self.connection.request("GET", "/events", headers=headers)
         self.socket, self.stream = self.connection.sock, self.connection.getresponse()

@@ -9,7 +9,10 @@ from .stations import QUIET, STANDS, Drives, Hands, Losses, StationCase
 
 
 class Z21Case(StationCase):
-    program, greeting, top, slowest = "z21", "Z21, serial number 123456", 28, 5
+    program = "z21"
+    greeting = "Z21, serial number 123456"
+    top = 28
+    slowest = 5
     words = ("--patience", 0.5, "--silence", 5, "--turnout-pace", 20)  # a busy machine may not hear for a while
     layout = LAYOUT.replace("fb_ports = 32", "fb_ports = 100")
 

@@ -13,10 +13,12 @@ class Route:
     could not be stopped."""
 
     def __init__(self, bus, given):
-        self.bus, self.number = bus, given["number"]
+        self.bus = bus
+        self.number = given["number"]
         self.turnouts = [(of, address, port) for of, address, port in given.get("turnouts", [])]
         self.blocks = {tuple(block) for block in given.get("blocks", [])}
-        self.signal, self.frees = given.get("signal"), tuple(given.get("frees", []))
+        self.signal = given.get("signal")
+        self.frees = tuple(given.get("frees", []))
         self.accessories = {turnout[:2] for turnout in self.turnouts}
         if self.signal:
             self.accessories.add((self.signal[0], self.signal[1]))
@@ -103,8 +105,10 @@ class Interlocking:
     """`free` has the sensors that are known to be 0; `waits` is the route whose reply is to come."""
 
     def __init__(self, plan):
-        self.bus, self.routes = plan["bus"], [Route(plan["bus"], given) for given in plan.get("route", [])]
-        self.free, self.waits = set(), None
+        self.bus = plan["bus"]
+        self.routes = [Route(plan["bus"], given) for given in plan.get("route", [])]
+        self.free = set()
+        self.waits = None
         self.others = {route: [other for other in self.routes if other is not route and route.conflicts(other)]
                        for route in self.routes}
 

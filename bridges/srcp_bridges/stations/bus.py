@@ -18,7 +18,10 @@ class Bus:
     """
 
     def __init__(self, asked, names, many_stop):
-        self.number, self.patience, self.names, self.many_stop = asked.bus, asked.patience, names, many_stop
+        self.number = asked.bus
+        self.patience = asked.patience
+        self.names = names
+        self.many_stop = many_stop
         self.mirror = Mirror(asked, self.take, self.join, self.leave, keeps_place=True)
         self.orders = Orders(self.mirror)
         self.holds = Holds(self.number, self.mirror, self.orders)
@@ -26,7 +29,8 @@ class Bus:
         self.told_of: set[str] = set()  # devices that cannot be driven
         self.untold: list[str] = []
         self.slotless: set[int] = set()  # locomotives for which there was no slot as they were to drive
-        self.patience_ends, self.joined = None, asyncio.Event()
+        self.patience_ends = None
+        self.joined = asyncio.Event()
 
     # ---- rows
 
@@ -57,7 +61,9 @@ class Bus:
             self.lose("stop all")
 
     def locomotive(self, address, change):
-        row, before, part = change.row, change.before, ("cab", address)
+        row = change.row
+        before = change.before
+        part = ("cab", address)
         made, _ = self.track.locomotive(address)
         if row.mode == EMERGENCY_STOP and part in self.track.told:
             self.track.stops.add(address)

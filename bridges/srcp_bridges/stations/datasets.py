@@ -4,7 +4,13 @@ import operator
 import struct
 from collections.abc import Iterator
 
-SERIAL_NUMBER, LOGOFF, XBUS, SET_FLAGS, GET_FLAGS, RMBUS, GET_RMBUS = 0x10, 0x30, 0x40, 0x50, 0x51, 0x80, 0x81
+SERIAL_NUMBER = 0x10
+LOGOFF = 0x30
+XBUS = 0x40
+SET_FLAGS = 0x50
+GET_FLAGS = 0x51
+RMBUS = 0x80
+GET_RMBUS = 0x81
 FORMATS = {14: 0, 28: 2, 126: 3}  # of a command, by the numbers of steps
 REPORTED = {0: 14, 2: 28, 4: 126}  # the numbers of steps of a report, by its format
 FLAGS = (0x10003).to_bytes(4, "little")  # the station tells of its power, turnouts, sensors, and all locomotives

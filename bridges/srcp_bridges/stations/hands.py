@@ -7,14 +7,19 @@ from srcp_bridges.stations.registry import POWER
 from srcp_bridges.stations.reports import Reports
 from srcp_bridges.stop import send, stop_one
 
-OFF, PROGRAMS = "station says off", "programming"  # why the power is off
+# Why the power is off.
+OFF = "station says off"
+PROGRAMS = "programming"
 
 
 class Hands:
     """An echo of what the station was told changes nothing; what else it reports is ordered at the registry."""
 
     def __init__(self, bus):
-        self.bus, self.track, self.orders, self.mirror = bus, bus.track, bus.orders, bus.mirror
+        self.bus = bus
+        self.track = bus.track
+        self.orders = bus.orders
+        self.mirror = bus.mirror
         self.reports = Reports()
 
     def is_news(self, part, value, usual=None):

@@ -10,14 +10,19 @@ class Holds:
     `refused` has the rows that stayed as they were, since another session has the locomotive locked.
     """
 
-    NO_STATION, AWAY, RESET = "no station", "server was away", "station was reset"
+    NO_STATION = "no station"
+    AWAY = "server was away"
+    RESET = "station was reset"
 
     def __init__(self, bus, mirror, orders):
-        self.bus, self.mirror, self.orders = bus, mirror, orders
+        self.bus = bus
+        self.mirror = mirror
+        self.orders = orders
         self.held: set[tuple] = set()
         self.refused: dict = {}
         self.why = self.AWAY
-        self.station, self.lost = False, False  # the station is there; the server was away for too long
+        self.station = False  # the station is there
+        self.lost = False  # the server was away for too long
 
     def rows(self):
         """Yields the parts of this bus that can be held, and their rows."""

@@ -52,7 +52,9 @@ class Line:
     """An open line: `write` and `drain`, `read` up to and with some byte, and `close`."""
 
     def __init__(self, reader, writer, reading):
-        self.reader, self.writer, self.reading = reader, writer, reading
+        self.reader = reader
+        self.writer = writer
+        self.reading = reading
         writer.transport.set_write_buffer_limits(0)
 
     @classmethod

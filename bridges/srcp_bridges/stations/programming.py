@@ -8,7 +8,11 @@ from srcp_bridges.program import say
 from srcp_bridges.state import folder
 
 LIMIT = 15.0  # seconds that a station may take for a CV
-NOBODY, CANNOT_MEASURE, NO_TRACK, SHORT = -1, -2, -3, -4  # what a station may say in place of a value
+# What a station may say in place of a value.
+NOBODY = -1
+CANNOT_MEASURE = -2
+NO_TRACK = -3
+SHORT = -4
 WHY = {NOBODY: "no decoder answers", CANNOT_MEASURE: "the station cannot measure at its programming track",
        NO_TRACK: "the station has no programming track", SHORT: "a short circuit at the programming track"}
 REQUEST = re.compile(r"(?:READ (\d{1,4})|WRITE (\d{1,4}) (\d{1,3}))\n?", re.ASCII)
@@ -24,8 +28,11 @@ class Programming:
     """
 
     def __init__(self, station, beside: bool, repeats: float | None):
-        self.station, self.beside, self.repeats = station, beside, repeats
-        self.path, self.turn = str(folder() / f"{os.getpid()}.door"), asyncio.Lock()
+        self.station = station
+        self.beside = beside
+        self.repeats = repeats
+        self.path = str(folder() / f"{os.getpid()}.door")
+        self.turn = asyncio.Lock()
         self.asked: tuple[int, int | None] = 0, None
         self.said: asyncio.Future[int] | None = None
         self.doubtful = 0.0  # until then an answer that names no CV may be a second one to an earlier command

@@ -13,7 +13,8 @@ class Orders:
     """Carries out what the registry is to be told: of each part the newest, power first."""
 
     def __init__(self, mirror):
-        self.mirror, self.more = mirror, asyncio.Event()
+        self.mirror = mirror
+        self.more = asyncio.Event()
         self.due: dict[tuple, tuple[Act, Callable[[], None] | None]] = {}
 
     def put(self, part, act, refused=None):

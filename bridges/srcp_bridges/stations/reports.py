@@ -12,7 +12,8 @@ class Reports:
     def __init__(self):
         self.sent: defaultdict = defaultdict(deque)
         self.reported: dict = {}
-        self.all_stop, self.stopped = -LATE, set()  # when it was told to stop all; cabs that have echoed that
+        self.all_stop = -LATE  # when it was told to stop all
+        self.stopped = set()  # the cabs that have echoed that
 
     def clear(self):
         self.sent.clear()

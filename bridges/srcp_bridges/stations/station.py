@@ -30,18 +30,28 @@ class Station:
     END; `encode`, which returns the command for a part of the track and its value; `encode_cv`, which returns the
     one for a CV; and the four commands.
     """
-    END, ANSWER = b"\n", ASK  # ANSWER: seconds for which an answer is waited for
-    HELLO, ALIVE, STOP_ALL, SENSORS = b"", b"", b"", b""
+    END = b"\n"
+    ANSWER = ASK  # seconds for which an answer is waited for
+    HELLO = b""
+    ALIVE = b""
+    STOP_ALL = b""
+    SENSORS = b""
     PROGRAMS_BESIDE = True  # as Programming has it
     REPEATS: float | None = None
 
     def __init__(self, asked):
-        self.name, self.silence, self.again = asked.station, asked.silence, asked.again
+        self.name = asked.station
+        self.silence = asked.silence
+        self.again = asked.again
         self.bus = Bus(asked, names(asked.names), self.many_stop)
-        self.track, self.hands = self.bus.track, Hands(self.bus)
+        self.track = self.bus.track
+        self.hands = Hands(self.bus)
         self.sensors: asyncio.Queue = asyncio.Queue(1000)
-        self.ready, self.answered, self.unanswered = asyncio.Event(), asyncio.Event(), 0
-        self.questions, self.began = 0, 0.0
+        self.ready = asyncio.Event()
+        self.answered = asyncio.Event()
+        self.unanswered = 0
+        self.questions = 0
+        self.began = 0.0
         self.line: Line | Datagrams
         self.driven: dict[int, tuple[int, int, float]] = {}  # speed, direction and time of what was told last
         self.programming = Programming(self, self.PROGRAMS_BESIDE, self.REPEATS)

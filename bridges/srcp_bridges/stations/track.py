@@ -25,14 +25,19 @@ class Track:
     """
 
     def __init__(self, bus, mirror, holds, turnout_pace, full):
-        self.bus, self.mirror, self.holds, self.turnout_pace, self.full = bus, mirror, holds, turnout_pace, full
+        self.bus = bus
+        self.mirror = mirror
+        self.holds = holds
+        self.turnout_pace = turnout_pace
+        self.full = full
         self.told: dict = {}
         self.waiting: list[dict] = [{} for _ in range(5)]
         self.not_before = [0.0] * 5
         self.stops: set[int] = set()  # locomotives of whose emergency stop the station is still to be told
         self.known: set[int] = set()
         self.others: dict[int, int] = {}  # speeds of locomotives that the registry has not, as the station reports
-        self.slots, self.changed = None, asyncio.Event()
+        self.slots = None
+        self.changed = asyncio.Event()
         self.tops: tuple[int, ...] = TOPS
         self.at_first: tuple | None = None  # what a locomotive of which it was told nothing does, if it may drive
         self.awaits: Callable[[tuple], bool] = lambda part: False  # whether a part is told nothing else meanwhile
