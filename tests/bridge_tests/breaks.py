@@ -244,7 +244,7 @@ BREAKS = [  # the file, whose cases, what is wrong, the text, what stands in its
     ("request", "web", "10 MB are read", "None if int(length) > LONGEST else ", ""),
     ("request", "web", "half a request may stay", "ARRIVE = 5.0", "ARRIVE = 60.0"),
     ("web", "web", "one machine takes all connections",
-     "Places(MOST, MOST_OF_ONE), Places", "Places(MOST, MOST), Places"),
+     "Places(MOST, MOST_OF_ONE)\n", "Places(MOST, MOST)\n"),
     ("web", "web", "no connection is kept for stops",
      "            await self.serve_stop(reader, writer, guest, fault)\n", "            say(str(fault))\n"),
     ("web", "web", "what is kept for stops serves all", "guest, only=\"/stop\")", "guest)"),
