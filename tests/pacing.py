@@ -21,7 +21,7 @@ LONGEST_GO = 4
 ROWS = 1_000
 LONGEST_END = 4
 CLOSED = 1
-# Six pieces of as many lines are one line more than the lines of a turn weigh.
+# A share is 19 lines of 13 bytes. Five shares weigh one less than the lines of a turn, so the sixth is cut.
 SENDERS = 6
 MOST_AHEAD = 1.5
 

@@ -13,6 +13,9 @@ LINE = len(b"1793674849.260 100 INFO 1 FB 1 1\n")
 GONE = "416 ERROR no data"
 SECONDS_OF_LOAD = 5
 LONGEST_UNTIL_CLOSED = 15
+MAKERS = 32
+STOPS = 9
+SHORTEST_WAIT = 0.1
 PORTS = 149
 FALLS = 10
 # How many ports fall back in a millisecond, and for how many: as many as a panel can take, but not all within 10.
@@ -92,6 +95,26 @@ def panel_that_reads_slower_than_a_line_a_millisecond(program):
     return f"it is not closed in {LONGEST_UNTIL_CLOSED} s" if closed is None else None
 
 
+def emergency_stop_waits_for_a_slow_panel(program):
+    """Beside sessions that make accessories without end a stop waits too, since a panel is told each of their ports."""
+    waits = []
+    with served(program, layout=EIGHT_PORTS) as (port, _):
+        first = Client(port, "COMMAND")
+        first.asks("INIT 1 GL 3 N 1 28 5")
+        throttles = [Client(port, "COMMAND") for _ in range(MAKERS)]
+        with sending_without_end(throttles, b"INIT 1 GA 5 N %d\nTERM 1 GA 5\n"), panel_reading(port, 1_500) as session:
+            time.sleep(1)
+            for _ in range(STOPS):
+                begun = time.monotonic()
+                reply = first.asks("SET 1 GL 3 2 0 0")
+                waits.append(time.monotonic() - begun)
+            kept = first.asks(f"GET 0 SESSION {session}") != GONE
+    if reply != "200 OK" or not kept:
+        return f"a stop is answered {reply}, and the panel is {'kept' if kept else 'closed'}"
+    usual = sorted(waits)[STOPS // 2]
+    return None if usual > SHORTEST_WAIT else f"of {STOPS} stops half are answered within {usual:.3f} s"
+
+
 def changes_at_one_moment_beside_many(program):
     """Ports fall back at one moment, 149 of them, while sessions before and behind a panel send without end. The panel
     is sent each fall."""
@@ -149,5 +172,5 @@ def falls_heard(panel, most):
 
 RATE_CASES = (panel_that_reads_a_little_faster_than_a_line_a_millisecond,
               panel_that_reads_a_little_faster_than_a_change_a_millisecond,
-              panel_that_reads_slower_than_a_line_a_millisecond, changes_at_one_moment_beside_many,
-              falls_at_a_server_that_stood_still)
+              panel_that_reads_slower_than_a_line_a_millisecond, emergency_stop_waits_for_a_slow_panel,
+              changes_at_one_moment_beside_many, falls_at_a_server_that_stood_still)
