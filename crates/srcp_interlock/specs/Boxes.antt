@@ -1,8 +1,7 @@
 -- What a box makes of the lines that it is sent.
 use Rattle.std.specs.Prelude.{◌≡◌, ℕ, List, Option, None, map, option_map}
 use Rattle.std.specs.Option.{option_map_or}
-use Rattle.srcp_routes.specs.Laws.{start}
-use Rattle.srcp_routes.specs.Plan.{Table}
+use Rattle.srcp_routes.specs.Plan.{Table, start}
 use Rattle.srcp_routes.specs.Steps.{Stepped, step}
 use Rattle.srcp_routes.specs.declared.interlocking.Event.{Event}
 use Rattle.srcp_routes.specs.declared.route.Route.{Route}

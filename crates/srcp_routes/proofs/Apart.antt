@@ -1,23 +1,21 @@
 -- While a route is held, each other that conflicts with it stays idle.
 use Rattle.std.proofs.Common.{◌≡◌, ◌≢◌, ◌⊎◌, inl, inr, ℕ, zero, suc, ◌<◌, ◌≤◌, Bool, true, false, not, ◌&&◌, ◌||◌}
 use Rattle.std.proofs.Common.{Option, Some, None, List, [], ◌∷◌, length, refl, sym, ◌∙◌, ap, arith, subst}
-use Rattle.std.proofs.Math.Nat.{eq-or-lt_of_le}
-use Rattle.std.proofs.lemmas.Bool.{cases_lt}
-use Rattle.std.proofs.lemmas.List.{length-set}
-use Rattle.std.proofs.lemmas.Option.{slice_get_past, slice_get_within}
+use Rattle.std.proofs.lemmas.Option.{slice_get_within}
 use Rattle.std.specs.Option.{option_map_or}
-use Rattle.std.specs.Prelude.{fold, if◌then◌else◌, is_some, map, nat_lt, slice_get, slice_set, unwrap_or}
+use Rattle.std.specs.Prelude.{fold, if◌then◌else◌, is_some, map, slice_get, slice_set}
 use Rattle.srcp_routes.specs.Conflicts.{are_free, conflicts, meets}
-use Rattle.srcp_routes.specs.Laws.{AreApart, HeldStandAlone, after, start}
-use Rattle.srcp_routes.specs.Plan.{Table, all_below, conflict_at, is_clear, lets, lost_at, stage_at, wanted_at, written_below}
+use Rattle.srcp_routes.specs.Laws.{AreApart, HeldStandAlone}
+use Rattle.srcp_routes.specs.Plan.{Table, conflict_at, is_clear, lets, stage_at, start, wanted_at}
 use Rattle.srcp_routes.specs.Stages.{after_reply, is_held, is_idle, lost_stage, ready_stage, retried_stage}
-use Rattle.srcp_routes.specs.Steps.{answered, due, heard, may_begin, sent, stage_replied}
+use Rattle.srcp_routes.specs.Steps.{after, answered, due, heard, may_begin, sent, stage_replied}
 use Rattle.srcp_routes.specs.declared.interlocking.Event.{Event}
 use Rattle.srcp_routes.specs.declared.interlocking.Event.TheVariants.{Ask, Give, Told, Reply, Lost}
 use Rattle.srcp_routes.specs.declared.route.Route.{Route}
 use Rattle.srcp_routes.specs.declared.route.Signal.{Signal}
 use Rattle.srcp_routes.specs.declared.stage.Stage.{Stage}
 use Rattle.srcp_routes.specs.declared.stage.Stage.TheVariants as stage
+use Rattle.srcp_routes.proofs.Loops.{all_at}
 
 -- a stage that was written is that of its place, and every other is as it was
 pub stage_at-set : (stages : List Stage) (k : ℕ) (s : Stage) (n : ℕ)
@@ -34,10 +32,6 @@ lost_not_held : (signal : Option Signal) → is_held (option_map_or (λ x. stage
 lost_not_held None = refl
 lost_not_held (Some signal) = refl
 
-lost_of : (x : Option Route) → is_held (option_map_or lost_stage x stage.Idle) ≡ false
-lost_of None = refl
-lost_of (Some route) = lost_not_held route.signal
-
 pub stage_at-start : (routes : List Route) (n : ℕ) → is_held (stage_at (map lost_stage routes) n) ≡ false
 stage_at-start [] n = refl
 stage_at-start (route ∷ routes) zero = lost_not_held route.signal
@@ -47,44 +41,6 @@ pub stage_at-set_same : (stages : List Stage) (k : ℕ) (s : Stage) → k < leng
 stage_at-set_same [] k s lt = absurd (omega (arith, lt))
 stage_at-set_same (x ∷ xs) zero s lt = refl
 stage_at-set_same (x ∷ xs) (suc k) s lt = stage_at-set_same xs k s (omega (arith, lt))
-
-pub length-written_below : (value : ℕ → Stage) (m : ℕ) (xs : List Stage) → length (written_below value m xs) ≡ length xs
-length-written_below value zero xs = refl
-length-written_below value (suc m) xs =
-    length-set (written_below value m xs) m (value m) ∙ length-written_below value m xs
-
--- no route is held once all stages are those of a session that begins
-lost_one : (routes : List Route) (ys : List Stage) (m n : ℕ) → m < length ys
-    → (n ≡ m) ⊎ (is_held (stage_at ys n) ≡ false) → is_held (stage_at (slice_set ys m (lost_at routes m)) n) ≡ false
-lost_one routes ys m n lt (inl e) =
-    subst (λ (i : ℕ). is_held (stage_at (slice_set ys m (lost_at routes m)) i) ≡ false) (sym e)
-    (subst (λ (s : Stage). is_held s ≡ false) (sym (stage_at-set_same ys m (lost_at routes m) lt)) (lost_of (slice_get routes m)))
-lost_one routes ys m n lt (inr h) = elim (stage_at-set ys m (lost_at routes m) n) [
-  | inl p ↦ subst (λ (s : Stage). is_held s ≡ false) (sym p.1) (lost_of (slice_get routes m))
-  | inr e ↦ subst (λ (s : Stage). is_held s ≡ false) (sym e) h
-]
-
-lost_which : (m n : ℕ) (X Y : Type 0) → (n < suc m) ⊎ X → ((n < m) ⊎ X → Y) → (n ≡ m) ⊎ Y
-lost_which m n X Y (inr x) so = inr (so (inr x))
-lost_which m n X Y (inl lt) so =
-    elim (eq-or-lt_of_le {n = n} {m = m} (omega (arith, lt))) [ inl e ↦ inl e | inr lower ↦ inr (so (inl lower)) ]
-
-lost_below : (routes : List Route) (stages : List Stage) (m n : ℕ) → m ≤ length stages
-    → (n < m) ⊎ (is_held (stage_at stages n) ≡ false) → is_held (stage_at (written_below (lost_at routes) m stages) n) ≡ false
-lost_below routes stages zero n le (inl lt) = absurd (omega (arith, lt))
-lost_below routes stages zero n le (inr h) = h
-lost_below routes stages (suc m) n le which =
-    lost_one routes (written_below (lost_at routes) m stages) m n
-    (omega (arith, le, length-written_below (lost_at routes) m stages))
-    (lost_which m n (is_held (stage_at stages n) ≡ false) (is_held (stage_at (written_below (lost_at routes) m stages) n) ≡ false)
-    which (lost_below routes stages m n (omega (arith, le))))
-
-pub lost_all : (routes : List Route) (stages : List Stage) (n : ℕ)
-    → is_held (stage_at (written_below (lost_at routes) (length stages) stages) n) ≡ false
-lost_all routes stages n = lost_below routes stages (length stages) n (omega arith) (elim (cases_lt n (length stages)) [
-  | inl lt ↦ inl lt
-  | inr ge ↦ inr (ap (λ (x : Option Stage). is_held (unwrap_or x stage.Idle)) (slice_get_past stages n ge))
-])
 
 -- routes conflict both ways
 or_comm : (a b : Bool) → (a || b) ≡ (b || a)
@@ -113,23 +69,9 @@ within_of routes m (Some a) (Some b) e clash = slice_get_within routes m b e
 pub within : (routes : List Route) (n m : ℕ) → conflict_at routes n m ≡ true → m < length routes
 within routes n m clash = within_of routes m (slice_get routes n) (slice_get routes m) refl clash
 
--- a test that holds of all below a number holds of each
-and_left : (a b : Bool) → (a && b) ≡ true → a ≡ true
-and_left true b h = refl
-and_left false b h = h
-
 pub and_right : (a b : Bool) → (a && b) ≡ true → b ≡ true
 and_right true b h = h
 and_right false b h = absurd (cc)
-
-all_at_of : (test : ℕ → Bool) (n m : ℕ) → (m ≡ n) ⊎ (m < n) → (m < n → test m ≡ true) → test n ≡ true → test m ≡ true
-all_at_of test n m (inl e) below here = subst (λ (i : ℕ). test i ≡ true) (sym e) here
-all_at_of test n m (inr lt) below here = below lt
-
-pub all_at : (test : ℕ → Bool) (n m : ℕ) → m < n → all_below test n ≡ true → test m ≡ true
-all_at test zero m lt h = absurd (omega (arith, lt))
-all_at test (suc n) m lt h = all_at_of test n m (eq-or-lt_of_le (omega (arith, lt)))
-    (λ lower. all_at test n m lower (and_left (all_below test n) (test n) h)) (and_right (all_below test n) (test n) h)
 
 let_idle : (c i : Bool) → c ≡ true → (not c || i) ≡ true → i ≡ true
 let_idle true i h lets = lets
@@ -261,10 +203,6 @@ next_of t true d apart = apart
 next_of t false None apart = apart
 next_of t false (Some n) apart = sent_of t n (slice_get t.routes n) apart
 
-if_apart : (test : Bool) (t u : Table) → AreApart t → AreApart u → AreApart (if test then t else u)
-if_apart true t u apart other = apart
-if_apart false t u apart other = other
-
 replied_stage : (t : Table) (ok : Bool) (n : ℕ) (x : Option Route) → Follows (stage_at t.stages n)
     (option_map_or (λ (route : Route). after_reply route (stage_at t.stages n) ok) x stage.Idle)
 replied_stage t ok n None = none_follows (stage_at t.stages n)
@@ -272,19 +210,17 @@ replied_stage t ok n (Some route) = reply_follows route (stage_at t.stages n) ok
 
 replied_of : (t : Table) (ok : Bool) (x : Option ℕ) → AreApart t → AreApart (option_map_or (answered t ok) x t)
 replied_of t ok None apart = apart
-replied_of t ok (Some n) apart = if_apart (nat_lt n (length t.routes)) _ _
-    (follows t.routes t.stages n (stage_replied t n ok) (replied_stage t ok n (slice_get t.routes n)) apart) apart
+replied_of t ok (Some n) apart =
+    follows t.routes t.stages n (stage_replied t n ok) (replied_stage t ok n (slice_get t.routes n)) apart
 
 heard_apart : (t : Table) (event : Event) → AreApart t → AreApart (heard t event)
-heard_apart t (Ask n) apart = if_apart (nat_lt n (length t.routes)) _ _ apart apart
-heard_apart t (Give n) apart = if_apart (nat_lt n (length t.routes)) _ _
-    (follows t.routes t.stages n (retried_stage (stage_at t.stages n)) (retry_follows (stage_at t.stages n)) apart) apart
+heard_apart t (Ask n) apart = apart
+heard_apart t (Give n) apart =
+    follows t.routes t.stages n (retried_stage (stage_at t.stages n)) (retry_follows (stage_at t.stages n)) apart
 heard_apart t (Told sensor on) apart = apart
 heard_apart t (Reply ok) apart = replied_of t ok t.waiting apart
 heard_apart t Lost apart = λ n m differ clash h.
-    let not : is_held (stage_at (written_below (lost_at t.routes) (length t.stages) t.stages) n) ≡ false =
-    lost_all t.routes t.stages n in
-    absurd (cc)
+    let not : is_held (stage_at (map lost_stage t.routes) n) ≡ false = stage_at-start t.routes n in absurd (cc)
 
 pub after_apart : (t : Table) (event : Event) → AreApart t → AreApart (after t event)
 after_apart t event apart =

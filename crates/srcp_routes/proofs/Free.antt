@@ -1,15 +1,14 @@
 -- A sensor that the table has as free was last told to be 0.
 use Rattle.std.proofs.Common.{◌≡◌, ◌⊎◌, inl, inr, ◌++◌, ◌==◌, ℕ, Bool, true, false, not, ◌&&◌, Option, Some, None, List, [], ◌∷◌}
-use Rattle.std.proofs.Common.{length, refl, sym, ◌∙◌, subst}
+use Rattle.std.proofs.Common.{refl, sym, ◌∙◌, subst}
 use Rattle.std.proofs.lemmas.Bool.{and_from, and_parts, eq-eqb, eqb-true, or_cases, or_from, or_left, or_right}
 use Rattle.std.proofs.lemmas.List.Folds.{list_any-append}
 use Rattle.std.specs.Option.{option_map_or}
-use Rattle.std.specs.Prelude.{if◌then◌else◌, is_some, map, nat_lt}
+use Rattle.std.specs.Prelude.{if◌then◌else◌, is_some, map, option_to_list}
 use Rattle.srcp_routes.specs.Conflicts.{is_free, is_same, route_sensors, sensors_of, told_sensor, unknown}
-use Rattle.srcp_routes.specs.Laws.{after}
 use Rattle.srcp_routes.specs.Plan.{Table}
 use Rattle.srcp_routes.specs.Runs.{free_heard}
-use Rattle.srcp_routes.specs.Steps.{answered, due, heard, sent}
+use Rattle.srcp_routes.specs.Steps.{after, answered, due, heard, sent}
 use Rattle.srcp_routes.specs.declared.conflict.Sensed.{Sensed}
 use Rattle.srcp_routes.specs.declared.interlocking.Event.{Event}
 use Rattle.srcp_routes.specs.declared.interlocking.Event.TheVariants.{Ask, Give, Told, Reply, Lost}
@@ -73,13 +72,9 @@ if_told true x y P (inr p) so = absurd (cc)
 if_told false x y P (inl p) so = absurd (cc)
 if_told false x y P (inr p) so = so p.1
 
-if_sensors : (test : Bool) (t u : Table) → t.sensors ≡ u.sensors → (if test then t else u).sensors ≡ u.sensors
-if_sensors true t u e = e
-if_sensors false t u e = refl
-
 answer_sensors : (t : Table) (ok : Bool) (x : Option ℕ) → (option_map_or (answered t ok) x t).sensors ≡ t.sensors
 answer_sensors t ok None = refl
-answer_sensors t ok (Some n) = if_sensors (nat_lt n (length t.routes)) _ _ refl
+answer_sensors t ok (Some n) = refl
 
 as_before : (sensors later : List Sensed) (free : Device → Bool) → later ≡ sensors → IsFreeRightly sensors free
     → IsFreeRightly later free
@@ -87,8 +82,8 @@ as_before sensors later free e all = subst (λ (l : List Sensed). IsFreeRightly 
 
 pub heard_free : (t : Table) (event : Event) (free : Device → Bool) → IsFreeRightly t.sensors free
     → IsFreeRightly (heard t event).sensors (free_heard free event)
-heard_free t (Ask n) free all = as_before t.sensors _ free (if_sensors (nat_lt n (length t.routes)) _ t refl) all
-heard_free t (Give n) free all = as_before t.sensors _ free (if_sensors (nat_lt n (length t.routes)) _ t refl) all
+heard_free t (Ask n) free all = all
+heard_free t (Give n) free all = all
 heard_free t (Told sensor on) free all = λ x h. if_told (is_same x sensor) (not on) (free x) (is_free t.sensors x ≡ true)
     (told_free t.sensors sensor x on (is_same x sensor) refl h) (all x)
 heard_free t (Reply ok) free all = as_before t.sensors _ free (answer_sensors t ok t.waiting) all
@@ -113,16 +108,10 @@ unknown_free : (devices : List Device) (x : Device) → is_free (map unknown dev
 unknown_free [] x = refl
 unknown_free (device ∷ devices) x = unknown_free devices x
 
-frees_free : (frees : Option Device) (x : Device)
-    → is_free (option_map_or (λ sensor. unknown sensor ∷ []) frees []) x ≡ false
-frees_free None x = refl
-frees_free (Some sensor) x = refl
-
 sensors_free : (routes : List Route) (x : Device) → is_free (sensors_of routes) x ≡ false
 sensors_free [] x = refl
 sensors_free (route ∷ routes) x = none_free (route_sensors route) (sensors_of routes) x
-    (none_free (map unknown route.blocks.items) (option_map_or (λ sensor. unknown sensor ∷ []) route.frees []) x
-    (unknown_free route.blocks.items x) (frees_free route.frees x)) (sensors_free routes x)
+    (unknown_free (route.blocks.items ++ option_to_list route.frees) x) (sensors_free routes x)
 
 pub start_free : (routes : List Route) → IsFreeRightly (sensors_of routes) (λ x. false)
 start_free routes x h = let no : is_free (sensors_of routes) x ≡ false = sensors_free routes x in absurd (cc)

@@ -3,7 +3,7 @@ use Rattle.std.proofs.Common.{◌≡◌, true, false, List, [], ◌∷◌, refl}
 use Rattle.std.specs.Prelude.{fold, is_some, map}
 use Rattle.srcp_routes.specs.Laws.{AreApart}
 use Rattle.srcp_routes.specs.Plan.{stage_at}
-use Rattle.srcp_routes.specs.Runs.{Run, locked_heard, may_go_heard, run, run_after, run_start, shown_heard, thrown_heard}
+use Rattle.srcp_routes.specs.Runs.{Run, granted, has_signal, heard_of, put, run, run_after, run_start, stopped}
 use Rattle.srcp_routes.specs.Stages.{is_held, lost_stage}
 use Rattle.srcp_routes.specs.Steps.{due, heard}
 use Rattle.srcp_routes.specs.declared.interlocking.Event.{Event}
@@ -31,18 +31,18 @@ after_holds routes r event holds = record {
   fits = after_fits routes r.table event holds.fits;
   apart = after_apart r.table event holds.apart;
   pends = step_pends routes r.table r.order event holds.fits holds.pends;
-  locked = next_locked routes (heard r.table event) (locked_heard r event) (is_some (heard r.table event).waiting)
-      (due (heard r.table event)) (heard_fits routes r.table event holds.fits) refl (after_apart r.table event holds.apart)
+  locked = next_locked routes (heard r.table event) (heard_of granted (λ m x. false) r.locked r event)
+      (is_some (heard r.table event).waiting) (due (heard r.table event)) (heard_fits routes r.table event holds.fits) refl (after_apart r.table event holds.apart)
       (heard_locked r event holds.pends holds.locked);
-  thrown = next_thrown routes (heard r.table event) (thrown_heard r event) (is_some (heard r.table event).waiting)
-      (due (heard r.table event)) (heard_fits routes r.table event holds.fits) refl (after_apart r.table event holds.apart)
+  thrown = next_thrown routes (heard r.table event) (heard_of put (λ m x. false) r.thrown r event)
+      (is_some (heard r.table event).waiting) (due (heard r.table event)) (heard_fits routes r.table event holds.fits) refl (after_apart r.table event holds.apart)
       (heard_thrown r event holds.pends holds.thrown);
-  shown = next_goes false routes (heard r.table event) (shown_heard r event) (is_some (heard r.table event).waiting)
-      (due (heard r.table event)) (heard_fits routes r.table event holds.fits) refl
+  shown = next_goes false routes (heard r.table event) (heard_of stopped (λ m. false) r.shown r event)
+      (is_some (heard r.table event).waiting) (due (heard r.table event)) (heard_fits routes r.table event holds.fits) refl
       (heard_shown r event holds.pends holds.shown);
-  may_go = next_goes true routes (heard r.table event) (may_go_heard r event) (is_some (heard r.table event).waiting)
-      (due (heard r.table event)) (heard_fits routes r.table event holds.fits) refl
-      (heard_may_go routes r event holds.fits holds.pends holds.may_go);
+  may_go = next_goes true routes (heard r.table event) (heard_of stopped (has_signal r.table.routes) r.may_go r event)
+      (is_some (heard r.table event).waiting) (due (heard r.table event)) (heard_fits routes r.table event holds.fits) refl
+      (heard_may_go r event holds.pends holds.may_go);
   free = after_free r.table event r.free holds.free;
 }
 

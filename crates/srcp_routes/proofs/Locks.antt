@@ -6,13 +6,14 @@ use Rattle.std.proofs.lemmas.Bool.{or_left, or_right}
 use Rattle.std.proofs.lemmas.Option.{slice_get_within}
 use Rattle.std.specs.List.{list_any}
 use Rattle.std.specs.Option.{option_map, option_map_or}
-use Rattle.std.specs.Prelude.{if◌then◌else◌, nat_lt, slice_get, slice_set}
-use Rattle.srcp_routes.specs.Conflicts.{are_free, conflicts, has_turnout, is_same, is_signal, meets, turnouts_meet, uses}
-use Rattle.srcp_routes.specs.Conflicts.{signal_meets, blocks_meet}
+use Rattle.std.specs.Prelude.{if◌then◌else◌, map, nat_lt, slice_get, slice_set}
+use Rattle.srcp_routes.specs.Conflicts.{are_free, blocks_meet, conflicts, has_turnout, is_same, is_signal, meets}
+use Rattle.srcp_routes.specs.Conflicts.{signal_meets, turnouts_meet, uses}
 use Rattle.srcp_routes.specs.Laws.{AreApart}
-use Rattle.srcp_routes.specs.Plan.{Table, conflict_at, lost_at, stage_at, wanted_at, written_below}
-use Rattle.srcp_routes.specs.Runs.{Locks, Run, granted, locked_heard, locked_sent}
-use Rattle.srcp_routes.specs.Stages.{after_reply, count_of, is_held, is_idle, order_of, ready_stage, retried_stage, turnout_at}
+use Rattle.srcp_routes.specs.Plan.{Table, conflict_at, stage_at, wanted_at}
+use Rattle.srcp_routes.specs.Runs.{Locks, Run, granted, heard_of, locked_sent}
+use Rattle.srcp_routes.specs.Stages.{after_reply, count_of, is_held, is_idle, lost_stage, order_of, ready_stage, retried_stage}
+use Rattle.srcp_routes.specs.Stages.{turnout_at}
 use Rattle.srcp_routes.specs.Steps.{Stepped, answered, due, heard, may_begin, ready_at, sent, stage_replied}
 use Rattle.srcp_routes.specs.declared.interlocking.Event.{Event}
 use Rattle.srcp_routes.specs.declared.interlocking.Event.TheVariants.{Ask, Give, Told, Reply, Lost}
@@ -24,8 +25,8 @@ use Rattle.srcp_routes.specs.declared.route.Setting.{Setting}
 use Rattle.srcp_routes.specs.declared.route.Signal.{Signal}
 use Rattle.srcp_routes.specs.declared.stage.Stage.{Stage}
 use Rattle.srcp_routes.specs.declared.stage.Stage.TheVariants as stage
-use Rattle.srcp_routes.proofs.Apart.{lost_all, stage_at-set, stage_at-set_same, idle_not_held}
-use Rattle.srcp_routes.proofs.Pending.{Fits, Pends, PendsAt, Sends, due_sends}
+use Rattle.srcp_routes.proofs.Apart.{stage_at-set, stage_at-set_same, stage_at-start, idle_not_held}
+use Rattle.srcp_routes.proofs.Pending.{Fits, Pends, PendsAt, Sends, due_sends, replied_none, replied_some, replied_to}
 
 -- at this stage the turnout at a place is locked
 abbrev pub has_lock : Stage → ℕ → Bool
@@ -141,11 +142,6 @@ set_locked routes stages i s locked later more here all n route k turnout is at 
       (all n route k turnout is at (subst (λ (z : Stage). has_lock z k ≡ true) e h))
 ]
 
-if_locked : (test : Bool) (t u : Table) (locked : Locks) → AllLocked t.routes t.stages locked
-    → AllLocked u.routes u.stages locked → AllLocked (if test then t else u).routes (if test then t else u).stages locked
-if_locked true t u locked all other = all
-if_locked false t u locked all other = other
-
 more_granted : (locked : Locks) (n : ℕ) (o : Order) (m : ℕ) (x : Device) → locked m x ≡ true → granted locked n o m x ≡ true
 more_granted locked n (order.Lock device) m x h = or_right ((m == n) && is_same x device) (locked m x) h
 more_granted locked n other m x h = h
@@ -196,47 +192,31 @@ reply_locked t last locked ok n pends all = set_locked t.routes t.stages n (stag
       | inr p ↦ now_replied locked n pends.order ok turnout.device p.0 p.1
     ]) all
 
--- the same of whichever route waits
-abbrev pub waits_locks : Locks → Option Order → Option ℕ → Bool → Locks
-waits_locks locked last x ok = if ok then option_map_or (λ n. option_map_or (granted locked n) last locked) x locked else locked
-
-waits_none : (locked : Locks) (last : Option Order) (ok : Bool) → waits_locks locked last None ok ≡ locked
-waits_none locked last true = refl
-waits_none locked last false = refl
-
-waits_some : (locked : Locks) (n : ℕ) (o : Order) (ok : Bool)
-    → waits_locks locked (Some o) (Some n) ok ≡ replied_locks locked n o ok
-waits_some locked n o true = refl
-waits_some locked n o false = refl
-
 answer_locked : (t : Table) (last : Option Order) (locked : Locks) (ok : Bool) (x : Option ℕ) → Pends t last x
     → AllLocked t.routes t.stages locked
-    → AllLocked (option_map_or (answered t ok) x t).routes (option_map_or (answered t ok) x t).stages (waits_locks locked last x ok)
+    → AllLocked (option_map_or (answered t ok) x t).routes (option_map_or (answered t ok) x t).stages (replied_to granted locked last x ok)
 answer_locked t last locked ok None pends all =
-    subst (λ (l : Locks). AllLocked t.routes t.stages l) (sym (waits_none locked last ok)) all
+    subst (λ (l : Locks). AllLocked t.routes t.stages l) (sym (replied_none granted locked last ok)) all
 answer_locked t last locked ok (Some n) pends all =
-    let now : waits_locks locked last (Some n) ok ≡ replied_locks locked n pends.order ok =
-    ap (λ (x : Option Order). waits_locks locked x (Some n) ok) pends.waits ∙ waits_some locked n pends.order ok in
+    let now : replied_to granted locked last (Some n) ok ≡ replied_locks locked n pends.order ok =
+    ap (λ (x : Option Order). replied_to granted locked x (Some n) ok) pends.waits ∙ replied_some granted locked n pends.order ok in
     subst (λ (l : Locks). AllLocked (answered t ok n).routes (answered t ok n).stages l) (sym now)
-    (if_locked (nat_lt n (length t.routes)) _ _ (replied_locks locked n pends.order ok)
     (reply_locked t last locked ok n pends all)
-    (λ m route k turnout is at h. more_replied locked n pends.order ok m turnout.device (all m route k turnout is at h)))
 
 -- once an event came
 pub heard_locked : (r : Run) (event : Event) → Pends r.table r.order r.table.waiting
     → AllLocked r.table.routes r.table.stages r.locked
-    → AllLocked (heard r.table event).routes (heard r.table event).stages (locked_heard r event)
-heard_locked r (Ask n) pends all = if_locked (nat_lt n (length r.table.routes)) _ _ r.locked all all
-heard_locked r (Give n) pends all = if_locked (nat_lt n (length r.table.routes)) _ _ r.locked
-    (set_locked r.table.routes r.table.stages n (retried_stage (stage_at r.table.stages n)) r.locked r.locked (λ m x h. h)
-    (λ route k turnout is at h. all n route k turnout is at (retried_locks (stage_at r.table.stages n) k h)) all) all
+    → AllLocked (heard r.table event).routes (heard r.table event).stages (heard_of granted (λ m x. false) r.locked r event)
+heard_locked r (Ask n) pends all = all
+heard_locked r (Give n) pends all =
+    set_locked r.table.routes r.table.stages n (retried_stage (stage_at r.table.stages n)) r.locked r.locked (λ m x h. h)
+    (λ route k turnout is at h. all n route k turnout is at (retried_locks (stage_at r.table.stages n) k h)) all
 heard_locked r (Told sensor on) pends all = all
-heard_locked r (Reply ok) pends all = answer_locked r.table r.order r.locked ok r.table.waiting pends all
+heard_locked r (Reply true) pends all = answer_locked r.table r.order r.locked true r.table.waiting pends all
+heard_locked r (Reply false) pends all = answer_locked r.table r.order r.locked false r.table.waiting pends all
 heard_locked r Lost pends all = λ n route k turnout is at h.
-    let not : is_held (stage_at (written_below (lost_at r.table.routes) (length r.table.stages) r.table.stages) n) ≡ false =
-    lost_all r.table.routes r.table.stages n in
-    let held : is_held (stage_at (written_below (lost_at r.table.routes) (length r.table.stages) r.table.stages) n) ≡ true =
-    locks_held _ k h in
+    let not : is_held (stage_at (map lost_stage r.table.routes) n) ≡ false = stage_at-start r.table.routes n in
+    let held : is_held (stage_at (map lost_stage r.table.routes) n) ≡ true = locks_held _ k h in
     absurd (cc)
 
 -- a route gives up the lock of one of its turnouts

@@ -1,32 +1,27 @@
 -- The order whose reply has not come is that of the stage of the route that waits.
-use Rattle.std.proofs.Common.{◌≡◌, inl, inr, ℕ, zero, suc, ◌<◌, Bool, true, false}
+use Rattle.std.proofs.Common.{◌≡◌, inl, inr, ℕ, ◌<◌, Bool, true, false}
 use Rattle.std.proofs.Common.{Option, Some, None, List, length, refl, sym, ◌∙◌, ap, arith, subst}
 use Rattle.std.proofs.lemmas.List.{length-map, length-set}
 use Rattle.std.proofs.lemmas.Option.{slice_get_within}
 use Rattle.std.specs.Option.{option_and_then, option_map_or, option_or}
-use Rattle.std.specs.Prelude.{if◌then◌else◌, is_some, nat_lt, slice_get, slice_set}
-use Rattle.srcp_routes.specs.Laws.{after, start}
-use Rattle.srcp_routes.specs.Plan.{Table, first_below, lost_at, stage_at}
+use Rattle.std.specs.Prelude.{if◌then◌else◌, is_some, slice_get, slice_set}
+use Rattle.srcp_routes.specs.Plan.{Table, places, stage_at, start}
 use Rattle.srcp_routes.specs.Runs.{order_heard}
 use Rattle.srcp_routes.specs.Stages.{lost_stage, order_of, retried_stage}
-use Rattle.srcp_routes.specs.Steps.{Stepped, answered, due, heard, order_at, ready_at, sent, step}
+use Rattle.srcp_routes.specs.Steps.{Stepped, after, answered, due, heard, order_at, ready_at, sent, step, stage_replied}
 use Rattle.srcp_routes.specs.declared.interlocking.Event.{Event}
 use Rattle.srcp_routes.specs.declared.interlocking.Event.TheVariants.{Ask, Give, Told, Reply, Lost}
 use Rattle.srcp_routes.specs.declared.route.Order.{Order}
 use Rattle.srcp_routes.specs.declared.route.Route.{Route}
 use Rattle.srcp_routes.specs.declared.stage.Stage.{Stage}
 use Rattle.srcp_routes.specs.declared.stage.Stage.TheVariants as stage
-use Rattle.srcp_routes.proofs.Apart.{length-written_below, stage_at-set, stage_at-set_same}
+use Rattle.srcp_routes.proofs.Loops.{found}
+use Rattle.srcp_routes.proofs.Apart.{stage_at-set, stage_at-set_same}
 
 -- the plan stays, and each route of it has a stage
 pub record Fits (routes : List Route) (t : Table) : Type 0 where
   pub plan : t.routes ≡ routes
   pub stages : length t.stages ≡ length routes
-
-if_fits : (routes : List Route) (test : Bool) (t u : Table) → Fits routes t → Fits routes u
-    → Fits routes (if test then t else u)
-if_fits routes true t u fits other = fits
-if_fits routes false t u fits other = other
 
 set_fits : (routes : List Route) (t : Table) (n : ℕ) (s : Stage) → Fits routes t
     → length (slice_set t.stages n s) ≡ length routes
@@ -35,20 +30,17 @@ set_fits routes t n s fits = length-set t.stages n s ∙ fits.stages
 answer_fits : (routes : List Route) (t : Table) (ok : Bool) (x : Option ℕ) → Fits routes t
     → Fits routes (option_map_or (answered t ok) x t)
 answer_fits routes t ok None fits = fits
-answer_fits routes t ok (Some n) fits = if_fits routes (nat_lt n (length t.routes)) _ _
-    (record { plan = fits.plan; stages = set_fits routes t n _ fits }) (record { plan = fits.plan; stages = fits.stages })
+answer_fits routes t ok (Some n) fits =
+    record { plan = fits.plan; stages = set_fits routes t n (stage_replied t n ok) fits }
 
 pub heard_fits : (routes : List Route) (t : Table) (event : Event) → Fits routes t → Fits routes (heard t event)
-heard_fits routes t (Ask n) fits =
-    if_fits routes (nat_lt n (length t.routes)) _ _ (record { plan = fits.plan; stages = fits.stages }) fits
-heard_fits routes t (Give n) fits = if_fits routes (nat_lt n (length t.routes)) _ _
-    (record { plan = fits.plan; stages = set_fits routes t n (retried_stage (stage_at t.stages n)) fits }) fits
+heard_fits routes t (Ask n) fits = record { plan = fits.plan; stages = fits.stages }
+heard_fits routes t (Give n) fits =
+    record { plan = fits.plan; stages = set_fits routes t n (retried_stage (stage_at t.stages n)) fits }
 heard_fits routes t (Told sensor on) fits = record { plan = fits.plan; stages = fits.stages }
 heard_fits routes t (Reply ok) fits = answer_fits routes t ok t.waiting fits
-heard_fits routes t Lost fits = record {
-  plan = fits.plan;
-  stages = length-written_below (lost_at t.routes) (length t.stages) t.stages ∙ fits.stages;
-}
+heard_fits routes t Lost fits =
+    record { plan = fits.plan; stages = length-map t.routes lost_stage ∙ ap length fits.plan }
 
 sent_fits : (routes : List Route) (t : Table) (waits : Bool) (d : Option ℕ) → Fits routes t
     → Fits routes (if waits then record { table = t; order = None } else sent t d).table
@@ -89,11 +81,6 @@ retried_at stages k n route o e = elim (stage_at-set stages k (retried_stage (st
   | inr same ↦ same
 ]
 
-if_pends : (test : Bool) (t u : Table) (last : Option Order) (x : Option ℕ) → Pends t last x → Pends u last x
-    → Pends (if test then t else u) last x
-if_pends true t u last x pends other = pends
-if_pends false t u last x pends other = other
-
 -- once a route is given back
 given_pends : (t : Table) (k : ℕ) (wanted : List Bool) (last : Option Order) (x : Option ℕ) → Pends t last x
     → Pends (record t { stages = slice_set t.stages k (retried_stage (stage_at t.stages k)); wanted = wanted }) last x
@@ -118,47 +105,36 @@ other_pends t u last (Some n) e d pends = record {
   waits = pends.waits;
 }
 
-if_waits : (test : Bool) (t u : Table) → (if test then t else u).waiting ≡ (if test then t.waiting else u.waiting)
-if_waits true t u = refl
-if_waits false t u = refl
-
-if_same : {X : Type 0} → (test : Bool) (x : X) → (if test then x else x) ≡ x
-if_same true x = refl
-if_same false x = refl
-
 none_waits : (t : Table) (ok : Bool) (x : Option ℕ) → t.waiting ≡ x → (option_map_or (answered t ok) x t).waiting ≡ None
 none_waits t ok None e = e
-none_waits t ok (Some n) e = if_waits (nat_lt n (length t.routes)) _ _ ∙ if_same (nat_lt n (length t.routes)) None
+none_waits t ok (Some n) e = refl
 
 pends_as : (t : Table) (last : Option Order) (x y : Option ℕ) → x ≡ y → Pends t last y → Pends t last x
 pends_as t last x y e pends = subst (λ (z : Option ℕ). Pends t last z) (sym e) pends
 
+-- what is known after the reply to the order of whichever route waits
+abbrev pub replied_to : {X : Type 0} → (X → ℕ → Order → X) → X → Option Order → Option ℕ → Bool → X
+replied_to change known last waiting ok =
+    if ok then option_map_or (λ n. option_map_or (change known n) last known) waiting known else known
+
+pub replied_none : {X : Type 0} (change : X → ℕ → Order → X) (known : X) (last : Option Order) (ok : Bool)
+    → replied_to change known last None ok ≡ known
+replied_none change known last true = refl
+replied_none change known last false = refl
+
+pub replied_some : {X : Type 0} (change : X → ℕ → Order → X) (known : X) (n : ℕ) (o : Order) (ok : Bool)
+    → replied_to change known (Some o) (Some n) ok ≡ (if ok then change known n o else known)
+replied_some change known n o true = refl
+replied_some change known n o false = refl
+
 -- once an event came
 pub heard_pends : (t : Table) (last : Option Order) (event : Event) → Pends t last t.waiting
     → Pends (heard t event) (order_heard last event) (heard t event).waiting
-heard_pends t last (Ask n) pends =
-    pends_as (heard t (Ask n)) last _ t.waiting
-    (if_waits (nat_lt n (length t.routes)) _ _ ∙ if_same (nat_lt n (length t.routes)) t.waiting)
-    (if_pends (nat_lt n (length t.routes)) _ _ last t.waiting (other_pends t _ last t.waiting refl refl pends) pends)
-heard_pends t last (Give n) pends =
-    pends_as (heard t (Give n)) last _ t.waiting
-    (if_waits (nat_lt n (length t.routes)) _ _ ∙ if_same (nat_lt n (length t.routes)) t.waiting)
-    (if_pends (nat_lt n (length t.routes)) _ _ last t.waiting
-    (given_pends t n (slice_set t.wanted n false) last t.waiting pends) pends)
+heard_pends t last (Ask n) pends = other_pends t (heard t (Ask n)) last t.waiting refl refl pends
+heard_pends t last (Give n) pends = given_pends t n (slice_set t.wanted n false) last t.waiting pends
 heard_pends t last (Told sensor on) pends = other_pends t (heard t (Told sensor on)) last t.waiting refl refl pends
 heard_pends t last (Reply ok) pends = pends_as (heard t (Reply ok)) None _ None (none_waits t ok t.waiting refl) refl
 heard_pends t last Lost pends = refl
-
--- of the first number of which a test holds it holds
-found_of : (test : ℕ → Bool) (k n : ℕ) (x : Option ℕ) (here : Bool) → test k ≡ here → (x ≡ Some n → test n ≡ true)
-    → option_or x (if here then Some k else None) ≡ Some n → test n ≡ true
-found_of test k n None true is below e = let same : k ≡ n = cc in ap test (sym same) ∙ is
-found_of test k n None false is below e = absurd (cc)
-found_of test k n (Some m) here is below e = below e
-
-found : (test : ℕ → Bool) (k n : ℕ) → first_below test k ≡ Some n → test n ≡ true
-found test zero n e = absurd (cc)
-found test (suc k) n e = found_of test k n (first_below test k) (test k) refl (found test k n) e
 
 -- what a route is due to send
 pub record Sends (t : Table) (n : ℕ) : Type 0 where
@@ -182,7 +158,7 @@ sends_route t n (Some route) is e some = sends_order t n route (order_of route (
 
 pub due_sends : (t : Table) (n : ℕ) → due t ≡ Some n → Sends t n
 due_sends t n e =
-    sends_route t n (slice_get t.routes n) refl refl (found (λ n. is_some (order_at t n)) (length t.routes) n e)
+    sends_route t n (slice_get t.routes n) refl refl (found (λ n. is_some (order_at t n)) (places t.routes) n e)
 
 -- once the next order is sent
 abbrev pub AllPends : Option Order → Stepped → Type 0

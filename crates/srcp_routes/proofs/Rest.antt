@@ -1,17 +1,15 @@
 -- Once no order waits for its reply, each route that is asked for is set, or waits for a reason.
 use Rattle.std.proofs.Common.{◌≡◌, ◌≢◌, ◌⊎◌, inl, inr, ℕ, zero, suc, ◌-◌, ◌==◌, ◌<◌, ◌≤◌, Bool, true, false, not, ◌&&◌, ◌||◌}
 use Rattle.std.proofs.Common.{Option, Some, None, List, [], ◌∷◌, length, refl, sym, ◌∙◌, ap, arith, subst}
-use Rattle.std.proofs.Math.Nat.{eq-or-lt_of_le}
-use Rattle.std.proofs.lemmas.Bool.{and_cases, and_parts, eqb-false, eqb-true, not-true}
+use Rattle.std.proofs.lemmas.Bool.{and_parts, eqb-false, eqb-true, not-true}
 use Rattle.std.proofs.lemmas.Option.{slice_get_within}
-use Rattle.std.specs.Option.{option_and_then, option_map, option_map_or, option_or}
+use Rattle.std.specs.Option.{option_and_then, option_map, option_map_or}
 use Rattle.std.specs.Prelude.{if◌then◌else◌, is_some, slice_get}
 use Rattle.srcp_routes.specs.Conflicts.{are_free}
-use Rattle.srcp_routes.specs.Laws.{after, course}
-use Rattle.srcp_routes.specs.Plan.{Table, all_below, conflict_at, first_below, is_clear, lets, stage_at, wanted_at}
-use Rattle.srcp_routes.specs.Rest.{IsBehind, IsServed, WantedAreServed, is_unstopped, stays}
+use Rattle.srcp_routes.specs.Laws.{IsBehind, IsServed, WantedAreServed, is_unstopped, stays}
+use Rattle.srcp_routes.specs.Plan.{Table, conflict_at, is_clear, lets, stage_at, wanted_at}
 use Rattle.srcp_routes.specs.Stages.{count_of, is_idle, order_of, ready_stage, turnout_at}
-use Rattle.srcp_routes.specs.Steps.{due, heard, may_begin, order_at, sent}
+use Rattle.srcp_routes.specs.Steps.{after, course, due, heard, may_begin, order_at, sent}
 use Rattle.srcp_routes.specs.declared.interlocking.Event.{Event}
 use Rattle.srcp_routes.specs.declared.route.Order.{Order}
 use Rattle.srcp_routes.specs.declared.route.Order.TheVariants as order
@@ -20,6 +18,7 @@ use Rattle.srcp_routes.specs.declared.route.Setting.{Setting}
 use Rattle.srcp_routes.specs.declared.route.Signal.{Signal}
 use Rattle.srcp_routes.specs.declared.stage.Stage.{Stage}
 use Rattle.srcp_routes.specs.declared.stage.Stage.TheVariants as stage
+use Rattle.srcp_routes.proofs.Loops.{Fails, fails_below, none_found}
 use Rattle.srcp_routes.proofs.Pending.{Fits, heard_fits}
 use Rattle.srcp_routes.proofs.Well.{AllSent, AllWell, IsSound, below, course_sound, fresh, heard_sent, heard_well, well}
 
@@ -132,34 +131,6 @@ must_rest route false free begins (stage.Unlocking left) good old none =
     mapped (λ (setting : Setting). order.Unlock setting.device) (turnout_at route left)
     (some_turnout route left (below left (count_of route) good)) in absurd (cc)
 
--- if no number is found the test fails at each
-none_found_of : (test : ℕ → Bool) (k i : ℕ) (here : Bool) (x : Option ℕ) → test k ≡ here → (i ≡ k) ⊎ (i < k)
-    → (i < k → x ≡ None → test i ≡ false) → option_or x (if here then Some k else None) ≡ None → test i ≡ false
-none_found_of test k i here (Some n) is which so none = absurd (cc)
-none_found_of test k i true None is which so none = absurd (cc)
-none_found_of test k i false None is (inl same) so none = ap test same ∙ is
-none_found_of test k i false None is (inr lower) so none = so lower refl
-
-none_found : (test : ℕ → Bool) (k i : ℕ) → i < k → first_below test k ≡ None → test i ≡ false
-none_found test zero i lt none = absurd (omega (arith, lt))
-none_found test (suc k) i lt none = none_found_of test k i (test k) (first_below test k) refl
-    (eq-or-lt_of_le (omega (arith, lt))) (none_found test k i) none
-
--- a test that does not hold of all fails at one
-record Fails (test : ℕ → Bool) (k : ℕ) : Type 0 where
-  at : ℕ
-  lt : at < k
-  fails : test at ≡ false
-
-fails_below : (test : ℕ → Bool) (k : ℕ) → all_below test k ≡ false → Fails test k
-fails_below test zero h = absurd (cc)
-fails_below test (suc k) h = elim (and_cases (all_below test k) (test k) h) [
-  | inl lower ↦
-      let one : Fails test k = fails_below test k lower in
-      record { at = one.at; lt = omega (arith, one.lt); fails = one.fails }
-  | inr here ↦ record { at = k; lt = omega arith; fails = here }
-]
-
 -- what holds of a table at rest
 pub record IsResting (routes : List Route) (t : Table) : Type 0 where
   pub fits : Fits routes t
@@ -184,7 +155,8 @@ rests_at routes t n route resting is =
     (subst (λ (x : Option Route). is_some (option_and_then (λ (a : Route). order_of a (option_map_or
     (λ (route : Route). let free = are_free t.sensors route.blocks.items in
     ready_stage route (wanted_at t.wanted n) free (may_begin t n free) (stage_at t.stages n)) x stage.Idle)) x) ≡ false) is
-    (none_found (λ n. is_some (order_at t n)) (length t.routes) n (slice_get_within t.routes n route is) resting.due))
+    (none_found (λ n. is_some (order_at t n)) 0 (length t.routes) n (omega arith)
+    (omega (arith, slice_get_within t.routes n route is)) resting.due))
 
 stays_of : (wanted free begins : Bool) (s : Stage) → rests wanted free begins s ≡ true → is_idle s ≡ false
     → stays wanted s ≡ true
@@ -224,7 +196,7 @@ behind routes t n resting h =
 idle_served : (routes : List Route) (t : Table) (n : ℕ) (route : Route) (free clear : Bool) → IsResting routes t
     → are_free t.sensors route.blocks.items ≡ free → is_clear t.routes t.stages n ≡ clear → (free && clear) ≡ false
     → IsServed t.routes t n route
-idle_served routes t n route false clear resting free is none = inr (inl (record { taken = free }))
+idle_served routes t n route false clear resting free is none = inr (inl free)
 idle_served routes t n route true true resting free is none = absurd (cc)
 idle_served routes t n route true false resting free is none = inr (inr (inr (behind routes t n resting is)))
 
@@ -237,7 +209,7 @@ served_of routes t n route true free false stage.Idle resting is wants blocks ma
 served_of routes t n route false free begins stage.Idle resting is wants blocks may rest = absurd (cc)
 served_of routes t n route wanted free true stage.Idle resting is wants blocks may rest = absurd (cc)
 served_of routes t n route wanted free begins stage.Ready resting is wants blocks may rest =
-    inr (inl (record { taken = blocks ∙ not-true free (and_parts wanted (not free) rest).1 }))
+    inr (inl (blocks ∙ not-true free (and_parts wanted (not free) rest).1))
 served_of routes t n route wanted free begins stage.Set resting is wants blocks may rest = inl is
 served_of routes t n route wanted free begins stage.Blocked resting is wants blocks may rest =
     inr (inr (inl (ap is_unstopped is)))
@@ -257,7 +229,7 @@ heard_resting : (routes : List Route) (t : Table) (event : Event) → IsSound ro
     → due (heard t event) ≡ None → IsResting routes (heard t event)
 heard_resting routes t event sound waits none = record {
   fits = heard_fits routes t event sound.fits;
-  well = heard_well routes t event sound.fits sound.well;
+  well = heard_well t event sound.well;
   sent = heard_sent routes t sound.last event sound.fits sound.pends sound.sent;
   waits = waits;
   due = none;

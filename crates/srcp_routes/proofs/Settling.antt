@@ -1,16 +1,15 @@
 -- With each reply the routes have one order less to send, until none waits.
 use Rattle.std.proofs.Common.{◌≡◌, ◌≢◌, ◌⊎◌, inl, inr, ℕ, zero, suc, ◌+◌, ◌<◌, ◌≤◌, Bool, true, false, ◌&&◌}
 use Rattle.std.proofs.Common.{Option, Some, None, List, [], ◌∷◌, length, refl, sym, ◌∙◌, ap, arith, subst}
-use Rattle.std.proofs.lemmas.Bool.{and_parts, cases_eq, lt-ltb}
+use Rattle.std.proofs.lemmas.Bool.{and_parts, cases_eq}
 use Rattle.std.proofs.lemmas.Option.{slice_get_within}
 use Rattle.std.specs.Option.{option_map_or}
-use Rattle.std.specs.Prelude.{fold, if◌then◌else◌, is_some, map, nat_lt, slice_get, slice_set}
+use Rattle.std.specs.Prelude.{fold, if◌then◌else◌, is_some, map, slice_get, slice_set}
 use Rattle.srcp_routes.specs.Conflicts.{are_free}
-use Rattle.srcp_routes.specs.Laws.{after, course}
+use Rattle.srcp_routes.specs.Laws.{RepliesSettle}
 use Rattle.srcp_routes.specs.Plan.{Table, is_clear, stage_at, wanted_at}
-use Rattle.srcp_routes.specs.Settling.{RepliesSettle}
 use Rattle.srcp_routes.specs.Stages.{after_reply, count_of, is_idle, order_of, ready_stage}
-use Rattle.srcp_routes.specs.Steps.{answered, due, heard, may_begin, ready_at, sent, stage_replied}
+use Rattle.srcp_routes.specs.Steps.{after, answered, course, due, heard, may_begin, ready_at, sent, stage_replied}
 use Rattle.srcp_routes.specs.declared.interlocking.Event.TheVariants.{Reply}
 use Rattle.srcp_routes.specs.declared.route.Order.{Order}
 use Rattle.srcp_routes.specs.declared.route.Route.{Route}
@@ -46,13 +45,6 @@ cost_by x wanted s = option_map_or (λ (route : Route). cost (count_of route) wa
 abbrev wanted_after : Table → Bool → ℕ → List Bool
 wanted_after t ok n = if ok then t.wanted else slice_set t.wanted n false
 
-abbrev answered_table : Table → Bool → ℕ → Table
-answered_table t ok n = record t {
-  stages = slice_set t.stages n (stage_replied t n ok);
-  wanted = wanted_after t ok n;
-  waiting = None;
-}
-
 wanted_after_else : (t : Table) (ok : Bool) (k n : ℕ) → n ≢ k → wanted_at (wanted_after t ok k) n ≡ wanted_at t.wanted n
 wanted_after_else t true k n differ = refl
 wanted_after_else t false k n differ = wanted_else t.wanted k n false differ
@@ -69,14 +61,14 @@ reply_cost t route o false n orders good =
 
 -- the route whose reply came has less to send
 replied_less : (routes : List Route) (t : Table) (last : Option Order) (ok : Bool) (n : ℕ) → Fits routes t
-    → AllWell t.routes t.stages → PendsAt t last n → cost_at (answered_table t ok n) n + 1 ≤ cost_at t n
+    → AllWell t.routes t.stages → PendsAt t last n → cost_at (answered t ok n) n + 1 ≤ cost_at t n
 replied_less routes t last ok n fits good pends =
     let within : n < length t.stages =
     omega (arith, slice_get_within t.routes n pends.route pends.is, fits.stages, ap length fits.plan) in
     let now : stage_at (slice_set t.stages n (stage_replied t n ok)) n ≡ after_reply pends.route (stage_at t.stages n) ok =
     stage_at-set_same t.stages n (stage_replied t n ok) within
     ∙ ap (λ (x : Option Route). option_map_or (λ (a : Route). after_reply a (stage_at t.stages n) ok) x stage.Idle) pends.is in
-    let one : cost_at (answered_table t ok n) n
+    let one : cost_at (answered t ok n) n
     ≡ cost (count_of pends.route) (wanted_at (wanted_after t ok n) n) (after_reply pends.route (stage_at t.stages n) ok) =
     ap (λ (x : Option Route). cost_by x (wanted_at (wanted_after t ok n) n)
     (stage_at (slice_set t.stages n (stage_replied t n ok)) n)) pends.is
@@ -92,21 +84,21 @@ same_cost : (x : Option Route) (w v : Bool) (s z : Stage) → w ≡ v → s ≡ 
 same_cost x w v s z e d = ap (λ (y : Bool). cost_by x y s) e ∙ ap (cost_by x v) d
 
 replied_le_of : (t : Table) (ok : Bool) (k n : ℕ) → (n ≡ k) ⊎ (n ≢ k)
-    → cost_at (answered_table t ok k) k + 1 ≤ cost_at t k → cost_at (answered_table t ok k) n ≤ cost_at t n
+    → cost_at (answered t ok k) k + 1 ≤ cost_at t k → cost_at (answered t ok k) n ≤ cost_at t n
 replied_le_of t ok k n (inl same) less =
-    subst (λ (i : ℕ). cost_at (answered_table t ok k) i ≤ cost_at t i) (sym same) (omega (arith, less))
+    subst (λ (i : ℕ). cost_at (answered t ok k) i ≤ cost_at t i) (sym same) (omega (arith, less))
 replied_le_of t ok k n (inr differ) less =
-    let one : cost_at (answered_table t ok k) n ≡ cost_at t n =
+    let one : cost_at (answered t ok k) n ≡ cost_at t n =
     same_cost (slice_get t.routes n) (wanted_at (wanted_after t ok k) n) (wanted_at t.wanted n)
     (stage_at (slice_set t.stages k (stage_replied t k ok)) n) (stage_at t.stages n)
     (wanted_after_else t ok k n differ) (stage_else t.stages k n (stage_replied t k ok) differ) in
     omega (arith, one)
 
 replied_work : (routes : List Route) (t : Table) (last : Option Order) (ok : Bool) (n : ℕ) → Fits routes t
-    → AllWell t.routes t.stages → PendsAt t last n → work (answered_table t ok n) + 1 ≤ work t
+    → AllWell t.routes t.stages → PendsAt t last n → work (answered t ok n) + 1 ≤ work t
 replied_work routes t last ok n fits good pends =
-    let less : cost_at (answered_table t ok n) n + 1 ≤ cost_at t n = replied_less routes t last ok n fits good pends in
-    total_less (cost_at (answered_table t ok n)) (cost_at t) (length t.routes) n
+    let less : cost_at (answered t ok n) n + 1 ≤ cost_at t n = replied_less routes t last ok n fits good pends in
+    total_less (cost_at (answered t ok n)) (cost_at t) (length t.routes) n
     (slice_get_within t.routes n pends.route pends.is) less (λ m. replied_le_of t ok n m (cases_eq m n) less)
 
 -- no route has more to send once the next order is sent
@@ -170,27 +162,20 @@ next_work routes t None (Some k) fits good all waits =
     (λ n. sent_le_of routes t k n (cases_eq n k) fits good all waits)
 
 -- the table once the reply to the order of a route came
-if_true : {X : Type 0} → (test : Bool) (x y : X) → test ≡ true → (if test then x else y) ≡ x
-if_true true x y h = refl
-if_true false x y h = absurd (cc)
-
-heard_is : (t : Table) (ok : Bool) (n : ℕ) → t.waiting ≡ Some n → n < length t.routes
-    → heard t (Reply ok) ≡ answered_table t ok n
-heard_is t ok n waits lt = ap (λ (x : Option ℕ). option_map_or (answered t ok) x t) waits
-    ∙ if_true (nat_lt n (length t.routes)) _ _ (lt-ltb n (length t.routes) lt)
+heard_is : (t : Table) (ok : Bool) (n : ℕ) → t.waiting ≡ Some n → heard t (Reply ok) ≡ answered t ok n
+heard_is t ok n waits = ap (λ (x : Option ℕ). option_map_or (answered t ok) x t) waits
 
 after_work : (routes : List Route) (t : Table) (ok : Bool) (n : ℕ) → IsSound routes t → t.waiting ≡ Some n
     → work (after t (Reply ok)) + 1 ≤ work t
 after_work routes t ok n sound waits =
     let pends : PendsAt t sound.last n = subst (λ (x : Option ℕ). Pends t sound.last x) waits sound.pends in
-    let is : heard t (Reply ok) ≡ answered_table t ok n = heard_is t ok n waits
-    (slice_get_within t.routes n pends.route pends.is) in
-    let one : work (heard t (Reply ok)) ≡ work (answered_table t ok n) = ap work is in
-    let two : work (answered_table t ok n) + 1 ≤ work t =
+    let is : heard t (Reply ok) ≡ answered t ok n = heard_is t ok n waits in
+    let one : work (heard t (Reply ok)) ≡ work (answered t ok n) = ap work is in
+    let two : work (answered t ok n) + 1 ≤ work t =
     replied_work routes t sound.last ok n sound.fits sound.well pends in
     let three : work (after t (Reply ok)) ≤ work (heard t (Reply ok)) =
     next_work routes (heard t (Reply ok)) (heard t (Reply ok)).waiting (due (heard t (Reply ok)))
-    (heard_fits routes t (Reply ok) sound.fits) (heard_well routes t (Reply ok) sound.fits sound.well)
+    (heard_fits routes t (Reply ok) sound.fits) (heard_well t (Reply ok) sound.well)
     (heard_sent routes t sound.last (Reply ok) sound.fits sound.pends sound.sent) refl in
     omega (arith, one, two, three)
 

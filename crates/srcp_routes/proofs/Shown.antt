@@ -5,9 +5,9 @@ use Rattle.std.proofs.lemmas.Bool.{and_parts, cases_eq}
 use Rattle.std.specs.Option.{option_map_or}
 use Rattle.std.specs.Prelude.{if◌then◌else◌, is_some, slice_get}
 use Rattle.srcp_routes.specs.Conflicts.{are_free, is_free, is_same}
+use Rattle.srcp_routes.specs.Laws.{IsShownRightly, ShownAreKept, ShownStand, ShowsAreFree, Stands, touched}
 use Rattle.srcp_routes.specs.Plan.{Table, is_clear, stage_at, wanted_at}
 use Rattle.srcp_routes.specs.Runs.{Run, run, run_after}
-use Rattle.srcp_routes.specs.Signals.{IsShownRightly, ShownAreKept, ShownStand, ShowsAreFree, Stands, touched}
 use Rattle.srcp_routes.specs.Stages.{is_idle, ready_stage, turnout_at}
 use Rattle.srcp_routes.specs.Steps.{due, heard, may_begin, ready_at, sent}
 use Rattle.srcp_routes.specs.declared.interlocking.Event.{Event}

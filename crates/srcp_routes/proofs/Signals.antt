@@ -1,16 +1,14 @@
 -- A signal that may show "go" is that of a route at a stage of which that is known.
 use Rattle.std.proofs.Common.{◌≡◌, inl, inr, ℕ, zero, suc, ◌==◌, ◌<◌, ◌≤◌, Bool, true, false, not, ◌&&◌}
-use Rattle.std.proofs.Common.{Option, Some, None, List, [], ◌∷◌, length, refl, sym, ◌∙◌, ap, arith, subst}
-use Rattle.std.proofs.Math.Nat.{eq-or-lt_of_le}
+use Rattle.std.proofs.Common.{Option, Some, None, List, [], ◌∷◌, refl, sym, ◌∙◌, ap, subst}
 use Rattle.std.proofs.lemmas.Bool.{and_parts, eq-eqb, eqb-true, or_cases}
-use Rattle.std.proofs.lemmas.Option.{slice_get_within}
 use Rattle.std.specs.Option.{option_map, option_map_or}
-use Rattle.std.specs.Prelude.{if◌then◌else◌, is_some, map, nat_lt, slice_get, slice_set}
+use Rattle.std.specs.Prelude.{if◌then◌else◌, is_some, map, slice_get, slice_set}
 use Rattle.srcp_routes.specs.Conflicts.{are_free}
-use Rattle.srcp_routes.specs.Plan.{Table, lost_at, stage_at, wanted_at, written_below}
-use Rattle.srcp_routes.specs.Runs.{Run, Signals, has_signal, may_go_heard, shown_heard, signals_replied, signals_sent, stopped}
-use Rattle.srcp_routes.specs.Stages.{after_reply, lost_stage, order_of, ready_stage, retried_stage, show_setting, stop_setting}
-use Rattle.srcp_routes.specs.Stages.{turnout_at}
+use Rattle.srcp_routes.specs.Plan.{Table, stage_at, wanted_at}
+use Rattle.srcp_routes.specs.Runs.{Run, Signals, has_signal, heard_of, signals_sent, stopped}
+use Rattle.srcp_routes.specs.Stages.{after_reply, lost_stage, order_of, ready_stage, retried_stage, show_setting}
+use Rattle.srcp_routes.specs.Stages.{stop_setting, turnout_at}
 use Rattle.srcp_routes.specs.Steps.{Stepped, answered, due, heard, may_begin, ready_at, sent, stage_replied}
 use Rattle.srcp_routes.specs.declared.interlocking.Event.{Event}
 use Rattle.srcp_routes.specs.declared.interlocking.Event.TheVariants.{Ask, Give, Told, Reply, Lost}
@@ -21,8 +19,8 @@ use Rattle.srcp_routes.specs.declared.route.Setting.{Setting}
 use Rattle.srcp_routes.specs.declared.route.Signal.{Signal}
 use Rattle.srcp_routes.specs.declared.stage.Stage.{Stage}
 use Rattle.srcp_routes.specs.declared.stage.Stage.TheVariants as stage
-use Rattle.srcp_routes.proofs.Apart.{length-written_below, stage_at-set, stage_at-set_same}
-use Rattle.srcp_routes.proofs.Pending.{Fits, Pends, PendsAt, Sends, due_sends}
+use Rattle.srcp_routes.proofs.Apart.{stage_at-set}
+use Rattle.srcp_routes.proofs.Pending.{Fits, Pends, PendsAt, Sends, due_sends, replied_none, replied_some, replied_to}
 use Rattle.srcp_routes.proofs.Touched.{goes, no_order, sends_stage}
 
 -- a route has a signal, and may show "go" by it
@@ -107,12 +105,6 @@ set_goes lost routes stages i s going later less here all n route is h = elim (s
       record { signal = at.signal; goes = ap (goes lost) e ∙ at.goes }
 ]
 
-if_goes : (lost test : Bool) (t u : Table) (going : Signals) → AllGo lost t.routes t.stages going
-    → AllGo lost u.routes u.stages going
-    → AllGo lost (if test then t else u).routes (if test then t else u).stages going
-if_goes lost true t u going all other = all
-if_goes lost false t u going all other = other
-
 stopped_less : (going : Signals) (n : ℕ) (o : Order) (m : ℕ) → stopped going n o m ≡ true → going m ≡ true
 stopped_less going n (order.Stop setting) m h = (and_parts (not (m == n)) (going m) h).1
 stopped_less going n other m h = h
@@ -140,87 +132,62 @@ answer_at lost t last going ok n pends all = set_goes lost t.routes t.stages n (
           ∙ reply_goes lost route (stage_at t.stages n) pends.order ok going n orders at h;
     }) all
 
--- the same of whichever route waits
-stop_none : (going : Signals) (last : Option Order) (ok : Bool) → signals_replied going last None ok ≡ going
-stop_none going last true = refl
-stop_none going last false = refl
-
-stop_some : (going : Signals) (n : ℕ) (o : Order) (ok : Bool)
-    → signals_replied going (Some o) (Some n) ok ≡ stopped_if going n o ok
-stop_some going n o true = refl
-stop_some going n o false = refl
-
 answer_goes : (lost : Bool) (t : Table) (last : Option Order) (going : Signals) (ok : Bool) (x : Option ℕ) → Pends t last x
     → AllGo lost t.routes t.stages going
     → AllGo lost (option_map_or (answered t ok) x t).routes (option_map_or (answered t ok) x t).stages
-    (signals_replied going last x ok)
+    (replied_to stopped going last x ok)
 answer_goes lost t last going ok None pends all =
-    subst (λ (l : Signals). AllGo lost t.routes t.stages l) (sym (stop_none going last ok)) all
+    subst (λ (l : Signals). AllGo lost t.routes t.stages l) (sym (replied_none stopped going last ok)) all
 answer_goes lost t last going ok (Some n) pends all =
-    let now : signals_replied going last (Some n) ok ≡ stopped_if going n pends.order ok =
-    ap (λ (x : Option Order). signals_replied going x (Some n) ok) pends.waits ∙ stop_some going n pends.order ok in
+    let now : replied_to stopped going last (Some n) ok ≡ stopped_if going n pends.order ok =
+    ap (λ (x : Option Order). replied_to stopped going x (Some n) ok) pends.waits ∙ replied_some stopped going n pends.order ok in
     subst (λ (l : Signals). AllGo lost (answered t ok n).routes (answered t ok n).stages l) (sym now)
-    (if_goes lost (nat_lt n (length t.routes)) _ _ (stopped_if going n pends.order ok)
     (answer_at lost t last going ok n pends all)
-    (λ m route is h. all m route is (stopped_if_less going n pends.order ok m h)))
 
 given_goes : (lost : Bool) (t : Table) (n : ℕ) (going : Signals) → AllGo lost t.routes t.stages going
     → AllGo lost (heard t (Give n)).routes (heard t (Give n)).stages going
-given_goes lost t n going all = if_goes lost (nat_lt n (length t.routes)) _ _ going
-    (set_goes lost t.routes t.stages n (retried_stage (stage_at t.stages n)) going going (λ m h. h)
+given_goes lost t n going all =
+    set_goes lost t.routes t.stages n (retried_stage (stage_at t.stages n)) going going (λ m h. h)
     (λ route is h.
     let at : GoesAt lost route (stage_at t.stages n) = all n route is h in
-    record { signal = at.signal; goes = retried_goes lost (stage_at t.stages n) at.goes }) all) all
+    record { signal = at.signal; goes = retried_goes lost (stage_at t.stages n) at.goes }) all
 
 -- as a session begins
-pub written_at : (value : ℕ → Stage) (m : ℕ) (xs : List Stage) (n : ℕ) → m ≤ length xs → n < m
-    → stage_at (written_below value m xs) n ≡ value n
-written_at value zero xs n le lt = absurd (omega (arith, lt))
-written_at value (suc m) xs n le lt =
-    elim (stage_at-set (written_below value m xs) m (value m) n) [
-      | inl p ↦ p.1 ∙ ap value (sym p.0)
-      | inr e ↦ elim (eq-or-lt_of_le {n = n} {m = m} (omega (arith, lt))) [
-        | inl same ↦ subst (λ (i : ℕ). stage_at (slice_set (written_below value m xs) m (value m)) i ≡ value i) (sym same)
-            (stage_at-set_same (written_below value m xs) m (value m) (omega (arith, le, length-written_below value m xs)))
-        | inr lower ↦ e ∙ written_at value m xs n (omega (arith, le)) lower
-      ]
-    ]
-
 lost_goes_at : (x : Option Signal) → is_some x ≡ true
     → goes true (option_map_or (λ signal. stage.Clearing) x stage.Closing) ≡ true
 lost_goes_at None some = absurd (cc)
 lost_goes_at (Some signal) some = refl
 
-lost_goes : (routes : List Route) (t : Table) → Fits routes t
-    → AllGo true t.routes (written_below (lost_at t.routes) (length t.stages) t.stages) (has_signal t.routes)
-lost_goes routes t fits n route is h =
+pub start_stage : (routes : List Route) (n : ℕ) (route : Route) → slice_get routes n ≡ Some route
+    → stage_at (map lost_stage routes) n ≡ lost_stage route
+start_stage [] n route is = absurd (cc)
+start_stage (first ∷ routes) zero route is = let same : first ≡ route = cc in ap lost_stage same
+start_stage (first ∷ routes) (suc n) route is = start_stage routes n route is
+
+pub start_may_go : (routes : List Route) → AllGo true routes (map lost_stage routes) (has_signal routes)
+start_may_go routes n route is h =
     let has : is_some route.signal ≡ true =
     subst (λ (x : Option Route). option_map_or (λ (a : Route). is_some a.signal) x false ≡ true) is h in
-    let within : n < length t.stages =
-    omega (arith, slice_get_within t.routes n route is, fits.stages, ap length fits.plan) in
-    record {
-      signal = has;
-      goes = ap (goes true) (written_at (lost_at t.routes) (length t.stages) t.stages n (omega arith) within
-          ∙ ap (λ (x : Option Route). option_map_or lost_stage x stage.Idle) is) ∙ lost_goes_at route.signal has;
-    }
+    record { signal = has; goes = ap (goes true) (start_stage routes n route is) ∙ lost_goes_at route.signal has }
 
 pub heard_shown : (r : Run) (event : Event) → Pends r.table r.order r.table.waiting
     → AllGo false r.table.routes r.table.stages r.shown
-    → AllGo false (heard r.table event).routes (heard r.table event).stages (shown_heard r event)
-heard_shown r (Ask n) pends all = if_goes false (nat_lt n (length r.table.routes)) _ _ r.shown all all
+    → AllGo false (heard r.table event).routes (heard r.table event).stages (heard_of stopped (λ m. false) r.shown r event)
+heard_shown r (Ask n) pends all = all
 heard_shown r (Give n) pends all = given_goes false r.table n r.shown all
 heard_shown r (Told sensor on) pends all = all
-heard_shown r (Reply ok) pends all = answer_goes false r.table r.order r.shown ok r.table.waiting pends all
+heard_shown r (Reply true) pends all = answer_goes false r.table r.order r.shown true r.table.waiting pends all
+heard_shown r (Reply false) pends all = answer_goes false r.table r.order r.shown false r.table.waiting pends all
 heard_shown r Lost pends all = λ n route is h. absurd (cc)
 
-pub heard_may_go : (routes : List Route) (r : Run) (event : Event) → Fits routes r.table
-    → Pends r.table r.order r.table.waiting → AllGo true r.table.routes r.table.stages r.may_go
-    → AllGo true (heard r.table event).routes (heard r.table event).stages (may_go_heard r event)
-heard_may_go routes r (Ask n) fits pends all = if_goes true (nat_lt n (length r.table.routes)) _ _ r.may_go all all
-heard_may_go routes r (Give n) fits pends all = given_goes true r.table n r.may_go all
-heard_may_go routes r (Told sensor on) fits pends all = all
-heard_may_go routes r (Reply ok) fits pends all = answer_goes true r.table r.order r.may_go ok r.table.waiting pends all
-heard_may_go routes r Lost fits pends all = lost_goes routes r.table fits
+pub heard_may_go : (r : Run) (event : Event) → Pends r.table r.order r.table.waiting → AllGo true r.table.routes r.table.stages r.may_go
+    → AllGo true (heard r.table event).routes (heard r.table event).stages (heard_of stopped (has_signal r.table.routes) r.may_go r event)
+heard_may_go r (Ask n) pends all = all
+heard_may_go r (Give n) pends all = given_goes true r.table n r.may_go all
+heard_may_go r (Told sensor on) pends all = all
+heard_may_go r (Reply true) pends all = answer_goes true r.table r.order r.may_go true r.table.waiting pends all
+heard_may_go r (Reply false) pends all = answer_goes true r.table r.order r.may_go false r.table.waiting pends all
+heard_may_go r Lost pends all = start_may_go r.table.routes
 
 -- a route shows "go" by its signal
 pub record Shows (route : Route) (s : Stage) (setting : Setting) : Type 0 where
@@ -304,16 +271,3 @@ pub next_goes : (lost : Bool) (routes : List Route) (t : Table) (going : Signals
 next_goes lost routes t going true d fits is all = all
 next_goes lost routes t going false None fits is all = all
 next_goes lost routes t going false (Some n) fits is all = sent_goes lost routes t going n fits (due_sends t n is) all
-
--- before any event
-pub start_stage : (routes : List Route) (n : ℕ) (route : Route) → slice_get routes n ≡ Some route
-    → stage_at (map lost_stage routes) n ≡ lost_stage route
-start_stage [] n route is = absurd (cc)
-start_stage (first ∷ routes) zero route is = let same : first ≡ route = cc in ap lost_stage same
-start_stage (first ∷ routes) (suc n) route is = start_stage routes n route is
-
-pub start_may_go : (routes : List Route) → AllGo true routes (map lost_stage routes) (has_signal routes)
-start_may_go routes n route is h =
-    let has : is_some route.signal ≡ true =
-    subst (λ (x : Option Route). option_map_or (λ (a : Route). is_some a.signal) x false ≡ true) is h in
-    record { signal = has; goes = ap (goes true) (start_stage routes n route is) ∙ lost_goes_at route.signal has }

@@ -1,13 +1,13 @@
 -- A route whose turnouts are thrown by its stage has thrown them since they were locked.
 use Rattle.std.proofs.Common.{◌≡◌, ◌⊎◌, inl, inr, ℕ, ◌+◌, ◌==◌, ◌<◌, Bool, true, false, ◌&&◌}
-use Rattle.std.proofs.Common.{Option, Some, None, List, length, refl, sym, ◌∙◌, ap, arith, subst}
+use Rattle.std.proofs.Common.{Option, Some, None, List, refl, sym, ◌∙◌, ap, arith, subst}
 use Rattle.std.proofs.lemmas.Bool.{and_from, eq-eqb, eqb-true, ltb-true, or_left, or_right}
 use Rattle.std.proofs.lemmas.Option.{slice_get_within}
 use Rattle.std.specs.Option.{option_map, option_map_or}
 use Rattle.std.specs.Prelude.{if◌then◌else◌, map, nat_lt, slice_get, slice_set}
 use Rattle.srcp_routes.specs.Conflicts.{is_same}
-use Rattle.srcp_routes.specs.Plan.{Table, lost_at, stage_at, written_below}
-use Rattle.srcp_routes.specs.Runs.{Run, Throws, is_setting, put, thrown_heard, thrown_replied}
+use Rattle.srcp_routes.specs.Plan.{Table, stage_at}
+use Rattle.srcp_routes.specs.Runs.{Run, Throws, heard_of, is_setting, put}
 use Rattle.srcp_routes.specs.Stages.{after_reply, count_of, is_held, lost_stage, order_of, ready_stage, retried_stage}
 use Rattle.srcp_routes.specs.Stages.{turnout_at}
 use Rattle.srcp_routes.specs.Steps.{answered, heard, stage_replied}
@@ -20,9 +20,9 @@ use Rattle.srcp_routes.specs.declared.route.Setting.{Setting}
 use Rattle.srcp_routes.specs.declared.route.Signal.{Signal}
 use Rattle.srcp_routes.specs.declared.stage.Stage.{Stage}
 use Rattle.srcp_routes.specs.declared.stage.Stage.TheVariants as stage
-use Rattle.srcp_routes.proofs.Apart.{lost_all, stage_at-set, stage_at-start}
+use Rattle.srcp_routes.proofs.Apart.{stage_at-set, stage_at-start}
 use Rattle.srcp_routes.proofs.Locks.{locked_last, locked_next, same_self}
-use Rattle.srcp_routes.proofs.Pending.{Pends, PendsAt}
+use Rattle.srcp_routes.proofs.Pending.{Pends, PendsAt, replied_none, replied_some, replied_to}
 
 -- at this stage the turnout at a place is thrown
 abbrev pub has_thrown : Stage → ℕ → Bool
@@ -152,12 +152,6 @@ set_thrown routes stages i s thrown later more here all n route k turnout is at 
       (all n route k turnout is at (subst (λ (z : Stage). has_thrown z k ≡ true) e h))
 ]
 
-if_thrown : (test : Bool) (t u : Table) (thrown : Throws) → AllThrown t.routes t.stages thrown
-    → AllThrown u.routes u.stages thrown
-    → AllThrown (if test then t else u).routes (if test then t else u).stages thrown
-if_thrown true t u thrown all other = all
-if_thrown false t u thrown all other = other
-
 more_put : (thrown : Throws) (n : ℕ) (o : Order) (m : ℕ) (x : Setting) → thrown m x ≡ true → put thrown n o m x ≡ true
 more_put thrown n (order.Throw setting) m x h = or_right ((m == n) && is_setting x setting) (thrown m x) h
 more_put thrown n other m x h = h
@@ -201,45 +195,32 @@ answer_at t last thrown ok n pends all = set_thrown t.routes t.stages n (stage_r
       | inr p ↦ now_put_if thrown n pends.order ok turnout p.0 p.1
     ]) all
 
--- the same of whichever route waits
-put_none : (thrown : Throws) (last : Option Order) (ok : Bool) → thrown_replied thrown last None ok ≡ thrown
-put_none thrown last true = refl
-put_none thrown last false = refl
-
-put_some : (thrown : Throws) (n : ℕ) (o : Order) (ok : Bool)
-    → thrown_replied thrown (Some o) (Some n) ok ≡ put_if thrown n o ok
-put_some thrown n o true = refl
-put_some thrown n o false = refl
-
 answer_thrown : (t : Table) (last : Option Order) (thrown : Throws) (ok : Bool) (x : Option ℕ) → Pends t last x
     → AllThrown t.routes t.stages thrown
     → AllThrown (option_map_or (answered t ok) x t).routes (option_map_or (answered t ok) x t).stages
-    (thrown_replied thrown last x ok)
+    (replied_to put thrown last x ok)
 answer_thrown t last thrown ok None pends all =
-    subst (λ (l : Throws). AllThrown t.routes t.stages l) (sym (put_none thrown last ok)) all
+    subst (λ (l : Throws). AllThrown t.routes t.stages l) (sym (replied_none put thrown last ok)) all
 answer_thrown t last thrown ok (Some n) pends all =
-    let now : thrown_replied thrown last (Some n) ok ≡ put_if thrown n pends.order ok =
-    ap (λ (x : Option Order). thrown_replied thrown x (Some n) ok) pends.waits ∙ put_some thrown n pends.order ok in
+    let now : replied_to put thrown last (Some n) ok ≡ put_if thrown n pends.order ok =
+    ap (λ (x : Option Order). replied_to put thrown x (Some n) ok) pends.waits ∙ replied_some put thrown n pends.order ok in
     subst (λ (l : Throws). AllThrown (answered t ok n).routes (answered t ok n).stages l) (sym now)
-    (if_thrown (nat_lt n (length t.routes)) _ _ (put_if thrown n pends.order ok)
     (answer_at t last thrown ok n pends all)
-    (λ m route k turnout is at h. more_put_if thrown n pends.order ok m turnout (all m route k turnout is at h)))
 
 -- once an event came
 pub heard_thrown : (r : Run) (event : Event) → Pends r.table r.order r.table.waiting
     → AllThrown r.table.routes r.table.stages r.thrown
-    → AllThrown (heard r.table event).routes (heard r.table event).stages (thrown_heard r event)
-heard_thrown r (Ask n) pends all = if_thrown (nat_lt n (length r.table.routes)) _ _ r.thrown all all
-heard_thrown r (Give n) pends all = if_thrown (nat_lt n (length r.table.routes)) _ _ r.thrown
-    (set_thrown r.table.routes r.table.stages n (retried_stage (stage_at r.table.stages n)) r.thrown r.thrown (λ m x h. h)
-    (λ route k turnout is at h. all n route k turnout is at (retried_thrown (stage_at r.table.stages n) k h)) all) all
+    → AllThrown (heard r.table event).routes (heard r.table event).stages (heard_of put (λ m x. false) r.thrown r event)
+heard_thrown r (Ask n) pends all = all
+heard_thrown r (Give n) pends all =
+    set_thrown r.table.routes r.table.stages n (retried_stage (stage_at r.table.stages n)) r.thrown r.thrown (λ m x h. h)
+    (λ route k turnout is at h. all n route k turnout is at (retried_thrown (stage_at r.table.stages n) k h)) all
 heard_thrown r (Told sensor on) pends all = all
-heard_thrown r (Reply ok) pends all = answer_thrown r.table r.order r.thrown ok r.table.waiting pends all
+heard_thrown r (Reply true) pends all = answer_thrown r.table r.order r.thrown true r.table.waiting pends all
+heard_thrown r (Reply false) pends all = answer_thrown r.table r.order r.thrown false r.table.waiting pends all
 heard_thrown r Lost pends all = λ n route k turnout is at h.
-    let not : is_held (stage_at (written_below (lost_at r.table.routes) (length r.table.stages) r.table.stages) n) ≡ false =
-    lost_all r.table.routes r.table.stages n in
-    let held : is_held (stage_at (written_below (lost_at r.table.routes) (length r.table.stages) r.table.stages) n) ≡ true =
-    thrown_held _ k h in
+    let not : is_held (stage_at (map lost_stage r.table.routes) n) ≡ false = stage_at-start r.table.routes n in
+    let held : is_held (stage_at (map lost_stage r.table.routes) n) ≡ true = thrown_held _ k h in
     absurd (cc)
 
 pub start_thrown : (routes : List Route) → AllThrown routes (map lost_stage routes) (λ m x. false)

@@ -2,8 +2,9 @@
 use Rattle.std.proofs.Common.{◌≡◌, ◌≢◌, ℕ, true, Option, Some, None, List, refl, sym, ◌∙◌, ap}
 use Rattle.std.specs.Option.{option_map}
 use Rattle.std.specs.Prelude.{slice_get}
+use Rattle.srcp_routes.specs.Laws.{IsThrownRightly, ThrowsAreLocked}
 use Rattle.srcp_routes.specs.Plan.{stage_at}
-use Rattle.srcp_routes.specs.Runs.{IsThrownRightly, Run, ThrowsAreLocked, run}
+use Rattle.srcp_routes.specs.Runs.{Run, run}
 use Rattle.srcp_routes.specs.Stages.{order_of, turnout_at}
 use Rattle.srcp_routes.specs.declared.route.Order.{Order}
 use Rattle.srcp_routes.specs.declared.route.Order.TheVariants as order
@@ -50,13 +51,11 @@ rightly : (routes : List Route) (r : Run) (setting : Setting) (n : ℕ) → Hold
     → IsThrownRightly routes r setting
 rightly routes r setting n holds waits pends throw = record {
   thrower = n;
+  route = pends.route;
+  place = throw.place;
   throws = waits;
-  wants = record {
-    route = pends.route;
-    place = throw.place;
-    is = ap (λ (x : List Route). slice_get x n) (sym holds.fits.plan) ∙ pends.is;
-    at = throw.at;
-  };
+  is = ap (λ (x : List Route). slice_get x n) (sym holds.fits.plan) ∙ pends.is;
+  wants = throw.at;
   locked = holds.locked n pends.route throw.place setting pends.is throw.at throw.locked;
 }
 

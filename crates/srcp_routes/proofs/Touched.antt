@@ -6,10 +6,9 @@ use Rattle.std.proofs.lemmas.Option.{slice_get_within}
 use Rattle.std.specs.Option.{option_map, option_map_or}
 use Rattle.std.specs.Prelude.{if◌then◌else◌, slice_get, slice_set}
 use Rattle.srcp_routes.specs.Conflicts.{are_free, is_same}
-use Rattle.srcp_routes.specs.Laws.{AreApart}
+use Rattle.srcp_routes.specs.Laws.{AreApart, touched}
 use Rattle.srcp_routes.specs.Plan.{Table, conflict_at, stage_at, wanted_at}
 use Rattle.srcp_routes.specs.Runs.{Throws, thrown_sent}
-use Rattle.srcp_routes.specs.Signals.{touched}
 use Rattle.srcp_routes.specs.Stages.{is_held, is_idle, order_of, ready_stage, turnout_at}
 use Rattle.srcp_routes.specs.Steps.{Stepped, due, may_begin, ready_at, sent}
 use Rattle.srcp_routes.specs.declared.route.Device.{Device}

@@ -1,16 +1,15 @@
 -- Which stages a route comes to, and at which of them its order has been sent.
 use Rattle.std.proofs.Common.{◌≡◌, ◌≢◌, ◌⊎◌, inl, inr, ℕ, ◌+◌, ◌-◌, ◌==◌, ◌<◌, ◌≤◌, Bool, true, false}
 use Rattle.std.proofs.Common.{Option, Some, None, List, [], ◌∷◌, length, refl, sym, ◌∙◌, ap, arith, subst}
-use Rattle.std.proofs.lemmas.Bool.{cases_eq, eqb-false, lt-ltb, ltb-false, ltb-true, ne_eqb}
+use Rattle.std.proofs.lemmas.Bool.{cases_eq, eqb-false, lt-ltb, ltb-true, ne_eqb}
 use Rattle.std.proofs.lemmas.Option.{slice_get_within}
 use Rattle.std.specs.Option.{option_map_or, option_or}
 use Rattle.std.specs.Prelude.{fold, if◌then◌else◌, is_some, map, nat_lt, slice_get, slice_set}
 use Rattle.srcp_routes.specs.Conflicts.{are_free}
-use Rattle.srcp_routes.specs.Laws.{after, course, start}
-use Rattle.srcp_routes.specs.Plan.{Table, lost_at, stage_at, wanted_at, written_below}
+use Rattle.srcp_routes.specs.Plan.{Table, stage_at, start, wanted_at}
 use Rattle.srcp_routes.specs.Runs.{order_heard}
 use Rattle.srcp_routes.specs.Stages.{after_reply, count_of, is_held, lost_stage, order_of, ready_stage, retried_stage}
-use Rattle.srcp_routes.specs.Steps.{answered, due, heard, may_begin, ready_at, sent, stage_replied, step}
+use Rattle.srcp_routes.specs.Steps.{after, answered, course, due, heard, may_begin, ready_at, sent, stage_replied, step}
 use Rattle.srcp_routes.specs.declared.interlocking.Event.{Event}
 use Rattle.srcp_routes.specs.declared.interlocking.Event.TheVariants.{Ask, Give, Told, Reply, Lost}
 use Rattle.srcp_routes.specs.declared.route.Order.{Order}
@@ -18,9 +17,9 @@ use Rattle.srcp_routes.specs.declared.route.Route.{Route}
 use Rattle.srcp_routes.specs.declared.route.Signal.{Signal}
 use Rattle.srcp_routes.specs.declared.stage.Stage.{Stage}
 use Rattle.srcp_routes.specs.declared.stage.Stage.TheVariants as stage
-use Rattle.srcp_routes.proofs.Apart.{lost_all, stage_at-set, stage_at-set_same, stage_at-start}
+use Rattle.srcp_routes.proofs.Apart.{stage_at-set, stage_at-set_same, stage_at-start}
 use Rattle.srcp_routes.proofs.Pending.{Fits, Pends, PendsAt, after_fits, start_fits, step_pends}
-use Rattle.srcp_routes.proofs.Signals.{start_stage, written_at}
+use Rattle.srcp_routes.proofs.Signals.{start_stage}
 
 -- a stage that its route can come to
 abbrev pub well : Route → Stage → Bool
@@ -196,33 +195,24 @@ set_well routes stages i s here all n route is = elim (stage_at-set stages i s n
   | inr e ↦ ap (well route) e ∙ all n route is
 ]
 
-if_well : (test : Bool) (t u : Table) → AllWell t.routes t.stages → AllWell u.routes u.stages
-    → AllWell (if test then t else u).routes (if test then t else u).stages
-if_well true t u all other = all
-if_well false t u all other = other
-
 answer_well : (t : Table) (ok : Bool) (x : Option ℕ) → AllWell t.routes t.stages
     → AllWell (option_map_or (answered t ok) x t).routes (option_map_or (answered t ok) x t).stages
 answer_well t ok None all = all
-answer_well t ok (Some n) all = if_well (nat_lt n (length t.routes)) _ _
-    (set_well t.routes t.stages n (stage_replied t n ok)
+answer_well t ok (Some n) all =
+    set_well t.routes t.stages n (stage_replied t n ok)
     (λ route is. ap (λ (x : Option Route).
     well route (option_map_or (λ (a : Route). after_reply a (stage_at t.stages n) ok) x stage.Idle)) is
-    ∙ reply_well route (stage_at t.stages n) ok (all n route is)) all) all
+    ∙ reply_well route (stage_at t.stages n) ok (all n route is)) all
 
-pub heard_well : (routes : List Route) (t : Table) (event : Event) → Fits routes t → AllWell t.routes t.stages
+pub heard_well : (t : Table) (event : Event) → AllWell t.routes t.stages
     → AllWell (heard t event).routes (heard t event).stages
-heard_well routes t (Ask n) fits all = if_well (nat_lt n (length t.routes)) _ _ all all
-heard_well routes t (Give n) fits all = if_well (nat_lt n (length t.routes)) _ _
-    (set_well t.routes t.stages n (retried_stage (stage_at t.stages n))
-    (λ route is. retried_well route (stage_at t.stages n) (all n route is)) all) all
-heard_well routes t (Told sensor on) fits all = all
-heard_well routes t (Reply ok) fits all = answer_well t ok t.waiting all
-heard_well routes t Lost fits all = λ n route is.
-    let within : n < length t.stages =
-    omega (arith, slice_get_within t.routes n route is, fits.stages, ap length fits.plan) in
-    ap (well route) (written_at (lost_at t.routes) (length t.stages) t.stages n (omega arith) within
-    ∙ ap (λ (x : Option Route). option_map_or lost_stage x stage.Idle) is) ∙ lost_well route route.signal refl
+heard_well t (Ask n) all = all
+heard_well t (Give n) all = set_well t.routes t.stages n (retried_stage (stage_at t.stages n))
+    (λ route is. retried_well route (stage_at t.stages n) (all n route is)) all
+heard_well t (Told sensor on) all = all
+heard_well t (Reply ok) all = answer_well t ok t.waiting all
+heard_well t Lost all = λ n route is.
+    ap (well route) (start_stage t.routes n route is) ∙ lost_well route route.signal refl
 
 next_well : (t : Table) (waits : Bool) (d : Option ℕ) → AllWell t.routes t.stages
     → AllWell (if waits then record { table = t; order = None } else sent t d).table.routes
@@ -239,11 +229,6 @@ next_well t false (Some n) all = set_well t.routes t.stages n (ready_at t n)
 -- a route whose order has been sent waits for the reply
 abbrev pub AllSent : List Stage → Option ℕ → Type 0
 AllSent stages waiting = (n : ℕ) → fresh (stage_at stages n) ≡ true → waiting ≡ Some n
-
-if_sent : (test : Bool) (t u : Table) → AllSent t.stages t.waiting → AllSent u.stages u.waiting
-    → AllSent (if test then t else u).stages (if test then t else u).waiting
-if_sent true t u all other = all
-if_sent false t u all other = other
 
 other_sent : (stages : List Stage) (waiting : Option ℕ) (n : ℕ) (s : Stage) (m : ℕ) (P : Type 0) → m ≢ n
     → waiting ≡ Some n → AllSent stages waiting → fresh (stage_at (slice_set stages n s) m) ≡ true → P
@@ -273,20 +258,6 @@ answered_one t ok n m last (inl same) within waits pends all h =
 answered_one t ok n m last (inr differ) within waits pends all h =
     other_sent t.stages t.waiting n (stage_replied t n ok) m _ differ waits all h
 
-answered_sent : (t : Table) (ok : Bool) (n : ℕ) (last : Option Order) (here : Bool) → nat_lt n (length t.routes) ≡ here
-    → n < length t.stages → t.waiting ≡ Some n → PendsAt t last n → AllSent t.stages t.waiting
-    → (wanted : List Bool)
-    → AllSent (if here then record t { stages = slice_set t.stages n (stage_replied t n ok); wanted = wanted; waiting = None }
-    else record t { waiting = None }).stages None
-answered_sent t ok n last false is within waits pends all wanted =
-    absurd (omega (arith, ltb-false n (length t.routes) is, slice_get_within t.routes n pends.route pends.is))
-answered_sent t ok n last true is within waits pends all wanted = λ m h.
-    answered_one t ok n m last (cases_eq m n) within waits pends all h
-
-no_wait : (test : Bool) (t u : Table) → t.waiting ≡ None → u.waiting ≡ None → (if test then t else u).waiting ≡ None
-no_wait true t u one two = one
-no_wait false t u one two = two
-
 answer_sent : (routes : List Route) (t : Table) (last : Option Order) (ok : Bool) (x : Option ℕ) → Fits routes t
     → t.waiting ≡ x → Pends t last x → AllSent t.stages t.waiting
     → AllSent (option_map_or (answered t ok) x t).stages (option_map_or (answered t ok) x t).waiting
@@ -294,8 +265,7 @@ answer_sent routes t last ok None fits waits pends all = all
 answer_sent routes t last ok (Some n) fits waits pends all =
     let within : n < length t.stages =
     omega (arith, slice_get_within t.routes n pends.route pends.is, fits.stages, ap length fits.plan) in
-    subst (λ (x : Option ℕ). AllSent (answered t ok n).stages x) (sym (no_wait (nat_lt n (length t.routes)) _ _ refl refl))
-    (answered_sent t ok n last (nat_lt n (length t.routes)) refl within waits pends all _)
+    λ m h. answered_one t ok n m last (cases_eq m n) within waits pends all h
 
 given_sent : (stages : List Stage) (waiting : Option ℕ) (n : ℕ) → AllSent stages waiting
     → AllSent (slice_set stages n (retried_stage (stage_at stages n))) waiting
@@ -308,16 +278,13 @@ given_sent stages waiting n all m h = elim (stage_at-set stages n (retried_stage
 
 pub heard_sent : (routes : List Route) (t : Table) (last : Option Order) (event : Event) → Fits routes t
     → Pends t last t.waiting → AllSent t.stages t.waiting → AllSent (heard t event).stages (heard t event).waiting
-heard_sent routes t last (Ask n) fits pends all = if_sent (nat_lt n (length t.routes)) _ _ all all
-heard_sent routes t last (Give n) fits pends all =
-    if_sent (nat_lt n (length t.routes)) _ _ (given_sent t.stages t.waiting n all) all
+heard_sent routes t last (Ask n) fits pends all = all
+heard_sent routes t last (Give n) fits pends all = given_sent t.stages t.waiting n all
 heard_sent routes t last (Told sensor on) fits pends all = all
 heard_sent routes t last (Reply ok) fits pends all = answer_sent routes t last ok t.waiting fits refl pends all
 heard_sent routes t last Lost fits pends all = λ m h.
-    let not : is_held (stage_at (written_below (lost_at t.routes) (length t.stages) t.stages) m) ≡ false =
-    lost_all t.routes t.stages m in
-    let held : is_held (stage_at (written_below (lost_at t.routes) (length t.stages) t.stages) m) ≡ true =
-    fresh_held _ h in
+    let not : is_held (stage_at (map lost_stage t.routes) m) ≡ false = stage_at-start t.routes m in
+    let held : is_held (stage_at (map lost_stage t.routes) m) ≡ true = fresh_held _ h in
     absurd (cc)
 
 next_one : (t : Table) (n m : ℕ) (s : Stage) → (m ≡ n) ⊎ (m ≢ n) → t.waiting ≡ None → AllSent t.stages t.waiting
@@ -352,7 +319,7 @@ after_sound routes t event sound = record {
   last = option_or (step t event).order (order_heard sound.last event);
   pends = step_pends routes t sound.last event sound.fits sound.pends;
   well = next_well (heard t event) (is_some (heard t event).waiting) (due (heard t event))
-      (heard_well routes t event sound.fits sound.well);
+      (heard_well t event sound.well);
   sent = next_sent (heard t event) (heard t event).waiting (due (heard t event)) refl
       (heard_sent routes t sound.last event sound.fits sound.pends sound.sent);
 }

@@ -1,6 +1,6 @@
 -- Which routes conflict, and which sensors are free.
-use Rattle.std.specs.Prelude.{◌==◌, Bool, false, not, ◌&&◌, ◌||◌, List, [], ◌∷◌, ◌++◌, map}
-use Rattle.std.specs.Prelude.{if◌then◌else◌}
+use Rattle.std.specs.Prelude.{◌==◌, Bool, false, not, ◌&&◌, ◌||◌, List, ◌++◌, map}
+use Rattle.std.specs.Prelude.{if◌then◌else◌, option_to_list}
 use Rattle.std.specs.List.{flat_map, list_any, list_all}
 use Rattle.std.specs.Option.{option_map_or}
 use Rattle.srcp_routes.specs.declared.conflict.Sensed.{Sensed}
@@ -60,8 +60,7 @@ unknown sensor = record { sensor = sensor; is_free = false }
 
 -- the sensors of a route: its blocks, and the one that frees it
 abbrev pub route_sensors : Route → List Sensed
-route_sensors route =
-    map unknown route.blocks.items ++ option_map_or (λ sensor. unknown sensor ∷ []) route.frees []
+route_sensors route = map unknown (route.blocks.items ++ option_to_list route.frees)
 
 -- those of all routes
 abbrev pub sensors_of : List Route → List Sensed

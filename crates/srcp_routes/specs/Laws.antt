@@ -1,29 +1,23 @@
 -- What holds after every list of events.
-use Rattle.std.specs.Prelude.{◌≡◌, ◌≢◌, ℕ, true, false, None, List, map, fold}
-use Rattle.srcp_routes.specs.Conflicts.{sensors_of}
-use Rattle.srcp_routes.specs.Plan.{Table, conflict_at, stage_at}
-use Rattle.srcp_routes.specs.Stages.{is_held, is_idle, lost_stage}
-use Rattle.srcp_routes.specs.Steps.{step}
+use Rattle.std.specs.Prelude.{◌≡◌, ◌≢◌, ◌⊎◌, ℕ, ◌≤◌, Bool, true, false, Option, Some, None, List}
+use Rattle.std.specs.Prelude.{length, map, fold, slice_get}
+use Rattle.srcp_routes.specs.Conflicts.{are_free, is_same}
+use Rattle.srcp_routes.specs.Plan.{Table, conflict_at, stage_at, wanted_at}
+use Rattle.srcp_routes.specs.Runs.{Run, run, run_after}
+use Rattle.srcp_routes.specs.Stages.{is_held, is_idle, show_setting, turnout_at}
+use Rattle.srcp_routes.specs.Steps.{after, course, step}
 use Rattle.srcp_routes.specs.declared.interlocking.Event.{Event}
+use Rattle.srcp_routes.specs.declared.interlocking.Event.TheVariants.{Reply}
+use Rattle.srcp_routes.specs.declared.route.Device.{Device}
+use Rattle.srcp_routes.specs.declared.route.Order.{Order}
+use Rattle.srcp_routes.specs.declared.route.Order.TheVariants as order
 use Rattle.srcp_routes.specs.declared.route.Route.{Route}
+use Rattle.srcp_routes.specs.declared.route.Setting.{Setting}
+use Rattle.srcp_routes.specs.declared.route.Signal.{Signal}
+use Rattle.srcp_routes.specs.declared.stage.Stage.{Stage}
+use Rattle.srcp_routes.specs.declared.stage.Stage.TheVariants as stage
 
--- the table of a plan before any event
-abbrev pub start : List Route → Table
-start routes = record {
-  routes = routes;
-  stages = map lost_stage routes;
-  wanted = map (λ route. false) routes;
-  sensors = sensors_of routes;
-  waiting = None;
-}
-
--- the table after an event
-abbrev pub after : Table → Event → Table
-after t event = (step t event).table
-
--- the table after a list of events
-abbrev pub course : List Route → List Event → Table
-course routes events = fold after (start routes) events
+-- ---- routes that conflict
 
 -- while a route is held, each other that conflicts with it is idle
 abbrev pub AreApart : Table → Type 0
@@ -33,3 +27,108 @@ AreApart t = (n m : ℕ) → n ≢ m → conflict_at t.routes n m ≡ true → i
 -- so it is after every list of events
 abbrev pub HeldStandAlone : Type 0
 HeldStandAlone = (routes : List Route) (events : List Event) → AreApart (course routes events)
+
+-- ---- turnouts
+
+-- a turnout is thrown rightly: the route that throws it wants it so, and holds its lock
+pub record IsThrownRightly (routes : List Route) (r : Run) (setting : Setting) : Type 0 where
+  pub thrower : ℕ
+  pub route : Route
+  pub place : ℕ
+  pub throws : r.table.waiting ≡ Some thrower
+  pub is : slice_get routes thrower ≡ Some route
+  pub wants : turnout_at route place ≡ Some setting
+  pub locked : r.locked thrower setting.device ≡ true
+
+-- as long as the reply to a throw has not come, the turnout is thrown rightly
+abbrev pub ThrowsAreLocked : Type 0
+ThrowsAreLocked = (routes : List Route) (events : List Event) (setting : Setting)
+    → (run routes events).order ≡ Some (order.Throw setting) → IsThrownRightly routes (run routes events) setting
+
+-- ---- signals
+
+-- a turnout stands as its route wants it: locked, and thrown since
+pub record Stands (r : Run) (n : ℕ) (turnout : Setting) : Type 0 where
+  pub locked : r.locked n turnout.device ≡ true
+  pub thrown : r.thrown n turnout ≡ true
+
+-- from the order that shows "go" until the reply that accepts a stop, or the end of the session, each turnout of the
+-- route stands as the route wants it
+abbrev pub ShownStand : Type 0
+ShownStand = (routes : List Route) (events : List Event) (n : ℕ) (route : Route) (place : ℕ) (turnout : Setting)
+    → (run routes events).shown n ≡ true → slice_get routes n ≡ Some route → turnout_at route place ≡ Some turnout
+    → Stands (run routes events) n turnout
+
+-- "go" is shown for a route of the plan whose blocks are free
+pub record IsShownRightly (routes : List Route) (r : Run) (setting : Setting) : Type 0 where
+  pub shower : ℕ
+  pub route : Route
+  pub signal : Signal
+  pub shows : r.table.waiting ≡ Some shower
+  pub is : slice_get routes shower ≡ Some route
+  pub has : route.signal ≡ Some signal
+  pub go : setting ≡ show_setting signal
+  pub free : (k : ℕ) (block : Device) → slice_get route.blocks.items k ≡ Some block → r.free block ≡ true
+
+-- each block of the route is free as the order is sent that shows "go"
+abbrev pub ShowsAreFree : Type 0
+ShowsAreFree = (routes : List Route) (events : List Event) (event : Event) (setting : Setting)
+    → (step (run routes events).table event).order ≡ Some (order.Show setting)
+    → IsShownRightly routes (run_after (run routes events) event) setting
+
+-- the turnout that an order locks, throws or unlocks
+abbrev pub touched : Order → Option Device
+touched (order.Lock device) = Some device
+touched (order.Throw setting) = Some setting.device
+touched (order.Unlock device) = Some device
+touched other = None
+
+-- as long as the signal of a route may show "go", no order locks, throws or unlocks a turnout of the route
+abbrev pub ShownAreKept : Type 0
+ShownAreKept = (routes : List Route) (events : List Event) (n : ℕ) (route : Route) (place : ℕ) (turnout : Setting)
+    (last : Order) (device : Device) → (run routes events).may_go n ≡ true → slice_get routes n ≡ Some route
+    → turnout_at route place ≡ Some turnout → (run routes events).order ≡ Some last → touched last ≡ Some device
+    → is_same turnout.device device ≡ false
+
+-- ---- routes that are asked for
+
+-- the signal of a route could not be stopped
+abbrev pub is_unstopped : Stage → Bool
+is_unstopped stage.Blocked = true
+is_unstopped stage.Stuck = true
+is_unstopped other = false
+
+-- a route stays as it is: it is asked for, and is set or waits for its blocks; or its signal could not be stopped
+abbrev pub stays : Bool → Stage → Bool
+stays wanted stage.Set = wanted
+stays wanted stage.Ready = wanted
+stays wanted other = is_unstopped other
+
+-- a route waits behind another, which conflicts with it and stays as it is
+pub record IsBehind (routes : List Route) (t : Table) (n : ℕ) : Type 0 where
+  pub other : ℕ
+  pub conflict : conflict_at routes n other ≡ true
+  pub stays : stays (wanted_at t.wanted other) (stage_at t.stages other) ≡ true
+
+-- a route is set; or one of its blocks is not free, its own signal could not be stopped, or it is behind another
+abbrev pub IsServed : List Route → Table → ℕ → Route → Type 0
+IsServed routes t n route = (stage_at t.stages n ≡ stage.Set) ⊎ ((are_free t.sensors route.blocks.items ≡ false)
+    ⊎ ((is_unstopped (stage_at t.stages n) ≡ true) ⊎ IsBehind routes t n))
+
+-- once no order waits for its reply, each route that is asked for is served
+abbrev pub WantedAreServed : Type 0
+WantedAreServed = (routes : List Route) (events : List Event) (event : Event) (n : ℕ) (route : Route)
+    → slice_get routes n ≡ Some route → (after (course routes events) event).waiting ≡ None
+    → wanted_at (after (course routes events) event).wanted n ≡ true
+    → IsServed routes (after (course routes events) event) n route
+
+-- there is a number of replies after which no order waits, whichever of them accept and whichever refuse
+pub record Settles (t : Table) : Type 0 where
+  pub within : ℕ
+  pub settled : (replies : List Bool) → within ≤ length replies
+      → (fold after t (map Reply replies)).waiting ≡ None
+
+-- so it is after every list of events, if nothing but replies comes then
+abbrev pub RepliesSettle : Type 0
+RepliesSettle = (routes : List Route) (events : List Event) (event : Event)
+    → Settles (after (course routes events) event)

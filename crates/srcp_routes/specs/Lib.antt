@@ -1,9 +1,6 @@
 pub mod Conflicts
 pub mod Laws
 pub mod Plan
-pub mod Rest
 pub mod Runs
-pub mod Settling
-pub mod Signals
 pub mod Stages
 pub mod Steps

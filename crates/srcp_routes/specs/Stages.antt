@@ -25,87 +25,59 @@ show_setting signal = record { device = signal.device; port = signal.go }
 abbrev pub stop_setting : Signal → Setting
 stop_setting signal = record { device = signal.device; port = signal.stop }
 
--- the order of a route at a stage: Idle, Blocked, Ready, Set and Stuck have none
+-- the order of a route at a stage, if it has one there
 abbrev pub order_of : Route → Stage → Option Order
-order_of route stage.Idle = None
-order_of route stage.Clearing = option_map (λ signal. order.Stop (stop_setting signal)) route.signal
-order_of route stage.Blocked = None
-order_of route stage.Closing = Some (order.Report route.number false)
 order_of route (stage.Locking done) =
     option_map (λ (setting : Setting). order.Lock setting.device) (turnout_at route done)
 order_of route (stage.Throwing done) = option_map order.Throw (turnout_at route done)
-order_of route stage.Ready = None
-order_of route stage.Showing = option_map (λ signal. order.Show (show_setting signal)) route.signal
-order_of route stage.Reporting = Some (order.Report route.number true)
-order_of route stage.Set = None
-order_of route stage.Stopping = option_map (λ signal. order.Stop (stop_setting signal)) route.signal
-order_of route stage.Stuck = None
-order_of route stage.Hiding = Some (order.Report route.number false)
 order_of route (stage.Unlocking left) =
     option_map (λ (setting : Setting). order.Unlock setting.device) (turnout_at route left)
+order_of route stage.Showing = option_map (λ signal. order.Show (show_setting signal)) route.signal
+order_of route stage.Clearing = option_map (λ signal. order.Stop (stop_setting signal)) route.signal
+order_of route stage.Stopping = option_map (λ signal. order.Stop (stop_setting signal)) route.signal
+order_of route stage.Reporting = Some (order.Report route.number true)
+order_of route stage.Closing = Some (order.Report route.number false)
+order_of route stage.Hiding = Some (order.Report route.number false)
+order_of route other = None
 
 -- this number of locks is to be given up, from the last
 abbrev pub left_stage : ℕ → Stage
 left_stage left = if left == 0 then stage.Idle else stage.Unlocking (left - 1)
 
+-- the stage of a route that has a signal, or that of one that has none
+abbrev pub by_signal : Route → Stage → Stage → Stage
+by_signal route with_one without = option_map_or (λ signal. with_one) route.signal without
+
 -- a route whose signal may show "go" is given back: the signal, if it has one, stops first
 abbrev pub leaving_stage : Route → Stage
-leaving_stage route = option_map_or (λ signal. stage.Stopping) route.signal stage.Hiding
-
--- all turnouts are thrown: the signal, if it has one, waits for the blocks
-abbrev pub thrown_stage : Route → Stage
-thrown_stage route = option_map_or (λ signal. stage.Ready) route.signal stage.Reporting
+leaving_stage route = by_signal route stage.Stopping stage.Hiding
 
 -- a command session begins: no lock is held, and the signal, if there is one, stops first
 abbrev pub lost_stage : Route → Stage
-lost_stage route = option_map_or (λ signal. stage.Clearing) route.signal stage.Closing
+lost_stage route = by_signal route stage.Clearing stage.Closing
 
--- a route without turnouts, whose blocks are free: the signal, if it has one, is shown at once
-abbrev pub shown_stage : Route → Stage
-shown_stage route = option_map_or (λ signal. stage.Showing) route.signal stage.Reporting
-
--- a route begins
+-- a route begins, by its first lock; one without turnouts, whose blocks are free, shows its signal at once
 abbrev pub first_stage : Route → Stage
-first_stage route = if count_of route == 0 then shown_stage route else stage.Locking 0
+first_stage route =
+    if count_of route == 0 then by_signal route stage.Showing stage.Reporting else stage.Locking 0
 
--- the order was accepted
-abbrev pub accepted_stage : Route → Stage → Stage
-accepted_stage route stage.Idle = stage.Idle
-accepted_stage route stage.Clearing = stage.Closing
-accepted_stage route stage.Blocked = stage.Blocked
-accepted_stage route stage.Closing = stage.Idle
-accepted_stage route (stage.Locking done) =
-    if nat_lt (done + 1) (count_of route) then stage.Locking (done + 1) else stage.Throwing 0
-accepted_stage route (stage.Throwing done) =
-    if nat_lt (done + 1) (count_of route) then stage.Throwing (done + 1) else thrown_stage route
-accepted_stage route stage.Ready = stage.Ready
-accepted_stage route stage.Showing = stage.Reporting
-accepted_stage route stage.Reporting = stage.Set
-accepted_stage route stage.Set = stage.Set
-accepted_stage route stage.Stopping = stage.Hiding
-accepted_stage route stage.Stuck = stage.Stuck
-accepted_stage route stage.Hiding = left_stage (count_of route)
-accepted_stage route (stage.Unlocking left) = left_stage left
-
--- the order was refused: what was done is undone, and a signal that cannot be stopped keeps its route
-abbrev pub refused_stage : Route → Stage → Stage
-refused_stage route stage.Idle = stage.Idle
-refused_stage route stage.Clearing = stage.Blocked
-refused_stage route stage.Blocked = stage.Blocked
-refused_stage route stage.Closing = stage.Idle
-refused_stage route (stage.Locking done) = left_stage done
-refused_stage route (stage.Throwing done) = stage.Hiding
-refused_stage route stage.Ready = stage.Ready
-refused_stage route stage.Showing = stage.Stopping
-refused_stage route stage.Reporting = leaving_stage route
-refused_stage route stage.Set = stage.Set
-refused_stage route stage.Stopping = stage.Stuck
-refused_stage route stage.Stuck = stage.Stuck
-refused_stage route stage.Hiding = left_stage (count_of route)
-refused_stage route (stage.Unlocking left) = left_stage left
-
+-- the order was accepted, or refused: then what was done is undone, and a signal that cannot be stopped keeps its route
 abbrev pub after_reply : Route → Stage → Bool → Stage
-after_reply route current ok = if ok then accepted_stage route current else refused_stage route current
+after_reply route stage.Clearing ok = if ok then stage.Closing else stage.Blocked
+after_reply route stage.Closing ok = stage.Idle
+after_reply route (stage.Locking done) true =
+    if nat_lt (done + 1) (count_of route) then stage.Locking (done + 1) else stage.Throwing 0
+after_reply route (stage.Locking done) false = left_stage done
+after_reply route (stage.Throwing done) true =
+    if nat_lt (done + 1) (count_of route) then stage.Throwing (done + 1)
+    else by_signal route stage.Ready stage.Reporting
+after_reply route (stage.Throwing done) false = stage.Hiding
+after_reply route stage.Showing ok = if ok then stage.Reporting else stage.Stopping
+after_reply route stage.Reporting ok = if ok then stage.Set else leaving_stage route
+after_reply route stage.Stopping ok = if ok then stage.Hiding else stage.Stuck
+after_reply route stage.Hiding ok = left_stage (count_of route)
+after_reply route (stage.Unlocking left) ok = left_stage left
+after_reply route other ok = other
 
 -- a route is given back whose signal could not be stopped: it is to be stopped again
 abbrev pub retried_stage : Stage → Stage
@@ -124,12 +96,12 @@ turned_back route other = other
 
 -- the stage whose order a route may send next: it begins if it may, its signal is shown only if it is wanted and its
 -- blocks are free, and it goes back if it is not wanted
-abbrev pub ready_stage : Route → Bool → Bool → Bool → Stage → Stage
+abbrev pub ready_stage : Route → (wanted free begins : Bool) → Stage → Stage
 ready_stage route wanted free begins stage.Idle = if begins then first_stage route else stage.Idle
 ready_stage route wanted free begins stage.Showing = stage.Stopping
-ready_stage route wanted free begins stage.Ready =
-    if wanted then (if free then stage.Showing else stage.Ready) else stage.Hiding
-ready_stage route wanted free begins other = if wanted then other else turned_back route other
+ready_stage route true true begins stage.Ready = stage.Showing
+ready_stage route true free begins other = other
+ready_stage route false free begins other = turned_back route other
 
 abbrev pub is_idle : Stage → Bool
 is_idle stage.Idle = true

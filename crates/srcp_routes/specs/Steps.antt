@@ -1,10 +1,9 @@
 -- What each event makes of the table of all routes, and which order is sent then.
-use Rattle.std.specs.Prelude.{ℕ, Bool, true, false, not, ◌&&◌, Option, Some, None, length, map}
-use Rattle.std.specs.Prelude.{if◌then◌else◌, slice_get, slice_set, option_and_then, is_some, nat_lt}
+use Rattle.std.specs.Prelude.{ℕ, Bool, true, false, not, ◌&&◌, Option, Some, None, List, find, map, fold}
+use Rattle.std.specs.Prelude.{if◌then◌else◌, slice_get, slice_set, option_and_then, is_some}
 use Rattle.std.specs.Option.{option_map_or}
 use Rattle.srcp_routes.specs.Conflicts.{are_free, is_free, told_sensor}
-use Rattle.srcp_routes.specs.Plan.{Table, first_below, written_below, stage_at, wanted_at, is_clear}
-use Rattle.srcp_routes.specs.Plan.{is_freed, freed_below, lost_at}
+use Rattle.srcp_routes.specs.Plan.{Table, start, places, stage_at, wanted_at, is_clear, still_wanted}
 use Rattle.srcp_routes.specs.Stages.{after_reply, is_idle, order_of, ready_stage, retried_stage}
 use Rattle.srcp_routes.specs.declared.interlocking.Event.{Event}
 use Rattle.srcp_routes.specs.declared.interlocking.Event.TheVariants.{Ask, Give, Told, Reply, Lost}
@@ -37,7 +36,7 @@ order_at t n = option_and_then (λ route. order_of route (ready_at t n)) (slice_
 
 -- the first route that may send an order
 abbrev pub due : Table → Option ℕ
-due t = first_below (λ n. is_some (order_at t n)) (length t.routes)
+due t = find (λ n. is_some (order_at t n)) (places t.routes)
 
 -- this route, if there is one, sends its order
 abbrev pub sent : Table → Option ℕ → Stepped
@@ -51,24 +50,18 @@ sent t (Some n) = record {
 abbrev pub next : Table → Stepped
 next t = if is_some t.waiting then record { table = t; order = None } else sent t (due t)
 
-abbrev pub asked : Table → ℕ → Table
-asked t n = if nat_lt n (length t.routes) then record t { wanted = slice_set t.wanted n true } else t
-
 -- a route is given back; a signal that could not be stopped is to be stopped again
 abbrev pub given : Table → ℕ → Table
-given t n =
-    if nat_lt n (length t.routes) then record t {
-      stages = slice_set t.stages n (retried_stage (stage_at t.stages n));
-      wanted = slice_set t.wanted n false;
-    } else t
+given t n = record t {
+  stages = slice_set t.stages n (retried_stage (stage_at t.stages n));
+  wanted = slice_set t.wanted n false;
+}
 
 -- a sensor is told to be on or off; its fall gives back each held route that it frees
 abbrev pub told : Table → Device → Bool → Table
 told t sensor on = record t {
   sensors = map (told_sensor sensor on) t.sensors;
-  wanted = if not on && not (is_free t.sensors sensor)
-      then freed_below (is_freed t.routes t.stages sensor) (length t.wanted) t.wanted
-      else t.wanted;
+  wanted = if not on && not (is_free t.sensors sensor) then still_wanted t sensor else t.wanted;
 }
 
 -- the stage of a route after the reply to its order
@@ -78,31 +71,28 @@ stage_replied t n ok =
 
 -- the order of a route is accepted or refused; what is refused is not wanted
 abbrev pub answered : Table → Bool → ℕ → Table
-answered t ok n =
-    if nat_lt n (length t.routes) then record t {
-      stages = slice_set t.stages n (stage_replied t n ok);
-      wanted = if ok then t.wanted else slice_set t.wanted n false;
-      waiting = None;
-    } else record t { waiting = None }
-
--- the order that waits is accepted or refused
-abbrev pub replied : Table → Bool → Table
-replied t ok = option_map_or (answered t ok) t.waiting t
-
--- a command session has begun
-abbrev pub lost : Table → Table
-lost t = record t {
-  stages = written_below (lost_at t.routes) (length t.stages) t.stages;
-  wanted = written_below (λ n. false) (length t.wanted) t.wanted;
+answered t ok n = record t {
+  stages = slice_set t.stages n (stage_replied t n ok);
+  wanted = if ok then t.wanted else slice_set t.wanted n false;
   waiting = None;
 }
 
+-- a route is asked for or given back, a sensor is told, or the order that waits is accepted or refused; as a session
+-- begins all is as at the start, but what is known of sensors
 abbrev pub heard : Table → Event → Table
-heard t (Ask n) = asked t n
+heard t (Ask n) = record t { wanted = slice_set t.wanted n true }
 heard t (Give n) = given t n
 heard t (Told sensor on) = told t sensor on
-heard t (Reply ok) = replied t ok
-heard t Lost = lost t
+heard t (Reply ok) = option_map_or (answered t ok) t.waiting t
+heard t Lost = record (start t.routes) { sensors = t.sensors }
 
 abbrev pub step : Table → Event → Stepped
 step t event = next (heard t event)
+
+-- the table after an event
+abbrev pub after : Table → Event → Table
+after t event = (step t event).table
+
+-- the table after a list of events
+abbrev pub course : List Route → List Event → Table
+course routes events = fold after (start routes) events

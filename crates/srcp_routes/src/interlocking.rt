@@ -1,12 +1,13 @@
 //! All routes of a plan: which route sends an order next, and what each event makes of the routes.
 
-ghost use Rattle.std.specs.Prelude.{◌≡◌, ◌<◌, false, IfOk, IfSome, is_some, length, map};
-ghost use Rattle.srcp_routes.specs.Plan.{conflict_at, stage_at, wanted_at, is_clear, is_freed, freed_below, lost_at};
-ghost use Rattle.srcp_routes.specs.Laws.{start};
-ghost use Rattle.srcp_routes.specs.Plan.{first_below, written_below};
+ghost use Rattle.std.specs.Prelude.{◌≡◌, ◌<◌, ◌&&◌, IfOk, IfSome, length, map, not};
+ghost use Rattle.std.specs.List.{range_with_len};
+ghost use Rattle.srcp_routes.specs.Plan.{conflict_at, is_clear, is_freed, stage_at, start};
+ghost use Rattle.srcp_routes.specs.Plan.{wanted_at};
 ghost use Rattle.srcp_routes.specs.Stages.{lost_stage};
-ghost use Rattle.srcp_routes.specs.Steps.{may_begin, ready_at, order_at, next, asked, given, told, stage_replied};
-ghost use Rattle.srcp_routes.specs.Steps.{replied, lost as lost_table, heard, step};
+ghost use Rattle.srcp_routes.specs.Steps.{due, given, heard, may_begin, next, order_at, ready_at, stage_replied, step};
+ghost use Rattle.srcp_routes.specs.Steps.{told};
+ghost use Rattle.srcp_routes.specs.declared.interlocking.Event.TheVariants.{Ask, Lost, Reply};
 
 use crate::conflict::{Sensed, are_free, conflicts, is_free, is_same, sense, sensors_of};
 use crate::stage::{after_reply, lost, order_of, ready, retried};
@@ -63,12 +64,9 @@ impl Model for Interlocking {
 fn conflict_at(routes: &[Route], n: usize, m: usize) -> bool
     ensures { result ≡ conflict_at routes.now n m }
 {
-    match routes.get(n) {
-        Some(route) => match routes.get(m) {
-            Some(other) => conflicts(route, other),
-            None => false,
-        },
-        None => false,
+    match (routes.get(n), routes.get(m)) {
+        (Some(route), Some(other)) => conflicts(route, other),
+        _ => false,
     }
 }
 
@@ -76,20 +74,14 @@ fn conflict_at(routes: &[Route], n: usize, m: usize) -> bool
 fn stage_at(stages: &[Stage], n: usize) -> Stage
     ensures { result ≡ stage_at stages.now n }
 {
-    match stages.get(n) {
-        Some(stage) => *stage,
-        None => Stage::Idle,
-    }
+    stages.get(n).copied().unwrap_or(Stage::Idle)
 }
 
 /// Returns whether the route at a place is wanted.
 fn wanted_at(wanted: &[bool], n: usize) -> bool
     ensures { result ≡ wanted_at wanted.now n }
 {
-    match wanted.get(n) {
-        Some(is_wanted) => *is_wanted,
-        None => false,
-    }
+    wanted.get(n).copied().unwrap_or(false)
 }
 
 /// Returns whether each route that conflicts with the route at a place is `Idle`.
@@ -108,33 +100,21 @@ fn is_clear(routes: &[Route], stages: &[Stage], n: usize) -> bool
 fn is_freed(routes: &[Route], stages: &[Stage], sensor: Device, n: usize) -> bool
     ensures { result ≡ is_freed routes.now stages.now sensor n }
 {
-    match routes.get(n) {
-        Some(route) => match route.frees {
-            Some(freeing) => is_same(freeing, sensor) && stage_at(stages, n).is_held(),
-            None => false,
-        },
+    match routes.get(n).and_then(|route| route.frees) {
+        Some(freeing) => is_same(freeing, sensor) && stage_at(stages, n).is_held(),
         None => false,
     }
 }
 
 /// Gives back each held route that the fall of this sensor gives back.
 fn give_freed(routes: &[Route], stages: &[Stage], sensor: Device, wanted: &mut [bool])
-    ensures { wanted.new ≡ freed_below (is_freed routes.now stages.now sensor) (length wanted.old) wanted.old }
+    ensures { wanted.new ≡ map (λ n. wanted_at wanted.old n && not (is_freed routes.now stages.now sensor n))
+        (range_with_len 0 (length wanted.old)) }
 {
     for n in 0..wanted.len() {
         if is_freed(routes, stages, sensor, n) {
             wanted[n] = false;
         }
-    }
-}
-
-/// Returns the stage of the route at a place as a command session begins.
-fn lost_at(routes: &[Route], n: usize) -> Stage
-    ensures { result ≡ lost_at routes.now n }
-{
-    match routes.get(n) {
-        Some(route) => lost(route),
-        None => Stage::Idle,
     }
 }
 
@@ -145,28 +125,13 @@ fn lost_stages(alloc: Global, routes: &[Route]) -> Result<Vec<Stage>, AllocError
     routes.iter().map(|route| lost(route)).collect(alloc)
 }
 
-/// Returns `false` for each route: no route is wanted.
-fn none_wanted(alloc: Global, routes: &[Route]) -> Result<Vec<bool>, AllocError>
-    ensures { IfOk result (λ wanted. wanted.items ≡ map (λ route. false) routes.now) }
-{
-    routes.iter().map(|_| false).collect(alloc)
-}
-
 /// Puts each route into its stage as a command session begins.
+#[tactic(auto, using(crate::proofs::Loops::lost_more, crate::proofs::Loops::lost_all))]
 fn lose_all(routes: &[Route], stages: &mut [Stage])
-    ensures { stages.new ≡ written_below (lost_at routes.now) (length stages.old) stages.old }
+    ensures { length stages.old ≡ length routes.now → stages.new ≡ map lost_stage routes.now }
 {
-    for n in 0..stages.len() {
-        stages[n] = lost_at(routes, n);
-    }
-}
-
-/// Notes that no route is wanted.
-fn want_none(wanted: &mut [bool])
-    ensures { wanted.new ≡ written_below (λ n. false) (length wanted.old) wanted.old }
-{
-    for n in 0..wanted.len() {
-        wanted[n] = false;
+    for n in 0..routes.len().min(stages.len()) {
+        stages[n] = lost(&routes[n]);
     }
 }
 
@@ -180,7 +145,7 @@ impl Interlocking {
         ensures { IfOk result (λ table. table ≡ start routes.items) }
     {
         let stages = lost_stages(alloc, &routes)?;
-        let wanted = none_wanted(alloc, &routes)?;
+        let wanted = vec![in alloc; false; routes.len()]?;
         let sensors = sensors_of(alloc, &routes)?;
         Ok(Interlocking {
             routes,
@@ -225,18 +190,15 @@ impl Interlocking {
     fn order_at(&self, n: usize) -> Option<Order>
         ensures { result ≡ order_at self.now n }
     {
-        match self.routes.get(n) {
-            Some(route) => order_of(route, self.ready_at(n)),
-            None => None,
-        }
+        order_of(self.routes.get(n)?, self.ready_at(n))
     }
 
     /// Returns the place of the first route that may send an order, among the first `count` places, if any.
-    fn due(&self, count: usize) -> Option<usize>
-        ensures first { result ≡ first_below (λ n. is_some (order_at self.now n)) count }
-        ensures below { IfSome result (λ n. n < count) }
+    fn due(&self) -> Option<usize>
+        ensures first { result ≡ due self.now }
+        ensures below { IfSome result (λ n. n < length self.now.routes) }
     {
-        for n in 0..count {
+        for n in 0..self.routes.len() {
             if self.order_at(n).is_some() {
                 return Some(n);
             }
@@ -253,21 +215,17 @@ impl Interlocking {
         if self.waiting.is_some() {
             return None;
         }
-        match self.due(self.routes.len()) {
-            Some(n) => {
-                let order = self.order_at(n);
-                let stage = self.ready_at(n);
-                self.stages[n] = stage;
-                self.waiting = Some(n);
-                order
-            }
-            None => None,
-        }
+        let n = self.due()?;
+        let order = self.order_at(n);
+        let stage = self.ready_at(n);
+        self.stages[n] = stage;
+        self.waiting = Some(n);
+        order
     }
 
     /// Notes that a route is asked for.
     fn ask(&mut self, n: usize)
-        ensures { self.new ≡ asked self.old n }
+        ensures { self.new ≡ heard self.old (Ask n) }
     {
         if n < self.routes.len() {
             self.wanted[n] = true;
@@ -307,7 +265,7 @@ impl Interlocking {
 
     /// Notes the reply to the waiting order.
     fn reply(&mut self, ok: bool)
-        ensures { self.new ≡ replied self.old ok }
+        ensures { self.new ≡ heard self.old (Reply ok) }
     {
         let Some(n) = self.waiting else {
             return;
@@ -324,10 +282,10 @@ impl Interlocking {
 
     /// Notes that a command session has begun.
     fn lose(&mut self)
-        ensures { self.new ≡ lost_table self.old }
+        ensures { self.new ≡ heard self.old Lost }
     {
         lose_all(&self.routes, &mut self.stages);
-        want_none(&mut self.wanted);
+        self.wanted.fill(false);
         self.waiting = None;
     }
 

@@ -1,10 +1,7 @@
 //! Laws of every list of events. Each function does nothing: its `ensures` is the law.
 
-ghost use Rattle.srcp_routes.specs.Laws.{HeldStandAlone};
-ghost use Rattle.srcp_routes.specs.Rest.{WantedAreServed};
-ghost use Rattle.srcp_routes.specs.Runs.{ThrowsAreLocked};
-ghost use Rattle.srcp_routes.specs.Settling.{RepliesSettle};
-ghost use Rattle.srcp_routes.specs.Signals.{ShownAreKept, ShownStand, ShowsAreFree};
+ghost use Rattle.srcp_routes.specs.Laws.{HeldStandAlone, RepliesSettle, ShownAreKept, ShownStand, ShowsAreFree};
+ghost use Rattle.srcp_routes.specs.Laws.{ThrowsAreLocked, WantedAreServed};
 
 /// States for any plan and any list of events: while a route is held, each other route that conflicts is idle. No two
 /// routes that conflict are held at once.

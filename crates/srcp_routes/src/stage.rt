@@ -1,10 +1,9 @@
 //! The stages of a route: the order at each stage, and what comes after the order.
 
 ghost use Rattle.std.specs.Prelude.{◌≡◌};
-ghost use Rattle.srcp_routes.specs.Stages.{left_stage, leaving_stage, thrown_stage, shown_stage, first_stage};
-ghost use Rattle.srcp_routes.specs.Stages.{lost_stage, retried_stage, order_of, accepted_stage, refused_stage};
-ghost use Rattle.srcp_routes.specs.Stages.{after_reply, turned_back, ready_stage, show_setting, stop_setting};
-ghost use Rattle.srcp_routes.specs.Stages.{is_idle, is_held};
+ghost use Rattle.srcp_routes.specs.Stages.{after_reply, by_signal, first_stage, is_held, is_idle, leaving_stage};
+ghost use Rattle.srcp_routes.specs.Stages.{left_stage, lost_stage, order_of, ready_stage, retried_stage, show_setting};
+ghost use Rattle.srcp_routes.specs.Stages.{stop_setting, turned_back};
 
 use crate::{Order, Route, Setting, Signal};
 
@@ -91,34 +90,28 @@ fn left_stage(left: usize) -> Stage
     }
 }
 
+/// Returns one stage for a route that has a signal, and another for a route without one.
+fn by_signal(route: &Route, with_one: Stage, without: Stage) -> Stage
+    ensures { result ≡ by_signal route.now with_one without }
+{
+    match route.signal {
+        Some(_) => with_one,
+        None => without,
+    }
+}
+
 /// Returns the stage in which a route whose signal may show "go" is given back.
 fn leaving_stage(route: &Route) -> Stage
     ensures { result ≡ leaving_stage route.now }
 {
-    match route.signal {
-        Some(_) => Stage::Stopping,
-        None => Stage::Hiding,
-    }
+    by_signal(route, Stage::Stopping, Stage::Hiding)
 }
 
-/// Returns the stage of a route whose turnouts are all thrown.
-fn thrown_stage(route: &Route) -> Stage
-    ensures { result ≡ thrown_stage route.now }
+/// Returns the stage of a route as a command session begins: the route holds no lock.
+pub(crate) fn lost(route: &Route) -> Stage
+    ensures { result ≡ lost_stage route.now }
 {
-    match route.signal {
-        Some(_) => Stage::Ready,
-        None => Stage::Reporting,
-    }
-}
-
-/// Returns the stage in which a route without turnouts begins, if the blocks are free.
-fn shown_stage(route: &Route) -> Stage
-    ensures { result ≡ shown_stage route.now }
-{
-    match route.signal {
-        Some(_) => Stage::Showing,
-        None => Stage::Reporting,
-    }
+    by_signal(route, Stage::Clearing, Stage::Closing)
 }
 
 /// Returns the stage in which a route begins.
@@ -126,19 +119,9 @@ fn first_stage(route: &Route) -> Stage
     ensures { result ≡ first_stage route.now }
 {
     if route.turnouts.is_empty() {
-        shown_stage(route)
+        by_signal(route, Stage::Showing, Stage::Reporting)
     } else {
         Stage::Locking(0)
-    }
-}
-
-/// Returns the stage of a route as a command session begins: the route holds no lock.
-pub(crate) fn lost(route: &Route) -> Stage
-    ensures { result ≡ lost_stage route.now }
-{
-    match route.signal {
-        Some(_) => Stage::Clearing,
-        None => Stage::Closing,
     }
 }
 
@@ -158,89 +141,42 @@ pub(crate) fn order_of(route: &Route, stage: Stage) -> Option<Order>
     ensures { result ≡ order_of route.now stage }
 {
     match stage {
-        Stage::Idle | Stage::Blocked | Stage::Ready | Stage::Set | Stage::Stuck => None,
-        Stage::Locking(done) => match route.turnouts.get(done) {
-            Some(setting) => Some(Order::Lock(setting.device)),
-            None => None,
-        },
-        Stage::Throwing(done) => match route.turnouts.get(done) {
-            Some(setting) => Some(Order::Throw(*setting)),
-            None => None,
-        },
-        Stage::Unlocking(left) => match route.turnouts.get(left) {
-            Some(setting) => Some(Order::Unlock(setting.device)),
-            None => None,
-        },
-        Stage::Showing => match route.signal {
-            Some(signal) => Some(Order::Show(show_setting(signal))),
-            None => None,
-        },
-        Stage::Clearing | Stage::Stopping => match route.signal {
-            Some(signal) => Some(Order::Stop(stop_setting(signal))),
-            None => None,
-        },
+        Stage::Locking(done) => Some(Order::Lock(route.turnouts.get(done)?.device)),
+        Stage::Throwing(done) => Some(Order::Throw(*route.turnouts.get(done)?)),
+        Stage::Unlocking(left) => Some(Order::Unlock(route.turnouts.get(left)?.device)),
+        Stage::Showing => Some(Order::Show(show_setting(route.signal?))),
+        Stage::Clearing | Stage::Stopping => Some(Order::Stop(stop_setting(route.signal?))),
         Stage::Reporting => Some(Order::Report(route.number, true)),
         Stage::Closing | Stage::Hiding => Some(Order::Report(route.number, false)),
+        Stage::Idle | Stage::Blocked | Stage::Ready | Stage::Set | Stage::Stuck => None,
     }
 }
 
-/// Returns the stage after the reply that accepts the order of a stage.
-fn accepted_stage(route: &Route, stage: Stage) -> Stage
-    ensures { result ≡ accepted_stage route.now stage }
-{
-    let count = route.turnouts.len();
-    match stage {
-        Stage::Clearing => Stage::Closing,
-        Stage::Closing => Stage::Idle,
-        Stage::Locking(done) => {
-            if done < count && count - done > 1 {
-                Stage::Locking(done + 1)
-            } else {
-                Stage::Throwing(0)
-            }
-        }
-        Stage::Throwing(done) => {
-            if done < count && count - done > 1 {
-                Stage::Throwing(done + 1)
-            } else {
-                thrown_stage(route)
-            }
-        }
-        Stage::Showing => Stage::Reporting,
-        Stage::Reporting => Stage::Set,
-        Stage::Stopping => Stage::Hiding,
-        Stage::Hiding => left_stage(count),
-        Stage::Unlocking(left) => left_stage(left),
-        other => other,
-    }
-}
-
-/// Returns the stage after the reply that refuses the order of a stage.
-fn refused_stage(route: &Route, stage: Stage) -> Stage
-    ensures { result ≡ refused_stage route.now stage }
-{
-    match stage {
-        Stage::Clearing => Stage::Blocked,
-        Stage::Closing => Stage::Idle,
-        Stage::Locking(done) => left_stage(done),
-        Stage::Throwing(_) => Stage::Hiding,
-        Stage::Showing => Stage::Stopping,
-        Stage::Reporting => leaving_stage(route),
-        Stage::Stopping => Stage::Stuck,
-        Stage::Hiding => left_stage(route.turnouts.len()),
-        Stage::Unlocking(left) => left_stage(left),
-        other => other,
-    }
-}
-
-/// Returns the stage after the reply to the order of a stage.
+/// Returns the stage after the reply to the order at a stage.
 pub(crate) fn after_reply(route: &Route, stage: Stage, ok: bool) -> Stage
     ensures { result ≡ after_reply route.now stage ok }
 {
-    if ok {
-        accepted_stage(route, stage)
-    } else {
-        refused_stage(route, stage)
+    let count = route.turnouts.len();
+    let last = count.saturating_sub(1);
+    match (stage, ok) {
+        (Stage::Clearing, true) => Stage::Closing,
+        (Stage::Clearing, false) => Stage::Blocked,
+        (Stage::Closing, _) => Stage::Idle,
+        (Stage::Locking(done), true) if done < last => Stage::Locking(done + 1),
+        (Stage::Locking(_), true) => Stage::Throwing(0),
+        (Stage::Locking(done), false) => left_stage(done),
+        (Stage::Throwing(done), true) if done < last => Stage::Throwing(done + 1),
+        (Stage::Throwing(_), true) => by_signal(route, Stage::Ready, Stage::Reporting),
+        (Stage::Throwing(_), false) => Stage::Hiding,
+        (Stage::Showing, true) => Stage::Reporting,
+        (Stage::Showing, false) => Stage::Stopping,
+        (Stage::Reporting, true) => Stage::Set,
+        (Stage::Reporting, false) => leaving_stage(route),
+        (Stage::Stopping, true) => Stage::Hiding,
+        (Stage::Stopping, false) => Stage::Stuck,
+        (Stage::Hiding, _) => left_stage(count),
+        (Stage::Unlocking(left), _) => left_stage(left),
+        (other, _) => other,
     }
 }
 
@@ -268,29 +204,10 @@ pub(crate) fn ready(
     ensures { result ≡ ready_stage route.now is_wanted is_free may_begin stage }
 {
     match stage {
-        Stage::Idle => {
-            if may_begin {
-                first_stage(route)
-            } else {
-                Stage::Idle
-            }
-        }
+        Stage::Idle if may_begin => first_stage(route),
         Stage::Showing => Stage::Stopping,
-        Stage::Ready => {
-            if is_wanted && is_free {
-                Stage::Showing
-            } else if is_wanted {
-                Stage::Ready
-            } else {
-                Stage::Hiding
-            }
-        }
-        other => {
-            if is_wanted {
-                other
-            } else {
-                turned_back(route, other)
-            }
-        }
+        Stage::Ready if is_wanted && is_free => Stage::Showing,
+        other if is_wanted => other,
+        other => turned_back(route, other),
     }
 }

@@ -1,6 +1,7 @@
 -- The routes so far are given back.
 use Rattle.std.proofs.Common.{◌≡◌}
-use Rattle.srcp_routes.specs.Plan.{freed_below, is_freed}
+use Rattle.srcp_routes.specs.Plan.{is_freed}
+use Rattle.srcp_routes.proofs.Loops.{freed_below}
 use Rattle.srcp_routes.proofs.interlocking.give_freed.Given as goal
 
 abbrev pub invariant-loop-n : goal.invariant-loop-n
