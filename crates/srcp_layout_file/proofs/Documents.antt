@@ -2,7 +2,7 @@
 use Rattle.std.proofs.Common.{◌≡◌, List, [], ◌∷◌, refl, ap}
 use Rattle.toml.specs.Data.{Data}
 use Rattle.toml.specs.View.{items_of}
-use Rattle.srcp_layout_file.specs.Document.{list_of}
+use Rattle.srcp_layout_file.specs.Member.{list_of}
 
 -- the items of some values are these values
 pub list_of-items_of : (values : List Data) → list_of (items_of values) ≡ values

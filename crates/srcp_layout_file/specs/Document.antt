@@ -1,64 +1,21 @@
 -- What a configuration says: from the bytes of a TOML document to the port and the buses, or to the first fault.
-use Rattle.std.specs.Prelude.{ℕ, Bool, false, ◌||◌, if◌then◌else◌, List, [], ◌∷◌, Option, Some, None, Result, Ok, Err}
-use Rattle.std.specs.Prelude.{pos, codes}
-use Rattle.std.specs.Str.{bytes_eq, is_utf8}
-use Rattle.toml.specs.Parse.{parse_document}
-use Rattle.toml.specs.Data.{Data, string, integer, array, table, Items, no_items, item, Members, get_member}
-use Rattle.srcp_grammar.specs.Layout.{has_number, is_within, with_bus}
+use Rattle.std.specs.Prelude.{ℕ, Bool, false, ◌||◌, if◌then◌else◌, List, [], ◌∷◌, Result, Ok, Err, codes}
+use Rattle.std.specs.Str.{bytes_eq}
+use Rattle.toml.specs.Data.{Data, string, table, Members}
+use Rattle.srcp_grammar.specs.Layout.{has_number, with_bus}
 use Rattle.srcp_grammar.specs.declared.layout.Bus.{Bus}
-use Rattle.srcp_layout_file.specs.Faults.{field_key}
+use Rattle.srcp_layout_file.specs.Faults.{config_key}
 use Rattle.srcp_layout_file.specs.Gives.{◌>>=◌}
+use Rattle.srcp_layout_file.specs.Member.{array_at, document, given_or, number_at}
 use Rattle.srcp_layout_file.specs.declared.config.Config.{Config}
 use Rattle.srcp_layout_file.specs.declared.config.ConfigFault.{ConfigFault}
 use Rattle.srcp_layout_file.specs.declared.config.ConfigFault.TheVariants as fault
-use Rattle.srcp_layout_file.specs.declared.config.Field.{Field}
 use Rattle.srcp_layout_file.specs.declared.config.Field.TheVariants as field
 use Rattle.srcp_layout_file.specs.declared.document.groups.Groups.{Groups}
 
 -- what may be read, or the first fault
 abbrev pub OrFault : Type 0 → Type 0
 OrFault A = Result A ConfigFault
-
--- ---- values
-
--- an integer from low to high
-abbrev pub ranged : (low high : ℕ) → Field → Data → OrFault ℕ
-ranged low high of (integer (pos n)) = if is_within low high n then Ok n else Err (fault.OutOfRange of)
-ranged low high of other = Err (fault.OutOfRange of)
-
--- the values of an array in their order
-abbrev pub list_of : Items → List Data
-list_of no_items = []
-list_of (item value values) = value ∷ list_of values
-
--- the values of an array
-abbrev pub array_in : Field → Data → OrFault (List Data)
-array_in of (array values) = Ok (list_of values)
-array_in of other = Err (fault.OutOfRange of)
-
--- ---- keys
-
--- a value that must be there
-abbrev pub required_in : Field → Option Data → OrFault Data
-required_in of None = Err (fault.Missing of)
-required_in of (Some value) = Ok value
-
--- the value at the key, which must be there
-abbrev pub required : Field → Members → OrFault Data
-required of members = required_in of (get_member (field_key of) members)
-
--- the integer, or the default if there is no value
-abbrev pub or_default : (default low high : ℕ) → Field → Option Data → OrFault ℕ
-or_default default low high of None = Ok default
-or_default default low high of (Some value) = ranged low high of value
-
--- the integer at the key, or the default if it is not given
-abbrev pub given_or : (default low high : ℕ) → Field → Members → OrFault ℕ
-given_or default low high of members = or_default default low high of (get_member (field_key of) members)
-
--- the integer at the key, which must be there
-abbrev pub number_in : (low high : ℕ) → Field → Members → OrFault ℕ
-number_in low high of members = required of members >>= ranged low high of
 
 -- ---- groups
 
@@ -108,17 +65,17 @@ new_number buses number = if has_number buses number then Err (fault.Twice numbe
 
 -- the number of a bus beside those before it
 abbrev pub number_beside : List Bus → Members → OrFault ℕ
-number_beside before members = number_in 1 250 field.Number members >>= new_number before
+number_beside before members = number_at 1 250 (config_key field.Number) members >>= new_number before
 
 -- a bus beside those before it: its number, its groups, and what these need
 abbrev pub bus_of : List Bus → Members → OrFault Bus
 bus_of before members = do
   number ← number_beside before members
-  groups ← required field.Groups members >>= (λ value. array_in field.Groups value >>= groups_in no_groups)
-  gl_max ← if_named groups.gl 0 (number_in 1 10239 field.GlMax members)
-  ga_max ← if_named groups.ga 0 (number_in 1 2044 field.GaMax members)
-  ga_ports ← if_named groups.ga 2 (given_or 2 2 8 field.GaPorts members)
-  fb_ports ← if_named groups.fb 0 (number_in 1 4096 field.FbPorts members)
+  groups ← array_at (config_key field.Groups) members >>= groups_in no_groups
+  gl_max ← if_named groups.gl 0 (number_at 1 10239 (config_key field.GlMax) members)
+  ga_max ← if_named groups.ga 0 (number_at 1 2044 (config_key field.GaMax) members)
+  ga_ports ← if_named groups.ga 2 (given_or 2 2 8 (config_key field.GaPorts) members)
+  fb_ports ← if_named groups.fb 0 (number_at 1 4096 (config_key field.FbPorts) members)
   Ok (record {
     number = number;
     power = groups.power;
@@ -145,19 +102,10 @@ buses_in before (value ∷ values) = do
 -- what a document says
 abbrev pub config_in : Members → OrFault Config
 config_in members = do
-  port ← given_or 4303 1 65535 field.Port members
-  buses ← required field.Bus members >>= (λ value. array_in field.Bus value >>= buses_in [])
+  port ← given_or 4303 1 65535 (config_key field.Port) members
+  buses ← array_at (config_key field.Bus) members >>= buses_in []
   Ok (record { port = port; layout = buses })
-
--- the members of a document, if the bytes are one
-abbrev pub parsed : Option Members → OrFault Members
-parsed None = Err fault.NotToml
-parsed (Some members) = Ok members
-
--- the document that the bytes write
-abbrev pub document : List ℕ → OrFault Members
-document bytes = if is_utf8 bytes then parsed (parse_document bytes) else Err fault.NotToml
 
 -- what the bytes of a configuration say
 abbrev pub config_of : List ℕ → OrFault Config
-config_of bytes = document bytes >>= config_in
+config_of bytes = document fault.NotToml bytes >>= config_in

@@ -1,5 +1,6 @@
 -- The texts of the faults of a configuration.
 use Rattle.std.specs.Prelude.{List, ℕ, ◌++◌, codes, decimal}
+use Rattle.srcp_layout_file.specs.Member.{Named}
 use Rattle.srcp_layout_file.specs.declared.config.Field.{Field}
 use Rattle.srcp_layout_file.specs.declared.config.Field.TheVariants as field
 use Rattle.srcp_layout_file.specs.declared.config.ConfigFault.{ConfigFault}
@@ -15,6 +16,10 @@ field_key field.GlMax = codes "gl_max"
 field_key field.GaMax = codes "ga_max"
 field_key field.GaPorts = codes "ga_ports"
 field_key field.FbPorts = codes "fb_ports"
+
+-- the key with the faults of its value
+abbrev pub config_key : Field → Named ConfigFault
+config_key of = record { name = field_key of; missing = config.Missing of; beyond = config.OutOfRange of }
 
 -- the text of a fault
 abbrev pub config_text : ConfigFault → List ℕ

@@ -5,15 +5,15 @@ ghost use Rattle.toml.specs.View.{table_view, view as data_of};
 ghost use Rattle.srcp_grammar.specs.Layout.{IsBus, has_number};
 ghost use Rattle.srcp_layout_file.specs.Gives.{Gives};
 ghost use Rattle.srcp_layout_file.specs.declared.config.Field.TheVariants as field;
-ghost use Rattle.srcp_layout_file.specs.Document.{config_of, config_in, buses_in, bus_in, bus_of, number_beside};
-ghost use Rattle.srcp_layout_file.specs.Document.{given_or, if_named};
+ghost use Rattle.srcp_layout_file.specs.Document.{config_of, config_in, buses_in, bus_in, bus_of, if_named, number_beside};
+ghost use Rattle.srcp_layout_file.specs.Faults.{config_key};
+ghost use Rattle.srcp_layout_file.specs.Member.{given_or, number_at};
 
 mod groups;
-mod member;
 
 use crate::config::{Config, ConfigFault, Field};
+use crate::member::{array_at, given_or, number_at, read_members};
 use groups::groups_in;
-use member::{array_in, given_or, number_if, number_in, required};
 use srcp_grammar::{Bus, Layout, LayoutFault};
 use srcp_info::{GREATEST_FB, GREATEST_GA, GREATEST_GL};
 use std::alloc::Global;
@@ -29,11 +29,8 @@ use toml::{Table, Value};
 pub fn read_layout(alloc: Global, bytes: &[u8]) -> Result<Config, ConfigFault>
     ensures { Gives (λ config. config) ConfigFault.Memory result (config_of bytes.now) }
 {
-    match toml::table_from_slice(alloc, bytes) {
-        Ok(members) => read_document(alloc, &members),
-        Err(fault) if fault.is_memory() => Err(ConfigFault::Memory),
-        Err(_) => Err(ConfigFault::NotToml),
-    }
+    let members = read_members(alloc, bytes, ConfigFault::NotToml, ConfigFault::Memory)?;
+    read_document(alloc, &members)
 }
 
 /// Reads a document.
@@ -41,8 +38,7 @@ fn read_document(alloc: Global, members: &Table) -> Result<Config, ConfigFault>
     ensures { Gives (λ config. config) ConfigFault.Memory result (config_in (table_view members.now)) }
 {
     let port = given_or(members, Field::Port, 4303, 1, 65535)?;
-    let buses = array_in(required(members, Field::Bus)?, Field::Bus)?;
-    let layout = read_buses(alloc, buses)?;
+    let layout = read_buses(alloc, array_at(members, Field::Bus)?)?;
     Ok(Config {
         port: port as u16,
         layout,
@@ -82,11 +78,11 @@ fn bus_of(before: &Layout, members: &Table) -> Result<Bus, ConfigFault>
     ensures new { IfOk result (λ bus. IsBus bus × (has_number before.now bus.number ≡ false)) }
 {
     let number = number_beside(before, members)?;
-    let groups = groups_in(array_in(required(members, Field::Groups)?, Field::Groups)?)?;
-    let gl_max = number_if(groups.gl, members, Field::GlMax, 1, GREATEST_GL)?;
-    let ga_max = number_if(groups.ga, members, Field::GaMax, 1, GREATEST_GA)?;
+    let groups = groups_in(array_at(members, Field::Groups)?)?;
+    let gl_max = number_if(groups.gl, members, Field::GlMax, GREATEST_GL)?;
+    let ga_max = number_if(groups.ga, members, Field::GaMax, GREATEST_GA)?;
     let ga_ports = ports_if(groups.ga, members)?;
-    let fb_ports = number_if(groups.fb, members, Field::FbPorts, 1, GREATEST_FB)?;
+    let fb_ports = number_if(groups.fb, members, Field::FbPorts, GREATEST_FB)?;
     Ok(Bus {
         number,
         power: groups.power,
@@ -103,7 +99,7 @@ fn number_beside(before: &Layout, members: &Table) -> Result<u8, ConfigFault>
     ensures new { IfOk result (λ number.
         (1 ≤ number) × (number ≤ 250) × (has_number before.now number ≡ false)) }
 {
-    let number = number_in(members, Field::Number, 1, 250)? as u8;
+    let number = number_at(members, Field::Number, 1, 250)? as u8;
     if before.bus(number).is_some() {
         Err(ConfigFault::Twice(number))
     } else {
@@ -114,7 +110,7 @@ fn number_beside(before: &Layout, members: &Table) -> Result<u8, ConfigFault>
 /// Reads how many ports an accessory has. Returns 2 if the bus has no accessories.
 fn ports_if(is_there: bool, members: &Table) -> Result<u8, ConfigFault>
     ensures ports { result
-        ≡ if_named is_there 2 (given_or 2 2 8 field.GaPorts (table_view members.now)) }
+        ≡ if_named is_there 2 (given_or 2 2 8 (config_key field.GaPorts) (table_view members.now)) }
     ensures within { IfOk result (λ ports. (2 ≤ ports) × (ports ≤ 8)) }
 {
     if is_there {
@@ -122,5 +118,18 @@ fn ports_if(is_there: bool, members: &Table) -> Result<u8, ConfigFault>
         Ok(ports as u8)
     } else {
         Ok(2)
+    }
+}
+
+/// Reads the integer at the key, from 1 to `high`, if the bus has the group. Returns 0 if the bus has no such group.
+fn number_if(is_there: bool, members: &Table, field: Field, high: u32) -> Result<u32, ConfigFault>
+    ensures value { result
+        ≡ if_named is_there 0 (number_at 1 high (config_key field) (table_view members.now)) }
+    ensures within { IfOk result (λ n. n ≤ high) }
+{
+    if is_there {
+        number_at(members, field, 1, high)
+    } else {
+        Ok(0)
     }
 }

@@ -1,24 +1,36 @@
-//! The texts of the faults of a configuration.
+//! The keys of a configuration, and the texts of its faults.
 
-ghost use Rattle.std.specs.Prelude.{◌≡◌, Some};
-ghost use Rattle.srcp_layout_file.specs.Faults.{config_text, field_key};
+ghost use Rattle.std.specs.Prelude.{Some};
+ghost use Rattle.srcp_layout_file.specs.Faults.{config_key, config_text};
 
 use crate::config::{ConfigFault, Field};
+use crate::member::Key;
 use std::fmt;
 
-/// Returns the key as a configuration writes it.
-pub(crate) fn key_of(field: Field) -> &'static str
-    ensures { result.now ≡ field_key field }
-{
-    match field {
-        Field::Port => "port",
-        Field::Bus => "bus",
-        Field::Number => "number",
-        Field::Groups => "groups",
-        Field::GlMax => "gl_max",
-        Field::GaMax => "ga_max",
-        Field::GaPorts => "ga_ports",
-        Field::FbPorts => "fb_ports",
+impl Key for Field {
+    type Fault = ConfigFault;
+
+    ghost named = { config_key };
+
+    fn name(self) -> &'static str {
+        match self {
+            Field::Port => "port",
+            Field::Bus => "bus",
+            Field::Number => "number",
+            Field::Groups => "groups",
+            Field::GlMax => "gl_max",
+            Field::GaMax => "ga_max",
+            Field::GaPorts => "ga_ports",
+            Field::FbPorts => "fb_ports",
+        }
+    }
+
+    fn missing(self) -> ConfigFault {
+        ConfigFault::Missing(self)
+    }
+
+    fn beyond(self) -> ConfigFault {
+        ConfigFault::OutOfRange(self)
     }
 }
 
@@ -29,11 +41,11 @@ impl fmt::Display for ConfigFault {
         match self {
             ConfigFault::NotToml => write!(f, "config: not TOML"),
             ConfigFault::Missing(field) => {
-                let key = key_of(*field);
+                let key = field.name();
                 write!(f, "config: {key} missing")
             }
             ConfigFault::OutOfRange(field) => {
-                let key = key_of(*field);
+                let key = field.name();
                 write!(f, "config: {key} out of range")
             }
             ConfigFault::Twice(bus) => write!(f, "config: bus {bus} twice"),

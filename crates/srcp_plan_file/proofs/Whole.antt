@@ -9,15 +9,17 @@ use Rattle.std.proofs.lemmas.List.Quantifiers.{all_pairs_push}
 use Rattle.toml.specs.Data.{Data, string, integer, float, boolean, datetime, array, table, Members}
 use Rattle.srcp_grammar.specs.Layout.{is_within}
 use Rattle.srcp_layout_file.specs.Gives.{◌>>=◌}
+use Rattle.srcp_layout_file.specs.Member.{array_at, array_in, document, if_given, number_at, ranged, required, value_at}
 use Rattle.srcp_routes.specs.Conflicts.{is_same}
 use Rattle.srcp_routes.specs.declared.route.Device.{Device}
 use Rattle.srcp_routes.specs.declared.route.Setting.{Setting}
 use Rattle.srcp_routes.specs.declared.route.Signal.{Signal}
-use Rattle.srcp_plan_file.specs.Document.{OrFault, ranged, array_in, value_at, required, number_in, if_given, other_bus, device_of}
-use Rattle.srcp_plan_file.specs.Document.{turnout_of, sensor_of, signal_with, signal_of, new_turnout, turnout_in, turnouts_in, array_at}
+use Rattle.srcp_plan_file.specs.Document.{OrFault, other_bus, device_of}
+use Rattle.srcp_plan_file.specs.Document.{turnout_of, sensor_of, signal_with, signal_of, new_turnout, turnout_in, turnouts_in, array_if}
 use Rattle.srcp_plan_file.specs.Document.{sensor_in, blocks_in, new_signal, signal_at, frees_at, route_numbered}
 use Rattle.srcp_plan_file.specs.Document.{is_numbered, new_number, apart_from, apart_from_all, route_of, route_in, routes_in}
-use Rattle.srcp_plan_file.specs.Document.{plan_in, document, plan_of}
+use Rattle.srcp_plan_file.specs.Document.{plan_in, plan_of}
+use Rattle.srcp_plan_file.specs.Faults.{plan_key}
 use Rattle.srcp_plan_file.specs.Plan.{PlannedRoute, IsBeside, IsTurnout, IsSignal, AreOther, IsRoute, AreApart, IsPlan}
 use Rattle.srcp_plan_file.specs.Plan.{has_accessory, mixes, crosses}
 use Rattle.srcp_plan_file.specs.declared.plan.Field.{Field}
@@ -64,9 +66,9 @@ is_ranged low high b (datetime x) = tt
 is_ranged low high b (array x) = tt
 is_ranged low high b (table x) = tt
 
-is_number : (low high : ℕ) (f : Field) (members : Members) → IfOk (number_in low high f members) (IsFrom low high)
-is_number low high f members = after (λ d. Unit) (IsFrom low high) (required f members) (ranged low high _) (any (required f members))
-    (λ d h. is_ranged low high _ d)
+is_number : (low high : ℕ) (f : Field) (members : Members) → IfOk (number_at low high (plan_key f) members) (IsFrom low high)
+is_number low high f members =
+    after (λ d. Unit) (IsFrom low high) (required (plan_key f) members) (ranged low high _) (any _) (λ d h. is_ranged low high _ d)
 
 -- ---- devices
 
@@ -177,9 +179,9 @@ module _ (own number : ℕ) where
   no_pairs : AllPairs AreOther []
   no_pairs = λ i j d lt below. absurd (omega arith)
 
-  turnouts_hold : (members : Members) → IfOk (array_at number field.Turnouts members >>= turnouts_in own number []) AreTurnouts
+  turnouts_hold : (members : Members) → IfOk (array_if number field.Turnouts members >>= turnouts_in own number []) AreTurnouts
   turnouts_hold members =
-      after (λ v. Unit) AreTurnouts (array_at number field.Turnouts members) _ (any _)
+      after (λ v. Unit) AreTurnouts (array_if number field.Turnouts members) _ (any _)
       (λ values h. are_turnouts [] values (All-nil (IsTurnout own), no_pairs))
 
   is_sensor_in : (f : Field) (value : Data) → IfOk (sensor_in own number f value) (IsBeside own 4096)
@@ -194,9 +196,9 @@ module _ (own number : ℕ) where
       after (IsBeside own 4096) (All (IsBeside own 4096)) (sensor_in own number field.Blocks value) _ (is_sensor_in field.Blocks value)
       (λ block n. are_blocks (before ++ block ∷ []) values (All-push (IsBeside own 4096) before block h n))
 
-  blocks_hold : (members : Members) → IfOk (array_at number field.Blocks members >>= blocks_in own number []) (All (IsBeside own 4096))
+  blocks_hold : (members : Members) → IfOk (array_if number field.Blocks members >>= blocks_in own number []) (All (IsBeside own 4096))
   blocks_hold members =
-      after (λ v. Unit) (All (IsBeside own 4096)) (array_at number field.Blocks members) _ (any _)
+      after (λ v. Unit) (All (IsBeside own 4096)) (array_if number field.Blocks members) _ (any _)
       (λ values h. are_blocks [] values (All-nil (IsBeside own 4096)))
 
   -- a signal within the limits that is none of the turnouts
@@ -212,7 +214,7 @@ module _ (own number : ℕ) where
 
   signal_holds : (turnouts : List Setting) (members : Members) → IfOk (signal_at own number turnouts members) (IsSignalBeside turnouts)
   signal_holds turnouts members =
-      given (IsSignalBeside turnouts) None _ (value_at field.Signal members) (tt, refl)
+      given (IsSignalBeside turnouts) None _ (value_at (plan_key field.Signal) members) (tt, refl)
       (λ d. after (IsSignal own) (IsSignalBeside turnouts)
       (array_in (fault.Beyond number field.Signal) d >>= signal_of own (fault.Beyond number field.Signal)) _
       (after (λ v. Unit) (IsSignal own) (array_in (fault.Beyond number field.Signal) d) _ (any _)
@@ -221,7 +223,7 @@ module _ (own number : ℕ) where
 
   frees_hold : (members : Members) → IfOk (frees_at own number members) (λ frees. IfSome frees (IsBeside own 4096))
   frees_hold members =
-      given (λ frees. IfSome frees (IsBeside own 4096)) None _ (value_at field.Frees members) tt
+      given (λ frees. IfSome frees (IsBeside own 4096)) None _ (value_at (plan_key field.Frees) members) tt
       (λ d. after (IsBeside own 4096) (λ frees. IfSome frees (IsBeside own 4096)) (sensor_in own number field.Frees d) _
       (is_sensor_in field.Frees d) (λ sensor h. h))
 
@@ -231,8 +233,8 @@ module _ (own number : ℕ) where
 
   numbered : (members : Members) → IsFrom 1 2044 number → IfOk (route_numbered own number members) IsNumbered
   numbered members n =
-      after AreTurnouts IsNumbered (array_at number field.Turnouts members >>= turnouts_in own number []) _ (turnouts_hold members)
-      (λ turnouts t. after (All (IsBeside own 4096)) IsNumbered (array_at number field.Blocks members >>= blocks_in own number [])
+      after AreTurnouts IsNumbered (array_if number field.Turnouts members >>= turnouts_in own number []) _ (turnouts_hold members)
+      (λ turnouts t. after (All (IsBeside own 4096)) IsNumbered (array_if number field.Blocks members >>= blocks_in own number [])
       _ (blocks_hold members)
       (λ blocks b. after (IsSignalBeside turnouts) IsNumbered (signal_at own number turnouts members) _ (signal_holds turnouts members)
       (λ signal s. after (λ frees. IfSome frees (IsBeside own 4096)) IsNumbered (frees_at own number members) _ (frees_hold members)
@@ -294,8 +296,8 @@ joined number other route e f u = record { numbers = rw e (differs number other.
 
 is_next_route : (own : ℕ) (before : List PlannedRoute) (members : Members) → IfOk (route_of own before members) (IsNextRoute own before)
 is_next_route own before members =
-    after (IsNewNumber before) (IsNextRoute own before) (number_in 1 2044 field.Number members >>= new_number before) _
-    (after (IsFrom 1 2044) (IsNewNumber before) (number_in 1 2044 field.Number members) _ (is_number 1 2044 field.Number members)
+    after (IsNewNumber before) (IsNextRoute own before) (number_at 1 2044 (plan_key field.Number) members >>= new_number before) _
+    (after (IsFrom 1 2044) (IsNewNumber before) (number_at 1 2044 (plan_key field.Number) members) _ (is_number 1 2044 field.Number members)
     (λ n h. new_number_if before n (list_any (is_numbered n) before) refl h))
     (λ n h. after (IsNumbered own n) (IsNextRoute own before) (route_numbered own n members) _ (numbered own n members h.0)
     (λ route r. after (λ u. All (λ other. AreUnmixed other route) before) (IsNextRoute own before) (apart_from_all before route) _
@@ -329,13 +331,11 @@ none_apart = λ i j d lt below. absurd (omega arith)
 
 is_plan_in : (members : Members) → IfOk (plan_in members) IsPlan
 is_plan_in members =
-    after (IsFrom 1 250) IsPlan (number_in 1 250 field.Bus members) _ (is_number 1 250 field.Bus members)
-    (λ bus b. after (AreRoutes bus) IsPlan
-    (required field.Route members >>= (λ value. array_in (fault.OutOfRange field.Route) value >>= routes_in bus [])) _
-    (after (λ d. Unit) (AreRoutes bus) (required field.Route members) _ (any _)
-    (λ d h. after (λ v. Unit) (AreRoutes bus) (array_in (fault.OutOfRange field.Route) d) _ (any _)
-    (λ values k. are_routes bus [] values (All-nil (IsRoute bus), none_apart))))
+    after (IsFrom 1 250) IsPlan (number_at 1 250 (plan_key field.Bus) members) _ (is_number 1 250 field.Bus members)
+    (λ bus b. after (AreRoutes bus) IsPlan (array_at (plan_key field.Route) members >>= routes_in bus []) _
+    (after (λ v. Unit) (AreRoutes bus) (array_at (plan_key field.Route) members) _ (any _)
+    (λ values k. are_routes bus [] values (All-nil (IsRoute bus), none_apart)))
     (λ routes r. record { bus = b; each = r.0; apart = r.1 }))
 
 pub is_plan_of : (bytes : List ℕ) → IfOk (plan_of bytes) IsPlan
-is_plan_of bytes = after (λ m. Unit) IsPlan (document bytes) plan_in (any _) (λ members h. is_plan_in members)
+is_plan_of bytes = after (λ m. Unit) IsPlan (document fault.NotToml bytes) plan_in (any _) (λ members h. is_plan_in members)

@@ -1,17 +1,13 @@
 -- What a plan says: from the bytes of a TOML document to the routes, or to the first fault.
 use Rattle.std.specs.Prelude.{ℕ, Bool, ◌==◌, if◌then◌else◌, List, [], ◌∷◌, ◌++◌, Option, Some, None, Result, Ok, Err}
-use Rattle.std.specs.Prelude.{pos}
 use Rattle.std.specs.List.{list_any}
-use Rattle.std.specs.Str.{is_utf8}
-use Rattle.toml.specs.Parse.{parse_document}
-use Rattle.toml.specs.Data.{Data, integer, array, table, Members, get_member}
-use Rattle.srcp_grammar.specs.Layout.{is_within}
-use Rattle.srcp_layout_file.specs.Document.{list_of}
+use Rattle.toml.specs.Data.{Data, table, Members}
 use Rattle.srcp_layout_file.specs.Gives.{◌>>=◌}
+use Rattle.srcp_layout_file.specs.Member.{array_at, array_in, document, if_given, number_at, ranged, value_at}
 use Rattle.srcp_routes.specs.declared.route.Device.{Device}
 use Rattle.srcp_routes.specs.declared.route.Setting.{Setting}
 use Rattle.srcp_routes.specs.declared.route.Signal.{Signal}
-use Rattle.srcp_plan_file.specs.Faults.{field_key}
+use Rattle.srcp_plan_file.specs.Faults.{plan_key}
 use Rattle.srcp_plan_file.specs.Plan.{Planned, PlannedRoute, crosses, has_accessory, mixes}
 use Rattle.srcp_plan_file.specs.declared.plan.Field.{Field}
 use Rattle.srcp_plan_file.specs.declared.plan.Field.TheVariants as field
@@ -21,42 +17,6 @@ use Rattle.srcp_plan_file.specs.declared.plan.PlanFault.TheVariants as fault
 -- what may be read, or the first fault
 abbrev pub OrFault : Type 0 → Type 0
 OrFault A = Result A PlanFault
-
--- ---- values
-
--- an integer from low to high
-abbrev pub ranged : (low high : ℕ) → PlanFault → Data → OrFault ℕ
-ranged low high beyond (integer (pos n)) = if is_within low high n then Ok n else Err beyond
-ranged low high beyond other = Err beyond
-
--- the values of an array
-abbrev pub array_in : PlanFault → Data → OrFault (List Data)
-array_in beyond (array values) = Ok (list_of values)
-array_in beyond other = Err beyond
-
--- ---- keys
-
--- the value at the key
-abbrev pub value_at : Field → Members → Option Data
-value_at of members = get_member (field_key of) members
-
--- a value that must be there
-abbrev pub required_in : Field → Option Data → OrFault Data
-required_in of None = Err (fault.Missing of)
-required_in of (Some value) = Ok value
-
--- the value at the key, which must be there
-abbrev pub required : Field → Members → OrFault Data
-required of members = required_in of (value_at of members)
-
--- the integer at the key, which must be there
-abbrev pub number_in : (low high : ℕ) → Field → Members → OrFault ℕ
-number_in low high of members = required of members >>= ranged low high (fault.OutOfRange of)
-
--- what is read of a value, if there is one
-abbrev pub if_given : {A : Type 0} → (otherwise : A) → (read : Data → OrFault A) → Option Data → OrFault A
-if_given otherwise read None = Ok otherwise
-if_given otherwise read (Some value) = read value
 
 -- ---- devices
 
@@ -111,8 +71,8 @@ new_signal number turnouts signal =
     if has_accessory turnouts signal.device then Err (fault.Repeated number) else Ok (Some signal)
 
 -- the values of an array at a key of the route, none if it is not given
-abbrev pub array_at : (number : ℕ) → Field → Members → OrFault (List Data)
-array_at number of members = if_given [] (array_in (fault.Beyond number of)) (value_at of members)
+abbrev pub array_if : (number : ℕ) → Field → Members → OrFault (List Data)
+array_if number of members = if_given [] (array_in (fault.Beyond number of)) (value_at (plan_key of) members)
 
 module _ (own number : ℕ) where
   -- a turnout beside those before it
@@ -147,18 +107,18 @@ module _ (own number : ℕ) where
 
   -- the signal of the route, if it is given
   abbrev pub signal_at : List Setting → Members → OrFault (Option Signal)
-  signal_at turnouts members = if_given None (signal_in turnouts) (value_at field.Signal members)
+  signal_at turnouts members = if_given None (signal_in turnouts) (value_at (plan_key field.Signal) members)
 
   -- the sensor that frees it, if it is given
   abbrev pub frees_at : Members → OrFault (Option Device)
   frees_at members = if_given None (λ value. sensor_in field.Frees value >>= (λ sensor. Ok (Some sensor)))
-      (value_at field.Frees members)
+      (value_at (plan_key field.Frees) members)
 
   -- the route of this number, from its keys
   abbrev pub route_numbered : Members → OrFault PlannedRoute
   route_numbered members = do
-    turnouts ← array_at number field.Turnouts members >>= turnouts_in []
-    blocks ← array_at number field.Blocks members >>= blocks_in []
+    turnouts ← array_if number field.Turnouts members >>= turnouts_in []
+    blocks ← array_if number field.Blocks members >>= blocks_in []
     signal ← signal_at turnouts members
     frees ← frees_at members
     Ok (record { number = number; turnouts = turnouts; blocks = blocks; signal = signal; frees = frees })
@@ -187,7 +147,7 @@ apart_from_all (other ∷ others) route = do
 -- a route beside those before it
 abbrev pub route_of : (own : ℕ) → List PlannedRoute → Members → OrFault PlannedRoute
 route_of own before members = do
-  number ← number_in 1 2044 field.Number members >>= new_number before
+  number ← number_at 1 2044 (plan_key field.Number) members >>= new_number before
   route ← route_numbered own number members
   _ ← apart_from_all before route
   Ok route
@@ -209,20 +169,10 @@ routes_in own before (value ∷ values) = do
 -- what a document says
 abbrev pub plan_in : Members → OrFault Planned
 plan_in members = do
-  bus ← number_in 1 250 field.Bus members
-  routes ← required field.Route members
-      >>= (λ value. array_in (fault.OutOfRange field.Route) value >>= routes_in bus [])
+  bus ← number_at 1 250 (plan_key field.Bus) members
+  routes ← array_at (plan_key field.Route) members >>= routes_in bus []
   Ok (record { bus = bus; routes = routes })
-
--- the members of a document, if the bytes are one
-abbrev pub parsed : Option Members → OrFault Members
-parsed None = Err fault.NotToml
-parsed (Some members) = Ok members
-
--- the document that the bytes write
-abbrev pub document : List ℕ → OrFault Members
-document bytes = if is_utf8 bytes then parsed (parse_document bytes) else Err fault.NotToml
 
 -- what the bytes of a plan say
 abbrev pub plan_of : List ℕ → OrFault Planned
-plan_of bytes = document bytes >>= plan_in
+plan_of bytes = document fault.NotToml bytes >>= plan_in

@@ -1,5 +1,6 @@
 -- The texts of the faults of a plan.
 use Rattle.std.specs.Prelude.{List, ℕ, ◌++◌, codes, decimal}
+use Rattle.srcp_layout_file.specs.Member.{Named}
 use Rattle.srcp_plan_file.specs.declared.plan.Field.{Field}
 use Rattle.srcp_plan_file.specs.declared.plan.Field.TheVariants as field
 use Rattle.srcp_plan_file.specs.declared.plan.PlanFault.{PlanFault}
@@ -14,6 +15,10 @@ field_key field.Turnouts = codes "turnouts"
 field_key field.Blocks = codes "blocks"
 field_key field.Signal = codes "signal"
 field_key field.Frees = codes "frees"
+
+-- the key with the faults of its value
+abbrev pub plan_key : Field → Named PlanFault
+plan_key of = record { name = field_key of; missing = fault.Missing of; beyond = fault.OutOfRange of }
 
 -- the text of a fault
 abbrev pub plan_text : PlanFault → List ℕ

@@ -10,14 +10,13 @@ ghost use Rattle.srcp_plan_file.specs.Document.{route_in, route_of, routes_in};
 
 mod apart;
 mod device;
-mod member;
 mod route;
 
 use crate::plan::{Field, Plan, PlanFault};
 use apart::stand_apart;
-use member::{array_in, number_in, required};
 use route::route_numbered;
 use srcp_info::{GREATEST_BUS, GREATEST_GA};
+use srcp_layout_file::member::{array_at, number_at, read_members};
 use srcp_routes::Route;
 use std::alloc::Global;
 use std::vec::Vec;
@@ -35,23 +34,16 @@ pub fn read_plan(alloc: Global, bytes: &[u8]) -> Result<Plan, PlanFault>
     ensures reads { Gives planned PlanFault.Memory result (plan_of bytes.now) }
     ensures whole { IfOk result (λ plan. IsPlan (planned plan)) }
 {
-    match toml::table_from_slice(alloc, bytes) {
-        Ok(members) => read_document(alloc, &members),
-        Err(fault) if fault.is_memory() => Err(PlanFault::Memory),
-        Err(_) => Err(PlanFault::NotToml),
-    }
+    let members = read_members(alloc, bytes, PlanFault::NotToml, PlanFault::Memory)?;
+    read_document(alloc, &members)
 }
 
 /// Reads a document.
 fn read_document(alloc: Global, members: &Table) -> Result<Plan, PlanFault>
     ensures { Gives planned PlanFault.Memory result (plan_in (table_view members.now)) }
 {
-    let bus = number_in(members, Field::Bus, 1, u32::from(GREATEST_BUS))? as u8;
-    let values = array_in(
-        required(members, Field::Route)?,
-        PlanFault::OutOfRange(Field::Route),
-    )?;
-    let routes = read_routes(alloc, bus, values)?;
+    let bus = number_at(members, Field::Bus, 1, u32::from(GREATEST_BUS))? as u8;
+    let routes = read_routes(alloc, bus, array_at(members, Field::Route)?)?;
     Ok(Plan { bus, routes })
 }
 
@@ -84,7 +76,7 @@ fn route_of(alloc: Global, own: u8, before: &[Route], members: &Table) -> Result
     ensures { Gives planned_route PlanFault.Memory result
         (route_of own (map planned_route before.now) (table_view members.now)) }
 {
-    let number = new_number(before, number_in(members, Field::Number, 1, GREATEST_GA)?)?;
+    let number = new_number(before, number_at(members, Field::Number, 1, GREATEST_GA)?)?;
     let route = route_numbered(alloc, own, number, members)?;
     stand_apart(before, &route)?;
     Ok(route)

@@ -1,24 +1,36 @@
-//! The texts of the faults of a plan.
+//! The keys of a plan, and the texts of its faults.
 
 ghost use Rattle.std.specs.Prelude.{◌≡◌, Some};
-ghost use Rattle.srcp_plan_file.specs.Faults.{field_key, plan_text};
+ghost use Rattle.srcp_plan_file.specs.Faults.{plan_key, plan_text};
 
 use crate::plan::{Field, PlanFault};
+use srcp_layout_file::member::Key;
 use std::alloc::AllocFailed;
 use std::fmt;
 
-/// Returns the key as a plan writes it.
-pub(crate) fn key_of(field: Field) -> &'static str
-    ensures { result.now ≡ field_key field }
-{
-    match field {
-        Field::Bus => "bus",
-        Field::Route => "route",
-        Field::Number => "number",
-        Field::Turnouts => "turnouts",
-        Field::Blocks => "blocks",
-        Field::Signal => "signal",
-        Field::Frees => "frees",
+impl Key for Field {
+    type Fault = PlanFault;
+
+    ghost named = { plan_key };
+
+    fn name(self) -> &'static str {
+        match self {
+            Field::Bus => "bus",
+            Field::Route => "route",
+            Field::Number => "number",
+            Field::Turnouts => "turnouts",
+            Field::Blocks => "blocks",
+            Field::Signal => "signal",
+            Field::Frees => "frees",
+        }
+    }
+
+    fn missing(self) -> PlanFault {
+        PlanFault::Missing(self)
+    }
+
+    fn beyond(self) -> PlanFault {
+        PlanFault::OutOfRange(self)
     }
 }
 
@@ -29,16 +41,16 @@ impl fmt::Display for PlanFault {
         match self {
             PlanFault::NotToml => write!(f, "plan: not TOML"),
             PlanFault::Missing(field) => {
-                let key = key_of(*field);
+                let key = field.name();
                 write!(f, "plan: {key} missing")
             }
             PlanFault::OutOfRange(field) => {
-                let key = key_of(*field);
+                let key = field.name();
                 write!(f, "plan: {key} out of range")
             }
             PlanFault::Twice(number) => write!(f, "plan: route {number} twice"),
             PlanFault::Beyond(number, field) => {
-                let key = key_of(*field);
+                let key = field.name();
                 write!(f, "plan: route {number}: {key} out of range")
             }
             PlanFault::Repeated(number) => write!(f, "plan: route {number}: an accessory twice"),

@@ -4,9 +4,9 @@ ghost use Rattle.std.specs.Prelude.{◌≡◌, map};
 ghost use Rattle.toml.specs.View.{view as data_of};
 ghost use Rattle.srcp_plan_file.specs.Document.{device_of, other_bus, sensor_of, signal_of, signal_with, turnout_of};
 
-use super::member::ranged;
 use crate::plan::PlanFault;
 use srcp_info::{GREATEST_BUS, GREATEST_FB, GREATEST_GA, MOST_PORTS};
+use srcp_layout_file::member::ranged;
 use srcp_routes::{Device, Setting, Signal};
 use toml::Value;
 

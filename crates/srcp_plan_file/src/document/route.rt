@@ -3,15 +3,15 @@
 ghost use Rattle.std.specs.Prelude.{◌≡◌, [], map, option_map};
 ghost use Rattle.toml.specs.View.{table_view, view as data_of};
 ghost use Rattle.srcp_layout_file.specs.Gives.{Gives, Shows};
-ghost use Rattle.srcp_plan_file.specs.Document.{array_at, blocks_in, frees_at, new_signal, new_turnout};
+ghost use Rattle.srcp_plan_file.specs.Document.{array_if, blocks_in, frees_at, new_signal, new_turnout};
 ghost use Rattle.srcp_plan_file.specs.Document.{route_numbered, sensor_in, signal_at, signal_in};
 ghost use Rattle.srcp_plan_file.specs.Document.{turnout_in, turnouts_in};
 ghost use Rattle.srcp_plan_file.specs.Plan.{planned_route};
 
 use super::device::{sensor_of, signal_of, turnout_of};
-use super::member::{array_in, value_at};
 use crate::accessory::has_accessory;
 use crate::plan::{Field, PlanFault};
+use srcp_layout_file::member::{array_in, value_at};
 use srcp_routes::{Device, Route, Setting, Signal};
 use std::alloc::Global;
 use std::vec::Vec;
@@ -27,9 +27,9 @@ pub(super) fn route_numbered(
     ensures { Gives planned_route PlanFault.Memory result
         (route_numbered own number (table_view members.now)) }
 {
-    let values = array_at(number, members, Field::Turnouts)?;
+    let values = array_if(number, members, Field::Turnouts)?;
     let turnouts = turnouts_in(alloc, own, number, values)?;
-    let values = array_at(number, members, Field::Blocks)?;
+    let values = array_if(number, members, Field::Blocks)?;
     let blocks = blocks_in(alloc, own, number, values)?;
     let signal = signal_at(own, number, &turnouts, members)?;
     let frees = frees_at(own, number, members)?;
@@ -43,9 +43,9 @@ pub(super) fn route_numbered(
 }
 
 /// Returns the values of the array at a key of a route, or no values if there is no such key.
-fn array_at(number: u32, members: &Table, field: Field) -> Result<&[Value], PlanFault>
+fn array_if(number: u32, members: &Table, field: Field) -> Result<&[Value], PlanFault>
     ensures { Shows (λ values. map data_of values.now) result
-        (array_at number field (table_view members.now)) }
+        (array_if number field (table_view members.now)) }
 {
     match value_at(members, field) {
         Some(value) => array_in(value, PlanFault::Beyond(number, field)),

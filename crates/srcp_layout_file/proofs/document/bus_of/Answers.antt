@@ -5,8 +5,7 @@ pub returns-clause-bus : goal.returns-clause-bus
 returns-clause-bus c =
     rw (
       ← c.in_ok-number.ensures.number,
-      c.in_ok-required.ensures,
-      c.in_ok-array_in.ensures,
+      c.in_ok-array_at.ensures,
       ← c.in_ok-groups.ensures,
       ← c.in_ok-gl_max.ensures.value,
       ← c.in_ok-ga_max.ensures.value,
@@ -31,8 +30,7 @@ pub returns-in_err-fb_ports-clause-bus : goal.returns-in_err-fb_ports-clause-bus
 returns-in_err-fb_ports-clause-bus c =
     rw (
       ← c.in_ok-number.ensures.number,
-      c.in_ok-required.ensures,
-      c.in_ok-array_in.ensures,
+      c.in_ok-array_at.ensures,
       ← c.in_ok-groups.ensures,
       ← c.in_ok-gl_max.ensures.value,
       ← c.in_ok-ga_max.ensures.value,
