@@ -1,6 +1,8 @@
-//! Tests of `srcp_sockets`, in a crate of their own, since `srcp_sockets` is then proved once.
+//! Tests of `srcp_sockets` and `srcp_host`, in a crate of their own, since both are then proved once.
 #![tactic(auto)]
 
+#[cfg(test)]
+mod hosting;
 #[cfg(test)]
 mod lingering;
 #[cfg(test)]
@@ -15,3 +17,5 @@ mod recorder;
 mod scene;
 #[cfg(test)]
 mod serving;
+#[cfg(test)]
+mod slow;

@@ -25,6 +25,8 @@ pub(crate) enum Happens<'a> {
     Resets,
     /// The client makes room for this many more bytes.
     Receives(usize),
+    /// The client makes no more room, and what room there was is gone.
+    Fills,
     /// The server stands still for this many milliseconds, whatever the socket.
     StandsStill(u64),
 }
@@ -163,6 +165,7 @@ impl Socket {
                 self.room = self.room.saturating_add(count);
                 self.ready(false, false, false, true);
             }
+            Happens::Fills => self.room = 0,
             Happens::StandsStill(_) => (),
         }
         Ok(())

@@ -145,6 +145,19 @@ pub(crate) fn closed_at(entries: &[Entry], number: u32) -> Option<u64> {
     None
 }
 
+/// Returns what the clock showed last when the core closed a peer, or `None` if the core did not.
+pub(crate) fn parted_at(entries: &[Entry], number: u32) -> Option<u64> {
+    let mut shown = None;
+    for entry in entries {
+        match entry {
+            Entry::Clocks(answer) => shown = *answer,
+            Entry::Close { peer, .. } if *peer == number => return shown,
+            _ => (),
+        }
+    }
+    None
+}
+
 /// Returns how often a socket was shut down.
 pub(crate) fn shuts(entries: &[Entry], number: u32) -> usize {
     entries

@@ -1,6 +1,6 @@
 //! A system with a record of the calls.
 
-ghost use Rattle.std.specs.Prelude.{◌≡◌, ◌∷◌, ◌++◌, [], None, IfSome, MatchOption};
+ghost use Rattle.std.specs.Prelude.{◌≡◌, ◌∷◌, ◌++◌, [], None, IfOk, IfSome, MatchOption};
 
 use crate::network::{Event, Network};
 use crate::record::Entry;
@@ -22,7 +22,9 @@ pub(crate) struct Recorder<'a> {
 pub(crate) fn open<'a>(
     alloc: Global,
     network: Network<'a>,
-) -> Result<SocketDoor<Recorder<'a>>, AllocError> {
+) -> Result<SocketDoor<Recorder<'a>>, AllocError>
+    ensures { IfOk result (λ door. door.faults ≡ 0) }
+{
     SocketDoor::open(Recorder::new(alloc, network), alloc, 0, 0)
 }
 

@@ -12,7 +12,7 @@ use std::test::Fail;
 use std::vec::Vec;
 
 /// The number of turns, more than all events need.
-const TURNS: u64 = 2_000;
+pub(crate) const TURNS: u64 = 2_000;
 
 /// The room made by a reading client, in bytes.
 pub(crate) const AMPLE: usize = 100_000;
@@ -31,11 +31,20 @@ pub(crate) fn serve_events<'a>(
     alloc: Global,
     network: Network<'a>,
 ) -> Result<(Served, SocketDoor<Recorder<'a>>), Fail> {
+    serve_turns(alloc, network, TURNS)
+}
+
+/// Serves a network with these events for a number of turns.
+pub(crate) fn serve_turns<'a>(
+    alloc: Global,
+    network: Network<'a>,
+    turns: u64,
+) -> Result<(Served, SocketDoor<Recorder<'a>>), Fail> {
     let mut layout = Layout::new(alloc);
     layout.add(BUS)?;
     let mut core = Core::<Flat>::new(alloc, &layout, 0, 0)?;
     let mut door = open(alloc, network)?;
-    let served = serve_sockets(&mut core, &mut door, TURNS);
+    let served = serve_sockets(&mut core, &mut door, turns);
     Ok((served, door))
 }
 
