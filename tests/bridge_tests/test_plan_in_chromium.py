@@ -104,6 +104,7 @@ class PlanInChromium(PlanCase):
         self.assertEqual((self.drawn(""), self.drawn("busy")), (13, 0))
         self.throttle.order("SET 1 FB 1 1", "SET 1 FB 3 1")
         self.says("b1", "b1, Sensor 1: occupied"), self.says("b2", "b2, Sensor 2: free")
+        self.says("b3", "b3, Sensor 3: occupied")
         self.assertEqual((self.drawn(""), self.drawn("busy")), (8, 5))  # W b1 s1 t1, and t1 b3 Q
         red, blue, _ = self.js("getComputedStyle(document.querySelector('.track.busy')).stroke"
                                ".match(/[0-9]+/g).map(Number)")
