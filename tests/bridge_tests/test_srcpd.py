@@ -266,6 +266,16 @@ class Srcpd(Case):
         self.assertEqual(self.proxy.end(), 0)
         self.assertNotIn("Traceback", self.proxy.told())
 
+    def test_a_server_that_is_slow(self):
+        """What the program answers itself comes after the replies to the lines before it."""
+        client, other = self.client(), self.client()
+        self.server.process.send(signal.SIGSTOP)
+        client.send("GET 1 POWER", "GET 0 SERVER")
+        for _ in range(20):  # by then the program has read both lines
+            self.assertEqual(other.ask("GET 0 SERVER"), ["100 INFO 0 SERVER RUNNING"])
+        self.server.process.send(signal.SIGCONT)
+        self.assertEqual([client.line(), client.line()], ["100 INFO 1 POWER OFF", "100 INFO 0 SERVER RUNNING"])
+
     def test_places(self):
         clients = [Client(self.listen, address=f"127.0.0.{2 + number // 20}") for number in range(40)]
         for address, told in (("127.0.0.2", "20 connections of 127.0.0.2 are open"), ("127.0.0.9", "40 connections")):
