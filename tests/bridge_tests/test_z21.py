@@ -4,7 +4,7 @@ import subprocess
 import sys
 import time
 
-from .common import LAYOUT, PROGRAMS, WAIT, free_port, rows
+from .common import LAYOUT, PROGRAMS, WAIT, Session, free_port, rows
 from .stations import QUIET, STANDS, Drives, Hands, Losses, StationCase
 
 
@@ -158,13 +158,17 @@ class Z21WithLosses(Losses, Z21Case):
         self.assertEqual(self.station.cabs[3], (0, 1))
 
     def test_a_station_that_reports_what_it_did_before_it_heard(self):
-        """That is no hand throttle: the registry stays as it is."""
+        """That is no hand throttle: the registry stays as it is, and is not changed for a moment either."""
         self.driver.end(signal.SIGKILL)
         self.throttle.order("SET 1 GL 3 1 0 28", "SET 1 POWER OFF")
+        panel = Session(self.server.port, "INFO")
         self.station.deaf = True
         self.start()
         time.sleep(3 * QUIET)
         self.has("100 INFO 1 GL 3 1 0 28", "100 INFO 1 POWER OFF")
+        self.throttle.order("SET 2 FB 16 1")
+        told = panel.hears_until(b" 2 FB 16 1\n")
+        self.assertEqual((b" 1 GL 3 1 14 " in told, b" 1 POWER ON" in told), (False, False))
         self.station.deaf = False
         self.rests("")
 
