@@ -1,6 +1,6 @@
 -- The table of all routes: their stages, which are wanted, what is known of sensors, and whose order waits.
 use Rattle.std.specs.Prelude.{ℕ, Bool, false, not, ◌&&◌, ◌||◌, Option, None, List, map}
-use Rattle.std.specs.Prelude.{length, replicate, if◌then◌else◌, option_and_then, slice_get, unwrap_or}
+use Rattle.std.specs.Prelude.{length, replicate, option_and_then, slice_get, unwrap_or}
 use Rattle.std.specs.List.{list_all, range_with_len}
 use Rattle.std.specs.Option.{option_map_or}
 use Rattle.srcp_routes.specs.Conflicts.{conflicts, is_same, sensors_of}

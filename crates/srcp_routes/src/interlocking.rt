@@ -125,16 +125,6 @@ fn lost_stages(alloc: Global, routes: &[Route]) -> Result<Vec<Stage>, AllocError
     routes.iter().map(|route| lost(route)).collect(alloc)
 }
 
-/// Puts each route into its stage as a command session begins.
-#[tactic(auto, using(crate::proofs::Loops::lost_more, crate::proofs::Loops::lost_all))]
-fn lose_all(routes: &[Route], stages: &mut [Stage])
-    ensures { length stages.old ≡ length routes.now → stages.new ≡ map lost_stage routes.now }
-{
-    for n in 0..routes.len().min(stages.len()) {
-        stages[n] = lost(&routes[n]);
-    }
-}
-
 impl Interlocking {
     /// Makes the interlocking of a plan, which first waits for the event that a command session has begun. No other
     /// call takes memory.
@@ -281,10 +271,13 @@ impl Interlocking {
     }
 
     /// Notes that a command session has begun.
+    #[tactic(auto, using(crate::proofs::Loops::lost_more, crate::proofs::Loops::lost_all))]
     fn lose(&mut self)
         ensures { self.new ≡ heard self.old Lost }
     {
-        lose_all(&self.routes, &mut self.stages);
+        for n in 0..self.routes.len().min(self.stages.len()) {
+            self.stages[n] = lost(&self.routes[n]);
+        }
         self.wanted.fill(false);
         self.waiting = None;
     }
