@@ -46,7 +46,7 @@ impl LineRecord {
         }
     }
 
-    /// Makes the record of a new session refused for want of memory.
+    /// Makes the record of a new session that is refused since memory is refused.
     pub(crate) fn denied() -> LineRecord
         ensures { result ≡ record { granted = false; step = None; end = None } }
     {

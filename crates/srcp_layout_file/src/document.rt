@@ -5,7 +5,8 @@ ghost use Rattle.toml.specs.View.{table_view, view as data_of};
 ghost use Rattle.srcp_grammar.specs.Layout.{IsBus, has_number};
 ghost use Rattle.srcp_layout_file.specs.Gives.{Gives};
 ghost use Rattle.srcp_layout_file.specs.declared.config.Field.TheVariants as field;
-ghost use Rattle.srcp_layout_file.specs.Document.{config_of, config_in, buses_in, bus_in, bus_of, if_named, number_beside};
+ghost use Rattle.srcp_layout_file.specs.Document.{config_of, config_in, buses_in, bus_in, bus_of};
+ghost use Rattle.srcp_layout_file.specs.Document.{if_named, number_beside};
 ghost use Rattle.srcp_layout_file.specs.Faults.{config_key};
 ghost use Rattle.srcp_layout_file.specs.Member.{given_or, number_at};
 

@@ -125,7 +125,7 @@ pub fn number_at<K: Key>(members: &Table, key: K, low: u32, high: u32) -> Result
 ///
 /// # Errors
 /// Returns the key's fault for any other value.
-pub fn given_or<K: Key>(
+pub(crate) fn given_or<K: Key>(
     members: &Table,
     key: K,
     default: u32,

@@ -392,7 +392,7 @@ impl Peer {
         }
     }
 
-    /// Takes as many bytes as there is space for, and returns how many. Bytes written to a lost peer go nowhere.
+    /// Takes as many bytes as there is space for, and returns how many. A lost peer's bytes are dropped.
     pub fn write<S: System>(&mut self, system: &mut S, bytes: &[u8]) -> usize
         requires kept { IsKept (S.trace system.old) self.old }
         requires here { self.old.stay ≡ Stay.Here }

@@ -32,10 +32,12 @@ after_holds routes r event holds = record {
   apart = after_apart r.table event holds.apart;
   pends = step_pends routes r.table r.order event holds.fits holds.pends;
   locked = next_locked routes (heard r.table event) (heard_of granted (λ m x. false) r.locked r event)
-      (is_some (heard r.table event).waiting) (due (heard r.table event)) (heard_fits routes r.table event holds.fits) refl (after_apart r.table event holds.apart)
+      (is_some (heard r.table event).waiting) (due (heard r.table event)) (heard_fits routes r.table event holds.fits) refl
+      (after_apart r.table event holds.apart)
       (heard_locked r event holds.pends holds.locked);
   thrown = next_thrown routes (heard r.table event) (heard_of put (λ m x. false) r.thrown r event)
-      (is_some (heard r.table event).waiting) (due (heard r.table event)) (heard_fits routes r.table event holds.fits) refl (after_apart r.table event holds.apart)
+      (is_some (heard r.table event).waiting) (due (heard r.table event)) (heard_fits routes r.table event holds.fits) refl
+      (after_apart r.table event holds.apart)
       (heard_thrown r event holds.pends holds.thrown);
   shown = next_goes false routes (heard r.table event) (heard_of stopped (λ m. false) r.shown r event)
       (is_some (heard r.table event).waiting) (due (heard r.table event)) (heard_fits routes r.table event holds.fits) refl
