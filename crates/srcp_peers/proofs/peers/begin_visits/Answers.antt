@@ -3,9 +3,10 @@ use Rattle.srcp_peers.specs.Ends.{begun}
 use Rattle.srcp_peers.specs.Peers.{is_over}
 use Rattle.srcp_door.specs.declared.pacing.Share.{Share}
 use Rattle.srcp_peers.specs.declared.peer.Peer.{Peer}
-use Rattle.srcp_peers.proofs.Saying.{says_none, says_then, keeps_none, keeps_then}
-use Rattle.srcp_peers.proofs.Keeping.{spares_none, spares_then}
-use Rattle.srcp_peers.proofs.Lists.{set_read, absent_there, set_apart, set_each, set_kept, set_shared, set_rest, set_rooms, set_those}
+use Rattle.srcp_peers.proofs.CallsAreOfTheDoor.{says_none, says_then, keeps_none, keeps_then}
+use Rattle.srcp_peers.proofs.PeersStayKept.{spares_none, spares_then}
+use Rattle.srcp_peers.proofs.OnePeerChanges.{set_read, absent_there, set_apart, set_each, set_kept, set_shared, set_rest, set_rooms}
+use Rattle.srcp_peers.proofs.OnePeerChanges.{set_those}
 use Rattle.srcp_peers.proofs.peers.begin_visits.Goals as goal
 
 pub loop-peer-init : goal.loop-peer-init

@@ -1,9 +1,9 @@
 use Rattle.std.proofs.Common.{◌≡◌, arith, refl}
 use Rattle.srcp_peers.specs.declared.peer.Peer.{Peer}
-use Rattle.srcp_peers.proofs.Saying.{says_none, says_then, keeps_none, keeps_then}
-use Rattle.srcp_peers.proofs.Keeping.{spares_none, spares_then}
-use Rattle.srcp_peers.proofs.Lists.{absent_there, set_apart, set_each, set_kept, set_rest, set_stays, set_those}
-use Rattle.srcp_peers.proofs.Offering.{set_offered}
+use Rattle.srcp_peers.proofs.CallsAreOfTheDoor.{says_none, says_then, keeps_none, keeps_then}
+use Rattle.srcp_peers.proofs.PeersStayKept.{spares_none, spares_then}
+use Rattle.srcp_peers.proofs.OnePeerChanges.{absent_there, set_apart, set_each, set_kept, set_rest, set_stays, set_those}
+use Rattle.srcp_peers.proofs.QueuedIsOffered.{set_offered}
 use Rattle.srcp_peers.proofs.peers.flush.Goals as goal
 
 pub loop-peer-init : goal.loop-peer-init

@@ -1,4 +1,4 @@
-use Rattle.srcp_peers.proofs.Lists.{woken_set}
+use Rattle.srcp_peers.proofs.OnePeerChanges.{woken_set}
 use Rattle.srcp_peers.proofs.peers.wake_one.Goals as goal
 
 pub returns : goal.returns

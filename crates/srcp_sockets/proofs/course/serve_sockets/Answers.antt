@@ -1,4 +1,4 @@
-use Rattle.srcp_sockets.proofs.Followed.{follows}
+use Rattle.srcp_sockets.proofs.SocketsFollowTheCourse.{follows}
 use Rattle.srcp_sockets.proofs.course.serve_sockets.Goals as goal
 
 pub returns-clause-course : goal.returns-clause-course

@@ -4,15 +4,15 @@ use Rattle.srcp_peers.specs.AllPeers.{AreApart}
 use Rattle.srcp_peers.specs.declared.readiness.Flush.TheVariants as flush
 use Rattle.srcp_peers.specs.Listeners.{woken_listening}
 use Rattle.srcp_peers.specs.Steps.{Clocks, SaysNothing, Waits}
-use Rattle.srcp_peers.proofs.Offering.{all_offered_then, offered_first}
-use Rattle.srcp_peers.proofs.Saying.{says_none, says_step, says_then}
-use Rattle.srcp_peers.proofs.Lists.{apart_later, clocked_all, waited_all, woken_apart}
+use Rattle.srcp_peers.proofs.QueuedIsOffered.{all_offered_then, offered_first}
+use Rattle.srcp_peers.proofs.CallsAreOfTheDoor.{says_none, says_step, says_then}
+use Rattle.srcp_peers.proofs.OnePeerChanges.{apart_later, clocked_all, waited_all, woken_apart}
 use Rattle.srcp_sockets.specs.Delivery.{HasWaited, HaveEnded}
 use Rattle.srcp_sockets.specs.Doors.{AreStanding}
-use Rattle.srcp_sockets.proofs.Delivered.{are_delivered, has_ended, waited_clocked, waited_keeps, waited_more, waited_none}
-use Rattle.srcp_sockets.proofs.Parting.{stands_clocked}
-use Rattle.srcp_sockets.proofs.Standing.{stands_turned}
-use Rattle.srcp_sockets.proofs.Waited.{stands_waited}
+use Rattle.srcp_sockets.proofs.EndsAreDelivered.{are_delivered, has_ended, waited_clocked, waited_keeps, waited_more, waited_none}
+use Rattle.srcp_sockets.proofs.SocketsLingerAndClose.{stands_clocked}
+use Rattle.srcp_sockets.proofs.SocketsStayStanding.{stands_turned}
+use Rattle.srcp_sockets.proofs.WaitsKeepSockets.{stands_waited}
 use Rattle.srcp_sockets.proofs.delivering.deliver.Goals as goal
 
 pub loop-look-init : goal.loop-look-init

@@ -1,8 +1,8 @@
 use Rattle.std.proofs.Common.{◌∙◌, ⊎_elim, sym, true≢false}
 use Rattle.srcp_peers.specs.AllPeers.{IsAbsent}
 use Rattle.srcp_sockets.specs.Doors.{IsThere}
-use Rattle.srcp_sockets.proofs.Pasts.{might_close, might_shut}
-use Rattle.srcp_sockets.proofs.Standing.{find}
+use Rattle.srcp_sockets.proofs.EachStepWasMadeSo.{might_close, might_shut}
+use Rattle.srcp_sockets.proofs.SocketsStayStanding.{find}
 use Rattle.srcp_sockets.proofs.laws.closed_rightly.Goals as goal
 
 pub returns-clause-shut : goal.returns-clause-shut

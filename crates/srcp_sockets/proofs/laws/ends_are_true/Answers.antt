@@ -1,4 +1,4 @@
-use Rattle.srcp_sockets.proofs.Pasts.{ended_before}
+use Rattle.srcp_sockets.proofs.EachStepWasMadeSo.{ended_before}
 use Rattle.srcp_sockets.proofs.laws.ends_are_true.Goals as goal
 
 pub returns : goal.returns

@@ -1,4 +1,4 @@
-use Rattle.srcp_sockets.proofs.Pasts.{failed_before, unwritten_before}
+use Rattle.srcp_sockets.proofs.EachStepWasMadeSo.{failed_before, unwritten_before}
 use Rattle.srcp_sockets.proofs.laws.faults_are_true.Goals as goal
 
 pub returns-clause-read : goal.returns-clause-read

@@ -1,4 +1,4 @@
-use Rattle.srcp_sockets.proofs.Pasts.{read_then}
+use Rattle.srcp_sockets.proofs.EachStepWasMadeSo.{read_then}
 use Rattle.srcp_sockets.proofs.laws.peers_are_read.Goals as goal
 
 pub returns : goal.returns

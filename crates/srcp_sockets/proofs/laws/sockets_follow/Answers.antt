@@ -3,7 +3,7 @@ use Rattle.std.specs.Prelude.{ℕ}
 use Rattle.std.specs.Io.{StartsWith}
 use Rattle.srcp_peers.specs.Accounts.{account}
 use Rattle.srcp_peers.specs.Streams.{handed, took}
-use Rattle.srcp_peers.proofs.AccountStreams.{gave_is, handed_is, taken_is, took_is}
+use Rattle.srcp_peers.proofs.AccountsHoldStreams.{gave_is, handed_is, taken_is, took_is}
 use Rattle.srcp_sockets.proofs.laws.sockets_follow.Goals as goal
 
 pub returns-clause-took : goal.returns-clause-took

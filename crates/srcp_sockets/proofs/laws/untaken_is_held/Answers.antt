@@ -5,7 +5,7 @@ use Rattle.srcp_peers.specs.declared.readiness.Output.TheVariants as output
 use Rattle.srcp_peers.specs.Accounts.{Sent, account}
 use Rattle.srcp_peers.specs.Peers.{WritesAs}
 use Rattle.srcp_peers.specs.Streams.{taken, took}
-use Rattle.srcp_peers.proofs.AccountStreams.{taken_is, took_is}
+use Rattle.srcp_peers.proofs.AccountsHoldStreams.{taken_is, took_is}
 use Rattle.srcp_sockets.proofs.laws.untaken_is_held.Goals as goal
 
 held_as : (sent : Sent) (outgoing written took_all : List ℕ) (state : Output) → sent.written ≡ written → sent.took ≡ took_all

@@ -1,4 +1,4 @@
-use Rattle.srcp_sockets.proofs.Pasts.{rested_then}
+use Rattle.srcp_sockets.proofs.EachStepWasMadeSo.{rested_then}
 use Rattle.srcp_sockets.proofs.laws.waits_are_safe.Goals as goal
 
 pub returns : goal.returns

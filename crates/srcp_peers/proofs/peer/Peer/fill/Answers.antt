@@ -1,7 +1,7 @@
 use Rattle.std.proofs.Common.{◌∙◌, ◌-◌, ℕ, Ok, Err, ap, refl, sym}
 use Rattle.srcp_peers.specs.Peers.{given, missed}
 use Rattle.srcp_peers.specs.Steps.{Reads}
-use Rattle.srcp_peers.proofs.Saying.{says_step, keeps_step}
+use Rattle.srcp_peers.proofs.CallsAreOfTheDoor.{says_step, keeps_step}
 use Rattle.srcp_peers.proofs.peer.Peer.fill.Goals as goal
 
 pub returns-in-Ok-clause-calls : goal.returns-in-Ok-clause-calls

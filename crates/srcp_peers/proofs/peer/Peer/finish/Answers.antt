@@ -1,8 +1,8 @@
 use Rattle.std.proofs.Common.{◌∙◌}
 use Rattle.srcp_peers.specs.declared.readiness.Flush.TheVariants as flush
-use Rattle.srcp_peers.proofs.Keeping.{spares_then}
-use Rattle.srcp_peers.proofs.Offering.{due_all, flushed_now, offered_then}
-use Rattle.srcp_peers.proofs.Saying.{says_then}
+use Rattle.srcp_peers.proofs.PeersStayKept.{spares_then}
+use Rattle.srcp_peers.proofs.QueuedIsOffered.{due_all, flushed_now, offered_then}
+use Rattle.srcp_peers.proofs.CallsAreOfTheDoor.{says_then}
 use Rattle.srcp_peers.proofs.peer.Peer.finish.Goals as goal
 
 pub returns-then-not-is_lost-clause-others : goal.returns-then-not-is_lost-clause-others

@@ -1,4 +1,4 @@
-use Rattle.srcp_peers.proofs.Offering.{due_here, flushed_now}
+use Rattle.srcp_peers.proofs.QueuedIsOffered.{due_here, flushed_now}
 use Rattle.srcp_peers.proofs.peer.Peer.hand_over.Goals as goal
 
 pub returns-then-is_here-clause-offered : goal.returns-then-is_here-clause-offered

@@ -1,4 +1,4 @@
-use Rattle.srcp_peers.proofs.Offering.{shut_offered}
+use Rattle.srcp_peers.proofs.QueuedIsOffered.{shut_offered}
 use Rattle.srcp_peers.proofs.peer.Peer.part.Goals as goal
 
 pub returns-in-Shut-clause-offered : goal.returns-in-Shut-clause-offered

@@ -2,7 +2,7 @@ use Rattle.std.proofs.Common.{◌≡◌, ℕ, ap, subst}
 use Rattle.srcp_door.specs.Calls.{ReadCall}
 use Rattle.srcp_peers.specs.declared.peer.Peer.{Peer}
 use Rattle.srcp_peers.specs.Steps.{Tells, Answers}
-use Rattle.srcp_peers.proofs.Keeping.{kept_got, spares_got}
+use Rattle.srcp_peers.proofs.PeersStayKept.{kept_got, spares_got}
 use Rattle.srcp_peers.proofs.peer.Peer.read.Goals as goal
 
 pub returns-clause-kept : goal.returns-clause-kept

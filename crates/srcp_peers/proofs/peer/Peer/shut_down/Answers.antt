@@ -1,7 +1,7 @@
 use Rattle.std.proofs.Common.{refl}
 use Rattle.srcp_peers.specs.Steps.{Shuts}
-use Rattle.srcp_peers.proofs.Keeping.{kept_shut, spares_shut}
-use Rattle.srcp_peers.proofs.Saying.{says_step, keeps_step}
+use Rattle.srcp_peers.proofs.PeersStayKept.{kept_shut, spares_shut}
+use Rattle.srcp_peers.proofs.CallsAreOfTheDoor.{says_step, keeps_step}
 use Rattle.srcp_peers.proofs.peer.Peer.shut_down.Goals as goal
 
 pub returns : goal.returns

@@ -1,6 +1,6 @@
 use Rattle.std.proofs.Common.{subst, sym}
 use Rattle.srcp_peers.specs.Peers.{IsKept}
-use Rattle.srcp_peers.proofs.Staying.{kept_dropped}
+use Rattle.srcp_peers.proofs.PeersLingerByAccount.{kept_dropped}
 use Rattle.srcp_peers.proofs.peer.Peer.skip.Goals as goal
 
 pub fill-requires : goal.fill-requires

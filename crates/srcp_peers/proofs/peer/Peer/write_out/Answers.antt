@@ -1,7 +1,7 @@
 use Rattle.std.proofs.Common.{List, ℕ, false, rules, refl, subst, Ok, Err}
 use Rattle.srcp_peers.specs.Steps.{Tells, Writes}
-use Rattle.srcp_peers.proofs.Saying.{says_step, keeps_step}
-use Rattle.srcp_peers.proofs.Keeping.{wrote_peer}
+use Rattle.srcp_peers.proofs.CallsAreOfTheDoor.{says_step, keeps_step}
+use Rattle.srcp_peers.proofs.PeersStayKept.{wrote_peer}
 use Rattle.srcp_peers.proofs.peer.Peer.write_out.Goals as goal
 
 pub returns-in-Ok-clause-kept : goal.returns-in-Ok-clause-kept

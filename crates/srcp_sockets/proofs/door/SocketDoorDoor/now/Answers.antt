@@ -2,8 +2,8 @@ use Rattle.std.proofs.Common.{List, Option, ap, subst, sym}
 use Rattle.std.specs.Prelude.{option_map}
 use Rattle.srcp_door.specs.Calls.{NowCall, Tells}
 use Rattle.srcp_peers.specs.Steps.{Step, calls}
-use Rattle.srcp_peers.proofs.Saying.{says_after}
-use Rattle.srcp_sockets.proofs.Serving.{tells_one}
+use Rattle.srcp_peers.proofs.CallsAreOfTheDoor.{says_after}
+use Rattle.srcp_sockets.proofs.NoMomentWhileUnread.{tells_one}
 use Rattle.srcp_sockets.proofs.door.SocketDoorDoor.now.Goals as goal
 
 pub returns-else-is_err-clause-trace : goal.returns-else-is_err-clause-trace

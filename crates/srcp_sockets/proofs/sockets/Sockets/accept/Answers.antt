@@ -2,8 +2,8 @@ use Rattle.std.proofs.Common.{◌≡◌, ◌∙◌, ℕ, List, ap, inl, not, ref
 use Rattle.srcp_door.specs.Calls.{AcceptCall}
 use Rattle.srcp_peers.specs.declared.peer.Peer.{Peer}
 use Rattle.srcp_peers.specs.declared.turn.Listening.{Listening}
-use Rattle.srcp_peers.proofs.Resting.{and_right}
-use Rattle.srcp_peers.proofs.Saying.{says_after}
+use Rattle.srcp_peers.proofs.PeersRestByAccount.{and_right}
+use Rattle.srcp_peers.proofs.CallsAreOfTheDoor.{says_after}
 use Rattle.srcp_sockets.specs.Work.{is_crowded, is_quiet, may_accept}
 use Rattle.srcp_sockets.proofs.sockets.Sockets.accept.Goals as goal
 

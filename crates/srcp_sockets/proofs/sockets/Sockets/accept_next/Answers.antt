@@ -10,15 +10,15 @@ use Rattle.srcp_peers.specs.Listeners.{refused_listening}
 use Rattle.srcp_peers.specs.Steps.{Accepts, Answers}
 use Rattle.srcp_peers.specs.Times.{is_as_heard, refused_accept}
 use Rattle.srcp_peers.specs.Turns.{after_call}
-use Rattle.srcp_peers.proofs.Keeping.{own}
-use Rattle.srcp_peers.proofs.Saying.{says_after, says_call, says_step}
-use Rattle.srcp_sockets.proofs.Asking.{asked_accept, asked_step, was_asked}
-use Rattle.srcp_sockets.proofs.Doing.{done_step, done_turn}
-use Rattle.srcp_sockets.proofs.Naming.{named_call, named_come, named_silent, nobody_named}
-use Rattle.srcp_sockets.proofs.Coming.{stands_came, stands_refused}
-use Rattle.srcp_sockets.proofs.Standing.{stands_answered}
-use Rattle.srcp_sockets.proofs.Timing.{timed_asked}
-use Rattle.srcp_sockets.proofs.Ending.{far_pushed, far_same}
+use Rattle.srcp_peers.proofs.PeersStayKept.{own}
+use Rattle.srcp_peers.proofs.CallsAreOfTheDoor.{says_after, says_call, says_step}
+use Rattle.srcp_sockets.proofs.AcceptsAreAsked.{asked_accept, asked_step, was_asked}
+use Rattle.srcp_sockets.proofs.WorkIsDone.{done_step, done_turn}
+use Rattle.srcp_sockets.proofs.NumbersDiffer.{named_call, named_come, named_silent, nobody_named}
+use Rattle.srcp_sockets.proofs.AcceptsKeepSockets.{stands_came, stands_refused}
+use Rattle.srcp_sockets.proofs.SocketsStayStanding.{stands_answered}
+use Rattle.srcp_sockets.proofs.TimesGoOn.{timed_asked}
+use Rattle.srcp_sockets.proofs.EndsAreTold.{far_pushed, far_same}
 use Rattle.srcp_sockets.proofs.sockets.Sockets.accept_next.Goals as goal
 
 pub invariant_of-self : goal.invariant_of-self

@@ -5,16 +5,16 @@ use Rattle.srcp_peers.specs.declared.turn.Turn.{Turn}
 use Rattle.srcp_peers.specs.AllPeers.{AreOffered}
 use Rattle.srcp_peers.specs.Peers.{flushes_all}
 use Rattle.srcp_peers.specs.Turns.{flushing, has_ticked}
-use Rattle.srcp_peers.proofs.Offering.{all_offered_then}
-use Rattle.srcp_peers.proofs.Resting.{and_right}
-use Rattle.srcp_peers.proofs.Saying.{keeps_then, says_then}
+use Rattle.srcp_peers.proofs.QueuedIsOffered.{all_offered_then}
+use Rattle.srcp_peers.proofs.PeersRestByAccount.{and_right}
+use Rattle.srcp_peers.proofs.CallsAreOfTheDoor.{keeps_then, says_then}
 use Rattle.srcp_sockets.specs.Delivery.{HasWaited}
 use Rattle.srcp_sockets.specs.Doors.{flushed_in}
 use Rattle.srcp_sockets.specs.Waits.{AreFlushed}
 use Rattle.srcp_sockets.specs.Work.{AreClosedUp, goes_on}
-use Rattle.srcp_sockets.proofs.Delivered.{waited_after, waited_keeps}
-use Rattle.srcp_sockets.proofs.Doing.{looked_silent, may_tell}
-use Rattle.srcp_sockets.proofs.Flushing.{all_closed, may_wait}
+use Rattle.srcp_sockets.proofs.EndsAreDelivered.{waited_after, waited_keeps}
+use Rattle.srcp_sockets.proofs.WorkIsDone.{looked_silent, may_tell}
+use Rattle.srcp_sockets.proofs.WaitsAreFlushed.{all_closed, may_wait}
 use Rattle.srcp_sockets.proofs.sockets.Sockets.begin_turn.Goals as goal
 
 pub returns-clause-calls : goal.returns-clause-calls

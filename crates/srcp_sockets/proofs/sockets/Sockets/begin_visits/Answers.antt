@@ -5,14 +5,14 @@ use Rattle.srcp_peers.specs.declared.peer.Peer.{Peer}
 use Rattle.srcp_peers.specs.AllPeers.{AreShared}
 use Rattle.srcp_sockets.specs.Doors.{Stands}
 use Rattle.srcp_peers.specs.Turns.{room_of}
-use Rattle.srcp_sockets.proofs.Asking.{asked_silent}
-use Rattle.srcp_sockets.proofs.Doing.{done_silent}
-use Rattle.srcp_sockets.proofs.Naming.{named_silent}
-use Rattle.srcp_sockets.proofs.Serving.{all_read}
-use Rattle.srcp_sockets.proofs.Standing.{stands_turned}
-use Rattle.srcp_sockets.proofs.Timing.{timed_kept}
+use Rattle.srcp_sockets.proofs.AcceptsAreAsked.{asked_silent}
+use Rattle.srcp_sockets.proofs.WorkIsDone.{done_silent}
+use Rattle.srcp_sockets.proofs.NumbersDiffer.{named_silent}
+use Rattle.srcp_sockets.proofs.NoMomentWhileUnread.{all_read}
+use Rattle.srcp_sockets.proofs.SocketsStayStanding.{stands_turned}
+use Rattle.srcp_sockets.proofs.TimesGoOn.{timed_kept}
 use Rattle.srcp_sockets.specs.Endings.{AreAsFar, AreVisited}
-use Rattle.srcp_sockets.proofs.Ending.{far_visited, visited_all}
+use Rattle.srcp_sockets.proofs.EndsAreTold.{far_visited, visited_all}
 use Rattle.srcp_sockets.proofs.sockets.Sockets.begin_visits.Goals as goal
 
 pub invariant_of-self : goal.invariant_of-self

@@ -2,16 +2,16 @@ use Rattle.std.proofs.Common.{◌∙◌, ap, refl, sym, Ok, Err}
 use Rattle.srcp_peers.specs.declared.peer.Peer.{Peer}
 use Rattle.srcp_door.specs.declared.door.DoorFault.TheVariants.{Close}
 use Rattle.srcp_door.specs.Calls.{CloseCall}
-use Rattle.srcp_sockets.proofs.Asking.{asked_step}
-use Rattle.srcp_sockets.proofs.Doing.{done_step, done_turn}
-use Rattle.srcp_sockets.proofs.Clocking.{clock_is}
+use Rattle.srcp_sockets.proofs.AcceptsAreAsked.{asked_step}
+use Rattle.srcp_sockets.proofs.WorkIsDone.{done_step, done_turn}
+use Rattle.srcp_sockets.proofs.AccountsReadTheClock.{clock_is}
 use Rattle.srcp_peers.specs.Steps.{Answers}
 use Rattle.srcp_peers.specs.Turns.{after_call}
-use Rattle.srcp_peers.proofs.Saying.{says_call}
-use Rattle.srcp_sockets.proofs.Naming.{named_call}
-use Rattle.srcp_sockets.proofs.Parting.{stands_left, stands_missing}
-use Rattle.srcp_sockets.proofs.Timing.{timed_close}
-use Rattle.srcp_sockets.proofs.Ending.{far_left, far_same, slackens_step}
+use Rattle.srcp_peers.proofs.CallsAreOfTheDoor.{says_call}
+use Rattle.srcp_sockets.proofs.NumbersDiffer.{named_call}
+use Rattle.srcp_sockets.proofs.SocketsLingerAndClose.{stands_left, stands_missing}
+use Rattle.srcp_sockets.proofs.TimesGoOn.{timed_close}
+use Rattle.srcp_sockets.proofs.EndsAreTold.{far_left, far_same, slackens_step}
 use Rattle.srcp_sockets.proofs.sockets.Sockets.close.Goals as goal
 
 pub returns-in_default-clause-trace : goal.returns-in_default-clause-trace

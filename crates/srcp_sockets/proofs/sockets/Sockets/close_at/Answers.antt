@@ -3,18 +3,18 @@ use Rattle.srcp_peers.specs.declared.peer.Peer.{Peer}
 use Rattle.srcp_sockets.specs.Doors.{Stands}
 use Rattle.srcp_sockets.specs.Work.{is_close}
 use Rattle.srcp_peers.specs.Steps.{Closes}
-use Rattle.srcp_sockets.proofs.Asking.{asked_step}
-use Rattle.srcp_sockets.proofs.Doing.{done_step}
-use Rattle.srcp_sockets.proofs.Flushing.{flushed_close}
-use Rattle.srcp_sockets.proofs.Clocking.{clock_is}
-use Rattle.srcp_peers.proofs.Making.{makes_more, makes_none}
-use Rattle.srcp_peers.proofs.Saying.{says_step, keeps_step}
-use Rattle.srcp_sockets.proofs.Naming.{named_silent}
-use Rattle.srcp_sockets.proofs.Parting.{stands_closed_at}
-use Rattle.srcp_sockets.proofs.Timing.{timed_kept}
+use Rattle.srcp_sockets.proofs.AcceptsAreAsked.{asked_step}
+use Rattle.srcp_sockets.proofs.WorkIsDone.{done_step}
+use Rattle.srcp_sockets.proofs.WaitsAreFlushed.{flushed_close}
+use Rattle.srcp_sockets.proofs.AccountsReadTheClock.{clock_is}
+use Rattle.srcp_peers.proofs.StepsAreCounted.{makes_more, makes_none}
+use Rattle.srcp_peers.proofs.CallsAreOfTheDoor.{says_step, keeps_step}
+use Rattle.srcp_sockets.proofs.NumbersDiffer.{named_silent}
+use Rattle.srcp_sockets.proofs.SocketsLingerAndClose.{stands_closed_at}
+use Rattle.srcp_sockets.proofs.TimesGoOn.{timed_kept}
 use Rattle.std.specs.List.{remove}
 use Rattle.srcp_sockets.specs.Endings.{AreAsFar}
-use Rattle.srcp_sockets.proofs.Ending.{far_goes, removed_of, slackens_step}
+use Rattle.srcp_sockets.proofs.EndsAreTold.{far_goes, removed_of, slackens_step}
 use Rattle.srcp_sockets.proofs.sockets.Sockets.close_at.Goals as goal
 
 pub invariant_of-self : goal.invariant_of-self

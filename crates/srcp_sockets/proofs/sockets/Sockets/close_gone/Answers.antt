@@ -1,7 +1,7 @@
 use Rattle.std.proofs.Common.{◌≡◌, ◌∙◌, ℕ, arith, inr, refl, subst}
 use Rattle.srcp_peers.specs.Peers.{Makes}
-use Rattle.srcp_peers.proofs.Making.{makes_none, makes_then}
-use Rattle.srcp_peers.proofs.Saying.{keeps_none, keeps_then, says_none, says_then}
+use Rattle.srcp_peers.proofs.StepsAreCounted.{makes_none, makes_then}
+use Rattle.srcp_peers.proofs.CallsAreOfTheDoor.{keeps_none, keeps_then, says_none, says_then}
 use Rattle.srcp_sockets.specs.Work.{is_close}
 use Rattle.srcp_sockets.proofs.sockets.Sockets.close_gone.Goals as goal
 

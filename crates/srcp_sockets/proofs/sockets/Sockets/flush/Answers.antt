@@ -3,14 +3,14 @@ use Rattle.std.proofs.lemmas.List.{with_items_is}
 use Rattle.srcp_peers.specs.declared.peer.Peer.{Peer}
 use Rattle.srcp_peers.specs.AllPeers.{AreOffered}
 use Rattle.srcp_sockets.specs.Doors.{Stands}
-use Rattle.srcp_sockets.proofs.Asking.{asked_silent}
-use Rattle.srcp_sockets.proofs.Doing.{done_silent}
-use Rattle.srcp_sockets.proofs.Flushing.{all_flushed}
-use Rattle.srcp_sockets.proofs.Naming.{named_silent}
-use Rattle.srcp_sockets.proofs.Standing.{stands_turned}
-use Rattle.srcp_sockets.proofs.Timing.{timed_kept}
+use Rattle.srcp_sockets.proofs.AcceptsAreAsked.{asked_silent}
+use Rattle.srcp_sockets.proofs.WorkIsDone.{done_silent}
+use Rattle.srcp_sockets.proofs.WaitsAreFlushed.{all_flushed}
+use Rattle.srcp_sockets.proofs.NumbersDiffer.{named_silent}
+use Rattle.srcp_sockets.proofs.SocketsStayStanding.{stands_turned}
+use Rattle.srcp_sockets.proofs.TimesGoOn.{timed_kept}
 use Rattle.srcp_sockets.specs.Endings.{AreAsFar}
-use Rattle.srcp_sockets.proofs.Ending.{far_goes, flushed_of, slackens_silent}
+use Rattle.srcp_sockets.proofs.EndsAreTold.{far_goes, flushed_of, slackens_silent}
 use Rattle.srcp_sockets.proofs.sockets.Sockets.flush.Goals as goal
 
 pub invariant_of-self : goal.invariant_of-self

@@ -3,13 +3,13 @@ use Rattle.srcp_door.specs.declared.door.Got.TheVariants.{Nothing}
 use Rattle.srcp_door.specs.Calls.{ReadCall}
 use Rattle.srcp_peers.specs.Steps.{Answers}
 use Rattle.srcp_peers.specs.declared.turn.Turn.{Turn}
-use Rattle.srcp_peers.proofs.Saying.{says_call}
-use Rattle.srcp_sockets.proofs.Asking.{asked_step}
-use Rattle.srcp_sockets.proofs.Doing.{done_step}
-use Rattle.srcp_sockets.proofs.Naming.{named_call}
-use Rattle.srcp_sockets.proofs.Standing.{stands_step}
-use Rattle.srcp_sockets.proofs.Timing.{timed_nothing}
-use Rattle.srcp_sockets.proofs.Ending.{far_same}
+use Rattle.srcp_peers.proofs.CallsAreOfTheDoor.{says_call}
+use Rattle.srcp_sockets.proofs.AcceptsAreAsked.{asked_step}
+use Rattle.srcp_sockets.proofs.WorkIsDone.{done_step}
+use Rattle.srcp_sockets.proofs.NumbersDiffer.{named_call}
+use Rattle.srcp_sockets.proofs.SocketsStayStanding.{stands_step}
+use Rattle.srcp_sockets.proofs.TimesGoOn.{timed_nothing}
+use Rattle.srcp_sockets.proofs.EndsAreTold.{far_same}
 use Rattle.srcp_sockets.proofs.sockets.Sockets.hold_back.Goals as goal
 
 pub invariant_of-self : goal.invariant_of-self

@@ -1,9 +1,9 @@
 use Rattle.std.proofs.Common.{◌∙◌, subst, sym, true≢false, Bool}
 use Rattle.std.specs.Prelude.{cond}
 use Rattle.srcp_peers.specs.Waiting.{longest_wait}
-use Rattle.srcp_peers.proofs.Saying.{says_none}
+use Rattle.srcp_peers.proofs.CallsAreOfTheDoor.{says_none}
 use Rattle.srcp_sockets.specs.Delivery.{HasWaited}
-use Rattle.srcp_sockets.proofs.Delivered.{waited_more, waited_none}
+use Rattle.srcp_sockets.proofs.EndsAreDelivered.{waited_more, waited_none}
 use Rattle.srcp_sockets.proofs.sockets.Sockets.look.Goals as goal
 
 pub returns-then-held-clause-calls : goal.returns-then-held-clause-calls

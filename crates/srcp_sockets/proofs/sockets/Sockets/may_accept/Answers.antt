@@ -2,7 +2,7 @@ use Rattle.std.proofs.Common.{◌≡◌, ℕ, ⊎_elim, subst, sym, true, vec_ca
 use Rattle.srcp_peers.specs.Steps.{Closes, Tells}
 use Rattle.srcp_sockets.specs.Asked.{MayRefuse}
 use Rattle.srcp_sockets.specs.Work.{is_crowded}
-use Rattle.srcp_sockets.proofs.Asking.{fewer_places, may_closed, may_crowded}
+use Rattle.srcp_sockets.proofs.AcceptsAreAsked.{fewer_places, may_closed, may_crowded}
 use Rattle.srcp_sockets.proofs.sockets.Sockets.may_accept.Goals as goal
 
 pub returns-then-is_crowded-clause-excused : goal.returns-then-is_crowded-clause-excused

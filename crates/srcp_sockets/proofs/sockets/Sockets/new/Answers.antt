@@ -1,7 +1,7 @@
-use Rattle.srcp_sockets.proofs.Asking.{asked_first}
-use Rattle.srcp_sockets.proofs.Doing.{done_first}
-use Rattle.srcp_sockets.proofs.Timing.{timed_first}
-use Rattle.srcp_sockets.proofs.Naming.{named_first}
+use Rattle.srcp_sockets.proofs.AcceptsAreAsked.{asked_first}
+use Rattle.srcp_sockets.proofs.WorkIsDone.{done_first}
+use Rattle.srcp_sockets.proofs.TimesGoOn.{timed_first}
+use Rattle.srcp_sockets.proofs.NumbersDiffer.{named_first}
 use Rattle.std.proofs.Common.{◌≡◌, [], ap, arith, length}
 use Rattle.srcp_sockets.proofs.sockets.Sockets.new.Goals as goal
 

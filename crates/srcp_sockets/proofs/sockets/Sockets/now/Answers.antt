@@ -8,14 +8,14 @@ use Rattle.srcp_sockets.specs.Duties.{AreDone, is_shown}
 use Rattle.srcp_sockets.specs.Work.{moment_of}
 use Rattle.srcp_door.specs.Calls.{NowCall}
 use Rattle.srcp_peers.specs.Steps.{Answers, Clocks, Step}
-use Rattle.srcp_peers.proofs.Saying.{says_after, says_call, says_step}
-use Rattle.srcp_sockets.proofs.Asking.{asked_step}
-use Rattle.srcp_sockets.proofs.Doing.{done_step, done_turn, moment_done}
-use Rattle.srcp_sockets.proofs.Naming.{named_call, named_silent}
-use Rattle.srcp_sockets.proofs.Parting.{stands_clocked}
-use Rattle.srcp_sockets.proofs.Serving.{read_clocked, stands_now}
-use Rattle.srcp_sockets.proofs.Timing.{timed_moment}
-use Rattle.srcp_sockets.proofs.Ending.{far_told}
+use Rattle.srcp_peers.proofs.CallsAreOfTheDoor.{says_after, says_call, says_step}
+use Rattle.srcp_sockets.proofs.AcceptsAreAsked.{asked_step}
+use Rattle.srcp_sockets.proofs.WorkIsDone.{done_step, done_turn, moment_done}
+use Rattle.srcp_sockets.proofs.NumbersDiffer.{named_call, named_silent}
+use Rattle.srcp_sockets.proofs.SocketsLingerAndClose.{stands_clocked}
+use Rattle.srcp_sockets.proofs.NoMomentWhileUnread.{read_clocked, stands_now}
+use Rattle.srcp_sockets.proofs.TimesGoOn.{timed_moment}
+use Rattle.srcp_sockets.proofs.EndsAreTold.{far_told}
 use Rattle.srcp_sockets.proofs.sockets.Sockets.now.Goals as goal
 
 -- the moment that follows of what the clock showed

@@ -9,17 +9,17 @@ use Rattle.srcp_peers.specs.declared.peer.Peer.{Peer}
 use Rattle.srcp_door.specs.Calls.{ReadCall}
 use Rattle.srcp_peers.specs.Peers.{IsKept}
 use Rattle.srcp_peers.specs.Steps.{Answers, SaysOne}
-use Rattle.srcp_peers.proofs.Saying.{says_call}
-use Rattle.srcp_sockets.proofs.Asking.{asked_step}
-use Rattle.srcp_sockets.proofs.Doing.{done_step, done_turn}
-use Rattle.srcp_sockets.proofs.Handing.{read_done}
-use Rattle.srcp_sockets.proofs.Naming.{named_call}
-use Rattle.srcp_sockets.proofs.Standing.{stands_one}
-use Rattle.srcp_sockets.proofs.Timing.{line_kept, read_time, timed_read}
+use Rattle.srcp_peers.proofs.CallsAreOfTheDoor.{says_call}
+use Rattle.srcp_sockets.proofs.AcceptsAreAsked.{asked_step}
+use Rattle.srcp_sockets.proofs.WorkIsDone.{done_step, done_turn}
+use Rattle.srcp_sockets.proofs.ReadsAnswerInTime.{read_done}
+use Rattle.srcp_sockets.proofs.NumbersDiffer.{named_call}
+use Rattle.srcp_sockets.proofs.SocketsStayStanding.{stands_one}
+use Rattle.srcp_sockets.proofs.TimesGoOn.{line_kept, read_time, timed_read}
 use Rattle.std.proofs.Common.{set, true}
 use Rattle.srcp_peers.specs.declared.stay.Stay.TheVariants as stay
 use Rattle.srcp_sockets.specs.Endings.{ending_of, is_as_far}
-use Rattle.srcp_sockets.proofs.Ending.{far_goes, set_one, slackens_step}
+use Rattle.srcp_sockets.proofs.EndsAreTold.{far_goes, set_one, slackens_step}
 use Rattle.srcp_sockets.proofs.sockets.Sockets.read.Goals as goal
 
 pub invariant_of-self : goal.invariant_of-self

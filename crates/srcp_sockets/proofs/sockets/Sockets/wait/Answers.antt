@@ -10,15 +10,15 @@ use Rattle.srcp_peers.specs.Peers.{is_resting}
 use Rattle.srcp_peers.specs.Steps.{Tells, Waits}
 use Rattle.srcp_peers.specs.Turns.{after_wait}
 use Rattle.srcp_sockets.specs.KeptTimes.{IsTimed}
-use Rattle.srcp_peers.proofs.Saying.{says_step}
-use Rattle.srcp_sockets.proofs.Asking.{asked_step}
-use Rattle.srcp_sockets.proofs.Doing.{done_step, done_turn, looked_wait}
-use Rattle.srcp_sockets.proofs.Naming.{named_silent}
-use Rattle.srcp_sockets.proofs.Waited.{stands_waited}
-use Rattle.srcp_sockets.proofs.Timing.{timed_wait}
+use Rattle.srcp_peers.proofs.CallsAreOfTheDoor.{says_step}
+use Rattle.srcp_sockets.proofs.AcceptsAreAsked.{asked_step}
+use Rattle.srcp_sockets.proofs.WorkIsDone.{done_step, done_turn, looked_wait}
+use Rattle.srcp_sockets.proofs.NumbersDiffer.{named_silent}
+use Rattle.srcp_sockets.proofs.WaitsKeepSockets.{stands_waited}
+use Rattle.srcp_sockets.proofs.TimesGoOn.{timed_wait}
 use Rattle.std.specs.Prelude.{take}
 use Rattle.srcp_sockets.specs.Endings.{AreAsFar}
-use Rattle.srcp_sockets.proofs.Ending.{far_goes, slackens_step, woken_of}
+use Rattle.srcp_sockets.proofs.EndsAreTold.{far_goes, slackens_step, woken_of}
 use Rattle.srcp_sockets.proofs.sockets.Sockets.wait.Goals as goal
 
 pub invariant_of-self : goal.invariant_of-self

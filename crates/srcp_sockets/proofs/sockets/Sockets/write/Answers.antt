@@ -4,14 +4,14 @@ use Rattle.srcp_door.specs.declared.door.DoorFault.TheVariants.{Write}
 use Rattle.srcp_door.specs.Calls.{WriteCall}
 use Rattle.srcp_peers.specs.Steps.{Answers, SaysOne}
 use Rattle.srcp_peers.specs.Turns.{after_call}
-use Rattle.srcp_peers.proofs.Saying.{says_call}
-use Rattle.srcp_sockets.proofs.Asking.{asked_step}
-use Rattle.srcp_sockets.proofs.Doing.{done_step, done_turn}
-use Rattle.srcp_sockets.proofs.Naming.{named_call}
-use Rattle.srcp_sockets.proofs.Parting.{stands_unwritten}
-use Rattle.srcp_sockets.proofs.Standing.{stands_one}
-use Rattle.srcp_sockets.proofs.Timing.{timed_write}
-use Rattle.srcp_sockets.proofs.Ending.{far_same, far_wrote}
+use Rattle.srcp_peers.proofs.CallsAreOfTheDoor.{says_call}
+use Rattle.srcp_sockets.proofs.AcceptsAreAsked.{asked_step}
+use Rattle.srcp_sockets.proofs.WorkIsDone.{done_step, done_turn}
+use Rattle.srcp_sockets.proofs.NumbersDiffer.{named_call}
+use Rattle.srcp_sockets.proofs.SocketsLingerAndClose.{stands_unwritten}
+use Rattle.srcp_sockets.proofs.SocketsStayStanding.{stands_one}
+use Rattle.srcp_sockets.proofs.TimesGoOn.{timed_write}
+use Rattle.srcp_sockets.proofs.EndsAreTold.{far_same, far_wrote}
 use Rattle.srcp_sockets.proofs.sockets.Sockets.write.Goals as goal
 
 pub returns-in_default-clause-trace : goal.returns-in_default-clause-trace

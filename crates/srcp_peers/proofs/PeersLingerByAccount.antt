@@ -15,9 +15,9 @@ use Rattle.srcp_peers.specs.Accounts.{Account, Lingering, Received, Sent, accoun
 use Rattle.srcp_peers.specs.Accounts.{is_held, is_overdue, is_owed, left_by_core}
 use Rattle.srcp_peers.specs.Accounts.{may_close, may_end, may_fail, shut_down}
 use Rattle.srcp_peers.specs.Peers.{Agrees, ComesAs, IsKept, MayFail, ReadsAs, StaysAs, WritesAs, closable_as, is_closable, is_here, is_lost}
-use Rattle.srcp_peers.proofs.Resting.{held_is, owed_is}
-use Rattle.srcp_peers.proofs.States.{comes_starts, reads_here}
-use Rattle.srcp_peers.proofs.Wanting.{wants_less}
+use Rattle.srcp_peers.proofs.PeersRestByAccount.{held_is, owed_is}
+use Rattle.srcp_peers.proofs.StatesFollowSteps.{comes_starts, reads_here}
+use Rattle.srcp_peers.proofs.UnreadPeersAreRead.{wants_less}
 
 -- one that is there stays so, whatever is queued for it
 pub stays_here : (watched : Bool) (lingering : Lingering) (before after : List ℕ) (here : Stay) → here ≡ stay.Here

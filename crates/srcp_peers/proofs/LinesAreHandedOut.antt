@@ -15,7 +15,7 @@ use Rattle.srcp_peers.specs.Steps.{Accepts, Clocks, Closes, Reads, Shuts, Step, 
 use Rattle.srcp_peers.specs.Streams.{handed_in}
 use Rattle.srcp_peers.specs.Times.{Times, first_times, times, times_step, answered_moment}
 use Rattle.srcp_peers.specs.Turns.{got_bytes}
-use Rattle.srcp_peers.proofs.AccountStreams.{by_calls, handed_is, in_call}
+use Rattle.srcp_peers.proofs.AccountsHoldStreams.{by_calls, handed_is, in_call}
 
 -- ---- a line after more bytes
 

@@ -18,7 +18,7 @@ use Rattle.srcp_sockets.specs.Follows.{Follows}
 use Rattle.srcp_peers.specs.Streams.{handed, handed_in, taken, taken_in, took}
 use Rattle.srcp_peers.specs.Steps.{Step, calls}
 use Rattle.srcp_door.specs.declared.door.Got.TheVariants as got
-use Rattle.srcp_peers.proofs.AccountStreams.{gave_is, handed_is, taken_is, took_is}
+use Rattle.srcp_peers.proofs.AccountsHoldStreams.{gave_is, handed_is, taken_is, took_is}
 
 -- what a peer took by the calls with what memory answered is what it took by the calls
 taken_trace : (peer : ℕ) (trace : List Call) → given_taken peer trace ≡ flat_map (taken_in peer) (map door_call trace)

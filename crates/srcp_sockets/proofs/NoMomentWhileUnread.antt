@@ -11,10 +11,10 @@ use Rattle.srcp_peers.specs.Accounts.{Account, account, account_step, clocked}
 use Rattle.srcp_peers.specs.Peers.{Agrees, IsKept, IsRead}
 use Rattle.srcp_peers.specs.AllPeers.{IsAbsent}
 use Rattle.srcp_sockets.specs.Doors.{AreRead, IsThere, Stands}
-use Rattle.srcp_peers.proofs.Keeping.{account_more}
-use Rattle.srcp_sockets.proofs.Parting.{Goes, stands_goes}
-use Rattle.srcp_sockets.proofs.Standing.{find, nobody}
-use Rattle.srcp_peers.proofs.Wanting.{both}
+use Rattle.srcp_peers.proofs.PeersStayKept.{account_more}
+use Rattle.srcp_sockets.proofs.SocketsLingerAndClose.{Goes, stands_goes}
+use Rattle.srcp_sockets.proofs.SocketsStayStanding.{find, nobody}
+use Rattle.srcp_peers.proofs.UnreadPeersAreRead.{both}
 
 -- ---- all peers are read
 

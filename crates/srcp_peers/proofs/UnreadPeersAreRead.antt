@@ -10,7 +10,7 @@ use Rattle.srcp_peers.specs.declared.stay.Stay.{Stay}
 use Rattle.srcp_peers.specs.declared.stay.Stay.TheVariants as stay
 use Rattle.srcp_peers.specs.Accounts.{Account, Lingering, Received, is_wanted, noted}
 use Rattle.srcp_peers.specs.Peers.{Agrees, ComesAs, ReadsAs, StaysAs, is_wanting, may_have, woken_input}
-use Rattle.srcp_peers.proofs.Resting.{and_left, and_right}
+use Rattle.srcp_peers.proofs.PeersRestByAccount.{and_left, and_right}
 
 pub both : (a b : Bool) → a ≡ true → b ≡ true → (a && b) ≡ true
 both a b e f = ap (λ x. x && b) e ∙ f

@@ -21,9 +21,9 @@ use Rattle.srcp_door.specs.declared.pacing.Line.TheVariants as line
 use Rattle.srcp_peers.specs.AllPeers.{AreKept, AreThose, AreWithin, IsAbsent}
 use Rattle.srcp_sockets.specs.Doors.{Closed, Fresh, Hears, Sound, Stands}
 use Rattle.srcp_sockets.specs.Doors.{IsThere}
-use Rattle.srcp_peers.proofs.States.{comes_starts, starts}
-use Rattle.srcp_peers.proofs.Keeping.{spares_after}
-use Rattle.srcp_peers.proofs.Lists.{absent_before, apart_later, kept_spared, set_kept, set_those, within_later, spared}
+use Rattle.srcp_peers.proofs.StatesFollowSteps.{comes_starts, starts}
+use Rattle.srcp_peers.proofs.PeersStayKept.{spares_after}
+use Rattle.srcp_peers.proofs.OnePeerChanges.{absent_before, apart_later, kept_spared, set_kept, set_those, within_later, spared}
 
 -- ---- who is there
 

@@ -16,7 +16,7 @@ use Rattle.srcp_door.specs.declared.pacing.Pace.{Pace}
 use Rattle.srcp_door.specs.declared.pacing.Pace.TheVariants.{Paced, OneLine}
 use Rattle.srcp_peers.specs.declared.peer.Peer.{Peer}
 use Rattle.srcp_peers.specs.Peers.{IsKept}
-use Rattle.srcp_peers.proofs.Lined.{line_is}
+use Rattle.srcp_peers.proofs.LinesAreHandedOut.{line_is}
 use Rattle.srcp_peers.specs.declared.system.Ready.{Ready}
 use Rattle.srcp_peers.specs.declared.turn.Turn.{Turn}
 use Rattle.srcp_door.specs.Calls.{Call, ExpectCall, NowCall, AcceptCall, ReadCall, WriteCall, CloseCall}
@@ -28,7 +28,7 @@ use Rattle.srcp_peers.specs.Times.{in_time, is_as_heard, accept_answer, times, t
 use Rattle.srcp_peers.specs.Turns.{after_call, after_read, after_wait, begun, first_turn, got_bytes, hands_out, is_pending, moment_at}
 use Rattle.srcp_peers.specs.Turns.{reports_end, time_left, reported_at}
 use Rattle.srcp_peers.specs.Waiting.{IsWithin}
-use Rattle.srcp_peers.proofs.Saying.{times_more}
+use Rattle.srcp_peers.proofs.CallsAreOfTheDoor.{times_more}
 
 pub timed_kept : (old new : Option (List Step)) (turn : Turn) → KeepsTimes old new → IsTimed old turn → IsTimed new turn
 timed_kept old new turn keeps timed later is =

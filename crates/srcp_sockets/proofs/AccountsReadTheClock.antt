@@ -13,7 +13,7 @@ use Rattle.srcp_peers.specs.Accounts.{untouched}
 use Rattle.srcp_peers.specs.Accounts.{waited, woken, woken_came, woken_sent, wrote, read_of}
 use Rattle.srcp_sockets.specs.KeptTimes.{IsTimed}
 use Rattle.srcp_peers.specs.Times.{Times, first_times, times_step}
-use Rattle.srcp_peers.proofs.AccountStreams.{if_same}
+use Rattle.srcp_peers.proofs.AccountsHoldStreams.{if_same}
 
 -- what the clock showed last, after a step
 abbrev clock_step : ℕ → Step → ℕ

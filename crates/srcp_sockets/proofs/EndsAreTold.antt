@@ -27,14 +27,14 @@ use Rattle.srcp_peers.specs.Ends.{begun, written}
 use Rattle.srcp_peers.specs.Peers.{Agrees, ReadsAs, after_wake, is_lost, is_over, stay_after, woken_input, woken_output}
 use Rattle.srcp_peers.specs.Reports.{is_settled}
 use Rattle.srcp_peers.specs.Steps.{Accepts, Answers, Clocks, Closes, Reads, SaysNothing, Shuts, Step, Tells, Waits, Writes, call_of, calls}
-use Rattle.srcp_peers.proofs.Keeping.{account_more, alien, own, picks, skips}
-use Rattle.srcp_peers.proofs.Resting.{held_is}
-use Rattle.srcp_peers.proofs.Saying.{says_step}
-use Rattle.srcp_peers.proofs.States.{reads_here}
+use Rattle.srcp_peers.proofs.PeersStayKept.{account_more, alien, own, picks, skips}
+use Rattle.srcp_peers.proofs.PeersRestByAccount.{held_is}
+use Rattle.srcp_peers.proofs.CallsAreOfTheDoor.{says_step}
+use Rattle.srcp_peers.proofs.StatesFollowSteps.{reads_here}
 use Rattle.srcp_sockets.specs.Endings.{AreAsFar, AreVisited, Leaving, ending_of, ending_step, is_all_read, is_as_far, leaving, leaving_step}
-use Rattle.srcp_sockets.proofs.Coming.{new_peer}
-use Rattle.srcp_sockets.proofs.Doing.{no_calls, some_call}
-use Rattle.srcp_sockets.proofs.Parting.{leaves_one}
+use Rattle.srcp_sockets.proofs.AcceptsKeepSockets.{new_peer}
+use Rattle.srcp_sockets.proofs.WorkIsDone.{no_calls, some_call}
+use Rattle.srcp_sockets.proofs.SocketsLingerAndClose.{leaves_one}
 
 -- ---- how far
 

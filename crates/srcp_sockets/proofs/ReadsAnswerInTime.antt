@@ -28,14 +28,14 @@ use Rattle.srcp_peers.specs.Peers.{Agrees, IsKept, ReadsAs, StaysAs, WritesAs, i
 use Rattle.srcp_peers.specs.Reports.{IsAnswered, has_failed, is_ended, is_failed, is_settled, piece_of}
 use Rattle.srcp_peers.specs.Steps.{Step}
 use Rattle.srcp_peers.specs.Turns.{got_bytes}
-use Rattle.srcp_peers.proofs.Resting.{and_left, and_right, held_is, owed_is}
-use Rattle.srcp_peers.proofs.States.{reads_here}
+use Rattle.srcp_peers.proofs.PeersRestByAccount.{and_left, and_right, held_is, owed_is}
+use Rattle.srcp_peers.proofs.StatesFollowSteps.{reads_here}
 use Rattle.srcp_sockets.specs.Duties.{IsHandedOut, IsReadDone, held_piece, is_end, is_failing, is_fault, is_leaving}
 use Rattle.srcp_sockets.specs.Endings.{ending_of, is_all_read, is_as_far}
 use Rattle.srcp_sockets.specs.KeptTimes.{IsTimedFrom}
-use Rattle.srcp_sockets.proofs.Doing.{gave_as}
-use Rattle.srcp_sockets.proofs.Ending.{over_as, settled_so}
-use Rattle.srcp_sockets.proofs.Timing.{line_kept}
+use Rattle.srcp_sockets.proofs.WorkIsDone.{gave_as}
+use Rattle.srcp_sockets.proofs.EndsAreTold.{over_as, settled_so}
+use Rattle.srcp_sockets.proofs.TimesGoOn.{line_kept}
 
 -- ---- what is handed out
 

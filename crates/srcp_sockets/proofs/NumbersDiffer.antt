@@ -12,7 +12,7 @@ use Rattle.srcp_peers.specs.declared.system.Refusal.TheVariants.{Later, Again, F
 use Rattle.srcp_door.specs.Calls.{AcceptCall, Call, peer_of}
 use Rattle.srcp_sockets.specs.Names.{IsNamed, Named}
 use Rattle.srcp_peers.specs.Steps.{SaysNothing, SaysOne, Step, calls}
-use Rattle.srcp_peers.proofs.Saying.{calls_stay}
+use Rattle.srcp_peers.proofs.CallsAreOfTheDoor.{calls_stay}
 use Rattle.srcp_peers.specs.Times.{refused_accept}
 
 unequal_push : (x n : ℕ) (xs : List ℕ) → x < n → AllByRecursion (λ y. (x == y) ≡ false) xs → AllByRecursion (λ y. (x == y) ≡ false)

@@ -22,9 +22,9 @@ use Rattle.srcp_door.specs.declared.pacing.Line.TheVariants as line
 use Rattle.srcp_peers.specs.Listeners.{refused_listening}
 use Rattle.srcp_peers.specs.AllPeers.{AreApart, AreKept, IsAbsent}
 use Rattle.srcp_sockets.specs.Doors.{Closed, Fresh, Hears, Sound, Stands}
-use Rattle.srcp_peers.proofs.Keeping.{account_more, alien, own, picks, skips, spares_after}
-use Rattle.srcp_peers.proofs.Lists.{kept_spared, spared}
-use Rattle.srcp_sockets.proofs.Standing.{absent_above, all_sound, not_listener}
+use Rattle.srcp_peers.proofs.PeersStayKept.{account_more, alien, own, picks, skips, spares_after}
+use Rattle.srcp_peers.proofs.OnePeerChanges.{kept_spared, spared}
+use Rattle.srcp_sockets.proofs.SocketsStayStanding.{absent_above, all_sound, not_listener}
 
 abbrev pub new_peer : ℕ → Peer
 new_peer number = record {

@@ -14,9 +14,9 @@ use Rattle.srcp_peers.specs.Peers.{after_wake, is_resting}
 use Rattle.srcp_peers.specs.Listeners.{woken_listening}
 use Rattle.srcp_peers.specs.AllPeers.{AreKept, AreThose, IsAbsent}
 use Rattle.srcp_sockets.specs.Doors.{Closed, Fresh, HeardAs, Hears, Sound, Stands}
-use Rattle.srcp_peers.proofs.Keeping.{account_more, all_number, or_so, unless_long}
-use Rattle.srcp_peers.proofs.Lists.{absent_before, apart_later, waited_all, within_later}
-use Rattle.srcp_sockets.proofs.Standing.{all_sound, not_listener}
+use Rattle.srcp_peers.proofs.PeersStayKept.{account_more, all_number, or_so, unless_long}
+use Rattle.srcp_peers.proofs.OnePeerChanges.{absent_before, apart_later, waited_all, within_later}
+use Rattle.srcp_sockets.proofs.SocketsStayStanding.{all_sound, not_listener}
 
 -- a socket that was found ready has the same lists
 pub woken_sound : (socket : ℕ) (a : Account) (ready : List Ready) → Sound a → Sound (fold (woken socket) a ready)

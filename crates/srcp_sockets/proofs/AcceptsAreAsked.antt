@@ -22,12 +22,12 @@ use Rattle.srcp_peers.specs.AllPeers.{AreApart}
 use Rattle.srcp_peers.specs.Peers.{StaysAs, is_here}
 use Rattle.srcp_peers.specs.Steps.{Accepts, Answers, Clocks, Closes, Reads, SaysNothing, Shuts, Step, Tells, Waits, Writes, calls}
 use Rattle.srcp_peers.specs.Times.{Times, accept_answer, times}
-use Rattle.srcp_peers.proofs.Keeping.{account_more, alien, skips}
-use Rattle.srcp_peers.proofs.Saying.{times_more}
+use Rattle.srcp_peers.proofs.PeersStayKept.{account_more, alien, skips}
+use Rattle.srcp_peers.proofs.CallsAreOfTheDoor.{times_more}
 use Rattle.srcp_sockets.specs.Asked.{AreAsked, Covers, IsExcused, MayRefuse}
 use Rattle.srcp_sockets.specs.Doors.{Stands}
 use Rattle.srcp_sockets.specs.Work.{is_crowded}
-use Rattle.srcp_sockets.proofs.Coming.{new_peer}
+use Rattle.srcp_sockets.proofs.AcceptsKeepSockets.{new_peer}
 
 -- ---- steps that came
 

@@ -12,9 +12,9 @@ use Rattle.srcp_peers.specs.Steps.{Accepts, Clocks, Closes, Reads, Shuts, Step, 
 use Rattle.srcp_peers.specs.Accounts.{Account, accepted, account, account_step, closed, heard, is_at_rest, is_short_wait}
 use Rattle.srcp_peers.specs.Accounts.{may_close, may_end}
 use Rattle.srcp_peers.specs.Accounts.{may_fail, may_shut, shut_down, untouched, waited, woken, woken_came, woken_sent, wrote, read_of}
-use Rattle.srcp_peers.proofs.Keeping.{own}
-use Rattle.srcp_peers.proofs.Resting.{and_left, and_right}
-use Rattle.srcp_peers.proofs.AccountStreams.{if_same}
+use Rattle.srcp_peers.proofs.PeersStayKept.{own}
+use Rattle.srcp_peers.proofs.PeersRestByAccount.{and_left, and_right}
+use Rattle.srcp_peers.proofs.AccountsHoldStreams.{if_same}
 
 -- what is judged
 abbrev marks : Account → Bool × Bool × Bool × Bool

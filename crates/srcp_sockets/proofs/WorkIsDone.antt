@@ -27,14 +27,14 @@ use Rattle.srcp_peers.specs.Peers.{Agrees, ComesAs, ReadsAs, StaysAs, holds_inpu
 use Rattle.srcp_peers.specs.Steps.{Accepts, Answers, Clocks, Closes, Reads, SaysNothing, Shuts, Step, Tells, Waits, Writes}
 use Rattle.srcp_peers.specs.Steps.{call_of, calls, refusal_of}
 use Rattle.srcp_peers.specs.Times.{KeepsTimes, Times, first_times, times, times_step}
-use Rattle.srcp_peers.proofs.AccountStreams.{if_same}
-use Rattle.srcp_peers.proofs.Keeping.{account_more}
-use Rattle.srcp_peers.proofs.Resting.{and_left, and_right, held_is}
+use Rattle.srcp_peers.proofs.AccountsHoldStreams.{if_same}
+use Rattle.srcp_peers.proofs.PeersStayKept.{account_more}
+use Rattle.srcp_peers.proofs.PeersRestByAccount.{and_left, and_right, held_is}
 use Rattle.srcp_sockets.specs.Doors.{Stands}
 use Rattle.srcp_sockets.specs.Duties.{AreDone, HasLooked, IsDone, MayTell, has_waited, is_shown, last_shown, shown_by}
 use Rattle.srcp_sockets.specs.Duties.{takes_input, waited_after}
-use Rattle.srcp_sockets.proofs.Asking.{splits}
-use Rattle.srcp_sockets.proofs.Standing.{nobody}
+use Rattle.srcp_sockets.proofs.AcceptsAreAsked.{splits}
+use Rattle.srcp_sockets.proofs.SocketsStayStanding.{nobody}
 
 -- ---- one step came
 

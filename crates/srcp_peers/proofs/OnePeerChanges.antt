@@ -11,8 +11,8 @@ use Rattle.srcp_peers.specs.Steps.{Clocks, Step, Tells, Waits}
 use Rattle.srcp_peers.specs.Accounts.{Account, is_short_wait, account}
 use Rattle.srcp_peers.specs.Peers.{Agrees, IsKept, Spares, IsRead, after_wake, is_resting, stay_after}
 use Rattle.srcp_peers.specs.AllPeers.{AreApart, AreKept, AreThose, AreWithin, IsAbsent}
-use Rattle.srcp_peers.proofs.Keeping.{alien, all_number, kept_after, kept_waited, skips}
-use Rattle.srcp_peers.proofs.Staying.{clocked_agrees}
+use Rattle.srcp_peers.proofs.PeersStayKept.{alien, all_number, kept_after, kept_waited, skips}
+use Rattle.srcp_peers.proofs.PeersLingerByAccount.{clocked_agrees}
 
 -- a peer of which no step says anything stays what its account says
 pub kept_spared : (old new : Option (List Step)) (p : Peer) → Spares p.number old new → IsKept old p → IsKept new p

@@ -30,12 +30,12 @@ use Rattle.srcp_door.specs.declared.pacing.Share.{Share}
 use Rattle.srcp_peers.specs.Peers.{Agrees, ComesAs, IsKept, MayEnd, MayFail, ReadsAs, Spares, WritesAs, after_wake, given}
 use Rattle.srcp_peers.specs.Peers.{is_lost, is_resting, may_have, missed, output_after, refused, woken_input, woken_output}
 use Rattle.srcp_peers.specs.Turns.{got_bytes}
-use Rattle.srcp_peers.proofs.States.{comes_here, handed_as, read_comes, reads_here, unread_comes, unwritten_as, woken_comes}
-use Rattle.srcp_peers.proofs.States.{woken_writes, wrote_as}
-use Rattle.srcp_peers.proofs.Lined.{line_after-append}
-use Rattle.srcp_peers.proofs.Staying.{may_end_then, may_fail_then, shut_agrees, stays_drop}
-use Rattle.srcp_peers.proofs.Wanting.{noted_agrees, wants_less, wants_woken, was_read}
-use Rattle.srcp_peers.proofs.Resting.{resting}
+use Rattle.srcp_peers.proofs.StatesFollowSteps.{comes_here, handed_as, read_comes, reads_here, unread_comes, unwritten_as, woken_comes}
+use Rattle.srcp_peers.proofs.StatesFollowSteps.{woken_writes, wrote_as}
+use Rattle.srcp_peers.proofs.LinesAreHandedOut.{line_after-append}
+use Rattle.srcp_peers.proofs.PeersLingerByAccount.{may_end_then, may_fail_then, shut_agrees, stays_drop}
+use Rattle.srcp_peers.proofs.UnreadPeersAreRead.{noted_agrees, wants_less, wants_woken, was_read}
+use Rattle.srcp_peers.proofs.PeersRestByAccount.{resting}
 
 -- an account after one more step
 pub account_more : (socket : ℕ) (log : List Step) (step : Step) → account socket (log ++ step ∷ []) ≡ account_step socket

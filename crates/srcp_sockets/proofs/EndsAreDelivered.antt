@@ -13,9 +13,9 @@ use Rattle.srcp_peers.specs.AllPeers.{AreKept, IsAbsent}
 use Rattle.srcp_peers.specs.Peers.{WritesAs, is_lost, is_waiting}
 use Rattle.srcp_peers.specs.Steps.{Clocks, Step, Tells, Waits}
 use Rattle.srcp_peers.specs.Times.{KeepsTimes, Times, times, times_step}
-use Rattle.srcp_peers.proofs.Resting.{owed_is}
-use Rattle.srcp_sockets.proofs.Standing.{find, nobody}
-use Rattle.srcp_peers.proofs.Saying.{times_more}
+use Rattle.srcp_peers.proofs.PeersRestByAccount.{owed_is}
+use Rattle.srcp_sockets.proofs.SocketsStayStanding.{find, nobody}
+use Rattle.srcp_peers.proofs.CallsAreOfTheDoor.{times_more}
 
 -- nothing is queued that its socket may take
 delivered_as : (sent : Sent) (outgoing : List ℕ) (state : Output) → (not (length outgoing == 0) && not (is_lost state)) ≡ false

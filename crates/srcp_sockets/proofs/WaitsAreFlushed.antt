@@ -26,18 +26,18 @@ use Rattle.srcp_peers.specs.Peers.{has_ended, is_due, is_lost, stay_after, tries
 use Rattle.srcp_peers.specs.Steps.{Accepts, Answers, Clocks, Closes, Reads, SaysNothing, Shuts, Step, Tells, Waits, Writes, call_of, calls}
 use Rattle.srcp_peers.specs.Times.{KeepsTimes, Times, first_times, times, times_step}
 use Rattle.srcp_peers.specs.Turns.{flushing, is_pending, is_short}
-use Rattle.srcp_peers.proofs.AccountStreams.{if_same}
-use Rattle.srcp_peers.proofs.Keeping.{account_more, own}
-use Rattle.srcp_peers.proofs.Resting.{and_left, and_right, owed_is}
+use Rattle.srcp_peers.proofs.AccountsHoldStreams.{if_same}
+use Rattle.srcp_peers.proofs.PeersStayKept.{account_more, own}
+use Rattle.srcp_peers.proofs.PeersRestByAccount.{and_left, and_right, owed_is}
 use Rattle.srcp_sockets.specs.Doors.{IsThere, Stands}
 use Rattle.srcp_sockets.specs.Waits.{AreFlushed, IsFlushedOut, MayWait, closes, closes_after, has_to_close, is_written, written_after}
 use Rattle.srcp_sockets.specs.KeptTimes.{IsTimed}
 use Rattle.srcp_sockets.specs.Work.{AreClosedUp, is_accept, is_close}
-use Rattle.srcp_sockets.proofs.Clocking.{clock_is}
-use Rattle.srcp_sockets.proofs.Asking.{or_last}
-use Rattle.srcp_sockets.proofs.Doing.{free_came, is_free, no_call, no_calls, some_call}
-use Rattle.srcp_sockets.proofs.Handing.{lost_as}
-use Rattle.srcp_sockets.proofs.Standing.{find, nobody}
+use Rattle.srcp_sockets.proofs.AccountsReadTheClock.{clock_is}
+use Rattle.srcp_sockets.proofs.AcceptsAreAsked.{or_last}
+use Rattle.srcp_sockets.proofs.WorkIsDone.{free_came, is_free, no_call, no_calls, some_call}
+use Rattle.srcp_sockets.proofs.ReadsAnswerInTime.{lost_as}
+use Rattle.srcp_sockets.proofs.SocketsStayStanding.{find, nobody}
 
 -- ---- who is closed
 

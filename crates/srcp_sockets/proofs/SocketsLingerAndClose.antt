@@ -19,10 +19,10 @@ use Rattle.srcp_peers.specs.Accounts.{Account, account, account_step, closed, le
 use Rattle.srcp_peers.specs.Peers.{Agrees, IsKept, is_closable}
 use Rattle.srcp_peers.specs.AllPeers.{AreApart, IsAbsent}
 use Rattle.srcp_sockets.specs.Doors.{Closed, Fresh, Hears, IsMissing, IsThere, Sound, Stands}
-use Rattle.srcp_peers.proofs.Staying.{gone_agrees, gone_unwatched, left_agrees, may_close_then}
-use Rattle.srcp_peers.proofs.Keeping.{account_more, alien, kept_after, own, picks, skips, spares_after}
-use Rattle.srcp_peers.proofs.Lists.{clocked_all, kept_spared}
-use Rattle.srcp_sockets.proofs.Standing.{find, nobody, stands_one, stands_answered}
+use Rattle.srcp_peers.proofs.PeersLingerByAccount.{gone_agrees, gone_unwatched, left_agrees, may_close_then}
+use Rattle.srcp_peers.proofs.PeersStayKept.{account_more, alien, kept_after, own, picks, skips, spares_after}
+use Rattle.srcp_peers.proofs.OnePeerChanges.{clocked_all, kept_spared}
+use Rattle.srcp_sockets.proofs.SocketsStayStanding.{find, nobody, stands_one, stands_answered}
 
 -- ---- a step that every account goes on with
 
