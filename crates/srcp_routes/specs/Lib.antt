@@ -1,4 +1,5 @@
 pub mod Conflicts
+pub mod Former
 pub mod Laws
 pub mod Plan
 pub mod Runs
