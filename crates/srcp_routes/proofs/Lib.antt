@@ -1,7 +1,5 @@
 pub mod Apart
 pub mod Costs
-pub mod Former
-pub mod FormerLaws
 pub mod Free
 pub mod Holds
 pub mod Locks

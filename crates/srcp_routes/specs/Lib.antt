@@ -1,5 +1,4 @@
 pub mod Conflicts
-pub mod Former
 pub mod Laws
 pub mod Plan
 pub mod Runs
