@@ -137,7 +137,8 @@ class Browser:
         self.call("Page.navigate", url=address)
 
     def presses(self, key, **more):
-        for kind in ("rawKeyDown", "keyUp"):
+        """Presses a key. A page is scrolled by one alone that has its `text`."""
+        for kind in ("keyDown" if "text" in more else "rawKeyDown", "keyUp"):
             self.call("Input.dispatchKeyEvent", type=kind, key=key, **more)
 
     def place(self, element, across=0.5):

@@ -162,8 +162,12 @@ class PlanInChromium(PlanCase):
         outline = f"getComputedStyle({self.element('t1')}.querySelector('.hit')).strokeWidth"
         self.assertEqual(self.js(outline), "3px")
         top = self.js("scrollY")
-        self.browser.presses(" ", windowsVirtualKeyCode=32), self.says("t1", "t1, West turnout: branch")
+        space = {"windowsVirtualKeyCode": 32, "text": " "}
+        self.browser.presses(" ", **space), self.says("t1", "t1, West turnout: branch")
+        time.sleep(0.5)
         self.assertEqual(self.js("scrollY"), top)
+        self.js("document.activeElement.blur()"), self.browser.presses(" ", **space)
+        until(lambda: self.js("scrollY") > top, "elsewhere it scrolls the page")
         for name in ("Q", "E"):
             self.js(f"{self.element(name)}.focus()"), self.browser.presses("Enter", windowsVirtualKeyCode=13)
         self.route_is("Track 2 to east", "waits")
