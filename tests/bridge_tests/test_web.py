@@ -304,7 +304,9 @@ class Web(WebCase):
             return made["stamp"] < ports[0]["stamp"] < ports[1]["stamp"] and not any(port["value"] for port in ports)
 
         until(ended, "both pulses have ended, that of port 0 last")
-        self.assertEqual((page.lies[1, 5], Events(self.port).lies[1, 5]), (1, 1))
+        late = Events(self.port)
+        until(lambda: (1, 5) in late.lies, "a page that comes later has its rows")
+        self.assertEqual((page.lies[1, 5], late.lies[1, 5]), (1, 1))
 
     def test_what_it_cannot_use(self):
         """Words that are wrong end it with status 2 and one line."""
