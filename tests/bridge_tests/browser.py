@@ -9,6 +9,7 @@ import signal
 import subprocess
 import threading
 import time
+from collections import Counter
 
 from .common import WAIT, new_folder
 
@@ -97,13 +98,13 @@ class Chromium:
 class Browser:
     """One page, of a user of its own, who speaks a language.
 
-    `faults` has the faults that its console shows, `asked` each address that it asked for.
+    `faults` has the faults that its console shows, `asked` how often it asked for each address.
     """
 
     def __init__(self, chromium, language="en-GB"):
         self.chromium = chromium
         self.faults = []
-        self.asked = set()
+        self.asked = Counter()
         self.session = None
         self.user = chromium.call("Target.createBrowserContext")["browserContextId"]
         target = chromium.call("Target.createTarget", url="about:blank", browserContextId=self.user)["targetId"]
@@ -124,7 +125,7 @@ class Browser:
         elif event == "Log.entryAdded" and words["entry"]["level"] == "error":
             self.faults.append(words["entry"]["text"] + " " + words["entry"].get("url", ""))
         elif event == "Network.requestWillBeSent":
-            self.asked.add(words["request"]["url"])
+            self.asked[words["request"]["url"]] += 1
 
     def run(self, script):
         """Evaluates an expression of the page; returns its value."""

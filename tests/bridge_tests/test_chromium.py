@@ -264,13 +264,15 @@ class WebInChromium(ChromiumCase):
         """It says so, and comes back by itself once there is a place."""
         self.drives(GL3=(1, 0))
         self.opens("1 GL 3")
+        own = f"http://127.0.0.1:{self.port}/"
+        asked = self.browser.asked[own]
         self.web.end()
         self.web = self.starts("web.py", "--web", self.port, *self.words, port=self.way.port)
-        until(lambda: connects(self.port), "it is served again")
+        until(lambda: "the page is at" in self.web.told(), "it is served again")  # who tried would have a place
         silent = [socket.create_connection(("127.0.0.1", self.port)) for _ in range(100)]
         until(lambda: "turned away but for stops" in self.web.told(), "the page is turned away")
         self.assertEqual(self.js("document.getElementById('state').textContent"), "web.py is away")
-        time.sleep(2)
+        until(lambda: self.browser.asked[own] > asked + 2, "it asks for its page again and again")
         self.assertTrue(self.has_card("1 GL 3"))  # the page is still there
         for connection in silent:
             connection.close()
