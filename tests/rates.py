@@ -15,7 +15,8 @@ SECONDS_OF_LOAD = 5
 LONGEST_UNTIL_CLOSED = 15
 MAKERS = 32
 STOPS = 9
-SHORTEST_WAIT = 0.1
+SILENCE = 0.1
+LONGEST_WAIT = 0.05
 PORTS = 149
 FALLS = 10
 # How many ports fall back in a millisecond, and for how many: as many as a panel can take, but not all within 10.
@@ -95,8 +96,8 @@ def panel_that_reads_slower_than_a_line_a_millisecond(program):
     return f"it is not closed in {LONGEST_UNTIL_CLOSED} s" if closed is None else None
 
 
-def emergency_stop_waits_for_a_slow_panel(program):
-    """Beside sessions that make accessories without end a stop waits too, since a panel is told each of their ports."""
+def emergency_stop_goes_first(program):
+    """Beside a slow panel, which is told each port, and sessions that make accessories without end, a stop goes first."""
     waits = []
     with served(program, layout=EIGHT_PORTS) as (port, _):
         first = Client(port, "COMMAND")
@@ -105,6 +106,7 @@ def emergency_stop_waits_for_a_slow_panel(program):
         with sending_without_end(throttles, b"INIT 1 GA 5 N %d\nTERM 1 GA 5\n"), panel_reading(port, 1_500) as session:
             time.sleep(1)
             for _ in range(STOPS):
+                time.sleep(SILENCE)
                 begun = time.monotonic()
                 reply = first.asks("SET 1 GL 3 2 0 0")
                 waits.append(time.monotonic() - begun)
@@ -112,7 +114,7 @@ def emergency_stop_waits_for_a_slow_panel(program):
     if reply != "200 OK" or not kept:
         return f"a stop is answered {reply}, and the panel is {'kept' if kept else 'closed'}"
     usual = sorted(waits)[STOPS // 2]
-    return None if usual > SHORTEST_WAIT else f"of {STOPS} stops half are answered within {usual:.3f} s"
+    return None if usual < LONGEST_WAIT else f"of {STOPS} stops half take more than {usual:.3f} s"
 
 
 def changes_at_one_moment_beside_many(program):
@@ -172,5 +174,5 @@ def falls_heard(panel, most):
 
 RATE_CASES = (panel_that_reads_a_little_faster_than_a_line_a_millisecond,
               panel_that_reads_a_little_faster_than_a_change_a_millisecond,
-              panel_that_reads_slower_than_a_line_a_millisecond, emergency_stop_waits_for_a_slow_panel,
+              panel_that_reads_slower_than_a_line_a_millisecond, emergency_stop_goes_first,
               changes_at_one_moment_beside_many, falls_at_a_server_that_stood_still)

@@ -1,7 +1,7 @@
 -- All peers of a door, when a step changes one of them.
 use Rattle.std.proofs.Common.{◌≡◌, ◌∙◌, ℕ, ◌<◌, ◌≤◌, ◌+◌, List, length, refl, ap, sym, subst, arith, ⊎_elim, get_or, set, get_or-set_other}
 use Rattle.std.proofs.Common.{get_or-set_same, ◌==◌, Option, Some}
-use Rattle.std.specs.Prelude.{◌≢◌, All, Bool, false, true, cond, fold, slice_index_or, take, ◌&&◌}
+use Rattle.std.specs.Prelude.{◌≢◌, All, Bool, false, true, cond, fold, slice_index_or, take, ◌&&◌, ◌||◌}
 use Rattle.std.proofs.lemmas.Bool.{cases_eq}
 use Rattle.std.proofs.lemmas.List.{get_or_default, length-set}
 use Rattle.srcp_peers.specs.declared.peer.Peer.{Peer}
@@ -9,7 +9,8 @@ use Rattle.srcp_peers.specs.declared.stay.Stay.{Stay}
 use Rattle.srcp_peers.specs.declared.system.Ready.{Ready}
 use Rattle.srcp_peers.specs.Steps.{Clocks, Step, Tells, Waits}
 use Rattle.srcp_peers.specs.Accounts.{Account, is_short_wait, account}
-use Rattle.srcp_peers.specs.Peers.{Agrees, IsKept, Spares, IsRead, after_wake, is_resting, stay_after}
+use Rattle.srcp_peers.specs.Peers.{Agrees, IsKept, Spares, IsRead, after_wake, is_resting, is_silent}
+use Rattle.srcp_peers.specs.Peers.{stay_after}
 use Rattle.srcp_peers.specs.AllPeers.{AreApart, AreKept, AreThose, AreWithin, IsAbsent}
 use Rattle.srcp_peers.proofs.PeersStayKept.{alien, all_number, kept_after, kept_waited, skips}
 use Rattle.srcp_peers.proofs.PeersLingerByAccount.{clocked_agrees}
@@ -96,15 +97,18 @@ clocked_all old new peers answer tells kept k d lt =
     kept_after old new (Clocks answer) p p tells refl (λ a h. clocked_agrees a p answer h) (kept k d lt)
 
 -- the shares of those that were visited, and the others as they were
-pub set_shared : (first peers : List Peer) (i : ℕ) (p q : Peer) (anew : Bool) → i < length peers
-    → q.share.rest ≡ cond anew 256 (get_or peers i p).share.rest
+abbrev whole_or : (anew : Bool) (clock : ℕ) → Peer → ℕ
+whole_or anew clock p = cond {A = ℕ} (anew || is_silent clock p) 256 p.share.rest
+
+pub set_shared : (first peers : List Peer) (i : ℕ) (p q : Peer) (anew : Bool) (clock : ℕ) → i < length peers
+    → q.share.rest ≡ whole_or anew clock (get_or peers i p)
     → ((k : ℕ) (d : Peer) → i ≤ k → slice_index_or peers k d ≡ slice_index_or first k d)
-    → ((k : ℕ) (d : Peer) → k < i → (slice_index_or peers k d).share.rest ≡ cond anew 256 (slice_index_or first k d).share.rest)
+    → ((k : ℕ) (d : Peer) → k < i → (slice_index_or peers k d).share.rest ≡ whole_or anew clock (slice_index_or first k d))
     → (k : ℕ) (d : Peer) → k < i + 1
-    → (slice_index_or (set peers i q) k d).share.rest ≡ cond anew 256 (slice_index_or first k d).share.rest
-set_shared first peers i p q anew within shared rest before k d lt = ⊎_elim
+    → (slice_index_or (set peers i q) k d).share.rest ≡ whole_or anew clock (slice_index_or first k d)
+set_shared first peers i p q anew clock within shared rest before k d lt = ⊎_elim
     (λ (e : k ≡ i). ap (λ (x : Peer). x.share.rest) (ap (λ n. get_or (set peers i q) n d) e ∙ get_or-set_same peers i q d within) ∙ shared
-    ∙ ap (λ (x : Peer). cond {A = ℕ} anew 256 x.share.rest)
+    ∙ ap (whole_or anew clock)
     (get_or_default peers i p d within ∙ rest i d (omega arith) ∙ ap (λ n. get_or first n d) (sym e)))
     (λ (ne : k ≡ i → ⊥). ap (λ (x : Peer). x.share.rest) (get_or-set_other peers i k q d ne) ∙ before k d (omega (arith, lt, ne)))
     (cases_eq k i)

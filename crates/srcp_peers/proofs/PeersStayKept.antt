@@ -203,13 +203,13 @@ spares_got n other old new answer buffer differ tells =
     same a (Err fault) = skips (n == other) _ a (alien n other differ)
 
 -- what a read of the door answered
-got_agrees : (a : Account) (p : Peer) (answer : Result Got DoorFault) (buffer rest : List ℕ) (share : Share) (asked : Bool)
+got_agrees : (a : Account) (p : Peer) (answer : Result Got DoorFault) (buffer rest : List ℕ) (share : Share) (asked : Bool) (heard : ℕ)
     → p.stay ≡ stay.Here → p.incoming ≡ got_bytes answer buffer ++ rest
     → share.line ≡ line_after p.share.line (got_bytes answer buffer)
     → (answer ≡ Ok got.Ended → MayEnd p) → OnErr answer (MayFail p) → Agrees a p
-    → Agrees (answered_step p.number a (ReadCall p.number answer buffer)) (record p { incoming = rest; share = share; asked = asked })
-got_agrees a p (Ok (got.Bytes count)) buffer rest share asked here is lined ended failed h =
-    let q : Peer = record p { incoming = rest; share = share; asked = asked } in
+    → Agrees (answered_step p.number a (ReadCall p.number answer buffer)) (record p { incoming = rest; share = share; asked = asked; heard = heard })
+got_agrees a p (Ok (got.Bytes count)) buffer rest share asked heard here is lined ended failed h =
+    let q : Peer = record p { incoming = rest; share = share; asked = asked; heard = heard } in
     let r = reads_here a.received p.incoming p.input p.stay here h.reads in
     agrees_own (p.number == p.number) _ a q (own p.number) (record {
       cut = h.cut;
@@ -225,7 +225,7 @@ got_agrees a p (Ok (got.Bytes count)) buffer rest share asked here is lined ende
       honest = h.honest;
       rested = h.rested;
     })
-got_agrees a p (Ok got.Nothing) buffer rest share asked here is lined ended failed h = record {
+got_agrees a p (Ok got.Nothing) buffer rest share asked heard here is lined ended failed h = record {
   cut = h.cut;
   reads = subst (λ (b : List ℕ). ComesAs a.received b p.input p.stay) is h.reads;
   writes = h.writes;
@@ -237,8 +237,8 @@ got_agrees a p (Ok got.Nothing) buffer rest share asked here is lined ended fail
   honest = h.honest;
   rested = h.rested;
 }
-got_agrees a p (Ok got.Ended) buffer rest share asked here is lined ended failed h =
-    let q : Peer = record p { incoming = rest; share = share; asked = asked } in
+got_agrees a p (Ok got.Ended) buffer rest share asked heard here is lined ended failed h =
+    let q : Peer = record p { incoming = rest; share = share; asked = asked; heard = heard } in
     let e = ended refl in
     let r : ReadsAs a.received p.incoming input.Ended = subst (ReadsAs a.received p.incoming) e.0
     (reads_here a.received p.incoming p.input p.stay here h.reads) in
@@ -255,8 +255,8 @@ got_agrees a p (Ok got.Ended) buffer rest share asked here is lined ended failed
           ∙ may_end_then a p.incoming p.outgoing p.output r.0 r.2 e.1 e.3 e.4 h.writes;
       rested = h.rested;
     })
-got_agrees a p (Err fault) buffer rest share asked here is lined ended failed h =
-    let q : Peer = record p { incoming = rest; share = share; asked = asked } in
+got_agrees a p (Err fault) buffer rest share asked heard here is lined ended failed h =
+    let q : Peer = record p { incoming = rest; share = share; asked = asked; heard = heard } in
     agrees_own (p.number == p.number) _ a q (own p.number) (record {
       cut = h.cut;
       reads = subst (λ (b : List ℕ). ComesAs a.received b p.input p.stay) is h.reads;
@@ -271,7 +271,7 @@ got_agrees a p (Err fault) buffer rest share asked here is lined ended failed h 
     })
 
 pub kept_got : (old new : Option (List Step)) (p q : Peer) (answer : Result Got DoorFault) (buffer : List ℕ)
-    → p.stay ≡ stay.Here → q ≡ record p { incoming = q.incoming; share = q.share; asked = q.asked }
+    → p.stay ≡ stay.Here → q ≡ record p { incoming = q.incoming; share = q.share; asked = q.asked; heard = q.heard }
     → p.incoming ≡ got_bytes answer buffer ++ q.incoming
     → q.share.line ≡ line_after p.share.line (got_bytes answer buffer)
     → (answer ≡ Ok got.Ended → MayEnd p) → OnErr answer (MayFail p)
@@ -279,8 +279,8 @@ pub kept_got : (old new : Option (List Step)) (p q : Peer) (answer : Result Got 
 kept_got old new p q answer buffer here same is lined ended failed tells kept =
     subst (IsKept new) (sym same)
     (kept_after old new (Answers (ReadCall p.number answer buffer)) p
-    (record p { incoming = q.incoming; share = q.share; asked = q.asked }) tells refl
-    (λ (a : Account) (h : Agrees a p). got_agrees a p answer buffer q.incoming q.share q.asked here is lined ended failed h) kept)
+    (record p { incoming = q.incoming; share = q.share; asked = q.asked; heard = q.heard }) tells refl
+    (λ (a : Account) (h : Agrees a p). got_agrees a p answer buffer q.incoming q.share q.asked q.heard here is lined ended failed h) kept)
 
 -- ---- the sockets that a wait found ready
 

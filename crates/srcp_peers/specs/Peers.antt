@@ -1,7 +1,7 @@
 -- What a peer's states mean.
-use Rattle.std.specs.Prelude.{◌≡◌, ◌≢◌, ◌⊎◌, ℕ, ◌==◌, ◌&&◌, ◌||◌, nat_lt, Bool, true, false, not, if◌then◌else◌, cond}
+use Rattle.std.specs.Prelude.{◌≡◌, ◌≢◌, ◌⊎◌, ℕ, ◌==◌, ◌&&◌, ◌||◌, nat_le, nat_lt, Bool, true, false, not, if◌then◌else◌}
 use Rattle.std.specs.Prelude.{List, [], ◌∷◌, ◌++◌, ◌+◌, ◌-◌, ◌/◌, count_by, drop, filter, length, max, min, take}
-use Rattle.std.specs.Prelude.{Option, Some}
+use Rattle.std.specs.Prelude.{cond, Option, Some}
 use Rattle.std.specs.Prelude.{Result, Ok, Err}
 use Rattle.std.specs.Io.{StartsWith}
 use Rattle.std.specs.declared.io.ErrorKind.{ErrorKind}
@@ -262,6 +262,14 @@ is_shut (stay.Shut since) = true
 -- input of it is held that the core takes
 abbrev pub holds_input : Peer → Bool
 holds_input p = is_here p.stay && (not p.cut && not (length p.incoming == 0))
+
+-- nothing of it was handed out for 50 milliseconds when the clock shows this
+abbrev pub is_silent : (clock : ℕ) → Peer → Bool
+is_silent clock p = nat_le 50 (clock - p.heard)
+
+-- its lines go before those of peers that are not silent
+abbrev pub goes_first : (clock : ℕ) → Peer → Bool
+goes_first clock p = is_silent clock p && holds_input p
 
 -- something is queued for it that its socket may still take
 abbrev pub is_waiting : Peer → Bool

@@ -1,5 +1,5 @@
 -- What a read of a peer answers.
-use Rattle.std.specs.Prelude.{◌≡◌, ◌≢◌, ℕ, ◌==◌, ◌&&◌, ◌||◌, Bool, true, false, not, cond, List, [], length, min, take}
+use Rattle.std.specs.Prelude.{◌≡◌, ◌≢◌, ℕ, ◌==◌, ◌&&◌, ◌||◌, Bool, true, false, cond, List, [], length, min, take}
 use Rattle.std.specs.Prelude.{Result, Ok, Err}
 use Rattle.srcp_door.specs.Pacing.{Allows, keeps_back}
 use Rattle.srcp_door.specs.declared.door.DoorFault.{DoorFault}
@@ -13,7 +13,7 @@ use Rattle.srcp_peers.specs.declared.readiness.Input.{Input}
 use Rattle.srcp_peers.specs.declared.readiness.Input.TheVariants as input
 use Rattle.srcp_peers.specs.declared.turn.Turn.{Turn}
 use Rattle.srcp_peers.specs.Peers.{is_lost, is_over}
-use Rattle.srcp_peers.specs.Turns.{reports_end}
+use Rattle.srcp_peers.specs.Turns.{own_pace, reports_end}
 
 -- ---- if nothing is held of it
 
@@ -53,10 +53,10 @@ piece_of p room = take (min 256 room) p.incoming
 -- ---- the answer
 
 -- a read with room for so many bytes answered so and handed that out, or kept a line back. It handed out as much as the
--- turn's pace and the peer's share allow; if nothing was held, it reported the end
-pub record IsAnswered (turn : Turn) (p : Peer) (room : ℕ) (answer : Result Got DoorFault) (handed : List ℕ)
-    (kept : Bool) : Type 0 where
+-- pace and the peer's share allow; if nothing was held, it reported the end. The peer waits if others go first
+pub record IsAnswered (turn : Turn) (waits : Bool) (p : Peer) (room : ℕ) (answer : Result Got DoorFault)
+    (handed : List ℕ) (kept : Bool) : Type 0 where
   pub end : p.incoming ≡ [] → answer ≡ end_in turn p
   pub some : p.incoming ≢ [] → (reports_end answer ≡ false)
-      × Allows turn.pace p.share (piece_of p room) (length handed)
-  pub back : kept ≡ keeps_back turn.pace p.share (piece_of p room) handed
+      × Allows (own_pace waits turn.pace) p.share (piece_of p room) (length handed)
+  pub back : kept ≡ keeps_back (own_pace waits turn.pace) p.share (piece_of p room) handed

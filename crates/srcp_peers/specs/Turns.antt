@@ -50,6 +50,15 @@ after_call turn other = record turn { busy = turn.busy || stirs other }
 
 -- ---- a read
 
+-- not every line may go
+abbrev pub is_short_pace : Pace → Bool
+is_short_pace (Paced left) = nat_lt left 11
+is_short_pace OneLine = true
+
+-- the pace of a peer's lines: if others go first and not every line may go, none goes that weighs something
+abbrev pub own_pace : (waits : Bool) → Pace → Pace
+own_pace waits pace = cond (waits && is_short_pace pace) (Paced 0) pace
+
 -- the bytes that it handed out
 abbrev pub got_bytes : Result Got DoorFault → List ℕ → List ℕ
 got_bytes (Ok (got.Bytes count)) buffer = take count buffer

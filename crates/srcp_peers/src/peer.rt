@@ -1,18 +1,18 @@
 //! A peer with its socket.
 
 ghost use Rattle.std.specs.Prelude.{◌≡◌, ◌≢◌, ◌<◌, ◌≤◌, ◌++◌, ◌==◌, ◌&&◌, true, false, not, cond, ℕ, List, [], Option};
-ghost use Rattle.std.specs.Prelude.{Some};
+ghost use Rattle.std.specs.Prelude.{◌||◌, Some};
 ghost use Rattle.std.specs.Prelude.{Ok, IfErr, OnErr, length, take, drop, min, fold, nat_lt};
 ghost use Rattle.srcp_peers.specs.Steps.{SaysNothing, Tells, Answers};
 ghost use Rattle.srcp_door.specs.Calls.{ReadCall, WriteCall};
 ghost use Rattle.srcp_peers.specs.Times.{KeepsTimes};
 ghost use Rattle.srcp_peers.specs.Peers.{Asks, IsKept, MayEnd, MayFail, Offers, Spares, IsRead, after_wake, has_rest};
 ghost use Rattle.srcp_peers.specs.Peers.{holds_input, is_busy, is_due, is_over, is_resting, is_waiting, is_wanting};
-ghost use Rattle.srcp_peers.specs.Peers.{may_have};
+ghost use Rattle.srcp_peers.specs.Peers.{goes_first, is_silent, may_have};
 ghost use Rattle.srcp_peers.specs.Peers.{enqueued, queued_more, room_after, tries_again, woken_output};
 ghost use Rattle.srcp_peers.specs.declared.readiness.Input.{Input};
 ghost use Rattle.srcp_peers.specs.declared.readiness.Output.{Output};
-ghost use Rattle.srcp_peers.specs.Turns.{after_read, got_bytes, reports_end};
+ghost use Rattle.srcp_peers.specs.Turns.{after_read, got_bytes, own_pace, reports_end};
 ghost use Rattle.srcp_peers.specs.Ends.{begun, written};
 ghost use Rattle.srcp_peers.specs.Reports.{IsAnswered, end_in, is_ended, is_failed, piece_of};
 ghost use Rattle.srcp_door.specs.Pacing.{Allows, IsShort, fits, keeps_back, line_after, share_after, weight_of};
@@ -31,6 +31,9 @@ use srcp_info::{LONGEST_LINE, MOST_IN_PIECE};
 /// A peer with more queued bytes than this is flushed before the clock goes on. The queue then has space for all writes
 /// of a visit.
 const FLUSH_THRESHOLD: usize = MOST_OUTGOING - MOST_WRITES as usize * LONGEST_LINE;
+
+/// A peer of which nothing was handed out for so long is silent, in milliseconds.
+const SILENCE: u64 = 50;
 
 /// Says what is to be reported of a peer while none of its input is held.
 #[derive(Clone, Copy)]
@@ -68,6 +71,9 @@ pub struct Peer {
     pub ending: Ending,
     /// True if input of the peer was handed out since the last flush: what the peer is written next is an answer.
     pub asked: bool,
+    /// What the monotonic clock showed when input of the peer was handed out last, or when the peer came, in
+    /// milliseconds.
+    pub heard: u64,
 }
 
 /// Holds the outcome of a read of a peer.
@@ -80,8 +86,9 @@ pub struct Handed {
 }
 
 impl Peer {
-    /// Returns a new peer without a share, so that new peers do not keep the others from their lines.
-    pub fn new(number: u32, queues: Queues) -> Peer
+    /// Returns a new peer without a share, so that new peers do not keep the others from their lines. `clock` is what
+    /// the monotonic clock shows, in milliseconds.
+    pub fn new(number: u32, clock: u64, queues: Queues) -> Peer
         ensures { result ≡ record {
           number = number;
           outgoing = [];
@@ -93,6 +100,7 @@ impl Peer {
           share = record { line = Line.Ended; rest = 0 };
           ending = Ending.Open;
           asked = true;
+          heard = clock;
           room = MOST_WRITES;
         } }
     {
@@ -111,6 +119,7 @@ impl Peer {
             },
             ending: Ending::Open,
             asked: true,
+            heard: clock,
             room: MOST_WRITES,
         }
     }
@@ -191,9 +200,16 @@ impl Peer {
             || self.asked && (self.cut || self.incoming.is_empty())
     }
 
-    /// Begins a visit: reads the socket, and takes a step on the way to the end. With `anew` the share becomes a whole
-    /// piece again. At most `room` lines may be queued in the visit while the socket refuses more.
-    pub(crate) fn begin_visit<S: System>(&mut self, system: &mut S, anew: bool, room: u32)
+    /// Begins a visit: reads the socket, and takes a step on the way to the end. With `anew`, or if the peer is silent
+    /// when the clock shows `clock`, the share becomes a whole piece again. At most `room` lines may be queued in the
+    /// visit while the socket refuses more.
+    pub(crate) fn begin_visit<S: System>(
+        &mut self,
+        system: &mut S,
+        anew: bool,
+        clock: u64,
+        room: u32,
+    )
         requires { IsKept (S.trace system.old) self.old }
         ensures kept { IsKept (S.trace system.new) self.new }
         ensures others { (other : ℕ) → other ≢ self.old.number
@@ -206,7 +222,9 @@ impl Peer {
             → Asks self.old self.new (S.trace system.old) (S.trace system.new) }
         ensures read { IsRead (S.trace system.new) self.old.number }
         ensures ending { self.new.ending ≡ begun self.old.ending (is_over self.new.incoming self.new.input) }
-        ensures share { self.new.share ≡ record self.old.share { rest = cond anew 256 self.old.share.rest } }
+        ensures share { self.new.share ≡ record self.old.share {
+          rest = cond (anew || is_silent clock self.old) 256 self.old.share.rest;
+        } }
         ensures same { self.new ≡ record self.old {
           incoming = self.new.incoming;
           input = self.new.input;
@@ -217,7 +235,7 @@ impl Peer {
     {
         self.fill(system);
         self.room = room;
-        if anew {
+        if anew || self.is_silent(clock) {
             self.share.rest = MOST_IN_PIECE;
         }
         self.ending = self.ending.begin_visit(self.input.is_over(&self.incoming));
@@ -257,9 +275,16 @@ impl Peer {
         }
     }
 
-    /// Moves held input to the start of a buffer, as far as the turn's lines go. If no input is held, reports the end
-    /// or the fault of the peer, unless the turn reported another.
-    pub fn read<S: System>(&mut self, system: &mut S, turn: &mut Turn, buffer: &mut [u8]) -> Handed
+    /// Moves held input to the start of a buffer, as far as the turn's lines go; with `waits` no line goes that weighs
+    /// something, if the pace is short. If no input is held, reports the end or the fault of the peer, unless the turn
+    /// reported another.
+    pub fn read<S: System>(
+        &mut self,
+        system: &mut S,
+        turn: &mut Turn,
+        waits: bool,
+        buffer: &mut [u8],
+    ) -> Handed
         requires kept { IsKept (S.trace system.old) self.old }
         requires here { self.old.stay ≡ Stay.Here }
         ensures kept { IsKept (S.trace system.new) self.new }
@@ -273,23 +298,26 @@ impl Peer {
         ensures turn { turn.new ≡ after_read turn.old self.old.share.line result.got buffer.new }
         ensures fits { fits turn.old.pace (weight_of self.old.share.line (got_bytes result.got buffer.new)) ≡ true }
         ensures ends { reports_end result.got ≡ true → turn.old.ends ≡ true }
-        ensures answered { IsAnswered turn.old self.old (length buffer.old) result.got
+        ensures answered { IsAnswered turn.old waits self.old (length buffer.old) result.got
             (got_bytes result.got buffer.new) result.refused }
         ensures share { self.new.share ≡ share_after self.old.share (got_bytes result.got buffer.new)
             result.refused }
         ensures refused { result.refused ≡ true → IsShort turn.new.pace }
+        ensures heard { self.new.heard
+            ≡ cond (length (got_bytes result.got buffer.new) == 0) self.old.heard turn.old.clock }
         ensures same { self.new ≡ record self.old {
           incoming = self.new.incoming;
           share = self.new.share;
           asked = self.new.asked;
+          heard = self.new.heard;
         } }
     {
-        let handed = self.take_out(turn, buffer);
+        let handed = self.take_out(turn, waits, buffer);
         system.note_read(self.number, handed.got, buffer);
         handed
     }
 
-    fn take_out(&mut self, turn: &mut Turn, buffer: &mut [u8]) -> Handed
+    fn take_out(&mut self, turn: &mut Turn, waits: bool, buffer: &mut [u8]) -> Handed
         ensures bytes { self.old.incoming ≡ got_bytes result.got buffer.new ++ self.new.incoming }
         ensures ended { result.got ≡ Ok Got.Ended → MayEnd self.old }
         ensures failed { OnErr result.got (MayFail self.old) }
@@ -299,15 +327,18 @@ impl Peer {
         ensures turn { turn.new ≡ after_read turn.old self.old.share.line result.got buffer.new }
         ensures fits { fits turn.old.pace (weight_of self.old.share.line (got_bytes result.got buffer.new)) ≡ true }
         ensures ends { reports_end result.got ≡ true → turn.old.ends ≡ true }
-        ensures answered { IsAnswered turn.old self.old (length buffer.old) result.got
+        ensures answered { IsAnswered turn.old waits self.old (length buffer.old) result.got
             (got_bytes result.got buffer.new) result.refused }
         ensures share { self.new.share ≡ share_after self.old.share (got_bytes result.got buffer.new)
             result.refused }
         ensures refused { result.refused ≡ true → IsShort turn.new.pace }
+        ensures heard { self.new.heard
+            ≡ cond (length (got_bytes result.got buffer.new) == 0) self.old.heard turn.old.clock }
         ensures same { self.new ≡ record self.old {
           incoming = self.new.incoming;
           share = self.new.share;
           asked = self.new.asked;
+          heard = self.new.heard;
         } }
     {
         if self.incoming.is_empty() {
@@ -316,32 +347,35 @@ impl Peer {
                 refused: false,
             };
         }
-        self.hand_out(turn, buffer)
+        self.hand_out(turn, waits, buffer)
     }
 
     /// Moves held input to the start of a buffer, as far as the turn's lines go.
-    fn hand_out(&mut self, turn: &mut Turn, buffer: &mut [u8]) -> Handed
+    fn hand_out(&mut self, turn: &mut Turn, waits: bool, buffer: &mut [u8]) -> Handed
         ensures bytes { self.old.incoming ≡ got_bytes result.got buffer.new ++ self.new.incoming }
         ensures ended { reports_end result.got ≡ false }
         ensures count { (n : ℕ) → result.got ≡ Ok (Got.Bytes n) → (0 < n) × (n ≤ length buffer.new) }
         ensures line { self.new.share.line ≡ line_after self.old.share.line (got_bytes result.got buffer.new) }
         ensures turn { turn.new ≡ after_read turn.old self.old.share.line result.got buffer.new }
         ensures fits { fits turn.old.pace (weight_of self.old.share.line (got_bytes result.got buffer.new)) ≡ true }
-        ensures allows { Allows turn.old.pace self.old.share (piece_of self.old (length buffer.old))
+        ensures allows { Allows (own_pace waits turn.old.pace) self.old.share (piece_of self.old (length buffer.old))
             (length (got_bytes result.got buffer.new)) }
         ensures share { self.new.share ≡ share_after self.old.share (got_bytes result.got buffer.new)
             result.refused }
-        ensures back { result.refused ≡ keeps_back turn.old.pace self.old.share (piece_of self.old (length buffer.old))
-            (got_bytes result.got buffer.new) }
+        ensures back { result.refused ≡ keeps_back (own_pace waits turn.old.pace) self.old.share
+            (piece_of self.old (length buffer.old)) (got_bytes result.got buffer.new) }
         ensures refused { result.refused ≡ true → IsShort turn.new.pace }
+        ensures heard { self.new.heard
+            ≡ cond (length (got_bytes result.got buffer.new) == 0) self.old.heard turn.old.clock }
         ensures same { self.new ≡ record self.old {
           incoming = self.new.incoming;
           share = self.new.share;
           asked = self.new.asked;
+          heard = self.new.heard;
         } }
     {
         let within = MOST_IN_PIECE.min(buffer.len()).min(self.incoming.len());
-        let allowed = turn.allow(&mut self.share, &self.incoming.front()[..within]);
+        let allowed = turn.allow(waits, &mut self.share, &self.incoming.front()[..within]);
         let count = allowed.count;
         if count == 0 {
             return Handed {
@@ -352,6 +386,7 @@ impl Peer {
         buffer[..count].copy_from_slice(&self.incoming.front()[..count]);
         self.incoming.drop_front(count);
         self.asked = true;
+        self.heard = turn.clock;
         Handed {
             got: Ok(Got::Bytes(count)),
             refused: allowed.refused,
@@ -443,6 +478,20 @@ impl Peer {
         ensures { result ≡ holds_input self.now }
     {
         self.stay.is_here() && !self.cut && !self.incoming.is_empty()
+    }
+
+    /// Returns whether nothing of the peer was handed out for 50 ms when the clock shows `clock`.
+    pub fn is_silent(&self, clock: u64) -> bool
+        ensures { result ≡ is_silent clock self.now }
+    {
+        clock.saturating_sub(self.heard) >= SILENCE
+    }
+
+    /// Returns whether the lines of the peer go before those of peers that are not silent.
+    pub fn goes_first(&self, clock: u64) -> bool
+        ensures { result ≡ goes_first clock self.now }
+    {
+        self.is_silent(clock) && self.holds_input()
     }
 
     /// Returns whether bytes are queued that the socket may still take.

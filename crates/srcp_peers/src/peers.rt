@@ -34,9 +34,15 @@ pub fn flush<S: System>(system: &mut S, peers: &mut [Peer], what: Flush)
     }
 }
 
-/// Begins the visit of each peer; with `anew` each share is a whole piece again. At most `room` lines may be queued for
-/// each peer whose socket refuses more.
-pub fn begin_visits<S: System>(system: &mut S, peers: &mut [Peer], anew: bool, room: u32)
+/// Begins the visit of each peer. With `anew` each share is a whole piece again, and else that of each peer that is
+/// silent when the clock shows `clock`. At most `room` lines may be queued for each peer whose socket refuses more.
+pub fn begin_visits<S: System>(
+    system: &mut S,
+    peers: &mut [Peer],
+    anew: bool,
+    clock: u64,
+    room: u32,
+)
     requires kept { AreKept (S.trace system.old) peers.old }
     requires apart { AreApart peers.old }
     ensures kept { AreKept (S.trace system.new) peers.new }
@@ -46,12 +52,12 @@ pub fn begin_visits<S: System>(system: &mut S, peers: &mut [Peer], anew: bool, r
     ensures times { KeepsTimes (S.trace system.old) (S.trace system.new) }
     ensures read { (k : ℕ) (d : Peer) → k < length peers.new
         → IsRead (S.trace system.new) (slice_index_or peers.new k d).number }
-    ensures shares { AreShared anew peers.old peers.new }
+    ensures shares { AreShared anew clock peers.old peers.new }
     ensures begun { AreBegun peers.old peers.new }
     ensures rooms { All (λ peer. peer.room ≡ room) peers.new }
 {
     for peer in peers.iter_mut() {
-        peer.begin_visit(system, anew, room);
+        peer.begin_visit(system, anew, clock, room);
     }
 }
 

@@ -7,7 +7,8 @@ ghost use Rattle.srcp_door.specs.Calls.{ExpectCall, AcceptCall, WriteCall, Close
 ghost use Rattle.srcp_door.specs.Pacing.{Allows, IsShort, fits, keeps_back, line_after, share_after, weight_of};
 ghost use Rattle.srcp_door.specs.declared.pacing.Line.{Line};
 ghost use Rattle.srcp_peers.specs.Turns.{after_call, after_read, after_wait, begun, earlier, ended, first_turn};
-ghost use Rattle.srcp_peers.specs.Turns.{handed_out, is_behind, is_pending, is_short, lack, moment_at, stop};
+ghost use Rattle.srcp_peers.specs.Turns.{handed_out, is_behind, is_pending, is_short, is_short_pace, lack};
+ghost use Rattle.srcp_peers.specs.Turns.{moment_at, own_pace, stop};
 ghost use Rattle.srcp_peers.specs.Turns.{reports_end, time_left, reported_at, next_after, step_at, ticks};
 ghost use Rattle.std.specs.Option.{option_map};
 ghost use Rattle.srcp_peers.specs.Accounts.{is_short_wait};
@@ -236,23 +237,49 @@ impl Turn {
         }
     }
 
-    /// Returns how many bytes of a peer's piece may be handed out now, by the peer's share of the lines. Notes these
-    /// bytes as handed out.
-    pub(crate) fn allow(&mut self, share: &mut Share, piece: &[u8]) -> Allowed
+    /// Returns whether not every line may be handed out now.
+    pub fn is_slow(&self) -> bool
+        ensures { result ≡ is_short_pace self.now.pace }
+    {
+        match self.pace {
+            Pace::Paced { left } => left < MOST_CHANGES,
+            Pace::OneLine => true,
+        }
+    }
+
+    /// Returns the pace of a peer's lines. If others go first and not every line may go, none goes that weighs
+    /// something.
+    fn own_pace(&self, waits: bool) -> Pace
+        ensures { result ≡ own_pace waits self.now.pace }
+    {
+        if waits && self.is_slow() {
+            Pace::Paced { left: 0 }
+        } else {
+            self.pace
+        }
+    }
+
+    /// Returns how many bytes of a peer's piece may be handed out now, by the peer's share of the lines. The peer waits
+    /// if others go first. Notes these bytes as handed out.
+    pub(crate) fn allow(&mut self, waits: bool, share: &mut Share, piece: &[u8]) -> Allowed
         ensures within { result.count ≤ length piece.now }
         ensures nothing { result.count ≡ 0 → self.new ≡ self.old }
         ensures some { 0 < result.count → self.new ≡ handed_out self.old share.old.line (take result.count piece.now) }
         ensures line { share.new.line ≡ line_after share.old.line (take result.count piece.now) }
         ensures fits { fits self.old.pace (weight_of share.old.line (take result.count piece.now)) ≡ true }
-        ensures allows { Allows self.old.pace share.old piece.now result.count }
+        ensures allows { Allows (own_pace waits self.old.pace) share.old piece.now result.count }
         ensures share { share.new ≡ share_after share.old (take result.count piece.now) result.refused }
-        ensures back { result.refused ≡ keeps_back self.old.pace share.old piece.now (take result.count piece.now) }
+        ensures back { result.refused
+            ≡ keeps_back (own_pace waits self.old.pace) share.old piece.now (take result.count piece.now) }
         ensures fair { result.refused ≡ true → IsShort self.new.pace }
     {
-        let pace = self.pace;
-        let allowed = self.pace.allow(share, piece);
+        let mut pace = self.own_pace(waits);
+        let allowed = pace.allow(share, piece);
         self.busy = self.busy || allowed.count > 0;
-        self.next_line = self.next_after(pace, allowed.weight);
+        self.next_line = self.next_after(self.pace, allowed.weight);
+        if allowed.weight > 0 {
+            self.pace = pace;
+        }
         allowed
     }
 

@@ -148,11 +148,11 @@ numbers_differ : (peers : List Peer) → AreApart peers → IsDistinct (λ a b. 
 numbers_differ peers apart = IsDistinct-from_apart (λ a b. a == b) (numbers peers) (λ i j d low lt.
     let l : j < length peers = omega (arith, lt, length_numbers peers) in
     let k : i < length peers = omega (arith, low, l) in
-    let one = number_at peers i d (new_peer 0) k in
-    let other = number_at peers j d (new_peer 0) l in
-    ap (λ n. n == slice_index_or (numbers peers) j d) one ∙ ap (λ n. (slice_index_or peers i (new_peer 0)).number == n) other
-    ∙ alien (slice_index_or peers i (new_peer 0)).number (slice_index_or peers j (new_peer 0)).number
-    (apart j i (new_peer 0) l k (λ e. omega (arith, low, e))))
+    let one = number_at peers i d (new_peer 0 0) k in
+    let other = number_at peers j d (new_peer 0 0) l in
+    ap (λ n. n == slice_index_or (numbers peers) j d) one ∙ ap (λ n. (slice_index_or peers i (new_peer 0 0)).number == n) other
+    ∙ alien (slice_index_or peers i (new_peer 0 0)).number (slice_index_or peers j (new_peer 0 0)).number
+    (apart j i (new_peer 0 0) l k (λ e. omega (arith, low, e))))
 
 -- those of different numbers that pass differ
 apart_filter : (n : ℕ) (test : ℕ → Bool) (xs : List ℕ) → AllByRecursion (λ y. (n == y) ≡ false) xs

@@ -26,8 +26,8 @@ use Rattle.srcp_peers.proofs.PeersStayKept.{account_more, alien, own, picks, ski
 use Rattle.srcp_peers.proofs.OnePeerChanges.{kept_spared, spared}
 use Rattle.srcp_sockets.proofs.SocketsStayStanding.{absent_above, all_sound, not_listener}
 
-abbrev pub new_peer : ℕ → Peer
-new_peer number = record {
+abbrev pub new_peer : (clock number : ℕ) → Peer
+new_peer clock number = record {
   number = number;
   outgoing = [];
   incoming = [];
@@ -38,6 +38,7 @@ new_peer number = record {
   share = record { line = line.Ended; rest = 0 };
   ending = ending.Open;
   asked = true;
+  heard = clock;
   room = 300;
 }
 
@@ -63,8 +64,9 @@ spares_come old new number done other differ tells =
     (cases_eq other 0))
 
 -- a new peer is what its account says
-fresh_agrees : (number : ℕ) (a : Account) (done : Unit {0}) → Fresh a → Sound a → Agrees (accepted a (Ok done)) (new_peer number)
-fresh_agrees number a done f s = record {
+fresh_agrees : (clock number : ℕ) (a : Account) (done : Unit {0}) → Fresh a → Sound a
+    → Agrees (accepted a (Ok done)) (new_peer clock number)
+fresh_agrees clock number a done f s = record {
   reads = (f.gave ∙ sym (ap (λ h. h ++ []) f.handed), refl, refl, refl);
   writes = (f.written ∙ sym (ap (λ h. h ++ []) f.took), refl);
   cut = refl;
@@ -108,22 +110,23 @@ absent_push socket peers p absent = (
       (ap (λ (x : Peer). x.number) (get_or_push peers p p (length peers) refl) ∙ sym e),
 )
 
-pub stands_come : (old new : Option (List Step)) (peers : List Peer) (l : Listening) (last : ℕ) (done : Unit {0})
-    → Tells old (Accepts (last + 1) (Ok done)) new → Stands old peers l last → Stands new (peers ++ new_peer (last + 1) ∷ []) l (last + 1)
-stands_come old new peers l last done tells stands = record {
+pub stands_come : (old new : Option (List Step)) (peers : List Peer) (l : Listening) (clock last : ℕ) (done : Unit {0})
+    → Tells old (Accepts (last + 1) (Ok done)) new → Stands old peers l last
+    → Stands new (peers ++ new_peer clock (last + 1) ∷ []) l (last + 1)
+stands_come old new peers l clock last done tells stands = record {
   kept = kept;
-  apart = push_apart peers (new_peer (last + 1)) stands.apart (absent_above last (last + 1) peers stands.within (omega arith));
-  within = at_push (λ (p : Peer). (0 < p.number) × (p.number ≤ last + 1)) peers (new_peer (last + 1))
+  apart = push_apart peers (new_peer clock (last + 1)) stands.apart (absent_above last (last + 1) peers stands.within (omega arith));
+  within = at_push (λ (p : Peer). (0 < p.number) × (p.number ≤ last + 1)) peers (new_peer clock (last + 1))
       (λ k d lt. let w = stands.within k d lt in (w.0, (let m : (slice_index_or peers k d).number ≤ last = w.1 in omega (arith, m))))
       (omega arith, omega arith);
-  sound = λ log is. all_sound new (peers ++ new_peer (last + 1) ∷ []) log is kept (λ socket absent.
-      let there = absent_push socket peers (new_peer (last + 1)) absent in
+  sound = λ log is. all_sound new (peers ++ new_peer clock (last + 1) ∷ []) log is kept (λ socket absent.
+      let there = absent_push socket peers (new_peer clock (last + 1)) absent in
       spared Sound socket old new (spares_come old new (last + 1) done socket there.1 tells) (λ lg e. stands.sound lg e socket) log is);
   fresh = λ log is socket above.
       spared Fresh socket old new (spares_come old new (last + 1) done socket (λ e. omega (arith, above, e)) tells)
       (λ lg e. stands.fresh lg e socket (omega (arith, above))) log is;
   closed = λ log is socket absent.
-      let there = absent_push socket peers (new_peer (last + 1)) absent in
+      let there = absent_push socket peers (new_peer clock (last + 1)) absent in
       spared Closed socket old new (spares_come old new (last + 1) done socket there.1 tells)
       (λ lg e. stands.closed lg e socket there.0) log is;
   heard = λ log is.
@@ -138,18 +141,18 @@ stands_come old new peers l last done tells stands = record {
         kept_spared old new (slice_index_or peers k d)
         (spares_come old new (last + 1) done (slice_index_or peers k d).number (λ e. omega (arith, m, e)) tells) (stands.kept k d lt)
 
-    one_kept : IsKept new (new_peer (last + 1))
+    one_kept : IsKept new (new_peer clock (last + 1))
     one_kept later is =
         let t = tells later is in
         let more : account (last + 1) later ≡ accepted (account (last + 1) t.0) (Ok done) =
         ap (account (last + 1)) t.2 ∙ account_more (last + 1) t.0 (Accepts (last + 1) (Ok done))
         ∙ accept_new (last + 1) (account (last + 1) t.0) (Ok done) (λ e. omega (arith, e)) in
-        subst (λ (a : Account). Agrees a (new_peer (last + 1))) (sym more)
-        (fresh_agrees (last + 1) (account (last + 1) t.0) done (stands.fresh t.0 t.1 (last + 1) (omega arith))
+        subst (λ (a : Account). Agrees a (new_peer clock (last + 1))) (sym more)
+        (fresh_agrees clock (last + 1) (account (last + 1) t.0) done (stands.fresh t.0 t.1 (last + 1) (omega arith))
         (stands.sound t.0 t.1 (last + 1)))
 
-    kept : AreKept new (peers ++ new_peer (last + 1) ∷ [])
-    kept = at_push (IsKept new) peers (new_peer (last + 1)) old_kept one_kept
+    kept : AreKept new (peers ++ new_peer clock (last + 1) ∷ [])
+    kept = at_push (IsKept new) peers (new_peer clock (last + 1)) old_kept one_kept
 
 -- an accept that failed
 refused_hears : (a : Account) (l : Listening) (said : Refusal) → Hears a l
@@ -235,12 +238,13 @@ stands_refused old new peers l last number fault tells stands = record {
     more log is = ap (account 0) (tells log is).2 ∙ account_more 0 (tells log is).0 (Accepts number (Err fault))
 
 -- a new peer, by the names that the function gives
-pub stands_came : (old new : Option (List Step)) (peers items : List Peer) (peer : Peer) (l : Listening) (last number : ℕ) (done : Unit {0})
-    → number ≡ last + 1 → items ≡ peers ++ peer ∷ [] → peer ≡ new_peer number
+pub stands_came : (old new : Option (List Step)) (peers items : List Peer) (peer : Peer) (l : Listening) (clock last number : ℕ)
+    (done : Unit {0})
+    → number ≡ last + 1 → items ≡ peers ++ peer ∷ [] → peer ≡ new_peer clock number
     → Tells old (Accepts number (Ok done)) new → Stands old peers l last → Stands new items l number
-stands_came old new peers items peer l last number done next pushed is tells stands =
+stands_came old new peers items peer l clock last number done next pushed is tells stands =
     let accepts : Tells old (Accepts (last + 1) (Ok done)) new = subst (λ (n : ℕ). Tells old (Accepts n (Ok done)) new) next tells in
-    let received = stands_come old new peers l last done accepts stands in
-    let one : new_peer (last + 1) ≡ peer = ap new_peer (sym next) ∙ sym is in
+    let received = stands_come old new peers l clock last done accepts stands in
+    let one : new_peer clock (last + 1) ≡ peer = ap (new_peer clock) (sym next) ∙ sym is in
     subst (λ (n : ℕ). Stands new items l n) (sym next)
     (subst (λ (ps : List Peer). Stands new ps l (last + 1)) (ap (λ (p : Peer). peers ++ p ∷ []) one ∙ sym pushed) received)

@@ -1,16 +1,15 @@
 -- How far the peers are on the way to their ends goes on from step to step.
-use Rattle.std.proofs.Common.{◌≡◌, ◌∙◌, ℕ, ◌<◌, ◌≤◌, ◌+◌, Bool, true, false, not, List, [], ◌∷◌, ◌++◌, length, refl, ap, sym, subst}
-use Rattle.std.proofs.Common.{arith, ⊎_elim, ◌⊎◌, ◌==◌, cond, get_or, set, get_or-set_other, get_or-set_same, if◌then◌else◌}
+use Rattle.std.proofs.Common.{◌≡◌, ◌∙◌, ℕ, ◌<◌, ◌+◌, Bool, true, false, not, List, [], ◌∷◌, ◌++◌, length, refl, ap, sym, subst}
+use Rattle.std.proofs.Common.{arith, ⊎_elim, ◌==◌, cond, get_or, set, get_or-set_other, get_or-set_same, if◌then◌else◌}
 use Rattle.std.proofs.Common.{Option, Some, None, Ok, Err, true≢false}
-use Rattle.std.specs.Prelude.{◌≢◌, ◌&&◌, ◌||◌, fold, nat_le, nat_lt, slice_index_or, take, Result}
-use Rattle.std.proofs.lemmas.Bool.{cases_eq, cases_lt}
+use Rattle.std.specs.Prelude.{◌≢◌, ◌&&◌, ◌||◌, fold, nat_le, nat_lt, slice_index_or, Result}
+use Rattle.std.proofs.lemmas.Bool.{cases_eq}
 use Rattle.std.proofs.lemmas.Bool.Decides.{nat_tests}
-use Rattle.std.proofs.lemmas.List.{get_or_append_left, get_or_default, get_or_push, length-append, length-set}
+use Rattle.std.proofs.lemmas.List.{get_or_default, length-set}
 use Rattle.std.proofs.lemmas.List.Elements.{All-push}
 use Rattle.std.proofs.lemmas.List.Sums.{fold-append}
 use Rattle.std.specs.List.{remove}
-use Rattle.std.specs.declared.io.ErrorKind.{ErrorKind}
-use Rattle.srcp_door.specs.Calls.{Call, NowCall, WriteCall}
+use Rattle.srcp_door.specs.Calls.{NowCall, WriteCall}
 use Rattle.srcp_door.specs.declared.door.DoorFault.{DoorFault}
 use Rattle.srcp_peers.specs.declared.ending.Ending.{Ending}
 use Rattle.srcp_peers.specs.declared.ending.Ending.TheVariants.{Open, Settling, Settled}
@@ -261,9 +260,9 @@ removed_of peers i p within at apart k d lt here =
       ap (λ (x : Peer). x.ending) f.2,
     )
 
-pub far_pushed : (old new : Option (List Step)) (peers items : List Peer) (p : Peer) (number : ℕ) (done : Unit {0})
-    → items ≡ peers ++ p ∷ [] → p ≡ new_peer number → Tells old (Accepts number (Ok done)) new → AreAsFar old peers → AreAsFar new items
-far_pushed old new peers items p number done pushed is tells far later logged k d lt here =
+pub far_pushed : (old new : Option (List Step)) (peers items : List Peer) (p : Peer) (clock number : ℕ) (done : Unit {0})
+    → items ≡ peers ++ p ∷ [] → p ≡ new_peer clock number → Tells old (Accepts number (Ok done)) new → AreAsFar old peers → AreAsFar new items
+far_pushed old new peers items p clock number done pushed is tells far later logged k d lt here =
     let t = tells later logged in
     let slackens = slackens_silent old new (says_step old new (Accepts number (Ok done)) tells refl) later logged in
     let Far : Peer → Type 0 = λ q. q.stay ≡ stay.Here → is_as_far (ending_of q.number later) q.ending ≡ true in

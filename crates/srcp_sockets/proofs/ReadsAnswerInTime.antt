@@ -27,10 +27,10 @@ use Rattle.srcp_peers.specs.Accounts.{Account, Received, Sent, account, is_held,
 use Rattle.srcp_peers.specs.Peers.{Agrees, IsKept, ReadsAs, StaysAs, WritesAs, is_lost, is_over}
 use Rattle.srcp_peers.specs.Reports.{IsAnswered, has_failed, is_ended, is_failed, is_settled, piece_of}
 use Rattle.srcp_peers.specs.Steps.{Step}
-use Rattle.srcp_peers.specs.Turns.{got_bytes}
+use Rattle.srcp_peers.specs.Turns.{got_bytes, own_pace}
 use Rattle.srcp_peers.proofs.PeersRestByAccount.{and_left, and_right, held_is, owed_is}
 use Rattle.srcp_peers.proofs.StatesFollowSteps.{reads_here}
-use Rattle.srcp_sockets.specs.Duties.{IsHandedOut, IsReadDone, held_piece, is_end, is_failing, is_fault, is_leaving}
+use Rattle.srcp_sockets.specs.Duties.{IsHandedOut, IsReadDone, held_piece, is_end, is_failing, is_fault}
 use Rattle.srcp_sockets.specs.Endings.{ending_of, is_all_read, is_as_far}
 use Rattle.srcp_sockets.specs.KeptTimes.{IsTimedFrom}
 use Rattle.srcp_sockets.proofs.WorkIsDone.{gave_as}
@@ -147,12 +147,12 @@ leaves a p wanted h here far may sound settled =
 -- ---- the answer
 
 -- of a peer that is there
-pub read_done : (wall start : ℕ) (trace : Option (List Step)) (turn : Turn) (p : Peer) (answer : Result Got DoorFault) (buffer : List ℕ)
-    (room : ℕ) (kept : Bool) (log : List Step) → trace ≡ Some log → IsTimedFrom wall start trace turn → IsKept trace p
+pub read_done : (wall start : ℕ) (trace : Option (List Step)) (turn : Turn) (waits : Bool) (p : Peer) (answer : Result Got DoorFault)
+    (buffer : List ℕ) (room : ℕ) (kept : Bool) (log : List Step) → trace ≡ Some log → IsTimedFrom wall start trace turn → IsKept trace p
     → p.stay ≡ stay.Here → is_as_far (ending_of p.number log) p.ending ≡ true → length buffer ≡ room
-    → IsAnswered turn p room answer (got_bytes answer buffer) kept
+    → IsAnswered turn waits p room answer (got_bytes answer buffer) kept
     → IsReadDone wall start log p.number answer buffer
-read_done wall start trace turn p answer buffer room kept log is timed agrees here far long answered =
+read_done wall start trace turn waits p answer buffer room kept log is timed agrees here far long answered =
     let a : Account = account p.number log in
     let h : Agrees a p = agrees log is in
     let reads : ReadsAs a.received p.incoming p.input = reads_here a.received p.incoming p.input p.stay here h.reads in
@@ -192,7 +192,7 @@ read_done wall start trace turn p answer buffer room kept log is timed agrees he
           subst (λ (l : Line). IsHandedOut l (held_piece a.received (length buffer)) (length (got_bytes answer buffer)))
           (sym (line_kept trace wall start p log agrees is))
           (subst (λ (xs : List ℕ). IsHandedOut p.share.line xs (length (got_bytes answer buffer))) piece
-          (allowed turn.pace p.share (piece_of p room) (length (got_bytes answer buffer)) (answered.some (some e)).1));
+          (allowed (own_pace waits turn.pace) p.share (piece_of p room) (length (got_bytes answer buffer)) (answered.some (some e)).1));
     }
 
 -- of one that is not there

@@ -39,6 +39,7 @@ nobody = record {
   share = record { line = line.Ended; rest = 0 };
   ending = ending.Open;
   asked = true;
+  heard = 0;
   room = 300;
 }
 

@@ -12,10 +12,10 @@ use Rattle.srcp_peers.specs.declared.turn.Listening.{Listening}
 use Rattle.srcp_peers.specs.declared.turn.Listening.TheVariants as listening
 use Rattle.srcp_peers.specs.declared.turn.Turn.{Turn}
 use Rattle.srcp_peers.specs.Listeners.{woken_listening}
-use Rattle.srcp_peers.specs.Peers.{Makes, holds_input, is_gone, is_here, is_shut}
+use Rattle.srcp_peers.specs.Peers.{Makes, goes_first, holds_input, is_gone, is_here, is_shut, is_silent}
 use Rattle.srcp_peers.specs.Reports.{IsAnswered}
 use Rattle.srcp_peers.specs.Steps.{Accepts, Answers, Clocks, Closes, Step, Tells, Waits}
-use Rattle.srcp_peers.specs.Turns.{has_ticked, moment_at}
+use Rattle.srcp_peers.specs.Turns.{has_ticked, is_short_pace, moment_at}
 use Rattle.srcp_sockets.specs.Doors.{IsPresent}
 
 -- ---- who is closed
@@ -81,10 +81,16 @@ pub record MakesRoom (peers : List Peer) (heard : Listening) (old new : Option (
 
 -- ---- who is read
 
+-- its lines go behind those of others: not every line may go, it is not silent, and one that is holds input
+abbrev pub goes_behind : Turn → List Peer → Peer → Bool
+goes_behind turn peers p = is_short_pace turn.pace
+    && (not (is_silent turn.clock p) && list_any (goes_first turn.clock) peers)
+
 -- the read of a peer that is there answered what that peer's read answers, and it is known then whether a line of some
 -- peer was kept back
 abbrev pub IsPeerRead : Turn → List Peer → (number room : ℕ) → Result Got DoorFault → (handed : List ℕ)
     → (before after : Bool) → Type 0
 IsPeerRead turn peers number room answer handed before after = (k : ℕ) (d : Peer) → k < length peers
     → IsPresent number (slice_index_or peers k d)
-    → (kept : Bool) × IsAnswered turn (slice_index_or peers k d) room answer handed kept × (after ≡ (before || kept))
+    → (let p = slice_index_or peers k d in
+    (kept : Bool) × IsAnswered turn (goes_behind turn peers p) p room answer handed kept × (after ≡ (before || kept)))

@@ -9,12 +9,14 @@ ghost use Rattle.srcp_sockets.specs.Delivery.{HasEnded, HasWaited, linger_end};
 ghost use Rattle.srcp_sockets.specs.Duties.{AreDone, AreDone-prop, HasLooked, MayTell};
 ghost use Rattle.srcp_sockets.specs.Endings.{AreAsFar, AreAsFar-prop, AreVisited};
 ghost use Rattle.srcp_sockets.specs.Waits.{AreFlushed, MayWait};
-ghost use Rattle.srcp_sockets.specs.Work.{AreClosedUp, IsClocked, IsPeerRead, IsWaiting, goes_on, is_close};
+ghost use Rattle.srcp_sockets.specs.Work.{AreClosedUp, IsClocked, IsPeerRead, IsWaiting, goes_behind, goes_on};
+ghost use Rattle.srcp_sockets.specs.Work.{is_close};
 ghost use Rattle.srcp_sockets.specs.Facts.{Stands-prop};
 ghost use Rattle.std.specs.List.{list_any};
 ghost use Rattle.srcp_sockets.specs.Names.{IsNamed, IsNamed-prop};
 ghost use Rattle.srcp_sockets.specs.KeptTimes.{IsTimed, IsTimed-prop};
 ghost use Rattle.srcp_peers.specs.Accounts.{is_short_wait};
+ghost use Rattle.srcp_peers.specs.Peers.{goes_first};
 ghost use Rattle.srcp_peers.specs.Peers.{Makes, flushes_all, is_resting, holds_input, is_closable, is_here};
 ghost use Rattle.srcp_peers.specs.Times.{KeepsTimes};
 ghost use Rattle.srcp_peers.specs.Turns.{after_wait, first_turn, got_bytes, flushing, has_ticked, is_pending, room_of};
@@ -213,12 +215,13 @@ impl<S: System + Drop> Sockets<S> {
     }
 
     /// Begins the visit of each peer; `holds` says whether input was held as the turn began. Each share is a whole
-    /// piece again if no line of a share was kept back in the turn before.
+    /// piece again if no line of a share was kept back in the turn before; that of a silent peer always is.
     fn begin_visits(&mut self, holds: bool)
         ensures calls { SaysNothing (S.trace self.old.system) (S.trace self.new.system) }
         ensures read { AreRead (S.trace self.new.system) }
         ensures visited { AreVisited (S.trace self.new.system) self.new.peers.items }
-        ensures shares { AreShared (not self.old.refused) self.old.peers.items self.new.peers.items }
+        ensures shares { AreShared (not self.old.refused) self.old.turn.clock
+            self.old.peers.items self.new.peers.items }
         ensures rooms { All (λ peer. peer.room ≡ room_of holds self.old.turn.slack) self.new.peers.items }
         ensures times { KeepsTimes (S.trace self.old.system) (S.trace self.new.system) }
         ensures flushed { self.new.flushed ≡ self.old.flushed }
@@ -227,7 +230,14 @@ impl<S: System + Drop> Sockets<S> {
         let anew = !self.refused;
         let room = self.room(holds);
         self.refused = false;
-        begin_visits(&mut self.system, self.peers.as_mut_slice(), anew, room);
+        let clock = self.turn.clock;
+        begin_visits(
+            &mut self.system,
+            self.peers.as_mut_slice(),
+            anew,
+            clock,
+            room,
+        );
     }
 
     /// Returns how many lines may be queued for a peer whose socket refuses more. While commands wait for the panels,
@@ -436,7 +446,23 @@ impl<S: System + Drop> Sockets<S> {
         answer
     }
 
-    /// Reads the bytes that came from a peer.
+    /// Returns whether input is held of a silent peer.
+    fn has_silent(&self) -> bool
+        ensures { result ≡ list_any (goes_first self.now.turn.clock) self.now.peers.items }
+    {
+        let clock = self.turn.clock;
+        self.peers.iter().any(|peer| peer.goes_first(clock))
+    }
+
+    /// Returns whether the lines of a peer go behind those of others: not every line may go now, the peer is not
+    /// silent, and input is held of one that is.
+    fn goes_behind(&self, peer: &Peer) -> bool
+        ensures { result ≡ goes_behind self.now.turn self.now.peers.items peer.now }
+    {
+        self.turn.is_slow() && !peer.is_silent(self.turn.clock) && self.has_silent()
+    }
+
+    /// Reads the bytes that came from a peer. The lines of a silent peer go first.
     ///
     /// # Errors
     /// Returns `Read` if the peer is lost or not there, unless the turn reported another end.
@@ -454,8 +480,9 @@ impl<S: System + Drop> Sockets<S> {
         let Some(index) = self.index_of(number) else {
             return self.read_nobody(number, buffer);
         };
+        let waits = self.goes_behind(&self.peers[index]);
         self.recent = index;
-        let handed = self.peers[index].read(&mut self.system, &mut self.turn, buffer);
+        let handed = self.peers[index].read(&mut self.system, &mut self.turn, waits, buffer);
         self.refused |= handed.refused;
         handed.got
     }

@@ -111,7 +111,9 @@ impl<S: System + Drop> Sockets<S> {
     {
         match self.system.accept(number) {
             Ok(()) => {
-                self.peers.push(Peer::new(number, queues)).unwrap();
+                self.peers
+                    .push(Peer::new(number, self.turn.clock, queues))
+                    .unwrap();
                 self.last = number;
                 self.system.note_accept(Ok(Some(number)));
                 self.turn.note_accept(Ok(Some(number)));

@@ -33,8 +33,8 @@ invariant_of-self g c =
     let pushed : c.push.new.self.items ≡ self.peers.items ++ c.new.result ∷ [] = search rules in
     record {
       stands = stands_answered mid new c.push.new.self.items self.listening number call (λ s a. refl) c.note_accept.ensures
-          (stands_came old mid self.peers.items c.push.new.self.items c.new.result self.listening self.last number c.in-Ok.field-0
-          c.requires.next pushed c.new.ensures c.in-Ok.ensures self.stands);
+          (stands_came old mid self.peers.items c.push.new.self.items c.new.result self.listening self.turn.clock self.last number
+          c.in-Ok.field-0 c.requires.next pushed c.new.ensures c.in-Ok.ensures self.stands);
       named = named_come mid new self.last number (omega (arith, c.requires.next)) (says_call mid new call c.note_accept.ensures)
           (named_silent old mid self.last (says_step old mid (Accepts number said) c.in-Ok.ensures refl) self.named);
       timed = timed_asked old mid new self.turn c.note_accept-in-Ok.new.self number said (Ok (Some number)) c.note_accept-in-Ok.ensures
@@ -47,8 +47,8 @@ invariant_of-self g c =
           (done_step self.turn.timekeeper.wall self.turn.timekeeper.start old mid (Accepts number said) c.in-Ok.ensures (λ log is. tt)
           self.done));
       ending = far_same mid new c.push.new.self.items (Answers call) c.note_accept.ensures (λ s x. refl)
-          (far_pushed old mid self.peers.items c.push.new.self.items c.new.result number c.in-Ok.field-0 pushed c.new.ensures
-          c.in-Ok.ensures self.ending);
+          (far_pushed old mid self.peers.items c.push.new.self.items c.new.result self.turn.clock number c.in-Ok.field-0 pushed
+          c.new.ensures c.in-Ok.ensures self.ending);
       places = le_trans self.places c.push.ensures.capacity;
     }
 

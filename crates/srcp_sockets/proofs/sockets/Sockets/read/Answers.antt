@@ -16,9 +16,10 @@ use Rattle.srcp_sockets.proofs.ReadsAnswerInTime.{read_done}
 use Rattle.srcp_sockets.proofs.NumbersDiffer.{named_call}
 use Rattle.srcp_sockets.proofs.SocketsStayStanding.{stands_one}
 use Rattle.srcp_sockets.proofs.TimesGoOn.{line_kept, read_time, timed_read}
-use Rattle.std.proofs.Common.{set, true}
+use Rattle.std.proofs.Common.{Bool, set, true}
 use Rattle.srcp_peers.specs.declared.stay.Stay.TheVariants as stay
 use Rattle.srcp_sockets.specs.Endings.{ending_of, is_as_far}
+use Rattle.srcp_sockets.specs.Work.{goes_behind}
 use Rattle.srcp_sockets.proofs.EndsAreTold.{far_goes, set_one, slackens_step}
 use Rattle.srcp_sockets.proofs.sockets.Sockets.read.Goals as goal
 
@@ -55,7 +56,7 @@ invariant_of-self g c =
           (ap (λ m. m.wall) (read_time turn x.share.line answer buffer)) (ap (λ m. m.start) (read_time turn x.share.line answer buffer))
           (done_step turn.timekeeper.wall turn.timekeeper.start old new (Answers (ReadCall x.number answer buffer))
           c.read-handed.ensures.trace
-          (λ log logged early. read_done turn.timekeeper.wall turn.timekeeper.start old turn x answer buffer (length c.args.buffer.now)
+          (λ log logged early. read_done turn.timekeeper.wall turn.timekeeper.start old turn c.goes_behind-waits.result x answer buffer (length c.args.buffer.now)
           c.read-handed.result.refused log logged c.args.self.now.timed
           (subst (IsKept old) (sym is) (c.args.self.now.stands.kept c.in-Some.index x within))
           here (subst (λ (p : Peer). is_as_far (ending_of p.number log) p.ending ≡ true) (sym is)
@@ -98,9 +99,16 @@ returns-clause-answered g c k d lt there =
     let found = c.in-Some.ensures.found in
     let handed = c.read-handed in
     let is = the_one self.peers.items c.in-Some.index k x d c.index_mut.ensures.value found.0 self.stands.apart lt
-    (there.0 ∙ sym (found.1 d).0) in (
+    (there.0 ∙ sym (found.1 d).0) in
+    let seen = the_one self.peers.items c.in-Some.index k c.index.result.now d c.index.ensures found.0 self.stands.apart lt
+    (there.0 ∙ sym (found.1 d).0) in
+    let room = length c.args.buffer.now in
+    let bytes = got_bytes handed.result.got handed.new.buffer in
+    let behind = c.goes_behind-waits.ensures ∙ ap (goes_behind self.turn self.peers.items) seen in (
       handed.result.refused,
-      subst (λ (p : Peer). IsAnswered self.turn p (length c.args.buffer.now) handed.result.got
-          (got_bytes handed.result.got handed.new.buffer) handed.result.refused) is handed.ensures.answered,
+      subst (λ (w : Bool). IsAnswered self.turn w (slice_index_or self.peers.items k d) room handed.result.got bytes
+          handed.result.refused) behind
+          (subst (λ (p : Peer). IsAnswered self.turn c.goes_behind-waits.result p room handed.result.got bytes handed.result.refused)
+          is handed.ensures.answered),
       search rules,
     )
