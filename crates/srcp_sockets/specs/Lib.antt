@@ -8,5 +8,6 @@ pub mod Faults
 pub mod Follows
 pub mod KeptTimes
 pub mod Names
+pub mod Notes
 pub mod Waits
 pub mod Work

@@ -1,6 +1,6 @@
 //! Opening a door at a port of the machine itself.
 
-ghost use Rattle.std.specs.Prelude.{◌≡◌, IfOk};
+ghost use Rattle.std.specs.Prelude.{◌≡◌, [], IfOk};
 ghost use Rattle.srcp_peers.specs.Turns.{first_turn};
 ghost use Rattle.srcp_sockets.specs.Faults.{IsLocal};
 
@@ -13,8 +13,9 @@ use std::net::{IpAddr, Ipv4Addr, Net, SocketAddr};
 use std::time::Clock;
 
 impl<C: Clock + Drop> SocketDoor<MioSystem<C>> {
-    /// Opens a door at a port of 127.0.0.1. The moments begin with the wall clock at the time of the call, and go on
-    /// with the monotonic clock. A clock that cannot be read, or stands before its zero, counts as 0.
+    /// Opens a door at a port of 127.0.0.1, over a system with an empty log. The moments begin with the wall clock at
+    /// the time of the call, and go on with the monotonic clock. A clock that cannot be read, or stands before its zero,
+    /// counts as 0.
     ///
     /// # Errors
     /// Returns `Port` if the port is taken or refused, or the system has no descriptors left for the port. Returns
@@ -27,6 +28,7 @@ impl<C: Clock + Drop> SocketDoor<MioSystem<C>> {
     ) -> Result<SocketDoor<MioSystem<C>>, ListenFault>
         ensures faults { IfOk result (λ door. door.faults ≡ 0) }
         ensures address { IfOk result (λ door. IsLocal door.sockets.system.address port) }
+        ensures log { IfOk result (λ door. door.sockets.system.log.steps ≡ []) }
         ensures moments { IfOk result (λ door. door.sockets.turn
             ≡ first_turn door.sockets.system.wall door.sockets.system.start) }
     {
@@ -45,6 +47,7 @@ fn open<N: Net, C: Clock + Drop>(
 ) -> io::Result<SocketDoor<MioSystem<C>>>
     ensures faults { IfOk result (λ door. door.faults ≡ 0) }
     ensures address { IfOk result (λ door. door.sockets.system.address ≡ address) }
+    ensures log { IfOk result (λ door. door.sockets.system.log.steps ≡ []) }
     ensures moments { IfOk result (λ door. door.sockets.turn
         ≡ first_turn door.sockets.system.wall door.sockets.system.start) }
 {
