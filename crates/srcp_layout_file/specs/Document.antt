@@ -6,6 +6,8 @@ use Rattle.srcp_grammar.specs.Layout.{has_number, with_bus}
 use Rattle.srcp_grammar.specs.declared.layout.Bus.{Bus}
 use Rattle.srcp_layout_file.specs.Faults.{config_key}
 use Rattle.srcp_layout_file.specs.Gives.{◌>>=◌}
+use Rattle.srcp_layout_file.specs.Limits.{default_port, greatest_port, greatest_bus, greatest_gl, greatest_ga}
+use Rattle.srcp_layout_file.specs.Limits.{greatest_fb, fewest_ports, most_ports}
 use Rattle.srcp_layout_file.specs.Member.{array_at, document, given_or, number_at}
 use Rattle.srcp_layout_file.specs.declared.config.Config.{Config}
 use Rattle.srcp_layout_file.specs.declared.config.ConfigFault.{ConfigFault}
@@ -65,17 +67,18 @@ new_number buses number = if has_number buses number then Err (fault.Twice numbe
 
 -- the number of a bus beside those before it
 abbrev pub number_beside : List Bus → Members → OrFault ℕ
-number_beside before members = number_at 1 250 (config_key field.Number) members >>= new_number before
+number_beside before members = number_at 1 greatest_bus (config_key field.Number) members >>= new_number before
 
 -- a bus beside those before it: its number, its groups, and what these need
 abbrev pub bus_of : List Bus → Members → OrFault Bus
 bus_of before members = do
   number ← number_beside before members
   groups ← array_at (config_key field.Groups) members >>= groups_in no_groups
-  gl_max ← if_named groups.gl 0 (number_at 1 10239 (config_key field.GlMax) members)
-  ga_max ← if_named groups.ga 0 (number_at 1 2044 (config_key field.GaMax) members)
-  ga_ports ← if_named groups.ga 2 (given_or 2 2 8 (config_key field.GaPorts) members)
-  fb_ports ← if_named groups.fb 0 (number_at 1 4096 (config_key field.FbPorts) members)
+  gl_max ← if_named groups.gl 0 (number_at 1 greatest_gl (config_key field.GlMax) members)
+  ga_max ← if_named groups.ga 0 (number_at 1 greatest_ga (config_key field.GaMax) members)
+  ga_ports ← if_named groups.ga fewest_ports
+      (given_or fewest_ports fewest_ports most_ports (config_key field.GaPorts) members)
+  fb_ports ← if_named groups.fb 0 (number_at 1 greatest_fb (config_key field.FbPorts) members)
   Ok (record {
     number = number;
     power = groups.power;
@@ -102,7 +105,7 @@ buses_in before (value ∷ values) = do
 -- what a document says
 abbrev pub config_in : Members → OrFault Config
 config_in members = do
-  port ← given_or 4303 1 65535 (config_key field.Port) members
+  port ← given_or default_port 1 greatest_port (config_key field.Port) members
   buses ← array_at (config_key field.Bus) members >>= buses_in []
   Ok (record { port = port; layout = buses })
 

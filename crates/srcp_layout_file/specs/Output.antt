@@ -2,15 +2,17 @@
 use Rattle.std.specs.Prelude.{ℕ, Bool, ◌&&◌, ◌==◌, nat_lt, if◌then◌else◌, List, [], ◌∷◌, ◌++◌, flat_map, codes, decimal}
 use Rattle.srcp_info.specs.Line.{spaced}
 use Rattle.srcp_grammar.specs.declared.layout.Bus.{Bus}
+use Rattle.srcp_layout_file.specs.Limits.{fewest_ports}
 use Rattle.srcp_layout_file.specs.declared.config.Config.{Config}
 
 -- a group's name and how many devices it has, if it has any
 abbrev pub group_words : (name : List ℕ) → ℕ → List (List ℕ)
 group_words name count = if count == 0 then [] else name ∷ decimal count ∷ []
 
--- the ports of an accessory are printed if there are more than two
+-- the ports of an accessory are printed if there are more than the fewest
 abbrev pub port_words : Bus → List (List ℕ)
-port_words bus = if nat_lt 0 bus.ga_max && nat_lt 2 bus.ga_ports then codes "PORTS" ∷ decimal bus.ga_ports ∷ [] else []
+port_words bus =
+    if nat_lt 0 bus.ga_max && nat_lt fewest_ports bus.ga_ports then codes "PORTS" ∷ decimal bus.ga_ports ∷ [] else []
 
 -- the word of a bus that has POWER
 abbrev pub power_words : Bool → List (List ℕ)

@@ -13,10 +13,11 @@ ghost use Rattle.srcp_layout_file.specs.Member.{given_or, number_at};
 mod groups;
 
 use crate::config::{Config, ConfigFault, Field};
+use crate::limits::{DEFAULT_PORT, FEWEST_PORTS, GREATEST_PORT};
 use crate::member::{array_at, given_or, number_at, read_members};
 use groups::groups_in;
 use srcp_grammar::{Bus, Layout, LayoutFault};
-use srcp_info::{GREATEST_FB, GREATEST_GA, GREATEST_GL};
+use srcp_info::{GREATEST_BUS, GREATEST_FB, GREATEST_GA, GREATEST_GL, MOST_PORTS};
 use std::alloc::Global;
 use toml::{Table, Value};
 
@@ -38,7 +39,7 @@ pub fn read_layout(alloc: Global, bytes: &[u8]) -> Result<Config, ConfigFault>
 fn read_document(alloc: Global, members: &Table) -> Result<Config, ConfigFault>
     ensures { Gives (λ config. config) ConfigFault.Memory result (config_in (table_view members.now)) }
 {
-    let port = given_or(members, Field::Port, 4303, 1, 65535)?;
+    let port = given_or(members, Field::Port, DEFAULT_PORT, 1, GREATEST_PORT)?;
     let layout = read_buses(alloc, array_at(members, Field::Bus)?)?;
     Ok(Config {
         port: port as u16,
@@ -98,9 +99,9 @@ fn bus_of(before: &Layout, members: &Table) -> Result<Bus, ConfigFault>
 fn number_beside(before: &Layout, members: &Table) -> Result<u8, ConfigFault>
     ensures number { result ≡ number_beside before.now (table_view members.now) }
     ensures new { IfOk result (λ number.
-        (1 ≤ number) × (number ≤ 250) × (has_number before.now number ≡ false)) }
+        (1 ≤ number) × (number ≤ GREATEST_BUS) × (has_number before.now number ≡ false)) }
 {
-    let number = number_at(members, Field::Number, 1, 250)? as u8;
+    let number = number_at(members, Field::Number, 1, u32::from(GREATEST_BUS))? as u8;
     if before.bus(number).is_some() {
         Err(ConfigFault::Twice(number))
     } else {
@@ -108,17 +109,19 @@ fn number_beside(before: &Layout, members: &Table) -> Result<u8, ConfigFault>
     }
 }
 
-/// Reads how many ports an accessory has. Returns 2 if the bus has no accessories.
+/// Reads how many ports an accessory has. Returns `FEWEST_PORTS` if the bus has no accessories.
 fn ports_if(is_there: bool, members: &Table) -> Result<u8, ConfigFault>
     ensures ports { result
-        ≡ if_named is_there 2 (given_or 2 2 8 (config_key field.GaPorts) (table_view members.now)) }
-    ensures within { IfOk result (λ ports. (2 ≤ ports) × (ports ≤ 8)) }
+        ≡ if_named is_there FEWEST_PORTS (given_or FEWEST_PORTS FEWEST_PORTS MOST_PORTS (config_key field.GaPorts)
+        (table_view members.now)) }
+    ensures within { IfOk result (λ ports. (FEWEST_PORTS ≤ ports) × (ports ≤ MOST_PORTS)) }
 {
     if is_there {
-        let ports = given_or(members, Field::GaPorts, 2, 2, 8)?;
+        let fewest = u32::from(FEWEST_PORTS);
+        let ports = given_or(members, Field::GaPorts, fewest, fewest, MOST_PORTS)?;
         Ok(ports as u8)
     } else {
-        Ok(2)
+        Ok(FEWEST_PORTS)
     }
 }
 

@@ -10,6 +10,7 @@
 mod config;
 mod document;
 mod fault;
+mod limits;
 pub mod member;
 mod print;
 

@@ -6,6 +6,7 @@ ghost use Rattle.srcp_info.specs.Line.{after_spaces};
 ghost use Rattle.srcp_layout_file.specs.Output.{bus_line, checked, group_words, port_line, port_words, power_words};
 
 use crate::config::Config;
+use crate::limits::FEWEST_PORTS;
 use srcp_grammar::Bus;
 use std::alloc::{AllocError, Global};
 use std::string::String;
@@ -80,7 +81,7 @@ fn print_group(alloc: Global, name: &str, count: u32, text: &mut Vec<u8>) -> Res
 fn print_ports(alloc: Global, bus: &Bus, text: &mut Vec<u8>) -> Result<(), AllocError>
     ensures { OnOk result (text.new.items ≡ text.old.items ++ after_spaces (port_words bus.now)) }
 {
-    if bus.ga_max == 0 || bus.ga_ports <= 2 {
+    if bus.ga_max == 0 || bus.ga_ports <= FEWEST_PORTS {
         return Ok(());
     }
     print_count(alloc, "PORTS", u32::from(bus.ga_ports), text)

@@ -19,21 +19,22 @@ returns-then-is_some-clause-number c =
     let there : has_number c.args.before.now c.in_ok-number.field-0 ≡ true =
     is_there c.args.before.now c.in_ok-number.field-0 c.bus.result c.is_some.result c.bus.ensures c.is_some.ensures
     ∙ c.if-is_some.true in
-    rw (← c.in_ok-number.ensures.value, there) refl
+    rw (← c.from.ensures, ← c.in_ok-number.ensures.value, there) refl
 
 pub returns-else-is_some-clause-number : goal.returns-else-is_some-clause-number
 returns-else-is_some-clause-number c =
     let there : has_number c.args.before.now c.in_ok-number.field-0 ≡ false =
     is_there c.args.before.now c.in_ok-number.field-0 c.bus.result c.is_some.result c.bus.ensures c.is_some.ensures
     ∙ c.if-is_some.false in
-    rw (← c.in_ok-number.ensures.value, there) refl
+    rw (← c.from.ensures, ← c.in_ok-number.ensures.value, there) refl
 
 pub returns-else-is_some-clause-new : goal.returns-else-is_some-clause-new
 returns-else-is_some-clause-new c =
     let there : has_number c.args.before.now c.in_ok-number.field-0 ≡ false =
     is_there c.args.before.now c.in_ok-number.field-0 c.bus.result c.is_some.result c.bus.ensures c.is_some.ensures
     ∙ c.if-is_some.false in
-    (c.in_ok-number.ensures.within.0, c.in_ok-number.ensures.within.1, there)
+    let within = rw c.from.ensures at c.in_ok-number.ensures.within in
+    (within.0, within.1, there)
 
 pub returns-then-is_some-clause-new : goal.returns-then-is_some-clause-new
 returns-then-is_some-clause-new c = tt
