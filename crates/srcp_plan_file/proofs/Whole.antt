@@ -9,8 +9,9 @@ use Rattle.std.proofs.lemmas.List.Quantifiers.{all_pairs_push}
 use Rattle.toml.specs.Data.{Data, string, integer, float, boolean, datetime, array, table, Members}
 use Rattle.srcp_grammar.specs.Layout.{is_within}
 use Rattle.srcp_layout_file.specs.Gives.{◌>>=◌}
+use Rattle.srcp_layout_file.specs.Limits.{greatest_bus, greatest_ga, greatest_fb}
 use Rattle.srcp_layout_file.specs.Member.{array_at, array_in, document, if_given, number_at, ranged, required, value_at}
-use Rattle.srcp_routes.specs.Conflicts.{is_same}
+use Rattle.srcp_routes.specs.Conflicts.{has_accessory, is_same}
 use Rattle.srcp_routes.specs.declared.route.Device.{Device}
 use Rattle.srcp_routes.specs.declared.route.Setting.{Setting}
 use Rattle.srcp_routes.specs.declared.route.Signal.{Signal}
@@ -20,8 +21,8 @@ use Rattle.srcp_plan_file.specs.Document.{sensor_in, blocks_in, new_signal, sign
 use Rattle.srcp_plan_file.specs.Document.{is_numbered, new_number, apart_from, apart_from_all, route_of, route_in, routes_in}
 use Rattle.srcp_plan_file.specs.Document.{plan_in, plan_of}
 use Rattle.srcp_plan_file.specs.Faults.{plan_key}
-use Rattle.srcp_plan_file.specs.Plan.{PlannedRoute, IsBeside, IsTurnout, IsSignal, AreOther, IsRoute, AreApart, IsPlan}
-use Rattle.srcp_plan_file.specs.Plan.{has_accessory, mixes, crosses}
+use Rattle.srcp_plan_file.specs.Plan.{PlannedRoute, IsBeside, IsAccessory, IsSensor, IsTurnout, IsSignal, AreOther, IsRoute}
+use Rattle.srcp_plan_file.specs.Plan.{AreApart, IsPlan, last_port, mixes, crosses}
 use Rattle.srcp_plan_file.specs.declared.plan.Field.{Field}
 use Rattle.srcp_plan_file.specs.declared.plan.Field.TheVariants as field
 use Rattle.srcp_plan_file.specs.declared.plan.PlanFault.{PlanFault}
@@ -73,19 +74,19 @@ is_number low high f members =
 -- ---- devices
 
 abbrev IsOther : (own n : ℕ) → Type 0
-IsOther own n = IsFrom 1 250 n × (n ≢ own)
+IsOther own n = IsFrom 1 greatest_bus n × (n ≢ own)
 
 differs : (own n : ℕ) → (n == own) ≡ false → n ≢ own
 differs own n e = grind arith
 
-other_if : (own n : ℕ) (b : PlanFault) (w : Bool) → (n == own) ≡ w → IsFrom 1 250 n → IfOk (other_bus own b n) (IsOther own)
+other_if : (own n : ℕ) (b : PlanFault) (w : Bool) → (n == own) ≡ w → IsFrom 1 greatest_bus n → IfOk (other_bus own b n) (IsOther own)
 other_if own n b true e h = rw e tt
 other_if own n b false e h = rw e (h, differs own n e)
 
 is_device : (own greatest : ℕ) (b : PlanFault) (bus address : Data) → IfOk (device_of own greatest b bus address) (IsBeside own greatest)
 is_device own greatest b bus address =
-    after (IsOther own) (IsBeside own greatest) (ranged 1 250 b bus >>= other_bus own b) _
-    (after (IsFrom 1 250) (IsOther own) (ranged 1 250 b bus) (other_bus own b) (is_ranged 1 250 b bus)
+    after (IsOther own) (IsBeside own greatest) (ranged 1 greatest_bus b bus >>= other_bus own b) _
+    (after (IsFrom 1 greatest_bus) (IsOther own) (ranged 1 greatest_bus b bus) (other_bus own b) (is_ranged 1 greatest_bus b bus)
     (λ n h. other_if own n b (n == own) refl h))
     (λ n h. after (IsFrom 1 greatest) (IsBeside own greatest) (ranged 1 greatest b address) _ (is_ranged 1 greatest b address)
     (λ place k. record { bus = h.0; other = h.1; address = k }))
@@ -95,19 +96,19 @@ is_turnout own b [] = tt
 is_turnout own b (bus ∷ []) = tt
 is_turnout own b (bus ∷ address ∷ []) = tt
 is_turnout own b (bus ∷ address ∷ port ∷ []) =
-    after (IsBeside own 2044) (IsTurnout own) (device_of own 2044 b bus address) _ (is_device own 2044 b bus address)
-    (λ device h. after (IsFrom 0 7) (IsTurnout own) (ranged 0 7 b port) _ (is_ranged 0 7 b port)
+    after (IsAccessory own) (IsTurnout own) (device_of own greatest_ga b bus address) _ (is_device own greatest_ga b bus address)
+    (λ device h. after (IsFrom 0 last_port) (IsTurnout own) (ranged 0 last_port b port) _ (is_ranged 0 last_port b port)
     (λ n k. record { device = h; port = k.1 }))
 is_turnout own b (bus ∷ address ∷ port ∷ more ∷ others) = tt
 
-is_sensor : (own : ℕ) (b : PlanFault) (values : List Data) → IfOk (sensor_of own b values) (IsBeside own 4096)
+is_sensor : (own : ℕ) (b : PlanFault) (values : List Data) → IfOk (sensor_of own b values) (IsSensor own)
 is_sensor own b [] = tt
 is_sensor own b (bus ∷ []) = tt
-is_sensor own b (bus ∷ address ∷ []) = is_device own 4096 b bus address
+is_sensor own b (bus ∷ address ∷ []) = is_device own greatest_fb b bus address
 is_sensor own b (bus ∷ address ∷ more ∷ others) = tt
 
-signal_if : (own : ℕ) (b : PlanFault) (device : Device) (go stop : ℕ) (w : Bool) → (go == stop) ≡ w → IsBeside own 2044 device
-    → IsFrom 0 7 go → IsFrom 0 7 stop → IfOk (signal_with b device go stop) (IsSignal own)
+signal_if : (own : ℕ) (b : PlanFault) (device : Device) (go stop : ℕ) (w : Bool) → (go == stop) ≡ w → IsAccessory own device
+    → IsFrom 0 last_port go → IsFrom 0 last_port stop → IfOk (signal_with b device go stop) (IsSignal own)
 signal_if own b device go stop true e h k m = rw e tt
 signal_if own b device go stop false e h k m = rw e (record { device = h; go = k.1; stop = m.1; differ = differs stop go e })
 
@@ -117,9 +118,9 @@ is_signal own b (bus ∷ []) = tt
 is_signal own b (bus ∷ address ∷ []) = tt
 is_signal own b (bus ∷ address ∷ go ∷ []) = tt
 is_signal own b (bus ∷ address ∷ go ∷ stop ∷ []) =
-    after (IsBeside own 2044) (IsSignal own) (device_of own 2044 b bus address) _ (is_device own 2044 b bus address)
-    (λ device h. after (IsFrom 0 7) (IsSignal own) (ranged 0 7 b go) _ (is_ranged 0 7 b go)
-    (λ n k. after (IsFrom 0 7) (IsSignal own) (ranged 0 7 b stop) _ (is_ranged 0 7 b stop)
+    after (IsAccessory own) (IsSignal own) (device_of own greatest_ga b bus address) _ (is_device own greatest_ga b bus address)
+    (λ device h. after (IsFrom 0 last_port) (IsSignal own) (ranged 0 last_port b go) _ (is_ranged 0 last_port b go)
+    (λ n k. after (IsFrom 0 last_port) (IsSignal own) (ranged 0 last_port b stop) _ (is_ranged 0 last_port b stop)
     (λ m j. signal_if own b device n m (n == m) refl h k j)))
 is_signal own b (bus ∷ address ∷ go ∷ stop ∷ more ∷ others) = tt
 
@@ -184,22 +185,22 @@ module _ (own number : ℕ) where
       after (λ v. Unit) AreTurnouts (array_if number field.Turnouts members) _ (any _)
       (λ values h. are_turnouts [] values (All-nil (IsTurnout own), no_pairs))
 
-  is_sensor_in : (f : Field) (value : Data) → IfOk (sensor_in own number f value) (IsBeside own 4096)
+  is_sensor_in : (f : Field) (value : Data) → IfOk (sensor_in own number f value) (IsSensor own)
   is_sensor_in f value =
-      after (λ v. Unit) (IsBeside own 4096) (array_in (fault.Beyond number f) value) _ (any _)
+      after (λ v. Unit) (IsSensor own) (array_in (fault.Beyond number f) value) _ (any _)
       (λ values h. is_sensor own (fault.Beyond number f) values)
 
-  are_blocks : (before : List Device) (values : List Data) → All (IsBeside own 4096) before
-      → IfOk (blocks_in own number before values) (All (IsBeside own 4096))
+  are_blocks : (before : List Device) (values : List Data) → All (IsSensor own) before
+      → IfOk (blocks_in own number before values) (All (IsSensor own))
   are_blocks before [] h = h
   are_blocks before (value ∷ values) h =
-      after (IsBeside own 4096) (All (IsBeside own 4096)) (sensor_in own number field.Blocks value) _ (is_sensor_in field.Blocks value)
-      (λ block n. are_blocks (before ++ block ∷ []) values (All-push (IsBeside own 4096) before block h n))
+      after (IsSensor own) (All (IsSensor own)) (sensor_in own number field.Blocks value) _ (is_sensor_in field.Blocks value)
+      (λ block n. are_blocks (before ++ block ∷ []) values (All-push (IsSensor own) before block h n))
 
-  blocks_hold : (members : Members) → IfOk (array_if number field.Blocks members >>= blocks_in own number []) (All (IsBeside own 4096))
+  blocks_hold : (members : Members) → IfOk (array_if number field.Blocks members >>= blocks_in own number []) (All (IsSensor own))
   blocks_hold members =
-      after (λ v. Unit) (All (IsBeside own 4096)) (array_if number field.Blocks members) _ (any _)
-      (λ values h. are_blocks [] values (All-nil (IsBeside own 4096)))
+      after (λ v. Unit) (All (IsSensor own)) (array_if number field.Blocks members) _ (any _)
+      (λ values h. are_blocks [] values (All-nil (IsSensor own)))
 
   -- a signal within the limits that is none of the turnouts
   abbrev IsSignalBeside : List Setting → Option Signal → Type 0
@@ -221,23 +222,23 @@ module _ (own number : ℕ) where
       (λ values h. is_signal own (fault.Beyond number field.Signal) values))
       (λ signal h. signal_new turnouts signal (has_accessory turnouts signal.device) refl h))
 
-  frees_hold : (members : Members) → IfOk (frees_at own number members) (λ frees. IfSome frees (IsBeside own 4096))
+  frees_hold : (members : Members) → IfOk (frees_at own number members) (λ frees. IfSome frees (IsSensor own))
   frees_hold members =
-      given (λ frees. IfSome frees (IsBeside own 4096)) None _ (value_at (plan_key field.Frees) members) tt
-      (λ d. after (IsBeside own 4096) (λ frees. IfSome frees (IsBeside own 4096)) (sensor_in own number field.Frees d) _
+      given (λ frees. IfSome frees (IsSensor own)) None _ (value_at (plan_key field.Frees) members) tt
+      (λ d. after (IsSensor own) (λ frees. IfSome frees (IsSensor own)) (sensor_in own number field.Frees d) _
       (is_sensor_in field.Frees d) (λ sensor h. h))
 
   -- a route within the limits of this number
   abbrev IsNumbered : PlannedRoute → Type 0
   IsNumbered route = IsRoute own route × (route.number ≡ number)
 
-  numbered : (members : Members) → IsFrom 1 2044 number → IfOk (route_numbered own number members) IsNumbered
+  numbered : (members : Members) → IsFrom 1 greatest_ga number → IfOk (route_numbered own number members) IsNumbered
   numbered members n =
       after AreTurnouts IsNumbered (array_if number field.Turnouts members >>= turnouts_in own number []) _ (turnouts_hold members)
-      (λ turnouts t. after (All (IsBeside own 4096)) IsNumbered (array_if number field.Blocks members >>= blocks_in own number [])
+      (λ turnouts t. after (All (IsSensor own)) IsNumbered (array_if number field.Blocks members >>= blocks_in own number [])
       _ (blocks_hold members)
       (λ blocks b. after (IsSignalBeside turnouts) IsNumbered (signal_at own number turnouts members) _ (signal_holds turnouts members)
-      (λ signal s. after (λ frees. IfSome frees (IsBeside own 4096)) IsNumbered (frees_at own number members) _ (frees_hold members)
+      (λ signal s. after (λ frees. IfSome frees (IsSensor own)) IsNumbered (frees_at own number members) _ (frees_hold members)
       (λ frees f. (
         record {
           number = n;
@@ -255,10 +256,10 @@ module _ (own number : ℕ) where
 
 -- a number that no route before has
 abbrev IsNewNumber : List PlannedRoute → ℕ → Type 0
-IsNewNumber before number = IsFrom 1 2044 number × All (λ other. is_numbered number other ≡ false) before
+IsNewNumber before number = IsFrom 1 greatest_ga number × All (λ other. is_numbered number other ≡ false) before
 
 new_number_if : (before : List PlannedRoute) (number : ℕ) (w : Bool) → list_any (is_numbered number) before ≡ w
-    → IsFrom 1 2044 number → IfOk (new_number before number) (IsNewNumber before)
+    → IsFrom 1 greatest_ga number → IfOk (new_number before number) (IsNewNumber before)
 new_number_if before number true e h = rw e tt
 new_number_if before number false e h = rw e (h, none_pass (is_numbered number) before e)
 
@@ -296,8 +297,9 @@ joined number other route e f u = record { numbers = rw e (differs number other.
 
 is_next_route : (own : ℕ) (before : List PlannedRoute) (members : Members) → IfOk (route_of own before members) (IsNextRoute own before)
 is_next_route own before members =
-    after (IsNewNumber before) (IsNextRoute own before) (number_at 1 2044 (plan_key field.Number) members >>= new_number before) _
-    (after (IsFrom 1 2044) (IsNewNumber before) (number_at 1 2044 (plan_key field.Number) members) _ (is_number 1 2044 field.Number members)
+    after (IsNewNumber before) (IsNextRoute own before) (number_at 1 greatest_ga (plan_key field.Number) members >>= new_number before) _
+    (after (IsFrom 1 greatest_ga) (IsNewNumber before) (number_at 1 greatest_ga (plan_key field.Number) members) _
+    (is_number 1 greatest_ga field.Number members)
     (λ n h. new_number_if before n (list_any (is_numbered n) before) refl h))
     (λ n h. after (IsNumbered own n) (IsNextRoute own before) (route_numbered own n members) _ (numbered own n members h.0)
     (λ route r. after (λ u. All (λ other. AreUnmixed other route) before) (IsNextRoute own before) (apart_from_all before route) _
@@ -331,7 +333,8 @@ none_apart = λ i j d lt below. absurd (omega arith)
 
 is_plan_in : (members : Members) → IfOk (plan_in members) IsPlan
 is_plan_in members =
-    after (IsFrom 1 250) IsPlan (number_at 1 250 (plan_key field.Bus) members) _ (is_number 1 250 field.Bus members)
+    after (IsFrom 1 greatest_bus) IsPlan (number_at 1 greatest_bus (plan_key field.Bus) members) _
+    (is_number 1 greatest_bus field.Bus members)
     (λ bus b. after (AreRoutes bus) IsPlan (array_at (plan_key field.Route) members >>= routes_in bus []) _
     (after (λ v. Unit) (AreRoutes bus) (array_at (plan_key field.Route) members) _ (any _)
     (λ values k. are_routes bus [] values (All-nil (IsRoute bus), none_apart)))

@@ -3,12 +3,14 @@ use Rattle.std.specs.Prelude.{ℕ, Bool, ◌==◌, if◌then◌else◌, List, []
 use Rattle.std.specs.List.{list_any}
 use Rattle.toml.specs.Data.{Data, table, Members}
 use Rattle.srcp_layout_file.specs.Gives.{◌>>=◌}
+use Rattle.srcp_layout_file.specs.Limits.{greatest_bus, greatest_ga, greatest_fb}
 use Rattle.srcp_layout_file.specs.Member.{array_at, array_in, document, if_given, number_at, ranged, value_at}
+use Rattle.srcp_routes.specs.Conflicts.{has_accessory}
 use Rattle.srcp_routes.specs.declared.route.Device.{Device}
 use Rattle.srcp_routes.specs.declared.route.Setting.{Setting}
 use Rattle.srcp_routes.specs.declared.route.Signal.{Signal}
 use Rattle.srcp_plan_file.specs.Faults.{plan_key}
-use Rattle.srcp_plan_file.specs.Plan.{Planned, PlannedRoute, crosses, has_accessory, mixes}
+use Rattle.srcp_plan_file.specs.Plan.{Planned, PlannedRoute, crosses, last_port, mixes}
 use Rattle.srcp_plan_file.specs.declared.plan.Field.{Field}
 use Rattle.srcp_plan_file.specs.declared.plan.Field.TheVariants as field
 use Rattle.srcp_plan_file.specs.declared.plan.PlanFault.{PlanFault}
@@ -27,21 +29,21 @@ other_bus own beyond bus = if bus == own then Err beyond else Ok bus
 -- a device of its bus and its address
 abbrev pub device_of : (own greatest : ℕ) → PlanFault → (bus address : Data) → OrFault Device
 device_of own greatest beyond bus address = do
-  number ← ranged 1 250 beyond bus >>= other_bus own beyond
+  number ← ranged 1 greatest_bus beyond bus >>= other_bus own beyond
   place ← ranged 1 greatest beyond address
   Ok (record { bus = number; address = place })
 
 -- a turnout of its bus, its address and its port
 abbrev pub turnout_of : (own : ℕ) → PlanFault → List Data → OrFault Setting
 turnout_of own beyond (bus ∷ address ∷ port ∷ []) = do
-  device ← device_of own 2044 beyond bus address
-  wanted ← ranged 0 7 beyond port
+  device ← device_of own greatest_ga beyond bus address
+  wanted ← ranged 0 last_port beyond port
   Ok (record { device = device; port = wanted })
 turnout_of own beyond other = Err beyond
 
 -- a sensor of its bus and its address
 abbrev pub sensor_of : (own : ℕ) → PlanFault → List Data → OrFault Device
-sensor_of own beyond (bus ∷ address ∷ []) = device_of own 4096 beyond bus address
+sensor_of own beyond (bus ∷ address ∷ []) = device_of own greatest_fb beyond bus address
 sensor_of own beyond other = Err beyond
 
 -- a signal of two ports, which differ
@@ -52,9 +54,9 @@ signal_with beyond device go stop =
 -- a signal of its bus, its address, and its ports for "go" and "stop"
 abbrev pub signal_of : (own : ℕ) → PlanFault → List Data → OrFault Signal
 signal_of own beyond (bus ∷ address ∷ go ∷ stop ∷ []) = do
-  device ← device_of own 2044 beyond bus address
-  shown ← ranged 0 7 beyond go
-  stopped ← ranged 0 7 beyond stop
+  device ← device_of own greatest_ga beyond bus address
+  shown ← ranged 0 last_port beyond go
+  stopped ← ranged 0 last_port beyond stop
   signal_with beyond device shown stopped
 signal_of own beyond other = Err beyond
 
@@ -147,7 +149,7 @@ apart_from_all (other ∷ others) route = do
 -- a route beside those before it
 abbrev pub route_of : (own : ℕ) → List PlannedRoute → Members → OrFault PlannedRoute
 route_of own before members = do
-  number ← number_at 1 2044 (plan_key field.Number) members >>= new_number before
+  number ← number_at 1 greatest_ga (plan_key field.Number) members >>= new_number before
   route ← route_numbered own number members
   _ ← apart_from_all before route
   Ok route
@@ -169,7 +171,7 @@ routes_in own before (value ∷ values) = do
 -- what a document says
 abbrev pub plan_in : Members → OrFault Planned
 plan_in members = do
-  bus ← number_at 1 250 (plan_key field.Bus) members
+  bus ← number_at 1 greatest_bus (plan_key field.Bus) members
   routes ← array_at (plan_key field.Route) members >>= routes_in bus []
   Ok (record { bus = bus; routes = routes })
 

@@ -1,14 +1,19 @@
 -- What a plan says, and what every plan keeps to.
-use Rattle.std.specs.Prelude.{◌≡◌, ◌≢◌, ℕ, ◌≤◌, Bool, false, ◌&&◌, ◌||◌, ◌==◌, List, map}
+use Rattle.std.specs.Prelude.{◌≡◌, ◌≢◌, ℕ, ◌-◌, ◌≤◌, Bool, false, ◌&&◌, ◌||◌, ◌==◌, List, map}
 use Rattle.std.specs.Prelude.{Option, IfSome}
-use Rattle.std.specs.List.{All, AllPairs, list_any}
+use Rattle.std.specs.List.{All, AllPairs}
 use Rattle.std.specs.Option.{option_map_or}
-use Rattle.srcp_routes.specs.Conflicts.{is_same}
+use Rattle.srcp_layout_file.specs.Limits.{greatest_bus, greatest_ga, greatest_fb, most_ports}
+use Rattle.srcp_routes.specs.Conflicts.{has_accessory, is_same}
 use Rattle.srcp_routes.specs.declared.route.Device.{Device}
 use Rattle.srcp_routes.specs.declared.route.Route.{Route}
 use Rattle.srcp_routes.specs.declared.route.Setting.{Setting}
 use Rattle.srcp_routes.specs.declared.route.Signal.{Signal}
 use Rattle.srcp_plan_file.specs.declared.plan.Plan.{Plan}
+
+-- the last port of an accessory, whose ports are counted from 0
+abbrev pub last_port : ℕ
+last_port = most_ports - 1
 
 -- what a plan says of one route
 pub record PlannedRoute : Type 0 where
@@ -37,10 +42,6 @@ planned plan = record { bus = plan.bus; routes = map planned_route plan.routes.i
 
 -- ---- accessories
 
--- one of these turnouts is that accessory
-abbrev pub has_accessory : List Setting → Device → Bool
-has_accessory turnouts device = list_any (λ (turnout : Setting). is_same turnout.device device) turnouts
-
 -- the signal of the first route is a turnout of the second
 abbrev pub turns_signal : PlannedRoute → PlannedRoute → Bool
 turns_signal route other =
@@ -63,20 +64,28 @@ crosses route other = option_map_or
 
 -- a device within the limits that is not on the routes' own bus
 pub record IsBeside (own greatest : ℕ) (device : Device) : Type 0 where
-  pub bus : (1 ≤ device.bus) × (device.bus ≤ 250)
+  pub bus : (1 ≤ device.bus) × (device.bus ≤ greatest_bus)
   pub other : device.bus ≢ own
   pub address : (1 ≤ device.address) × (device.address ≤ greatest)
 
+-- an accessory within the limits that is not on the routes' own bus
+abbrev pub IsAccessory : (own : ℕ) → Device → Type 0
+IsAccessory own = IsBeside own greatest_ga
+
+-- the same of a sensor
+abbrev pub IsSensor : (own : ℕ) → Device → Type 0
+IsSensor own = IsBeside own greatest_fb
+
 -- a turnout with a port that an accessory may have
 pub record IsTurnout (own : ℕ) (turnout : Setting) : Type 0 where
-  pub device : IsBeside own 2044 turnout.device
-  pub port : turnout.port ≤ 7
+  pub device : IsAccessory own turnout.device
+  pub port : turnout.port ≤ last_port
 
 -- a signal whose ports for "go" and "stop" differ
 pub record IsSignal (own : ℕ) (signal : Signal) : Type 0 where
-  pub device : IsBeside own 2044 signal.device
-  pub go : signal.go ≤ 7
-  pub stop : signal.stop ≤ 7
+  pub device : IsAccessory own signal.device
+  pub go : signal.go ≤ last_port
+  pub stop : signal.stop ≤ last_port
   pub differ : signal.go ≢ signal.stop
 
 -- two turnouts that are not one accessory
@@ -85,11 +94,11 @@ AreOther turnout other = is_same turnout.device other.device ≡ false
 
 -- a route within the limits that names no accessory twice
 pub record IsRoute (own : ℕ) (route : PlannedRoute) : Type 0 where
-  pub number : (1 ≤ route.number) × (route.number ≤ 2044)
+  pub number : (1 ≤ route.number) × (route.number ≤ greatest_ga)
   pub turnouts : All (IsTurnout own) route.turnouts
-  pub blocks : All (IsBeside own 4096) route.blocks
+  pub blocks : All (IsSensor own) route.blocks
   pub signal : IfSome route.signal (IsSignal own)
-  pub frees : IfSome route.frees (IsBeside own 4096)
+  pub frees : IfSome route.frees (IsSensor own)
   pub turnouts_once : AllPairs AreOther route.turnouts
   pub signal_once : turns_signal route route ≡ false
 
@@ -101,6 +110,6 @@ pub record AreApart (route other : PlannedRoute) : Type 0 where
 
 -- a plan that may be run
 pub record IsPlan (plan : Planned) : Type 0 where
-  pub bus : (1 ≤ plan.bus) × (plan.bus ≤ 250)
+  pub bus : (1 ≤ plan.bus) × (plan.bus ≤ greatest_bus)
   pub each : All (IsRoute plan.bus) plan.routes
   pub apart : AllPairs AreApart plan.routes

@@ -5,7 +5,6 @@
 //! none of the program's words.
 #![tactic(auto)]
 
-mod accessory;
 mod document;
 mod fault;
 pub mod laws;

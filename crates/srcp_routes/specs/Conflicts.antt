@@ -15,8 +15,12 @@ is_same a b = (a.bus == b.bus) && (a.address == b.address)
 abbrev pub is_signal : Route → Device → Bool
 is_signal route device = option_map_or (λ (signal : Signal). is_same signal.device device) route.signal false
 
+-- one of these turnouts is that accessory
+abbrev pub has_accessory : List Setting → Device → Bool
+has_accessory turnouts device = list_any (λ (turnout : Setting). is_same turnout.device device) turnouts
+
 abbrev pub has_turnout : Route → Device → Bool
-has_turnout route device = list_any (λ (turnout : Setting). is_same turnout.device device) route.turnouts.items
+has_turnout route device = has_accessory route.turnouts.items device
 
 -- a route has this accessory as its signal or as a turnout
 abbrev pub uses : Route → Device → Bool

@@ -1,11 +1,11 @@
 //! Which routes conflict, and which sensors are free.
 
 ghost use Rattle.std.specs.Prelude.{◌≡◌, ◌++◌, IfOk, OnOk, map};
-ghost use Rattle.srcp_routes.specs.Conflicts.{is_same, is_signal, has_turnout, uses, has_block, signal_meets};
+ghost use Rattle.srcp_routes.specs.Conflicts.{is_same, has_accessory, is_signal, uses, has_block, signal_meets};
 ghost use Rattle.srcp_routes.specs.Conflicts.{turnouts_meet, blocks_meet, meets, conflicts, is_free, are_free};
 ghost use Rattle.srcp_routes.specs.Conflicts.{told_sensor, unknown, route_sensors, sensors_of};
 
-use crate::{Device, Route};
+use crate::{Device, Route, Setting};
 use std::alloc::{AllocError, Global};
 use std::vec::Vec;
 
@@ -19,10 +19,19 @@ pub(crate) struct Sensed {
 }
 
 /// Returns whether two devices are the same.
-pub(crate) fn is_same(a: Device, b: Device) -> bool
+pub fn is_same(a: Device, b: Device) -> bool
     ensures { result ≡ is_same a b }
 {
     a.bus == b.bus && a.address == b.address
+}
+
+/// Returns whether this accessory is one of the turnouts.
+pub fn has_accessory(turnouts: &[Setting], device: Device) -> bool
+    ensures { result ≡ has_accessory turnouts.now device }
+{
+    turnouts
+        .iter()
+        .any(|turnout| is_same(turnout.device, device))
 }
 
 /// Returns whether a route has this accessory as its signal.
@@ -35,25 +44,15 @@ fn is_signal(route: &Route, device: Device) -> bool
     }
 }
 
-/// Returns whether a route has this accessory as a turnout.
-fn has_turnout(route: &Route, device: Device) -> bool
-    ensures { result ≡ has_turnout route.now device }
-{
-    route
-        .turnouts
-        .iter()
-        .any(|turnout| is_same(turnout.device, device))
-}
-
 /// Returns whether a route has this accessory as its signal or as a turnout.
-fn uses(route: &Route, device: Device) -> bool
+pub fn uses(route: &Route, device: Device) -> bool
     ensures { result ≡ uses route.now device }
 {
-    is_signal(route, device) || has_turnout(route, device)
+    is_signal(route, device) || has_accessory(&route.turnouts, device)
 }
 
 /// Returns whether a route has a block at this sensor.
-fn has_block(route: &Route, sensor: Device) -> bool
+pub fn has_block(route: &Route, sensor: Device) -> bool
     ensures { result ≡ has_block route.now sensor }
 {
     route.blocks.iter().any(|block| is_same(*block, sensor))

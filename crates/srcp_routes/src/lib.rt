@@ -1,5 +1,5 @@
 //! The interlocking of a signal box: which command the routes send next, and what a reply, an ask, a give-back and a
-//! sensor make of the routes.
+//! sensor make of the routes; and what two routes share.
 //!
 //! The crate sends nothing; callers carry out the orders. The crate knows no file, no line of the protocol and no
 //! socket.
@@ -11,6 +11,7 @@ pub mod laws;
 mod route;
 mod stage;
 
+pub use conflict::{has_accessory, has_block, is_same, uses};
 pub use interlocking::{Event, Interlocking};
 pub use route::{Device, Order, Route, Setting, Signal};
 pub use stage::Stage;

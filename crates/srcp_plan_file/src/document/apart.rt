@@ -4,9 +4,8 @@ ghost use Rattle.std.specs.Prelude.{◌≡◌, map};
 ghost use Rattle.srcp_plan_file.specs.Document.{apart_from, apart_from_all};
 ghost use Rattle.srcp_plan_file.specs.Plan.{crosses, is_crossed, mixes, planned_route, turns_signal};
 
-use crate::accessory::{has_accessory, is_same};
 use crate::plan::PlanFault;
-use srcp_routes::{Route, Signal};
+use srcp_routes::{Route, Signal, has_accessory, is_same};
 
 /// Returns whether the signal of the first route is a turnout of the second.
 fn turns_signal(route: &Route, other: &Route) -> bool

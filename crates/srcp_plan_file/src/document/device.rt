@@ -10,8 +10,8 @@ use srcp_layout_file::member::ranged;
 use srcp_routes::{Device, Setting, Signal};
 use toml::Value;
 
-/// The greatest port of an accessory.
-const GREATEST_PORT: u32 = MOST_PORTS - 1;
+/// The last port of an accessory, whose ports are counted from 0.
+const LAST_PORT: u32 = MOST_PORTS - 1;
 
 /// Returns a bus. Returns the fault `beyond` if this is the routes' own.
 fn other_bus(own: u8, bus: u8, beyond: PlanFault) -> Result<u8, PlanFault>
@@ -43,7 +43,7 @@ pub(super) fn turnout_of(own: u8, values: &[Value], beyond: PlanFault) -> Result
     match values {
         [bus, address, port] => {
             let device = device_of(own, bus, address, GREATEST_GA, beyond)?;
-            let port = ranged(port, 0, GREATEST_PORT, beyond)? as u8;
+            let port = ranged(port, 0, LAST_PORT, beyond)? as u8;
             Ok(Setting { device, port })
         }
         _ => Err(beyond),
@@ -78,8 +78,8 @@ pub(super) fn signal_of(own: u8, values: &[Value], beyond: PlanFault) -> Result<
     match values {
         [bus, address, go, stop] => {
             let device = device_of(own, bus, address, GREATEST_GA, beyond)?;
-            let go = ranged(go, 0, GREATEST_PORT, beyond)? as u8;
-            let stop = ranged(stop, 0, GREATEST_PORT, beyond)? as u8;
+            let go = ranged(go, 0, LAST_PORT, beyond)? as u8;
+            let stop = ranged(stop, 0, LAST_PORT, beyond)? as u8;
             signal_with(device, go, stop, beyond)
         }
         _ => Err(beyond),

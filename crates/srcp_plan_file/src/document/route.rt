@@ -9,10 +9,9 @@ ghost use Rattle.srcp_plan_file.specs.Document.{turnout_in, turnouts_in};
 ghost use Rattle.srcp_plan_file.specs.Plan.{planned_route};
 
 use super::device::{sensor_of, signal_of, turnout_of};
-use crate::accessory::has_accessory;
 use crate::plan::{Field, PlanFault};
 use srcp_layout_file::member::{array_in, value_at};
-use srcp_routes::{Device, Route, Setting, Signal};
+use srcp_routes::{Device, Route, Setting, Signal, has_accessory};
 use std::alloc::Global;
 use std::vec::Vec;
 use toml::{Table, Value};

@@ -1,11 +1,9 @@
 //! What two routes share.
 
 ghost use Rattle.std.specs.Prelude.{◌≡◌, ◌++◌, IfOk, OnOk};
-ghost use Rattle.srcp_routes.specs.Conflicts.{has_block, is_signal, uses};
 ghost use Rattle.srcp_plan_file.specs.Output.{shared_blocks, shared_devices, shared_signal, shared_turnouts};
 
-use crate::accessory::{has_accessory, is_same};
-use srcp_routes::{Device, Route};
+use srcp_routes::{Device, Route, has_block, uses};
 use std::alloc::{AllocError, Global};
 use std::fmt;
 use std::vec::Vec;
@@ -47,30 +45,6 @@ pub(super) fn shared_devices(
     add_signal(route, other, &mut devices)?;
     add_blocks(route, other, &mut devices)?;
     Ok(devices)
-}
-
-/// Returns whether this accessory is the signal of a route.
-fn is_signal(route: &Route, device: Device) -> bool
-    ensures { result ≡ is_signal route.now device }
-{
-    match route.signal {
-        Some(signal) => is_same(signal.device, device),
-        None => false,
-    }
-}
-
-/// Returns whether this accessory is the signal or a turnout of a route.
-fn uses(route: &Route, device: Device) -> bool
-    ensures { result ≡ uses route.now device }
-{
-    is_signal(route, device) || has_accessory(&route.turnouts, device)
-}
-
-/// Returns whether a route has a block at this sensor.
-fn has_block(route: &Route, sensor: Device) -> bool
-    ensures { result ≡ has_block route.now sensor }
-{
-    route.blocks.iter().any(|block| is_same(*block, sensor))
 }
 
 /// Adds the turnouts of a route used by the other.
