@@ -68,6 +68,13 @@ abbrev pub or_fault : {A : Type 0} → Cause → Option A → Result A Cause
 or_fault cause None = Err cause
 or_fault cause (Some a) = Ok a
 
+-- the greatest numbers of 32 and of 64 bits
+abbrev pub greatest_u32 : ℕ
+greatest_u32 = 4294967295
+
+abbrev pub greatest_u64 : ℕ
+greatest_u64 = 18446744073709551615
+
 -- a number within its limits
 abbrev pub number_from : (least most : ℕ) → List ℕ → Result ℕ Cause
 number_from least most part =
@@ -75,15 +82,15 @@ number_from least most part =
 
 -- the number of a connection, counted from 1
 abbrev pub connection : List ℕ → Result ℕ Cause
-connection part = number_from 1 4294967295 part
+connection part = number_from 1 greatest_u32 part
 
 -- a number of bytes
 abbrev pub size : List ℕ → Result ℕ Cause
-size part = number_from 0 4294967295 part
+size part = number_from 0 greatest_u32 part
 
 -- a moment in milliseconds
 abbrev pub moment : List ℕ → Result ℕ Cause
-moment part = number_from 0 18446744073709551615 part
+moment part = number_from 0 greatest_u64 part
 
 -- the parts of what follows such a byte, if there is one
 abbrev pub parts_behind : (byte : ℕ) → Option (List ℕ) → List (List ℕ)

@@ -106,7 +106,7 @@ fn last_part(rest: Option<&[u8]>) -> Result<&[u8], Cause>
     }
 }
 
-/// Reads the number of a connection, 1 to 4294967295.
+/// Reads the number of a connection, from 1 to the greatest u32.
 fn read_connection(part: &[u8]) -> Result<usize, Cause>
     ensures { result ≡ connection part.now }
 {
@@ -116,7 +116,7 @@ fn read_connection(part: &[u8]) -> Result<usize, Cause>
     }
 }
 
-/// Reads a number of bytes, 0 to 4294967295.
+/// Reads a number of bytes, at most the greatest u32.
 fn read_size(part: &[u8]) -> Result<usize, Cause>
     ensures { result ≡ size part.now }
 {

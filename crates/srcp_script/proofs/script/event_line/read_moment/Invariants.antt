@@ -1,9 +1,10 @@
 use Rattle.std.proofs.Common.{◌≡◌, length}
 use Rattle.srcp_text.specs.Words.{number_of}
+use Rattle.srcp_script.specs.Script.{greatest_u64}
 use Rattle.srcp_script.proofs.script.event_line.read_moment.Given as goal
 
 abbrev pub invariant-loop-digits : goal.invariant-loop-digits
-invariant-loop-digits l = number_of 18446744073709551615 l.part ≡ number_of 18446744073709551615 l.digits
+invariant-loop-digits l = number_of greatest_u64 l.part ≡ number_of greatest_u64 l.digits
 
 abbrev pub decreases-loop-digits : goal.decreases-loop-digits
 decreases-loop-digits l = length l.digits
