@@ -4,6 +4,10 @@ from pathlib import Path
 
 TOP = Path(__file__).resolve().parent.parent
 CRATES = TOP / "crates"
+# The numbers told of each key of a configuration: the least, the greatest, and what counts if it is not given.
+KEYS = {"port": (1, "GREATEST_PORT", "DEFAULT_PORT"), "number": (1, "GREATEST_BUS"), "gl_max": (1, "GREATEST_GL"),
+        "ga_max": (1, "GREATEST_GA"), "ga_ports": ("FEWEST_PORTS", "MOST_PORTS", "FEWEST_PORTS"),
+        "fb_ports": (1, "GREATEST_FB")}
 
 
 def rows_under(page, heading):
@@ -84,12 +88,15 @@ def limits_of_the_architecture_page(_):
 
 
 def refusals_of_the_architecture_page(_):
-    """Asserts that what refuses a wrong limit is there: a file of the proof, a name in the crates, or a case."""
+    """Asserts that what refuses a wrong limit is there: a file of the proof, a name in the crates, or a case. The limit
+    stands as a number in each file of definitions."""
     cases = "".join(file.read_text() for file in (TOP / "tests").glob("*.py"))
     code = "".join(file.read_text() for part in ("src", "specs", "proofs")
                    for file in CRATES.glob(f"*/{part}/**/*.*t*"))
-    for limit, *_, refuses in rows_under("architecture.md", "Limits"):
+    for limit, value, *_, refuses in rows_under("architecture.md", "Limits"):
         for text in quoted(refuses):
+            if "/specs/" in text and not is_in((CRATES / text).read_text(), value.replace(",", "")):
+                return f"{limit}: no {value} in {text}"
             is_case = (TOP / "tests" / "cases" / text).is_dir() or f"def {text.replace('-', '_')}(program)" in cases
             if not (is_case or (CRATES / text).exists() or is_in(code, text.rstrip("!"))):
                 return f"{limit}: no {text}"
@@ -103,6 +110,32 @@ def limits_of_the_protocol_page(_):
     told = [(limit, number) for limit, value in rows for number in re.findall(r"\d+(?:,\d{3})*", value)]
     unknown = [(limit, number) for limit, number in told if number not in known]
     return f"no such limit: {unknown}" if unknown else None if len(told) > 8 else f"{len(rows)} rows"
+
+
+def limits_of_the_configuration_page(_):
+    """Each key has the limits and the default that its constants are set to."""
+    page = (TOP / "docs" / "configuration.md").read_text()
+    told = {key: [int(number) for number in re.findall(r"\d+", text)]
+            for key, text in re.findall(r"^\| `(\w+)` \| (.*) \|$", page, re.M)}
+    values = {name: value for (_, name), value in constants_of_the_code().items()}
+    for key, names in KEYS.items():
+        wanted = [values.get(name, name) for name in names]
+        if told.get(key) != wanted:
+            return f"{key}: {told.get(key)} on the page, {wanted} in the code"
+    return None
+
+
+def definitions_named_as_constants(_):
+    """Each definition that is a number, and is named as a constant of the code, is what that is set to."""
+    values = {}
+    for (_, name), value in constants_of_the_code().items():
+        values.setdefault(name.lower(), set()).add(value)
+    pins = [(file, name, int(number)) for file in CRATES.glob("*/specs/**/*.antt")
+            for name, number in re.findall(r"^(\w+) = (\d+)$", file.read_text(), re.M) if name in values]
+    for file, name, number in pins:
+        if values[name] != {number}:
+            return f"{file.relative_to(CRATES)}: {name} is {number}, and {values[name]} in the code"
+    return None if len(pins) > 8 else f"{len(pins)} definitions"
 
 
 def clauses_of_the_core_page(_):
@@ -123,4 +156,5 @@ def clauses_of_the_core_page(_):
 
 
 PAGE_TABLE_CASES = (walk_of_the_architecture_page, limits_of_the_architecture_page, refusals_of_the_architecture_page,
-                    limits_of_the_protocol_page, clauses_of_the_core_page)
+                    limits_of_the_protocol_page, limits_of_the_configuration_page, definitions_named_as_constants,
+                    clauses_of_the_core_page)
