@@ -66,9 +66,10 @@ on_layout buses layout number g address port h few small =
 
 -- ---- the words of each order
 
-lock_read : (buses : List Bus) (device : Device) → IsOn buses device.bus group.LockGa device.address 0
-    → parsed buses (order_words 0 (order.Lock device)) ≡ Ok (command_of 0 (order.Lock device))
-lock_read buses device on =
+locks_read : (buses : List Bus) (device : Device) → IsOn buses device.bus group.LockGa device.address 0
+    → (parsed buses (order_words 0 (order.Lock device)) ≡ Ok (command_of 0 (order.Lock device)))
+    × (parsed buses (order_words 0 (order.Unlock device)) ≡ Ok (command_of 0 (order.Unlock device)))
+locks_read buses device on =
     let low : 1 ≤ device.address = grind (arith, on.rows) in
     let high : device.address ≤ on.bus.ga_max = grind (arith, on.rows) in
     rw (
@@ -79,22 +80,7 @@ lock_read buses device on =
       in_range 1 on.bus.ga_max device.address low high (omega (arith, on.small)),
       on.same,
     )
-    refl
-
-unlock_read : (buses : List Bus) (device : Device) → IsOn buses device.bus group.LockGa device.address 0
-    → parsed buses (order_words 0 (order.Unlock device)) ≡ Ok (command_of 0 (order.Unlock device))
-unlock_read buses device on =
-    let low : 1 ≤ device.address = grind (arith, on.rows) in
-    let high : device.address ≤ on.bus.ga_max = grind (arith, on.rows) in
-    rw (
-      number_read 250 device.bus on.few (omega (arith, on.few)),
-      on.at,
-      lt-ltb 0 on.bus.ga_max (omega (arith, low, high)),
-      or-true (nat_lt 0 on.bus.gl_max),
-      in_range 1 on.bus.ga_max device.address low high (omega (arith, on.small)),
-      on.same,
-    )
-    refl
+    (refl, refl)
 
 set_read : (buses : List Bus) (setting : Setting) → IsOn buses setting.device.bus group.Ga setting.device.address (1 + setting.port)
     → setting.port < 2 ^ 32 → parsed buses (set_words setting) ≡ Ok (set_command setting)
@@ -155,6 +141,14 @@ numbered : (buses : List Bus) → IsLayout buses → (number : ℕ) (g : Group) 
 numbered buses layout number g address port h =
     key_address buses layout (record { bus = number; group = g; address = address; port = port }) h
 
+-- the lock of an accessory of the layout
+lock_on : (buses : List Bus) → IsLayout buses → (device : Device)
+    → 0 < row_count buses (record { bus = device.bus; group = group.LockGa; address = device.address })
+    → IsOn buses device.bus group.LockGa device.address 0
+lock_on buses layout device h =
+    let at = numbered buses layout device.bus group.LockGa device.address 0 h in
+    on_layout buses layout _ group.LockGa _ 0 h (omega (arith, at)) (omega (arith, at))
+
 set_spoken : (buses : List Bus) → IsLayout buses → (setting : Setting)
     → 1 + setting.port < row_count buses (record { bus = setting.device.bus; group = group.Ga; address = setting.device.address })
     → (parsed buses (set_words setting) ≡ Ok (set_command setting)) × AllByRecursion IsWord (set_words setting)
@@ -169,23 +163,11 @@ set_spoken buses layout setting h =
 
 pub orders_are_read : OrdersAreRead
 orders_are_read buses own (order.Lock device) text layout h e =
-    let at = numbered buses layout device.bus group.LockGa device.address 0 h.0 in
-    let few : device.bus ≤ 250 = omega (arith, at) in
-    let small : device.address < 2 ^ 32 = omega (arith, at) in
-    spoken buses own (order.Lock device) text (
-      (refl, refl),
-      (
-        decimal_word device.bus (omega (arith, few)),
-        (
-          (refl, refl),
-          (
-            (refl, refl),
-            (decimal_word device.address (omega (arith, small)), ((refl, refl), tt)),
-          ),
-        ),
-      ),
-    )
-    e (lock_read buses device (on_layout buses layout _ group.LockGa _ 0 h.0 few small))
+    let on = lock_on buses layout device h.0 in
+    let address = decimal_word device.address (omega (arith, on.small)) in
+    spoken buses own (order.Lock device) text
+    ((refl, refl), (decimal_word device.bus (omega (arith, on.few)), ((refl, refl), ((refl, refl), (address, ((refl, refl), tt))))))
+    e (locks_read buses device on).0
 orders_are_read buses own (order.Throw setting) text layout h e =
     let read = set_spoken buses layout setting h.0.0 in
     spoken buses own (order.Throw setting) text read.1 e read.0
@@ -211,20 +193,8 @@ orders_are_read buses own (order.Report number is_set) text layout h e =
     )
     e (report_read buses own number is_set (on_layout buses layout _ group.Fb _ 0 h few small))
 orders_are_read buses own (order.Unlock device) text layout h e =
-    let at = numbered buses layout device.bus group.LockGa device.address 0 h in
-    let few : device.bus ≤ 250 = omega (arith, at) in
-    let small : device.address < 2 ^ 32 = omega (arith, at) in
-    spoken buses own (order.Unlock device) text (
-      (refl, refl),
-      (
-        decimal_word device.bus (omega (arith, few)),
-        (
-          (refl, refl),
-          (
-            (refl, refl),
-            (decimal_word device.address (omega (arith, small)), tt),
-          ),
-        ),
-      ),
-    )
-    e (unlock_read buses device (on_layout buses layout _ group.LockGa _ 0 h few small))
+    let on = lock_on buses layout device h in
+    let address = decimal_word device.address (omega (arith, on.small)) in
+    spoken buses own (order.Unlock device) text
+    ((refl, refl), (decimal_word device.bus (omega (arith, on.few)), ((refl, refl), ((refl, refl), (address, tt)))))
+    e (locks_read buses device on).1
