@@ -9,6 +9,7 @@ use Rattle.std.proofs.lemmas.Str.{digit_value_digit}
 use Rattle.std.proofs.lemmas.Str.Parse.{digit_from_value, tells_all_ascii_digits}
 use Rattle.clap.specs.Words.{ReadsOne}
 use Rattle.srcp_text.specs.Words.{is_empty, is_numeral}
+use Rattle.srcp_script.specs.Script.{greatest_u64}
 use Rattle.srcp_tool.specs.Arguments.{turns_of}
 
 digits_pass : (ds : List ℕ) → AllDigits 10 ds → all_ascii_digits ds ≡ true
@@ -39,11 +40,11 @@ module _ {E : Type 0} (gives : List ℕ → Result ℕ E → Type 0)
   turns_of-read text (Some turns) h =
       let ds : List ℕ = without_leading_plus text in
       let read : ParsesUnsigned {E = E} 64 10 text (Ok turns) = reads text (Ok turns) h in
-      let small : digits_value 10 ds ≤ 18446744073709551615 = omega (arith, read.0.1) in
-      rw (read.1, is_numeral-IsNumeral ds read.0.0, le-leb (digits_value 10 ds) 18446744073709551615 small) refl
+      let small : digits_value 10 ds ≤ greatest_u64 = omega (arith, read.0.1) in
+      rw (read.1, is_numeral-IsNumeral ds read.0.0, le-leb (digits_value 10 ds) greatest_u64 small) refl
   turns_of-read text None h =
       let ds : List ℕ = without_leading_plus text in
-      let most : ℕ = 18446744073709551615 in
+      let most : ℕ = greatest_u64 in
       elim (cases_Bool (is_numeral ds && nat_le (digits_value 10 ds) most)) [
         | inl t ↦
             let parts = and_parts (is_numeral ds) (nat_le (digits_value 10 ds) most) t in

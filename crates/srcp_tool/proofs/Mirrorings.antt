@@ -15,7 +15,7 @@ use Rattle.srcp_info.specs.WellFormed.{IsWellFormed}
 use Rattle.srcp_info.specs.declared.change.Change.{Change}
 use Rattle.srcp_info.proofs.ClientLaws.{all_append}
 use Rattle.srcp_info.proofs.LineLaws.{length-line-le}
-use Rattle.srcp_tool.specs.Mirroring.{HasTaken, IsBegun}
+use Rattle.srcp_tool.specs.Mirroring.{HasTaken, IsBegun, longest_line}
 use Rattle.srcp_tool.specs.Output.{RefusesLine}
 use Rattle.srcp_tool.specs.declared.stream.lines.MirroredLines.{MirroredLines}
 
@@ -76,7 +76,7 @@ refuses_more input more n refuses = record {
 }
 
 -- a line of a change is short
-pub none_long : (text : List ℕ) → 256 < length text → (change : Change) → IsLineOf text change → ⊥
+pub none_long : (text : List ℕ) → longest_line < length text → (change : Change) → IsLineOf text change → ⊥
 none_long text long change is =
     let short = length-line-le change is.well_formed in
     let same = ap length is.same ∙ length-append text (codes "\n") in

@@ -11,32 +11,27 @@ use Rattle.clap.specs.Words.{with_subcommand}
 use Rattle.clap.specs.declared.builder.value_parser.ValueParser.TheVariants.{Unsigned}
 use Rattle.clap.specs.declared.error.kind.ErrorKind.TheVariants as kind
 use Rattle.srcp_text.specs.Words.{number_of}
+use Rattle.srcp_script.specs.Script.{greatest_u64}
 use Rattle.srcp_tool.specs.declared.tool.Tool.{Tool}
 use Rattle.srcp_tool.specs.declared.tool.Tool.TheVariants as tool
 
 -- ---- the command
 
--- `--config F`, which some subcommands need
-abbrev pub config_rule : (required : Bool) → Rule
-config_rule needed =
-    record (new_rule (codes "config")) { long = Some (codes "config"); value_names = 1; required = needed }
-
--- `--plan F`, which some subcommands need
-abbrev pub plan_rule : (required : Bool) → Rule
-plan_rule needed =
-    record (new_rule (codes "plan")) { long = Some (codes "plan"); value_names = 1; required = needed }
+-- the option of this name, which takes a file, and which some subcommands need
+abbrev pub file_rule : (name : Text) → (required : Bool) → Rule
+file_rule name needed = record (new_rule name) { long = Some name; value_names = 1; required = needed }
 
 -- `--turns N`
 abbrev pub turns_rule : Rule
 turns_rule = record (new_rule (codes "turns")) {
   long = Some (codes "turns");
   value_names = 1;
-  parser = Some (Unsigned 0 18446744073709551615);
+  parser = Some (Unsigned 0 greatest_u64);
 }
 
 -- `replay`, which takes a configuration if one is given
 abbrev pub replay_app : App
-replay_app = with_rule (new_app (codes "replay")) (config_rule false)
+replay_app = with_rule (new_app (codes "replay")) (file_rule (codes "config") false)
 
 -- `mirror`, which takes nothing
 abbrev pub mirror_app : App
@@ -44,15 +39,16 @@ mirror_app = new_app (codes "mirror")
 
 -- `interlock`, which needs a plan
 abbrev pub interlock_app : App
-interlock_app = with_rule (new_app (codes "interlock")) (plan_rule true)
+interlock_app = with_rule (new_app (codes "interlock")) (file_rule (codes "plan") true)
 
 -- `check`, which takes a configuration or a plan
 abbrev pub check_app : App
-check_app = with_rule (with_rule (new_app (codes "check")) (config_rule false)) (plan_rule false)
+check_app =
+    with_rule (with_rule (new_app (codes "check")) (file_rule (codes "config") false)) (file_rule (codes "plan") false)
 
 -- `serve`, which needs a configuration and takes a number of turns
 abbrev pub serve_app : App
-serve_app = with_rule (with_rule (new_app (codes "serve")) (config_rule true)) turns_rule
+serve_app = with_rule (with_rule (new_app (codes "serve")) (file_rule (codes "config") true)) turns_rule
 
 -- the command by itself, which has a version
 abbrev pub server_app : App
@@ -103,11 +99,11 @@ checked (Some config) (Some plan) = None
 
 -- a number of turns, with or without a plus before it
 abbrev pub turns_of : Text → Option ℕ
-turns_of text = number_of 18446744073709551615 (without_leading_plus text)
+turns_of text = number_of greatest_u64 (without_leading_plus text)
 
 -- the number of turns that was given, or as many as there can be; a text that is no such number is refused
 abbrev pub turns_in : List Row → ℕ
-turns_in rows = unwrap_or (option_and_then turns_of (one_of (codes "turns") rows)) 18446744073709551615
+turns_in rows = unwrap_or (option_and_then turns_of (one_of (codes "turns") rows)) greatest_u64
 
 -- the task of the subcommand of that name, by what was given to it
 abbrev pub subtask : Text → List Row → Option Task

@@ -1,9 +1,9 @@
 //! The words of the command line.
 
 ghost use Rattle.std.specs.Prelude.{◌≡◌, false, map, option_map, string_bytes, IfOk, Some};
-ghost use Rattle.clap.specs.Words.{app_of, found_of, rows_of, rule_of, subcommand_rows_of, FailsBy};
+ghost use Rattle.clap.specs.Words.{app_of, found_of, kind_of, rows_of, rule_of, subcommand_rows_of, FailsBy};
 ghost use Rattle.clap.specs.declared.builder.Command.TheViews.{out-Command as fields_of};
-ghost use Rattle.srcp_tool.specs.Arguments.{config_rule, plan_rule, turns_rule, server_app, over_lines_app};
+ghost use Rattle.srcp_tool.specs.Arguments.{file_rule, turns_rule, server_app, over_lines_app};
 ghost use Rattle.srcp_tool.specs.Arguments.{replay_app, mirror_app, interlock_app, check_app, serve_app, program_app};
 ghost use Rattle.srcp_tool.specs.Arguments.{config_in, plan_in, turns_in, checked};
 ghost use Rattle.srcp_tool.specs.Arguments.{subtask, task_of, task_in, task, refusal_of};
@@ -13,6 +13,12 @@ use clap::error::ErrorKind;
 use clap::{Arg, ArgMatches, Command, Error, value_parser};
 use std::alloc::{AllocError, Global};
 use std::string::String;
+
+/// The help for the option `--config`.
+const CONFIG_HELP: &str = "The configuration: a TOML document with the port and the buses";
+
+/// The help for the option `--plan`.
+const PLAN_HELP: &str = "The plan of a signal box: a TOML document with its routes";
 
 /// The text for a check of no file, or of two.
 const ONE_FILE: &str = "check needs either --config or --plan";
@@ -31,8 +37,16 @@ pub fn read_words<'a>(alloc: Global, words: &'a [String]) -> Result<Tool<'a>, Er
     let matches = program.try_get_matches_from_mut(words)?;
     match tool_in(&matches) {
         Some(tool) => Ok(tool),
-        None => Err(program.error(ErrorKind::MissingRequiredArgument, ONE_FILE)?),
+        None => Err(no_one_file(alloc)?),
     }
+}
+
+/// Returns the error for a check of no file, or of two. The error shows how `check` is used.
+fn no_one_file(alloc: Global) -> Result<Error, AllocError>
+    ensures { IfOk result (λ error. kind_of error ≡ ErrorKind.MissingRequiredArgument) }
+{
+    let mut check = check(alloc)?.bin_name("srcp_server check")?;
+    check.error(ErrorKind::MissingRequiredArgument, ONE_FILE)
 }
 
 /// Returns what the matches ask for. Without a subcommand this is a replay. Returns `None` for a check of no file or of
@@ -140,7 +154,7 @@ fn replay<'a>(alloc: Global) -> Result<Command<'a>, AllocError>
 {
     Command::new(alloc, "replay")
         .about("Runs the script on standard input, and prints what every connection is sent")
-        .arg(config(alloc, false))
+        .arg(file(alloc, "config", CONFIG_HELP, false))
 }
 
 fn mirror<'a>(alloc: Global) -> Command<'a>
@@ -160,7 +174,7 @@ fn interlock<'a>(alloc: Global) -> Result<Command<'a>, AllocError>
         .about(
             "Sets the routes of a plan: reads what a panel is sent and replies, and prints commands",
         )
-        .arg(plan(alloc, true))
+        .arg(file(alloc, "plan", PLAN_HELP, true))
 }
 
 fn check<'a>(alloc: Global) -> Result<Command<'a>, AllocError>
@@ -171,8 +185,8 @@ fn check<'a>(alloc: Global) -> Result<Command<'a>, AllocError>
         .about(
             "Reads a configuration, and prints what it says; or a plan, and prints which routes conflict",
         )
-        .arg(config(alloc, false))?;
-    command.arg(plan(alloc, false))
+        .arg(file(alloc, "config", CONFIG_HELP, false))?;
+    command.arg(file(alloc, "plan", PLAN_HELP, false))
 }
 
 fn serve<'a>(alloc: Global) -> Result<Command<'a>, AllocError>
@@ -181,31 +195,19 @@ fn serve<'a>(alloc: Global) -> Result<Command<'a>, AllocError>
 {
     let command = Command::new(alloc, "serve")
         .about("Serves throttles and panels on 127.0.0.1")
-        .arg(config(alloc, true))?;
+        .arg(file(alloc, "config", CONFIG_HELP, true))?;
     command.arg(turns(alloc))
 }
 
-/// Makes the option `--config F`.
-fn config<'a>(alloc: Global, required: bool) -> Arg<'a>
-    ensures rule { rule_of result ≡ config_rule required }
+/// Makes the option of this name, which takes a file.
+fn file<'a>(alloc: Global, name: &'a str, help: &'a str, required: bool) -> Arg<'a>
+    ensures rule { rule_of result ≡ file_rule name.entry.now required }
     ensures local { result.global ≡ false }
 {
-    Arg::new(alloc, "config")
-        .long("config")
+    Arg::new(alloc, name)
+        .long(name)
         .value_name("FILE")
-        .help("The configuration: a TOML document with the port and the buses")
-        .required(required)
-}
-
-/// Makes the option `--plan F`.
-fn plan<'a>(alloc: Global, required: bool) -> Arg<'a>
-    ensures rule { rule_of result ≡ plan_rule required }
-    ensures local { result.global ≡ false }
-{
-    Arg::new(alloc, "plan")
-        .long("plan")
-        .value_name("FILE")
-        .help("The plan of a signal box: a TOML document with its routes")
+        .help(help)
         .required(required)
 }
 

@@ -3,12 +3,12 @@
 ghost use Rattle.std.specs.Prelude.{◌≡◌, ◌<◌, ◌++◌, ℕ, List, [], length, MatchOption};
 ghost use Rattle.srcp_tool.specs.Mirroring.{IsBegun};
 
-use srcp_text::LineBuf;
+use srcp_info::{InfoLine, LONGEST_LINE};
 
 /// Holds the bytes of a line without an LF yet, as far as they may be those of an information line.
 #[derive(Drop)]
 pub(super) struct BegunLine {
-    bytes: LineBuf,
+    bytes: InfoLine,
     too_long: bool,
 }
 
@@ -18,7 +18,7 @@ impl BegunLine {
         ensures { IsBegun result [] }
     {
         BegunLine {
-            bytes: LineBuf::new(),
+            bytes: InfoLine::new(),
             too_long: false,
         }
     }
@@ -32,10 +32,10 @@ impl BegunLine {
         }
     }
 
-    /// Returns the line. Returns `None` if the line has more than 256 bytes, too many for a change.
+    /// Returns the line. Returns `None` if the line has more than `LONGEST_LINE` bytes, too many for a change.
     pub(super) fn line(&self) -> Option<&[u8]>
         ensures { (text : List ℕ) → IsBegun self.now text
-            → MatchOption result (256 < length text) (λ line. line.now ≡ text) }
+            → MatchOption result (LONGEST_LINE < length text) (λ line. line.now ≡ text) }
     {
         if self.too_long {
             None

@@ -1,4 +1,4 @@
-use Rattle.std.proofs.Common.{◌≡◌, ◌∙◌, true, ℕ, List, [], ◌∷◌, Some, map, string_bytes, refl, sym, subst, ap, inl, inr, rules}
+use Rattle.std.proofs.Common.{◌≡◌, ◌∙◌, true, ℕ, List, [], ◌∷◌, Some, None, map, string_bytes, refl, sym, subst, ap, inl, inr, rules}
 use Rattle.clap.specs.Kinds.{HasKind, IsAmong, Kinds, or_else}
 use Rattle.clap.specs.Words.{App, fault_of, is_simple_and_free}
 use Rattle.clap.specs.declared.error.Error.{Error}
@@ -33,3 +33,12 @@ returns-in-Some-clause-kinds c =
     c.in_ok-matches.ensures.kinds refl in
     let asked : Some (task_of c.in-Some.tool) ≡ task words = search rules in
     past (fault_of program_app words) (unasked (task words)) none ∙ ap unasked (sym asked)
+
+pub returns-clause-kinds : goal.returns-clause-kinds
+returns-clause-kinds c =
+    let words = map string_bytes c.args.words.now in
+    let none = subst (λ (app : App). is_simple_and_free app ≡ true → fault_of app words ≡ []) c.in_ok-program.ensures.app
+    c.in_ok-matches.ensures.kinds refl in
+    let asked : task words ≡ None = search rules in
+    let one = past (fault_of program_app words) (unasked (task words)) none ∙ ap unasked asked in
+    rw one (inr (inl c.in_ok-no_one_file-in-None.ensures))
