@@ -160,15 +160,17 @@ def words_that_are_unknown(program):
 
 
 def check_of_no_file_or_of_two(program):
-    """Also if both are right."""
+    """Also if both are right. The usage is that of check."""
+    text = (b"error: check needs either --config or --plan\n\nUsage: srcp_server check [OPTIONS]\n\n"
+            b"For more information, try '--help'.\n")
     with tempfile.NamedTemporaryFile() as config, plan_of_one_route() as (_, *plan):
         config.write(b"bus = []\n")
         config.flush()
         for words in ([], ["--config", config.name, *plan]):
             done = subprocess.run([program, "check", *words], capture_output=True, timeout=SECONDS)
-            is_told = done.stderr.startswith(b"error: check needs either --config or --plan\n")
-            if not is_told or (done.returncode, done.stdout) != (2, b""):
-                return f"{words}: got {(done.returncode, done.stderr, done.stdout)!r}"[:400]
+            got = (done.returncode, done.stdout, done.stderr)
+            if got != (2, b"", text):
+                return f"{words}: got {got!r}"[:400]
     return None
 
 
