@@ -1,1 +1,2 @@
 pub mod FreshCores
+pub mod ServedHere

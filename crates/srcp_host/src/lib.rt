@@ -1,6 +1,6 @@
 //! Serves the layout of a file at the file's port. `serve_file` reads the bytes, has a door opened at the port, and
 //! serves the peers of this door. `Opener` is what opens a door, and `Machine` opens a door at the sockets of the
-//! machine.
+//! machine. `serve_here` serves there.
 //!
 //! This crate opens no file and prints nothing: callers hand over bytes, and print the faults. `srcp_layout_file` says
 //! what the bytes mean, and `srcp_sockets` serves over any system.
@@ -13,5 +13,5 @@ mod opener;
 
 pub use fault::HostFault;
 pub use hosting::{Hosted, serve_file};
-pub use machine::Machine;
+pub use machine::{Machine, serve_here};
 pub use opener::Opener;

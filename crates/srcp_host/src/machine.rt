@@ -1,15 +1,19 @@
 //! The machine: sockets and clocks.
 
-ghost use Rattle.std.specs.Prelude.{IfOk};
-ghost use Rattle.srcp_sockets.specs.Faults.{IsLocal};
+ghost use Rattle.std.specs.Prelude.{◌≡◌, ◌<◌, IfErr, IfOk};
+ghost use Rattle.srcp_host.specs.Here.{IsOpen, RefusesHere, ServesHere};
 
+use crate::fault::HostFault;
+use crate::hosting::{Hosted, serve_file};
 use crate::opener::Opener;
+use srcp_rules::Rows;
 use srcp_sockets::{ListenFault, MioSystem, SocketDoor};
 use std::alloc::Global;
 use std::net::Net;
 use std::time::Clock;
 
-/// Opens a door at a port of the machine itself, as `SocketDoor::listen` does.
+/// Opens a door at a port of the machine itself, as `SocketDoor::listen` does. The log of the door's system is empty
+/// then.
 #[derive(Drop)]
 pub struct Machine<'a, R: Net + Clock> {
     /// What has the sockets and the clocks.
@@ -19,7 +23,7 @@ pub struct Machine<'a, R: Net + Clock> {
 impl<'a, R: Net + Clock> Opener for Machine<'a, R> {
     type System = MioSystem<&'a R>;
 
-    ghost answers = { λ _ port answer _. IfOk answer (λ system. IsLocal system.address port) };
+    ghost answers = { λ _ port answer _. IfOk answer (λ system. IsOpen system.address port system.log) };
 
     fn open(
         &mut self,
@@ -28,4 +32,23 @@ impl<'a, R: Net + Clock> Opener for Machine<'a, R> {
     ) -> Result<SocketDoor<MioSystem<&'a R>>, ListenFault> {
         SocketDoor::listen(self.rt, alloc, port, self.rt)
     }
+}
+
+/// Serves the layout of a file for `turns` turns, to the peers at the file's port of the machine itself, as
+/// `serve_file` does. The log of the system's calls says what was served.
+///
+/// # Errors
+/// Returns the first fault, as `serve_file` does.
+pub fn serve_here<'a, K: Rows, R: Net + Clock>(
+    rt: &'a R,
+    alloc: Global,
+    file: &[u8],
+    turns: u64,
+) -> Result<Hosted<MioSystem<&'a R>>, HostFault>
+    ensures served { IfOk result (λ hosted. ServesHere file.now turns hosted.served hosted.door.sockets.system) }
+    ensures faults { IfOk result (λ hosted. hosted.door.faults < 18446744073709551615
+        → hosted.served.faults ≡ hosted.door.faults) }
+    ensures refused { IfErr result (λ fault. RefusesHere file.now fault) }
+{
+    serve_file::<K, Machine<R>>(&mut Machine { rt }, alloc, file, turns)
 }

@@ -2,9 +2,8 @@
 //! of a number and makes the system call. A wait that failed or was ended early is followed by a rest. The log has each
 //! call with its answer.
 
-ghost use Rattle.std.specs.Prelude.{◌≡◌, ◌/◌, List, [], IfOk, ◌<◌, ◌≤◌, IfSome, Option, Some, length, min};
+ghost use Rattle.std.specs.Prelude.{◌≡◌, ◌/◌, [], IfOk, ◌<◌, ◌≤◌, IfSome, Some, length, min};
 ghost use Rattle.std.specs.Duration.{as_nanos};
-ghost use Rattle.srcp_peers.specs.Steps.{Step};
 
 use crate::door::MOST_READY;
 use crate::log::{Log, Note};
