@@ -7,7 +7,7 @@ ghost use Rattle.srcp_server.specs.Statuses.{host_status};
 ghost use Rattle.srcp_tool.specs.Faults.{fault_status, fault_text};
 
 use clap::error::ErrorKind;
-use srcp_host::{HostFault, Machine, serve_file};
+use srcp_host::{HostFault, serve_here};
 use srcp_layout_file::read_layout;
 use srcp_plan_file::read_plan;
 use srcp_rules::{Bus, Layout, Nested};
@@ -158,7 +158,7 @@ fn serve_layout<R: Files + AllocGlobal + Net + Clock>(
     turns: u64,
 ) -> Result<(), ToolFault> {
     let config = read_config_file(rt, path)?;
-    match serve_file::<Nested, Machine<R>>(&mut Machine { rt }, rt.alloc(), &config, turns) {
+    match serve_here::<Nested, R>(rt, rt.alloc(), &config, turns) {
         Ok(_) => Ok(()),
         Err(fault) => Err(tool_fault(fault)),
     }
