@@ -207,7 +207,8 @@ got_agrees : (a : Account) (p : Peer) (answer : Result Got DoorFault) (buffer re
     → p.stay ≡ stay.Here → p.incoming ≡ got_bytes answer buffer ++ rest
     → share.line ≡ line_after p.share.line (got_bytes answer buffer)
     → (answer ≡ Ok got.Ended → MayEnd p) → OnErr answer (MayFail p) → Agrees a p
-    → Agrees (answered_step p.number a (ReadCall p.number answer buffer)) (record p { incoming = rest; share = share; asked = asked; heard = heard })
+    → Agrees (answered_step p.number a (ReadCall p.number answer buffer))
+    (record p { incoming = rest; share = share; asked = asked; heard = heard })
 got_agrees a p (Ok (got.Bytes count)) buffer rest share asked heard here is lined ended failed h =
     let q : Peer = record p { incoming = rest; share = share; asked = asked; heard = heard } in
     let r = reads_here a.received p.incoming p.input p.stay here h.reads in

@@ -45,8 +45,8 @@ pub fn refusal_of(fault: ErrorKind) -> Refusal
     }
 }
 
-/// Makes the calls of the system, and notes the answers of a door between these, each at its end. What an implementation
-/// notes, its trace has.
+/// Makes the calls of the system, and notes the answers of a door between these, each at its end. What an
+/// implementation notes, its trace has.
 pub trait System {
     /// The calls and answers up to now, if the implementation keeps them.
     ghost trace: { Self → Option (List Step) } = { λ _. None };

@@ -261,7 +261,8 @@ removed_of peers i p within at apart k d lt here =
     )
 
 pub far_pushed : (old new : Option (List Step)) (peers items : List Peer) (p : Peer) (clock number : ℕ) (done : Unit {0})
-    → items ≡ peers ++ p ∷ [] → p ≡ new_peer clock number → Tells old (Accepts number (Ok done)) new → AreAsFar old peers → AreAsFar new items
+    → items ≡ peers ++ p ∷ [] → p ≡ new_peer clock number → Tells old (Accepts number (Ok done)) new
+    → AreAsFar old peers → AreAsFar new items
 far_pushed old new peers items p clock number done pushed is tells far later logged k d lt here =
     let t = tells later logged in
     let slackens = slackens_silent old new (says_step old new (Accepts number (Ok done)) tells refl) later logged in

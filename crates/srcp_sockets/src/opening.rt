@@ -14,7 +14,7 @@ use std::time::Clock;
 
 impl<C: Clock + Drop> SocketDoor<MioSystem<C>> {
     /// Opens a door at a port of 127.0.0.1, over a system with an empty log. The moments begin with the wall clock at
-    /// the time of the call, and go on with the monotonic clock. A clock that cannot be read, or stands before its zero,
+    /// the time of the call, and go on with the monotonic clock. A clock that cannot be read, or stands before zero,
     /// counts as 0.
     ///
     /// # Errors

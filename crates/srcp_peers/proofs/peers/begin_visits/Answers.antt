@@ -46,8 +46,9 @@ loop-peer-preserved g c = record {
   read = set_read (g.S.System.trace c.loop-peer.system) (g.S.System.trace c.begin_visit.new.system) c.loop-peer.peers
       c.loop-peer.peer-index c.peer-item.result c.begin_visit.new.self (omega arith) c.loop-peer.invariant.apart
       c.begin_visit.ensures.number c.begin_visit.ensures.others c.begin_visit.ensures.read c.loop-peer.invariant.read;
-  shared = set_shared c.args.peers.now c.loop-peer.peers c.loop-peer.peer-index c.peer-item.result c.begin_visit.new.self c.args.anew c.args.clock
-      (omega arith) (ap (λ (s : Share). s.rest) c.begin_visit.ensures.share) c.loop-peer.invariant.rest c.loop-peer.invariant.shared;
+  shared = set_shared c.args.peers.now c.loop-peer.peers c.loop-peer.peer-index c.peer-item.result c.begin_visit.new.self
+      c.args.anew c.args.clock (omega arith) (ap (λ (s : Share). s.rest) c.begin_visit.ensures.share)
+      c.loop-peer.invariant.rest c.loop-peer.invariant.shared;
   rooms = set_rooms c.loop-peer.peers c.loop-peer.peer-index c.begin_visit.new.self c.args.room (omega arith)
       (ap (λ (p : Peer). p.room) c.begin_visit.ensures.same) c.loop-peer.invariant.rooms;
   begun = set_each (λ (p q : Peer). (q.stay ≡ p.stay) × (q.ending ≡ begun p.ending (is_over q.incoming q.input))) c.args.peers.now

@@ -17,7 +17,8 @@ invariant-loop-peer g l = record {
   times : KeepsTimes (g.S.System.trace l.fn.system) (g.S.System.trace l.system);
   read : (k : ℕ) (d : Peer) → k < l.peer-index → IsRead (g.S.System.trace l.system) (slice_index_or l.peers k d).number;
   shared : (k : ℕ) (d : Peer) → k < l.peer-index
-      → (slice_index_or l.peers k d).share.rest ≡ (let p = slice_index_or l.fn.peers k d in cond {A = ℕ} (l.anew || is_silent l.clock p) 256 p.share.rest);
+      → (slice_index_or l.peers k d).share.rest ≡ (let p = slice_index_or l.fn.peers k d in
+      cond {A = ℕ} (l.anew || is_silent l.clock p) 256 p.share.rest);
   rooms : (k : ℕ) (d : Peer) → k < l.peer-index → (slice_index_or l.peers k d).room ≡ l.room;
   begun : (k : ℕ) (d : Peer) → k < l.peer-index → (let p = slice_index_or l.peers k d in
       (p.stay ≡ (slice_index_or l.fn.peers k d).stay)

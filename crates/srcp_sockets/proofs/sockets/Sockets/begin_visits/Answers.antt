@@ -68,7 +68,8 @@ returns-clause-shares g c =
     let clock = c.args.self.now.turn.clock in
     subst (λ (ps : List Peer). AreShared anew clock c.args.self.now.peers.items ps)
     (sym (with_items_is c.args.self.now.peers c.begin_visits.new.peers (c.begin_visits.auto.peers ∙ search rules)))
-    (subst (λ (ps : List Peer). AreShared anew clock ps c.begin_visits.new.peers) c.as_mut_slice.ensures.value c.begin_visits.ensures.shares)
+    (subst (λ (ps : List Peer). AreShared anew clock ps c.begin_visits.new.peers) c.as_mut_slice.ensures.value
+    c.begin_visits.ensures.shares)
 
 pub returns-clause-rooms : goal.returns-clause-rooms
 returns-clause-rooms g c =

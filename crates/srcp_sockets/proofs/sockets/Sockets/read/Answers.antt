@@ -56,8 +56,8 @@ invariant_of-self g c =
           (ap (λ m. m.wall) (read_time turn x.share.line answer buffer)) (ap (λ m. m.start) (read_time turn x.share.line answer buffer))
           (done_step turn.timekeeper.wall turn.timekeeper.start old new (Answers (ReadCall x.number answer buffer))
           c.read-handed.ensures.trace
-          (λ log logged early. read_done turn.timekeeper.wall turn.timekeeper.start old turn c.goes_behind-waits.result x answer buffer (length c.args.buffer.now)
-          c.read-handed.result.refused log logged c.args.self.now.timed
+          (λ log logged early. read_done turn.timekeeper.wall turn.timekeeper.start old turn c.goes_behind-waits.result x answer
+          buffer (length c.args.buffer.now) c.read-handed.result.refused log logged c.args.self.now.timed
           (subst (IsKept old) (sym is) (c.args.self.now.stands.kept c.in-Some.index x within))
           here (subst (λ (p : Peer). is_as_far (ending_of p.number log) p.ending ≡ true) (sym is)
           (c.args.self.now.ending log logged c.in-Some.index x within (c.in-Some.ensures.found.1 x).1))
