@@ -97,7 +97,7 @@ def panel_that_reads_slower_than_a_line_a_millisecond(program):
 
 
 def emergency_stop_goes_first(program):
-    """Beside a slow panel, which is told each port, and sessions that make accessories without end, a stop goes first."""
+    """Beside a slow panel and sessions that make accessories without end, the stop of a silent session goes first."""
     waits = []
     with served(program, layout=EIGHT_PORTS) as (port, _):
         first = Client(port, "COMMAND")
