@@ -73,6 +73,7 @@ PACE = 0.01  # seconds between two changes
 SETTLED = 1.5  # seconds until what was sent is carried out
 REST = 3.0  # seconds after a loss, in which nothing may start
 AWAY = 12.0  # seconds for which the server hangs: trains stand within 8
+ENDED = 1.0  # seconds until each pulse has ended
 QUIET = 4.0  # seconds until all has come to rest
 TROUBLE = 15.0  # seconds between two troubles
 LOCOMOTIVES = range(1, 21)
@@ -271,6 +272,18 @@ class Evening:
             except OSError:
                 self.clients()
             time.sleep(PACE)
+        try:
+            self.throw_each()
+        except OSError:
+            self.clients()
+            self.throw_each()
+
+    def throw_each(self):
+        """Throws each turnout once more, behind all pulses. If an older pulse ends last, one that joins later cannot know
+        how the turnout lies."""
+        time.sleep(ENDED)
+        for turnout in TURNOUTS:
+            self.throttle.ask(f"SET 1 GA {turnout} 0 1 50")
 
     # ---- what all say at the end
 
