@@ -140,9 +140,14 @@ class WebInChromium(ChromiumCase):
             time.sleep(0.2)
             self.has("100 INFO 1 GL 3 0 0 28", "100 INFO 1 GL 4 1 0 28")
         self.throttle.order("SET 1 GL 4 1 5 28")
-        until(lambda: self.told()[0] == "", "the bar ends as a train drives again")
+        self.bar_ends()
         self.opens("1 GL 3")
         self.slide("1 GL 3", 7), self.has("100 INFO 1 GL 3 0 7 28")
+
+    def bar_ends(self):
+        """Waits until the bar says no more that all stand. Then it says nothing: somebody has a train drive again."""
+        until(lambda: self.told()[0] != "All locomotives stand.", "a train drives again")
+        self.assertEqual(self.told()[0], "")
 
     def test_in_chromium_stop_all_takes_the_power_off(self):
         """For a train that another throttle has: the page says so, and that it stands."""
@@ -155,7 +160,7 @@ class WebInChromium(ChromiumCase):
         track = self.js("document.getElementById('track').innerText")
         self.assertEqual(track, "Power 1 is off: STOP ALL cut it, since another throttle has a train.")
         self.throttle.order("SET 1 POWER ON")
-        until(lambda: self.told()[0] == "", "the bar ends as it drives again")
+        self.bar_ends()
 
     def test_in_chromium_a_page_that_is_told_late(self):
         """What it sends, and what it switches, undoes no stop of which it has not been told."""
@@ -366,6 +371,18 @@ class WebByTouch(ChromiumCase):
         self.assertEqual(self.speed(5), 0)
         self.assertEqual(self.browser.faults, [])
 
+    def test_in_chromium_fingers_that_drift(self):
+        """A page may be told of several moves before its browser scrolls: neither those of a swipe nor a tap drive."""
+        self.drives(GL3=(1, 0))
+        self.browser.shows(390, 844, phone=True)
+        self.opens("1 GL 3")
+        slider = f"{self.card('1 GL 3')}.querySelector('input')"
+        until(lambda: not self.js(f"{slider}.disabled"), "its slider takes a value")
+        for moves in [[1, 0], [9, 0]], [[10, -40], [40, -90], [80, -160]]:
+            self.assertEqual(self.js(f"{FINGER}({slider}, {moves})"), 0, moves)
+        self.assertIn(self.js(f"{FINGER}({slider}, [[12, 0], [82, 0]])"), range(3, 10))
+        until(lambda: 3 <= self.speed(3) <= 9, "a finger that moves sideways drives")
+
     def drags_by_touch(self, element, across, by, taken_away=False, meanwhile=lambda x, y: time.sleep(0.5)):
         """Has a finger move sideways by so many pixels, and stay there for what happens meanwhile."""
         x, y = self.browser.place(element, across)
@@ -446,6 +463,16 @@ CONTRAST = """(() => {
 SMALL = """[...document.querySelectorAll('button, input, summary, nav a')].filter(e => e.offsetParent)
   .map(e => [e.getBoundingClientRect(), e]).filter(([r]) => r.height < 44 || r.width < 44)
   .map(([r, e]) => `${e.tagName} ${e.id || e.textContent} ${r.width} x ${r.height}`)"""
+
+FINGER = """((slider, moves) => {
+  const { left, top } = slider.getBoundingClientRect(), finger = { pointerId: 9, pointerType: 'touch', bubbles: true };
+  const tells = (type, x, y) =>
+    slider.dispatchEvent(new PointerEvent(type, { ...finger, clientX: left + 90 + x, clientY: top + y }));
+  tells('pointerdown', 0, 0);
+  moves.forEach(([x, y]) => tells('pointermove', x, y));
+  tells('pointerup', ...moves.at(-1));
+  return +slider.value;
+})"""
 
 LATE = """(listen => {
   EventSource.prototype.addEventListener = function (name, take) {
