@@ -279,8 +279,8 @@ class Evening:
             self.throw_each()
 
     def throw_each(self):
-        """Throws each turnout once more, behind all pulses. If an older pulse ends last, one that joins later cannot know
-        how the turnout lies."""
+        """Throws each turnout once more, behind all pulses. One that joins later cannot know how a turnout lies of which
+        an older pulse ended last."""
         time.sleep(ENDED)
         for turnout in TURNOUTS:
             self.throttle.ask(f"SET 1 GA {turnout} 0 1 50")
