@@ -279,7 +279,7 @@ class Evening:
             self.throw_each()
 
     def throw_each(self):
-        """Throws each turnout once more, behind all pulses. One that joins later cannot know how a turnout lies of which
+        """Throws each turnout once more, behind all pulses. A panel that joins later cannot know how one lies of which
         an older pulse ended last."""
         time.sleep(ENDED)
         for turnout in TURNOUTS:
