@@ -8,8 +8,8 @@ use Rattle.std.proofs.lemmas.List.{take_rest}
 use Rattle.std.proofs.lemmas.List.Sums.{sum_by-append, sum_by-cons, count_by_more_no, count_by_more_yes, fold-append, fold_more}
 use Rattle.memchr.specs.Find.{Passes, is_byte, Nowhere, NoneBefore}
 use Rattle.srcp_door.specs.Pacing.{Seen, lines, line_weight, seen_after, seen_of, weight_of}
-use Rattle.srcp_door.specs.declared.pacing.Line.{Line}
-use Rattle.srcp_door.specs.declared.pacing.Line.TheVariants.{Ended}
+use Rattle.srcp_door.specs.declared.pacing.LineBoundary.{LineBoundary}
+use Rattle.srcp_door.specs.declared.pacing.LineBoundary.TheVariants.{At}
 
 no_end : (x : ℕ) (xs : List ℕ) → lines (x ∷ xs) ≡ 0 → ((x == 10) ≡ false) × (lines xs ≡ 0)
 no_end x xs none =
@@ -69,7 +69,7 @@ pub found-end : (bytes : List ℕ) (i n : ℕ)
 found-end bytes i n found = let high = rw (take_rest bytes i, length-drop i bytes) at found.high in omega arith
 
 -- what is seen of a prefix, by what is seen of a shorter one and of the part behind it
-pub seen_of_part : (line : Line) (bytes : List ℕ) (i j : ℕ) → i ≤ j
+pub seen_of_part : (line : LineBoundary) (bytes : List ℕ) (i j : ℕ) → i ≤ j
     → fold seen_after (seen_of line (take i bytes)) (take (j - i) (drop i bytes)) ≡ seen_of line (take j bytes)
 seen_of_part line bytes i j le =
     let parts : i + (j - i) ≡ j = omega arith in
@@ -77,7 +77,7 @@ seen_of_part line bytes i j le =
     sym (rw take-add split) ∙ ap (λ n. seen_of line (take n bytes)) parts
 
 -- what is seen of a prefix, by what is seen of the one that lacks its line end
-pub seen_of-end : (line : Line) (bytes : List ℕ) (i : ℕ) → i < length bytes → slice_index bytes i ≡ 10
+pub seen_of-end : (line : LineBoundary) (bytes : List ℕ) (i : ℕ) → i < length bytes → slice_index bytes i ≡ 10
     → seen_of line (take (i + 1) bytes) ≡ seen_after (seen_of line (take i bytes)) 10
 seen_of-end line bytes i within here =
     fold_more seen_after (record { line = line; text = []; weight = 0 }) bytes i 0 within
@@ -109,16 +109,16 @@ lines_upto bytes i j le =
     omega (arith, split, same)
 
 -- nor do they weigh less
-weight_upto : (line : Line) (bytes : List ℕ) (i j : ℕ) → i ≤ j → weight_of line (take i bytes) ≤ weight_of line (take j bytes)
+weight_upto : (line : LineBoundary) (bytes : List ℕ) (i j : ℕ) → i ≤ j → weight_of line (take i bytes) ≤ weight_of line (take j bytes)
 weight_upto line bytes i j le =
     let grows = weight_grows (seen_of line (take i bytes)) (take (j - i) (drop i bytes)) in
     subst (λ (s : Seen). weight_of line (take i bytes) ≤ s.weight) (seen_of_part line bytes i j le) grows
 
 -- what is seen of whole lines, by what is seen of those before the last
-pub ends_line : (line now : Line) (bytes : List ℕ) (i j weight : ℕ) → i ≤ j → j < length bytes → slice_index bytes j ≡ 10
+pub ends_line : (line now : LineBoundary) (bytes : List ℕ) (i j weight : ℕ) → i ≤ j → j < length bytes → slice_index bytes j ≡ 10
     → Nowhere (Passes (is_byte 10) (rest bytes i)) 0 (j - i)
     → record { line = now; text = []; weight = weight } ≡ seen_of line (take i bytes)
-    → record { line = Ended; text = []; weight = weight + line_weight now (take (j - i) (drop i bytes)) }
+    → record { line = At; text = []; weight = weight + line_weight now (take (j - i) (drop i bytes)) }
     ≡ seen_of line (take (j + 1) bytes)
 ends_line line now bytes i j weight le within here nowhere is =
     let text = take (j - i) (drop i bytes) in
@@ -130,7 +130,7 @@ ends_line line now bytes i j weight le within here nowhere is =
     sym (seen_of-end line bytes j within here ∙ ap (λ s. seen_after s 10) upto)
 
 -- each prefix with a line more weighs as much as the one that ends at the next LF
-pub longest_at : (line : Line) (bytes : List ℕ) (i j most : ℕ) → lines (take i bytes) ≡ lines (take j bytes)
+pub longest_at : (line : LineBoundary) (bytes : List ℕ) (i j most : ℕ) → lines (take i bytes) ≡ lines (take j bytes)
     → most < weight_of line (take (j + 1) bytes) → (n : ℕ) → n ≤ length bytes → lines (take i bytes) < lines (take n bytes)
     → most < weight_of line (take n bytes)
 longest_at line bytes i j most same heavy n within more = ⊎_elim
@@ -139,7 +139,7 @@ longest_at line bytes i j most same heavy n within more = ⊎_elim
     (cases_lt j n)
 
 -- bytes in which no line ends weigh nothing
-pub weight_none : (line : Line) (bytes : List ℕ) → lines bytes ≡ 0 → weight_of line bytes ≡ 0
+pub weight_none : (line : LineBoundary) (bytes : List ℕ) → lines bytes ≡ 0 → weight_of line bytes ≡ 0
 weight_none line bytes none = ap (λ (s : Seen). s.weight) (fold_text (record { line = line; text = []; weight = 0 }) bytes none)
 
 -- a prefix has no more lines than the whole
@@ -156,7 +156,7 @@ lines_behind bytes i j within here same =
     omega (arith, one, all, same)
 
 -- prefixes in which as many lines end weigh the same
-pub weight_same : (line : Line) (bytes : List ℕ) (i j : ℕ) → i ≤ j → lines (take i bytes) ≡ lines (take j bytes)
+pub weight_same : (line : LineBoundary) (bytes : List ℕ) (i j : ℕ) → i ≤ j → lines (take i bytes) ≡ lines (take j bytes)
     → weight_of line (take i bytes) ≡ weight_of line (take j bytes)
 weight_same line bytes i j le same =
     let part = take (j - i) (drop i bytes) in
@@ -169,7 +169,7 @@ weight_same line bytes i j le same =
     ∙ ap (λ (s : Seen). s.weight) (seen_of_part line bytes i j le)
 
 -- one in which no more lines end weighs no more
-pub weight_by_lines : (line : Line) (bytes : List ℕ) (i j : ℕ) → lines (take i bytes) ≤ lines (take j bytes)
+pub weight_by_lines : (line : LineBoundary) (bytes : List ℕ) (i j : ℕ) → lines (take i bytes) ≤ lines (take j bytes)
     → weight_of line (take i bytes) ≤ weight_of line (take j bytes)
 weight_by_lines line bytes i j few = ⊎_elim
     (λ (late : j < i).

@@ -5,18 +5,19 @@ use Rattle.std.proofs.Math.Seq.{take-length}
 use Rattle.std.proofs.lemmas.Bool.{cases_lt, eq-eqb, ne_eqb, le-ltb, lt-ltb}
 use Rattle.std.proofs.lemmas.List.{length-take, take_all, take_min, take-append-drop, take-append-le}
 use Rattle.srcp_door.specs.Pacing.{IsLongest, lines, weight_of}
-use Rattle.srcp_door.specs.declared.pacing.Line.{Line}
+use Rattle.srcp_door.specs.declared.pacing.LineBoundary.{LineBoundary}
 use Rattle.srcp_door.proofs.Lines.{lines_within, weight_by_lines}
 
 -- a share weighs no more than a prefix of it in which as many lines end
-own_weighs : (line : Line) (own : List ℕ) (n : ℕ) → lines own ≤ lines (take n own) → weight_of line own ≤ weight_of line (take n own)
+own_weighs : (line : LineBoundary) (own : List ℕ) (n : ℕ) → lines own ≤ lines (take n own)
+    → weight_of line own ≤ weight_of line (take n own)
 own_weighs line own n few =
     let all = ap lines (take-length own) in
     subst (λ (bytes : List ℕ). weight_of line bytes ≤ weight_of line (take n own)) (take-length own)
     (weight_by_lines line own (length own) n (omega (arith, few, all)))
 
 -- no fewer lines go than of the share, if of that all go
-all_go : (line : Line) (most rest n count : ℕ) (piece : List ℕ)
+all_go : (line : LineBoundary) (most rest n count : ℕ) (piece : List ℕ)
     → IsLongest line (weight_of line (take n (take rest piece))) piece count
     → lines (take n (take rest piece)) ≡ lines (take rest piece) → lines (take rest piece) ≤ lines (take count piece)
 all_go line most rest n count piece longest same = ⊎_elim
@@ -31,7 +32,7 @@ all_go line most rest n count piece longest same = ⊎_elim
     (cases_lt (lines (take count piece)) (lines (take rest piece)))
 
 -- fewer go, if of that not all go
-not_all_go : (line : Line) (most rest n count : ℕ) (piece : List ℕ) → IsLongest line most (take rest piece) n
+not_all_go : (line : LineBoundary) (most rest n count : ℕ) (piece : List ℕ) → IsLongest line most (take rest piece) n
     → IsLongest line (weight_of line (take n (take rest piece))) piece count
     → lines (take n (take rest piece)) < lines (take rest piece) → lines (take count piece) < lines (take rest piece)
 not_all_go line most rest n count piece own longest fewer = ⊎_elim
@@ -48,7 +49,7 @@ not_all_go line most rest n count piece own longest fewer = ⊎_elim
     absurd (omega (arith, upto, weight_own, longest.few, own.few, heavy, all_weight)))
     (cases_lt (lines (take count piece)) (lines (take rest piece)))
 
-pub kept : (line : Line) (most rest n count : ℕ) (piece : List ℕ) → IsLongest line most (take rest piece) n
+pub kept : (line : LineBoundary) (most rest n count : ℕ) (piece : List ℕ) → IsLongest line most (take rest piece) n
     → IsLongest line (weight_of line (take n (take rest piece))) piece count
     → not (lines (take n (take rest piece)) == lines (take rest piece)) ≡ nat_lt (lines (take count piece)) (lines (take rest piece))
 kept line most rest n count piece own longest = ⊎_elim
@@ -63,7 +64,7 @@ kept line most rest n count piece own longest = ⊎_elim
     (cases_lt (lines (take n (take rest piece))) (lines (take rest piece)))
 
 -- what goes weighs no less than what goes of the share
-pub no_lighter : (line : Line) (most rest n count : ℕ) (piece : List ℕ) → IsLongest line most (take rest piece) n
+pub no_lighter : (line : LineBoundary) (most rest n count : ℕ) (piece : List ℕ) → IsLongest line most (take rest piece) n
     → IsLongest line (weight_of line (take n (take rest piece))) piece count
     → weight_of line (take n (take rest piece)) ≤ weight_of line (take count piece)
 no_lighter line most rest n count piece own longest =
@@ -82,7 +83,7 @@ no_lighter line most rest n count piece own longest =
     (cases_lt (lines (take count piece)) (lines (take n piece)))
 
 -- what goes of a share that is the whole piece is what goes of the piece
-pub alone : (line : Line) (most rest n : ℕ) (piece : List ℕ) → length piece ≤ rest → IsLongest line most (take rest piece) n
+pub alone : (line : LineBoundary) (most rest n : ℕ) (piece : List ℕ) → length piece ≤ rest → IsLongest line most (take rest piece) n
     → IsLongest line (weight_of line (take n (take rest piece))) piece n
 alone line most rest n piece short own =
     let all : take rest piece ≡ piece = take_all rest piece short in

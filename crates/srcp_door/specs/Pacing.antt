@@ -3,8 +3,8 @@ use Rattle.std.specs.Prelude.{◌≡◌, ◌≢◌, ℕ, ◌+◌, ◌-◌, ◌<�
 use Rattle.std.specs.Prelude.{false, nat_le, nat_lt, Option, ⊤, List, [], ◌∷◌, ◌++◌, length, take, fold, count_by}
 use Rattle.std.specs.Option.{unwrap_or}
 use Rattle.srcp_grammar.specs.Weight.{weight}
-use Rattle.srcp_door.specs.declared.pacing.Line.{Line}
-use Rattle.srcp_door.specs.declared.pacing.Line.TheVariants.{Ended, Begun}
+use Rattle.srcp_door.specs.declared.pacing.LineBoundary.{LineBoundary}
+use Rattle.srcp_door.specs.declared.pacing.LineBoundary.TheVariants.{At, Inside}
 use Rattle.srcp_door.specs.declared.pacing.Pace.{Pace}
 use Rattle.srcp_door.specs.declared.pacing.Pace.TheVariants.{Paced, OneLine}
 use Rattle.srcp_door.specs.declared.pacing.Share.{Share}
@@ -17,45 +17,45 @@ lines bytes = count_by (λ byte. byte == 10) bytes
 
 -- the changes that a line brings at most: what its bytes say, or 11 if it began in an earlier piece, whose bytes are
 -- gone
-abbrev pub line_weight : Line → (text : List ℕ) → ℕ
-line_weight Ended text = weight text
-line_weight Begun text = 11
+abbrev pub line_weight : LineBoundary → (text : List ℕ) → ℕ
+line_weight At text = weight text
+line_weight Inside text = 11
 
 -- what is seen of bytes: those of the line that has not ended, whether it began in an earlier piece, and how much the
 -- lines weigh that ended
 pub record Seen : Type 0 where
-  pub line : Line
+  pub line : LineBoundary
   pub text : List ℕ
   pub weight : ℕ
 
 -- the same after one more byte
 abbrev pub seen_after : Seen → ℕ → Seen
 seen_after seen byte = cond (byte == 10)
-    (record { line = Ended; text = []; weight = seen.weight + line_weight seen.line seen.text })
+    (record { line = At; text = []; weight = seen.weight + line_weight seen.line seen.text })
     (record { line = seen.line; text = seen.text ++ byte ∷ []; weight = seen.weight })
 
 -- what is seen of bytes that follow a line
-abbrev pub seen_of : Line → List ℕ → Seen
+abbrev pub seen_of : LineBoundary → List ℕ → Seen
 seen_of line bytes = fold seen_after (record { line = line; text = []; weight = 0 }) bytes
 
 -- how much the lines weigh that end in bytes that follow a line
-abbrev pub weight_of : Line → List ℕ → ℕ
+abbrev pub weight_of : LineBoundary → List ℕ → ℕ
 weight_of line bytes = (seen_of line bytes).weight
 
 -- the line after its bytes so far
-abbrev pub with_text : Line → (text : List ℕ) → Line
+abbrev pub with_text : LineBoundary → (text : List ℕ) → LineBoundary
 with_text line [] = line
-with_text line (byte ∷ text) = Begun
+with_text line (byte ∷ text) = Inside
 
 -- the line after bytes that follow it
-abbrev pub line_after : Line → List ℕ → Line
+abbrev pub line_after : LineBoundary → List ℕ → LineBoundary
 line_after line bytes = let seen = seen_of line bytes in with_text seen.line seen.text
 
 -- ---- what is let through
 
 -- the prefix of a piece that may go if its lines may weigh so much: all of a piece in which no line ends, and else
 -- whole lines, as many as weigh no more
-pub record IsLongest (line : Line) (most : ℕ) (piece : List ℕ) (count : ℕ) : Type 0 where
+pub record IsLongest (line : LineBoundary) (most : ℕ) (piece : List ℕ) (count : ℕ) : Type 0 where
   pub within : count ≤ length piece
   pub few : weight_of line (take count piece) ≤ most
   pub longest : (n : ℕ) → n ≤ length piece → lines (take count piece) < lines (take n piece)
@@ -65,7 +65,7 @@ pub record IsLongest (line : Line) (most : ℕ) (piece : List ℕ) (count : ℕ)
 
 -- how much the first line of a piece weighs that weighs something: that is the weight of a prefix of which all shorter
 -- prefixes with fewer lines weigh nothing; 0 if no line weighs something
-pub record IsFirstWeight (line : Line) (piece : List ℕ) (first : ℕ) : Type 0 where
+pub record IsFirstWeight (line : LineBoundary) (piece : List ℕ) (first : ℕ) : Type 0 where
   pub count : ℕ
   pub within : count ≤ length piece
   pub is : weight_of line (take count piece) ≡ first
@@ -75,13 +75,13 @@ pub record IsFirstWeight (line : Line) (piece : List ℕ) (first : ℕ) : Type 0
 
 -- the prefix of a piece that may go of a peer whose share is the first `rest` bytes of it, if lines may weigh so much:
 -- of its share the longest that weighs no more, and lines behind that weigh nothing
-pub record IsShare (line : Line) (most rest : ℕ) (piece : List ℕ) (count : ℕ) : Type 0 where
+pub record IsShare (line : LineBoundary) (most rest : ℕ) (piece : List ℕ) (count : ℕ) : Type 0 where
   pub own : ℕ
   pub is_own : IsLongest line most (take rest piece) own
   pub longest : IsLongest line (weight_of line (take own (take rest piece))) piece count
 
 -- the same, if one line that weighs something may go
-pub record IsOneLine (line : Line) (rest : ℕ) (piece : List ℕ) (count : ℕ) : Type 0 where
+pub record IsOneLine (line : LineBoundary) (rest : ℕ) (piece : List ℕ) (count : ℕ) : Type 0 where
   pub first : ℕ
   pub is_first : IsFirstWeight line (take rest piece) first
   pub share : IsShare line first rest piece count

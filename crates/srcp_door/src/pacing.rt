@@ -19,16 +19,16 @@ pub const RESERVE: usize = 160;
 /// The byte that ends a line.
 const LINE_END: u8 = b'\n';
 
-/// Says whether the line of a peer that is being handed out began in an earlier piece.
+/// Says whether the bytes of a peer that were handed out end at the boundary of a line.
 #[derive(Clone, Copy)]
-pub enum Line {
-    /// The last line ended, or there was none.
-    Ended,
-    /// A line began, and did not end.
-    Begun,
+pub enum LineBoundary {
+    /// The last byte ended a line, or there was no byte.
+    At,
+    /// The last byte is inside a line: the line began, and did not end.
+    Inside,
 }
 
-impl Line {
+impl LineBoundary {
     /// Returns the weight of the line that ends behind these bytes. A line that began in an earlier piece gets the
     /// greatest weight of any line, since only a part of the line's bytes is here.
     fn weight(self, text: &[u8]) -> usize
@@ -36,18 +36,18 @@ impl Line {
         ensures most { result ≤ MOST_CHANGES }
     {
         match self {
-            Line::Ended => weight(text),
-            Line::Begun => MOST_CHANGES,
+            LineBoundary::At => weight(text),
+            LineBoundary::Inside => MOST_CHANGES,
         }
     }
 
     /// Returns the state after these further bytes.
-    fn after(self, bytes: &[u8]) -> Line
+    fn after(self, bytes: &[u8]) -> LineBoundary
         ensures { result ≡ line_after self bytes.now }
     {
         match bytes.last() {
-            Some(&LINE_END) => Line::Ended,
-            Some(_) => Line::Begun,
+            Some(&LINE_END) => LineBoundary::At,
+            Some(_) => LineBoundary::Inside,
             None => self,
         }
     }
@@ -56,8 +56,8 @@ impl Line {
 /// Holds a peer's share of the lines.
 #[derive(Clone, Copy)]
 pub struct Share {
-    /// The line that is being handed out.
-    pub line: Line,
+    /// Whether the bytes that were handed out end at the boundary of a line.
+    pub line: LineBoundary,
     /// How many bytes of the peer's piece may still go, if their lines weigh something; 0 for a peer that had its
     /// share.
     pub rest: usize,
@@ -80,7 +80,7 @@ pub struct Allowed {
     /// The weight of the lines that end in these bytes.
     pub weight: usize,
     /// True if a line of the peer's share is kept back.
-    pub refused: bool,
+    pub starved: bool,
 }
 
 impl Pace {
@@ -118,11 +118,11 @@ impl Pace {
     pub fn allow(&mut self, share: &mut Share, piece: &[u8]) -> Allowed
         ensures allowed { Allows self.old share.old piece.now result.count }
         ensures within { result.count ≤ length piece.now }
-        ensures share { share.new ≡ share_after share.old (take result.count piece.now) result.refused }
+        ensures share { share.new ≡ share_after share.old (take result.count piece.now) result.starved }
         ensures pace { self.new ≡ spent self.old (weight_of share.old.line (take result.count piece.now)) }
         ensures fits { fits self.old (weight_of share.old.line (take result.count piece.now)) ≡ true }
-        ensures refused { result.refused ≡ keeps_back self.old share.old piece.now (take result.count piece.now) }
-        ensures fair { IsTrue result.refused → IsShort self.new }
+        ensures starved { result.starved ≡ keeps_back self.old share.old piece.now (take result.count piece.now) }
+        ensures fair { IsTrue result.starved → IsShort self.new }
         ensures weight { result.weight ≡ weight_of share.old.line (take result.count piece.now) }
     {
         let own = &piece[..share.rest.min(piece.len())];
@@ -131,11 +131,11 @@ impl Pace {
             Pace::OneLine => (first_weight(own, share.line), false),
         };
         let granted = grant(piece, share.line, share.rest, most);
-        let refused = paced && granted.more;
+        let starved = paced && granted.more;
         *self = self.after(granted.weight);
         share.line = share.line.after(&piece[..granted.count]);
         if granted.weight > 0 {
-            share.rest = if refused {
+            share.rest = if starved {
                 share.rest.saturating_sub(granted.count)
             } else {
                 0
@@ -144,7 +144,7 @@ impl Pace {
         Allowed {
             count: granted.count,
             weight: granted.weight,
-            refused,
+            starved,
         }
     }
 }
@@ -181,7 +181,7 @@ struct Granted {
 }
 
 /// Returns the prefix of a piece that goes, if lines may weigh `most`. The peer's share is the first `rest` bytes.
-fn grant(piece: &[u8], line: Line, rest: usize, most: usize) -> Granted
+fn grant(piece: &[u8], line: LineBoundary, rest: usize, most: usize) -> Granted
     ensures share { IsShare line most rest piece.now result.count }
     ensures weight { result.weight ≡ weight_of line (take result.count piece.now) }
     ensures more { result.more ≡ nat_lt (lines (take result.count piece.now)) (lines (take rest piece.now)) }
@@ -203,7 +203,7 @@ fn grant(piece: &[u8], line: Line, rest: usize, most: usize) -> Granted
 
 /// Returns the longest prefix of a piece whose lines weigh at most `most`. If no line ends in the piece, the prefix is
 /// the whole piece. Else the prefix is whole lines.
-fn longest_prefix(piece: &[u8], line: Line, most: usize) -> WeighedPrefix
+fn longest_prefix(piece: &[u8], line: LineBoundary, most: usize) -> WeighedPrefix
     ensures longest { IsLongest line most piece.now result.prefix.count }
     ensures lines { result.prefix.lines ≡ lines (take result.prefix.count piece.now) }
     ensures weight { result.weight ≡ weight_of line (take result.prefix.count piece.now) }
@@ -226,7 +226,7 @@ fn longest_prefix(piece: &[u8], line: Line, most: usize) -> WeighedPrefix
                 next,
             };
         }
-        line = Line::Ended;
+        line = LineBoundary::At;
         prefix = Prefix {
             count: end + 1,
             lines: prefix.lines + 1,
@@ -245,7 +245,7 @@ fn longest_prefix(piece: &[u8], line: Line, most: usize) -> WeighedPrefix
 }
 
 /// Returns the weight of the first line of a piece that weighs something, or 0 if none does.
-fn first_weight(piece: &[u8], line: Line) -> usize
+fn first_weight(piece: &[u8], line: LineBoundary) -> usize
     ensures first { IsFirstWeight line piece.now result }
     ensures most { result ≤ MOST_CHANGES }
 {

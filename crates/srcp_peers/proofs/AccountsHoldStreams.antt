@@ -5,10 +5,10 @@ use Rattle.std.specs.Prelude.{◌||◌, nat_lt, Result, flat_map, fold}
 use Rattle.std.specs.declared.io.ErrorKind.{ErrorKind}
 use Rattle.srcp_door.specs.declared.door.Got.TheVariants as got
 use Rattle.srcp_peers.specs.declared.system.Ready.{Ready}
-use Rattle.srcp_peers.specs.declared.system.Refusal.{Refusal}
-use Rattle.srcp_peers.specs.declared.system.Refusal.TheVariants.{Later, Again, Fault}
+use Rattle.srcp_peers.specs.declared.system.IoFailure.{IoFailure}
+use Rattle.srcp_peers.specs.declared.system.IoFailure.TheVariants.{WouldBlock, Interrupted, Fatal}
 use Rattle.srcp_door.specs.Calls.{Call, ExpectCall, NowCall, AcceptCall, ReadCall, WriteCall, CloseCall}
-use Rattle.srcp_peers.specs.Steps.{Accepts, Clocks, Closes, Reads, Shuts, Step, Answers, Waits, Writes, calls, refusal_of}
+use Rattle.srcp_peers.specs.Steps.{Accepts, Clocks, Closes, Reads, Shuts, Step, Answers, Waits, Writes, calls, failure_of}
 use Rattle.srcp_peers.specs.Accounts.{Account, accepted, account, account_step, closed, heard, heard_refusal}
 use Rattle.srcp_peers.specs.Accounts.{refused_read, refused_write, shut_down, untouched, waited, woken, woken_came, woken_sent, wrote}
 use Rattle.srcp_peers.specs.Accounts.{read_of}
@@ -66,10 +66,10 @@ woken_lists socket a (one ∷ more) = woken_lists socket (woken socket a one) mo
       received = woken_came a.received one.readable (one.closed || one.urgent);
     }) a refl
 
-heard_lists : (a : Account) (said : Refusal) → lists (record a { received = heard_refusal a.received said }) ≡ lists a
-heard_lists a Later = refl
-heard_lists a Again = refl
-heard_lists a Fault = refl
+heard_lists : (a : Account) (said : IoFailure) → lists (record a { received = heard_refusal a.received said }) ≡ lists a
+heard_lists a WouldBlock = refl
+heard_lists a Interrupted = refl
+heard_lists a Fatal = refl
 
 accept_lists : (socket number : ℕ) (a : Account) (answer : Result Unit ErrorKind) → lists
     (account_step socket a (Accepts number answer)) ≡ lists a
@@ -83,18 +83,18 @@ accept_lists socket number a (Err fault) = by (socket == 0)
   where
     by : (b : Bool) → lists (if b then record a { received = heard a.received (Err fault) } else if number == socket then accepted a
         (Err fault) else a) ≡ lists a
-    by true = heard_lists a (refusal_of fault)
+    by true = heard_lists a (failure_of fault)
     by false = if_same lists (number == socket) (accepted a (Err fault)) a refl
 
-refused_write_lists : (a : Account) (said : Refusal) → lists (record a { sent = refused_write a.sent said }) ≡ lists a
-refused_write_lists a Later = refl
-refused_write_lists a Again = refl
-refused_write_lists a Fault = refl
+refused_write_lists : (a : Account) (said : IoFailure) → lists (record a { sent = refused_write a.sent said }) ≡ lists a
+refused_write_lists a WouldBlock = refl
+refused_write_lists a Interrupted = refl
+refused_write_lists a Fatal = refl
 
-refused_read_lists : (a : Account) (said : Refusal) → lists (record a { received = refused_read a.received said }) ≡ lists a
-refused_read_lists a Later = refl
-refused_read_lists a Again = refl
-refused_read_lists a Fault = refl
+refused_read_lists : (a : Account) (said : IoFailure) → lists (record a { received = refused_read a.received said }) ≡ lists a
+refused_read_lists a WouldBlock = refl
+refused_read_lists a Interrupted = refl
+refused_read_lists a Fatal = refl
 
 -- ---- each list
 
@@ -106,7 +106,7 @@ took_step socket a (Writes who bytes (Ok count)) = if_more (λ (x : Account). x.
     (record a { sent = wrote a.sent bytes (Ok count) }) a (take count bytes) refl
 took_step socket a (Writes who bytes (Err fault)) = same_more _ a.sent.took
     (if_same (λ (x : Account). x.sent.took) (who == socket) (record a { sent = wrote a.sent bytes (Err fault) }) a
-    (ap (λ l. l.0.1) (refused_write_lists a (refusal_of fault))))
+    (ap (λ l. l.0.1) (refused_write_lists a (failure_of fault))))
 took_step socket a (Waits most count ready) = same_more _ a.sent.took
     (ap (λ l. l.0.1) (woken_lists socket (waited socket a most) (take count ready)))
 took_step socket a (Shuts who) = same_more _ a.sent.took (if_same (λ (x : Account). x.sent.took) (who == socket) (shut_down a) a refl)
@@ -137,7 +137,7 @@ gave_step socket a (Reads who buffer (Ok count)) = if_more (λ (x : Account). x.
     (read_of a buffer (Ok count)) a (take count buffer) refl
 gave_step socket a (Reads who buffer (Err fault)) = same_more _ a.received.gave
     (if_same (λ (x : Account). x.received.gave) (who == socket) (read_of a buffer (Err fault)) a
-    (ap (λ l. l.1.0) (refused_read_lists a (refusal_of fault))))
+    (ap (λ l. l.1.0) (refused_read_lists a (failure_of fault))))
 gave_step socket a (Waits most count ready) = same_more _ a.received.gave
     (ap (λ l. l.1.0) (woken_lists socket (waited socket a most) (take count ready)))
 gave_step socket a (Shuts who) = same_more _ a.received.gave
@@ -170,7 +170,7 @@ written_step socket a (Writes who bytes (Ok count)) = same_more _ a.sent.written
     (if_same (λ (x : Account). x.sent.written) (who == socket) (record a { sent = wrote a.sent bytes (Ok count) }) a refl)
 written_step socket a (Writes who bytes (Err fault)) = same_more _ a.sent.written
     (if_same (λ (x : Account). x.sent.written) (who == socket) (record a { sent = wrote a.sent bytes (Err fault) }) a
-    (ap (λ l. l.0.0) (refused_write_lists a (refusal_of fault))))
+    (ap (λ l. l.0.0) (refused_write_lists a (failure_of fault))))
 written_step socket a (Waits most count ready) = same_more _ a.sent.written
     (ap (λ l. l.0.0) (woken_lists socket (waited socket a most) (take count ready)))
 written_step socket a (Shuts who) = same_more _ a.sent.written
@@ -205,7 +205,7 @@ handed_step socket a (Reads who buffer (Ok count)) = same_more _ a.received.hand
     (if_same (λ (x : Account). x.received.handed) (who == socket) (read_of a buffer (Ok count)) a refl)
 handed_step socket a (Reads who buffer (Err fault)) = same_more _ a.received.handed
     (if_same (λ (x : Account). x.received.handed) (who == socket) (read_of a buffer (Err fault)) a
-    (ap (λ l. l.1.1) (refused_read_lists a (refusal_of fault))))
+    (ap (λ l. l.1.1) (refused_read_lists a (failure_of fault))))
 handed_step socket a (Waits most count ready) = same_more _ a.received.handed
     (ap (λ l. l.1.1) (woken_lists socket (waited socket a most) (take count ready)))
 handed_step socket a (Shuts who) = same_more _ a.received.handed

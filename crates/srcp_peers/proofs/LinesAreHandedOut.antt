@@ -4,8 +4,8 @@ use Rattle.std.proofs.Common.{None, Ok, Err}
 use Rattle.std.specs.Prelude.{Result, flat_map, fold}
 use Rattle.std.proofs.lemmas.List.Sums.{fold-append}
 use Rattle.srcp_door.specs.Pacing.{Seen, line_after, seen_after, seen_of, with_text}
-use Rattle.srcp_door.specs.declared.pacing.Line.{Line}
-use Rattle.srcp_door.specs.declared.pacing.Line.TheVariants.{Ended, Begun}
+use Rattle.srcp_door.specs.declared.pacing.LineBoundary.{LineBoundary}
+use Rattle.srcp_door.specs.declared.pacing.LineBoundary.TheVariants.{At, Inside}
 use Rattle.srcp_door.specs.declared.door.DoorFault.{DoorFault}
 use Rattle.srcp_door.specs.declared.door.Got.{Got}
 use Rattle.srcp_door.specs.declared.door.Got.TheVariants as got
@@ -20,11 +20,11 @@ use Rattle.srcp_peers.proofs.AccountsHoldStreams.{by_calls, handed_is, in_call}
 -- ---- a line after more bytes
 
 -- bytes behind a line begin one
-with_push : (l : Line) (xs : List ℕ) (byte : ℕ) → with_text l (xs ++ byte ∷ []) ≡ Begun
+with_push : (l : LineBoundary) (xs : List ℕ) (byte : ℕ) → with_text l (xs ++ byte ∷ []) ≡ Inside
 with_push l [] byte = refl
 with_push l (x ∷ xs) byte = refl
 
-abbrev rest_of : Seen → Line
+abbrev rest_of : Seen → LineBoundary
 rest_of seen = with_text seen.line seen.text
 
 same_rest : (seen other : Seen) (ys : List ℕ) → rest_of seen ≡ rest_of other
@@ -33,14 +33,14 @@ same_rest seen other [] e = e
 same_rest seen other (y ∷ ys) e = same_rest (seen_after seen y) (seen_after other y) ys (one (y == 10))
   where
     one : (b : Bool)
-        → rest_of (cond b (record { line = Ended; text = []; weight = (seen_after seen 10).weight })
+        → rest_of (cond b (record { line = At; text = []; weight = (seen_after seen 10).weight })
         (record { line = seen.line; text = seen.text ++ y ∷ []; weight = seen.weight }))
-        ≡ rest_of (cond b (record { line = Ended; text = []; weight = (seen_after other 10).weight })
+        ≡ rest_of (cond b (record { line = At; text = []; weight = (seen_after other 10).weight })
         (record { line = other.line; text = other.text ++ y ∷ []; weight = other.weight }))
     one true = refl
     one false = with_push seen.line seen.text y ∙ sym (with_push other.line other.text y)
 
-pub line_after-append : (l : Line) (xs ys : List ℕ) → line_after l (xs ++ ys) ≡ line_after (line_after l xs) ys
+pub line_after-append : (l : LineBoundary) (xs ys : List ℕ) → line_after l (xs ++ ys) ≡ line_after (line_after l xs) ys
 line_after-append l xs ys =
     ap rest_of (fold-append seen_after (record { line = l; text = []; weight = 0 }) xs ys)
     ∙ same_rest (seen_of l xs) (record { line = line_after l xs; text = []; weight = 0 }) ys refl
@@ -48,12 +48,12 @@ line_after-append l xs ys =
 -- ---- the line of a socket after all steps
 
 -- a read says it of one socket
-read_line : (b : Bool) (l : Line) (answer : Result Got DoorFault) (buffer : List ℕ)
+read_line : (b : Bool) (l : LineBoundary) (answer : Result Got DoorFault) (buffer : List ℕ)
     → (if b then line_after l (got_bytes answer buffer) else l) ≡ line_after l (if b then got_bytes answer buffer else [])
 read_line true l answer buffer = refl
 read_line false l answer buffer = refl
 
-none_line : (b : Bool) (l : Line) → (if b then line_after l [] else l) ≡ l
+none_line : (b : Bool) (l : LineBoundary) → (if b then line_after l [] else l) ≡ l
 none_line true l = refl
 none_line false l = refl
 
@@ -92,7 +92,7 @@ lines_of socket t (step ∷ log) =
     ∙ sym (line_after-append (t.lines socket) (in_call (handed_in socket) step) (flat_map (in_call (handed_in socket)) log))
 
 pub line_is : (wall start socket : ℕ) (log : List Step)
-    → (times wall start log).lines socket ≡ line_after Ended (account socket log).received.handed
+    → (times wall start log).lines socket ≡ line_after At (account socket log).received.handed
 line_is wall start socket log =
     lines_of socket (first_times wall start) log
-    ∙ ap (line_after Ended) (by_calls (handed_in socket) log ∙ sym (handed_is socket log))
+    ∙ ap (line_after At) (by_calls (handed_in socket) log ∙ sym (handed_is socket log))

@@ -115,7 +115,7 @@ pub resting : (a : Account) (p : Peer) → Agrees a p → is_resting p ≡ true 
 resting a p h r = by p.stay h.reads (and_left (is_here p.stay) (has_rest p) r)
   where
     by : (here : Stay) → ComesAs a.received p.incoming p.input here → is_here here ≡ true → is_at_rest a.sent a.received ≡ true
-    by stay.Here reads e = rests_as a.sent a.received p.outgoing p.incoming p.input p.output p.cut h.writes reads h.cut
+    by stay.Here reads e = rests_as a.sent a.received p.outgoing p.incoming p.input p.output p.backpressured h.writes reads h.cut
         (and_right (is_here p.stay) (has_rest p) r)
     by (stay.Draining since) reads e = absurd (true≢false (sym e))
     by (stay.Shut since) reads e = absurd (true≢false (sym e))

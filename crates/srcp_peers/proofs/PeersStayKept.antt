@@ -6,15 +6,15 @@ use Rattle.std.proofs.lemmas.List.Sums.{fold-append}
 use Rattle.std.proofs.lemmas.Bool.Decides.{nat_tests}
 use Rattle.std.specs.declared.io.ErrorKind.{ErrorKind}
 use Rattle.srcp_peers.specs.declared.system.Ready.{Ready}
-use Rattle.srcp_peers.specs.declared.system.Refusal.{Refusal}
-use Rattle.srcp_peers.specs.declared.system.Refusal.TheVariants.{Later, Again, Fault}
+use Rattle.srcp_peers.specs.declared.system.IoFailure.{IoFailure}
+use Rattle.srcp_peers.specs.declared.system.IoFailure.TheVariants.{WouldBlock, Interrupted, Fatal}
 use Rattle.srcp_peers.specs.declared.readiness.Input.TheVariants as input
 use Rattle.srcp_peers.specs.declared.readiness.Output.{Output}
 use Rattle.srcp_peers.specs.declared.readiness.Output.TheVariants as output
 use Rattle.srcp_peers.specs.declared.peer.Peer.{Peer}
 use Rattle.srcp_peers.specs.declared.stay.Stay.TheVariants as stay
 use Rattle.srcp_peers.specs.Steps.{Step, Tells, Reads, Shuts, Writes, Waits, Answers}
-use Rattle.srcp_peers.specs.Steps.{refusal_of}
+use Rattle.srcp_peers.specs.Steps.{failure_of}
 use Rattle.srcp_door.specs.Calls.{ReadCall}
 use Rattle.srcp_door.specs.declared.door.DoorFault.{DoorFault}
 use Rattle.srcp_door.specs.declared.door.Got.{Got}
@@ -24,8 +24,8 @@ use Rattle.srcp_peers.specs.Accounts.{may_end, may_fail}
 use Rattle.srcp_peers.specs.Accounts.{refused_read, refused_write, shut_down, untouched, waited, wrote, woken, woken_sent}
 use Rattle.srcp_peers.specs.Accounts.{woken_came}
 use Rattle.srcp_door.specs.Pacing.{line_after}
-use Rattle.srcp_door.specs.declared.pacing.Line.{Line}
-use Rattle.srcp_door.specs.declared.pacing.Line.TheVariants as line
+use Rattle.srcp_door.specs.declared.pacing.LineBoundary.{LineBoundary}
+use Rattle.srcp_door.specs.declared.pacing.LineBoundary.TheVariants as boundary
 use Rattle.srcp_door.specs.declared.pacing.Share.{Share}
 use Rattle.srcp_peers.specs.Peers.{Agrees, ComesAs, IsKept, MayEnd, MayFail, ReadsAs, Spares, WritesAs, after_wake, given}
 use Rattle.srcp_peers.specs.Peers.{is_lost, is_resting, may_have, missed, output_after, refused, woken_input, woken_output}
@@ -88,11 +88,11 @@ skips b x y e = ap (λ c. if c then x else y) e
 agrees_own : (b : Bool) (x y : Account) (p : Peer) → b ≡ true → Agrees x p → Agrees (if b then x else y) p
 agrees_own b x y p e h = subst (λ (a : Account). Agrees a p) (sym (picks b x y e)) h
 
-pub kept_write : (old new : Option (List Step)) (p : Peer) (count : ℕ) (asked : Bool) → p.output ≡ output.Open
+pub kept_write : (old new : Option (List Step)) (p : Peer) (count : ℕ) (awaits : Bool) → p.output ≡ output.Open
     → Tells old (Writes p.number p.outgoing (Ok count)) new → IsKept old p
-    → IsKept new (record p { outgoing = drop count p.outgoing; output = output_after count (length p.outgoing); asked = asked })
-kept_write old new p count asked is_open tells kept =
-    let q : Peer = record p { outgoing = drop count p.outgoing; output = output_after count (length p.outgoing); asked = asked } in
+    → IsKept new (record p { outgoing = drop count p.outgoing; output = output_after count (length p.outgoing); awaits_reply = awaits })
+kept_write old new p count awaits is_open tells kept =
+    let q : Peer = record p { outgoing = drop count p.outgoing; output = output_after count (length p.outgoing); awaits_reply = awaits } in
     kept_after old new (Writes p.number p.outgoing (Ok count)) p q tells refl
     (λ (a : Account) (h : Agrees a p). agrees_own (p.number == p.number) _ a q (own p.number) (record {
       cut = h.cut;
@@ -108,26 +108,26 @@ kept_write old new p count asked is_open tells kept =
     })) kept
 
 -- a write that failed says nothing of what the core has
-refused_cut : (sent : Sent) (said : Refusal) → (refused_write sent said).cut ≡ sent.cut
-refused_cut sent Later = refl
-refused_cut sent Again = refl
-refused_cut sent Fault = refl
+refused_cut : (sent : Sent) (said : IoFailure) → (refused_write sent said).cut ≡ sent.cut
+refused_cut sent WouldBlock = refl
+refused_cut sent Interrupted = refl
+refused_cut sent Fatal = refl
 
-pub kept_refused : (old new : Option (List Step)) (p : Peer) (fault : ErrorKind) (asked : Bool) → p.output ≡ output.Open
+pub kept_refused : (old new : Option (List Step)) (p : Peer) (fault : ErrorKind) (awaits : Bool) → p.output ≡ output.Open
     → Tells old (Writes p.number p.outgoing (Err fault)) new → IsKept old p
-    → IsKept new (record p { output = refused p.output (refusal_of fault); asked = asked })
-kept_refused old new p fault asked is_open tells kept =
-    let q : Peer = record p { output = refused p.output (refusal_of fault); asked = asked } in
+    → IsKept new (record p { output = refused p.output (failure_of fault); awaits_reply = awaits })
+kept_refused old new p fault awaits is_open tells kept =
+    let q : Peer = record p { output = refused p.output (failure_of fault); awaits_reply = awaits } in
     kept_after old new (Writes p.number p.outgoing (Err fault)) p q tells refl
     (λ (a : Account) (h : Agrees a p). agrees_own (p.number == p.number) (record a { sent = wrote a.sent p.outgoing (Err fault) }) a q
     (own p.number) (record {
-      cut = refused_cut a.sent (refusal_of fault) ∙ h.cut;
+      cut = refused_cut a.sent (failure_of fault) ∙ h.cut;
       reads = h.reads;
       stays = h.stays;
       rightly = h.rightly;
       unread = h.unread;
       served = h.served;
-      writes = subst (λ (s : Output). WritesAs (wrote a.sent p.outgoing (Err fault)) p.outgoing (refused s (refusal_of fault)))
+      writes = subst (λ (s : Output). WritesAs (wrote a.sent p.outgoing (Err fault)) p.outgoing (refused s (failure_of fault)))
           (sym is_open)
           (unwritten_as a.sent p.outgoing fault (subst (WritesAs a.sent p.outgoing) is_open h.writes));
       line = h.line;
@@ -155,16 +155,16 @@ kept_read old new p buffer count ready tells kept =
     })) kept
 
 -- a read that failed hands out nothing
-refused_handed : (received : Received) (said : Refusal) → (refused_read received said).handed ≡ received.handed
-refused_handed received Later = refl
-refused_handed received Again = refl
-refused_handed received Fault = refl
+refused_handed : (received : Received) (said : IoFailure) → (refused_read received said).handed ≡ received.handed
+refused_handed received WouldBlock = refl
+refused_handed received Interrupted = refl
+refused_handed received Fatal = refl
 
 pub kept_missed : (old new : Option (List Step)) (p : Peer) (buffer : List ℕ) (fault : ErrorKind) → may_have p.input ≡ true
     → Tells old (Reads p.number buffer (Err fault)) new → IsKept old p
-    → IsKept new (record p { input = missed p.input (refusal_of fault) })
+    → IsKept new (record p { input = missed p.input (failure_of fault) })
 kept_missed old new p buffer fault ready tells kept =
-    let q : Peer = record p { input = missed p.input (refusal_of fault) } in
+    let q : Peer = record p { input = missed p.input (failure_of fault) } in
     kept_after old new (Reads p.number buffer (Err fault)) p q tells refl
     (λ (a : Account) (h : Agrees a p). agrees_own (p.number == p.number) _ a q (own p.number) (record {
       cut = h.cut;
@@ -174,7 +174,7 @@ kept_missed old new p buffer fault ready tells kept =
       rightly = h.rightly;
       unread = was_read a.watched;
       served = h.served;
-      line = h.line ∙ ap (line_after line.Ended) (sym (refused_handed a.received (refusal_of fault)));
+      line = h.line ∙ ap (line_after boundary.At) (sym (refused_handed a.received (failure_of fault)));
       honest = h.honest;
       rested = h.rested;
     })) kept
@@ -203,14 +203,14 @@ spares_got n other old new answer buffer differ tells =
     same a (Err fault) = skips (n == other) _ a (alien n other differ)
 
 -- what a read of the door answered
-got_agrees : (a : Account) (p : Peer) (answer : Result Got DoorFault) (buffer rest : List ℕ) (share : Share) (asked : Bool) (heard : ℕ)
+got_agrees : (a : Account) (p : Peer) (answer : Result Got DoorFault) (buffer rest : List ℕ) (share : Share) (awaits : Bool) (heard : ℕ)
     → p.stay ≡ stay.Here → p.incoming ≡ got_bytes answer buffer ++ rest
     → share.line ≡ line_after p.share.line (got_bytes answer buffer)
     → (answer ≡ Ok got.Ended → MayEnd p) → OnErr answer (MayFail p) → Agrees a p
     → Agrees (answered_step p.number a (ReadCall p.number answer buffer))
-    (record p { incoming = rest; share = share; asked = asked; heard = heard })
-got_agrees a p (Ok (got.Bytes count)) buffer rest share asked heard here is lined ended failed h =
-    let q : Peer = record p { incoming = rest; share = share; asked = asked; heard = heard } in
+    (record p { incoming = rest; share = share; awaits_reply = awaits; heard = heard })
+got_agrees a p (Ok (got.Bytes count)) buffer rest share awaits heard here is lined ended failed h =
+    let q : Peer = record p { incoming = rest; share = share; awaits_reply = awaits; heard = heard } in
     let r = reads_here a.received p.incoming p.input p.stay here h.reads in
     agrees_own (p.number == p.number) _ a q (own p.number) (record {
       cut = h.cut;
@@ -221,12 +221,12 @@ got_agrees a p (Ok (got.Bytes count)) buffer rest share asked heard here is line
       rightly = h.rightly;
       unread = λ e. wants_less p.input p.incoming (got_bytes (Ok (got.Bytes count)) buffer) rest is (h.unread e);
       served = h.served;
-      line = lined ∙ ap (λ (l : Line). line_after l (take count buffer)) h.line
-          ∙ sym (line_after-append line.Ended a.received.handed (take count buffer));
+      line = lined ∙ ap (λ (l : LineBoundary). line_after l (take count buffer)) h.line
+          ∙ sym (line_after-append boundary.At a.received.handed (take count buffer));
       honest = h.honest;
       rested = h.rested;
     })
-got_agrees a p (Ok got.Nothing) buffer rest share asked heard here is lined ended failed h = record {
+got_agrees a p (Ok got.Nothing) buffer rest share awaits heard here is lined ended failed h = record {
   cut = h.cut;
   reads = subst (λ (b : List ℕ). ComesAs a.received b p.input p.stay) is h.reads;
   writes = h.writes;
@@ -238,8 +238,8 @@ got_agrees a p (Ok got.Nothing) buffer rest share asked heard here is lined ende
   honest = h.honest;
   rested = h.rested;
 }
-got_agrees a p (Ok got.Ended) buffer rest share asked heard here is lined ended failed h =
-    let q : Peer = record p { incoming = rest; share = share; asked = asked; heard = heard } in
+got_agrees a p (Ok got.Ended) buffer rest share awaits heard here is lined ended failed h =
+    let q : Peer = record p { incoming = rest; share = share; awaits_reply = awaits; heard = heard } in
     let e = ended refl in
     let r : ReadsAs a.received p.incoming input.Ended = subst (ReadsAs a.received p.incoming) e.0
     (reads_here a.received p.incoming p.input p.stay here h.reads) in
@@ -256,8 +256,8 @@ got_agrees a p (Ok got.Ended) buffer rest share asked heard here is lined ended 
           ∙ may_end_then a p.incoming p.outgoing p.output r.0 r.2 e.1 e.3 e.4 h.writes;
       rested = h.rested;
     })
-got_agrees a p (Err fault) buffer rest share asked heard here is lined ended failed h =
-    let q : Peer = record p { incoming = rest; share = share; asked = asked; heard = heard } in
+got_agrees a p (Err fault) buffer rest share awaits heard here is lined ended failed h =
+    let q : Peer = record p { incoming = rest; share = share; awaits_reply = awaits; heard = heard } in
     agrees_own (p.number == p.number) _ a q (own p.number) (record {
       cut = h.cut;
       reads = subst (λ (b : List ℕ). ComesAs a.received b p.input p.stay) is h.reads;
@@ -272,7 +272,7 @@ got_agrees a p (Err fault) buffer rest share asked heard here is lined ended fai
     })
 
 pub kept_got : (old new : Option (List Step)) (p q : Peer) (answer : Result Got DoorFault) (buffer : List ℕ)
-    → p.stay ≡ stay.Here → q ≡ record p { incoming = q.incoming; share = q.share; asked = q.asked; heard = q.heard }
+    → p.stay ≡ stay.Here → q ≡ record p { incoming = q.incoming; share = q.share; awaits_reply = q.awaits_reply; heard = q.heard }
     → p.incoming ≡ got_bytes answer buffer ++ q.incoming
     → q.share.line ≡ line_after p.share.line (got_bytes answer buffer)
     → (answer ≡ Ok got.Ended → MayEnd p) → OnErr answer (MayFail p)
@@ -280,8 +280,9 @@ pub kept_got : (old new : Option (List Step)) (p q : Peer) (answer : Result Got 
 kept_got old new p q answer buffer here same is lined ended failed tells kept =
     subst (IsKept new) (sym same)
     (kept_after old new (Answers (ReadCall p.number answer buffer)) p
-    (record p { incoming = q.incoming; share = q.share; asked = q.asked; heard = q.heard }) tells refl
-    (λ (a : Account) (h : Agrees a p). got_agrees a p answer buffer q.incoming q.share q.asked q.heard here is lined ended failed h) kept)
+    (record p { incoming = q.incoming; share = q.share; awaits_reply = q.awaits_reply; heard = q.heard }) tells refl
+    (λ (a : Account) (h : Agrees a p).
+    got_agrees a p answer buffer q.incoming q.share q.awaits_reply q.heard here is lined ended failed h) kept)
 
 -- ---- the sockets that a wait found ready
 
@@ -363,18 +364,18 @@ kept_waited old new p most count ready rest tells kept =
 
 -- ---- the same, by the names that a function gives to the parts
 
-pub wrote_peer : (old new : Option (List Step)) (p : Peer) (count all : ℕ) (held left : List ℕ) (out : Output) (asked : Bool)
+pub wrote_peer : (old new : Option (List Step)) (p : Peer) (count all : ℕ) (held left : List ℕ) (out : Output) (awaits : Bool)
     → p.output ≡ output.Open
     → held ≡ p.outgoing → left ≡ drop count p.outgoing → all ≡ length p.outgoing → out ≡ output_after count all
     → Tells old (Writes p.number held (Ok count)) new → IsKept old p
-    → IsKept new (record p { outgoing = left; output = out; asked = asked })
-wrote_peer old new p count all held left out asked is_open is_held lefted alled outed tells kept =
+    → IsKept new (record p { outgoing = left; output = out; awaits_reply = awaits })
+wrote_peer old new p count all held left out awaits is_open is_held lefted alled outed tells kept =
     let writes : Tells old (Writes p.number p.outgoing (Ok count)) new = subst
     (λ (f : List ℕ). Tells old (Writes p.number f (Ok count)) new) is_held tells in
-    let k = kept_write old new p count asked is_open writes kept in
-    subst (λ (o : Output). IsKept new (record p { outgoing = left; output = o; asked = asked })) (sym
+    let k = kept_write old new p count awaits is_open writes kept in
+    subst (λ (o : Output). IsKept new (record p { outgoing = left; output = o; awaits_reply = awaits })) (sym
     (outed ∙ ap (output_after count) alled))
-    (subst (λ (l : List ℕ). IsKept new (record p { outgoing = l; output = output_after count (length p.outgoing); asked = asked }))
+    (subst (λ (l : List ℕ). IsKept new (record p { outgoing = l; output = output_after count (length p.outgoing); awaits_reply = awaits }))
     (sym lefted) k)
 
 -- a call about one socket spares the others

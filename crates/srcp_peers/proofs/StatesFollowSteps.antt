@@ -6,13 +6,13 @@ use Rattle.std.specs.Io.{StartsWith}
 use Rattle.std.proofs.lemmas.List.{take-append-drop, take-append-le, length-take}
 use Rattle.std.proofs.Math.Seq.{take-append_seam}
 use Rattle.std.specs.declared.io.ErrorKind.{ErrorKind}
-use Rattle.srcp_peers.specs.declared.system.Refusal.{Refusal}
-use Rattle.srcp_peers.specs.declared.system.Refusal.TheVariants.{Later, Again, Fault}
+use Rattle.srcp_peers.specs.declared.system.IoFailure.{IoFailure}
+use Rattle.srcp_peers.specs.declared.system.IoFailure.TheVariants.{WouldBlock, Interrupted, Fatal}
 use Rattle.srcp_peers.specs.declared.readiness.Input.{Input}
 use Rattle.srcp_peers.specs.declared.readiness.Input.TheVariants as input
 use Rattle.srcp_peers.specs.declared.readiness.Output.{Output}
 use Rattle.srcp_peers.specs.declared.readiness.Output.TheVariants as output
-use Rattle.srcp_peers.specs.Steps.{refusal_of}
+use Rattle.srcp_peers.specs.Steps.{failure_of}
 use Rattle.srcp_peers.specs.declared.stay.Stay.{Stay}
 use Rattle.srcp_peers.specs.declared.stay.Stay.TheVariants as stay
 use Rattle.srcp_peers.specs.Accounts.{Sent, Received, wrote, refused_write, read_in, refused_read, woken_sent, woken_came}
@@ -46,11 +46,11 @@ taken_as sent outgoing count true short h =
 taken_as sent outgoing count false true h = (parted sent outgoing count h.0, ap (λ b. b || false) h.1, refl)
 taken_as sent outgoing count false false h = (parted sent outgoing count h.0, ap (λ b. b || false) h.1)
 
-refused_as : (sent : Sent) (outgoing : List ℕ) (said : Refusal) → WritesAs sent outgoing output.Open
+refused_as : (sent : Sent) (outgoing : List ℕ) (said : IoFailure) → WritesAs sent outgoing output.Open
     → WritesAs (refused_write sent said) outgoing (refused output.Open said)
-refused_as sent outgoing Later h = (h.0, h.1, refl)
-refused_as sent outgoing Again h = h
-refused_as sent outgoing Fault h = (starts sent.written sent.took outgoing h.0, refl)
+refused_as sent outgoing WouldBlock h = (h.0, h.1, refl)
+refused_as sent outgoing Interrupted h = h
+refused_as sent outgoing Fatal h = (starts sent.written sent.took outgoing h.0, refl)
 
 -- what the door said it took
 pub written_as : (sent : Sent) (outgoing bytes : List ℕ) (state : Output) → WritesAs sent outgoing state
@@ -65,8 +65,8 @@ pub wrote_as : (sent : Sent) (outgoing : List ℕ) (count : ℕ) → WritesAs se
 wrote_as sent outgoing count h = taken_as sent outgoing count (count == 0) (nat_lt count (length outgoing)) h
 
 pub unwritten_as : (sent : Sent) (outgoing : List ℕ) (fault : ErrorKind) → WritesAs sent outgoing output.Open
-    → WritesAs (wrote sent outgoing (Err fault)) outgoing (refused output.Open (refusal_of fault))
-unwritten_as sent outgoing fault h = refused_as sent outgoing (refusal_of fault) h
+    → WritesAs (wrote sent outgoing (Err fault)) outgoing (refused output.Open (failure_of fault))
+unwritten_as sent outgoing fault h = refused_as sent outgoing (failure_of fault) h
 
 -- its socket was found ready
 pub woken_writes : (sent : Sent) (outgoing : List ℕ) (state : Output) (writable : Bool) → WritesAs sent outgoing state
@@ -105,14 +105,14 @@ given_as received incoming bytes input.Quiet zero short e h = absurd (true≢fal
 given_as received incoming bytes input.Ended zero short e h = absurd (true≢false (sym e))
 given_as received incoming bytes input.Failed zero short e h = absurd (true≢false (sym e))
 
-missed_as : (received : Received) (incoming : List ℕ) (state : Input) (said : Refusal) → may_have state ≡ true
+missed_as : (received : Received) (incoming : List ℕ) (state : Input) (said : IoFailure) → may_have state ≡ true
     → ReadsAs received incoming state → ReadsAs (refused_read received said) incoming (missed state said)
-missed_as received incoming input.Ready Later e h = (h.0, h.1, h.2, refl, refl)
-missed_as received incoming input.Ready Again e h = h
-missed_as received incoming input.Ready Fault e h = (h.0, refl)
-missed_as received incoming input.Draining Later e h = (h.0, h.1, h.2, refl, refl)
-missed_as received incoming input.Draining Again e h = h
-missed_as received incoming input.Draining Fault e h = (h.0, refl)
+missed_as received incoming input.Ready WouldBlock e h = (h.0, h.1, h.2, refl, refl)
+missed_as received incoming input.Ready Interrupted e h = h
+missed_as received incoming input.Ready Fatal e h = (h.0, refl)
+missed_as received incoming input.Draining WouldBlock e h = (h.0, h.1, h.2, refl, refl)
+missed_as received incoming input.Draining Interrupted e h = h
+missed_as received incoming input.Draining Fatal e h = (h.0, refl)
 missed_as received incoming input.Quiet said e h = absurd (true≢false (sym e))
 missed_as received incoming input.Ended said e h = absurd (true≢false (sym e))
 missed_as received incoming input.Failed said e h = absurd (true≢false (sym e))
@@ -126,8 +126,8 @@ read_as received incoming buffer count state e h = given_as received incoming (t
 
 pub unread_as : (received : Received) (incoming buffer : List ℕ) (fault : ErrorKind) (state : Input) → may_have state ≡ true
     → ReadsAs received incoming state
-    → ReadsAs (read_in received buffer (Err fault)) incoming (missed state (refusal_of fault))
-unread_as received incoming buffer fault state e h = missed_as received incoming state (refusal_of fault) e h
+    → ReadsAs (read_in received buffer (Err fault)) incoming (missed state (failure_of fault))
+unread_as received incoming buffer fault state e h = missed_as received incoming state (failure_of fault) e h
 
 -- bytes were handed out
 handed_more : (received : Received) (bytes rest : List ℕ) → received.gave ≡ received.handed ++ (bytes ++ rest)
@@ -172,18 +172,18 @@ read_comes received incoming buffer count state stay.Here e h = read_as received
 read_comes received incoming buffer count state (stay.Draining since) e h = starts_on received.gave received.handed (take count buffer) h
 read_comes received incoming buffer count state (stay.Shut since) e h = starts_on received.gave received.handed (take count buffer) h
 
-refused_starts : (received : Received) (said : Refusal) → StartsWith received.gave received.handed
+refused_starts : (received : Received) (said : IoFailure) → StartsWith received.gave received.handed
     → StartsWith (refused_read received said).gave (refused_read received said).handed
-refused_starts received Later h = h
-refused_starts received Again h = h
-refused_starts received Fault h = h
+refused_starts received WouldBlock h = h
+refused_starts received Interrupted h = h
+refused_starts received Fatal h = h
 
 pub unread_comes : (received : Received) (incoming buffer : List ℕ) (fault : ErrorKind) (state : Input) (here : Stay)
     → may_have state ≡ true → ComesAs received incoming state here
-    → ComesAs (read_in received buffer (Err fault)) incoming (missed state (refusal_of fault)) here
+    → ComesAs (read_in received buffer (Err fault)) incoming (missed state (failure_of fault)) here
 unread_comes received incoming buffer fault state stay.Here e h = unread_as received incoming buffer fault state e h
-unread_comes received incoming buffer fault state (stay.Draining since) e h = refused_starts received (refusal_of fault) h
-unread_comes received incoming buffer fault state (stay.Shut since) e h = refused_starts received (refusal_of fault) h
+unread_comes received incoming buffer fault state (stay.Draining since) e h = refused_starts received (failure_of fault) h
+unread_comes received incoming buffer fault state (stay.Shut since) e h = refused_starts received (failure_of fault) h
 
 pub woken_comes : (received : Received) (incoming : List ℕ) (state : Input) (here : Stay) (readable closed : Bool)
     → ComesAs received incoming state here

@@ -3,9 +3,9 @@ use Rattle.std.specs.Prelude.{ℕ, ◌+◌, ◌-◌, ◌==◌, ◌&&◌, ◌||�
 use Rattle.std.specs.Prelude.{if◌then◌else◌, List, [], ◌++◌, length, take, fold, Option, Some, None, Result, Ok, Err}
 use Rattle.std.specs.declared.io.ErrorKind.{ErrorKind}
 use Rattle.srcp_peers.specs.declared.system.Ready.{Ready}
-use Rattle.srcp_peers.specs.declared.system.Refusal.{Refusal}
-use Rattle.srcp_peers.specs.declared.system.Refusal.TheVariants.{Later, Again, Fault}
-use Rattle.srcp_peers.specs.Steps.{Step, Accepts, Clocks, Closes, Reads, Shuts, Writes, Waits, Answers, refusal_of}
+use Rattle.srcp_peers.specs.declared.system.IoFailure.{IoFailure}
+use Rattle.srcp_peers.specs.declared.system.IoFailure.TheVariants.{WouldBlock, Interrupted, Fatal}
+use Rattle.srcp_peers.specs.Steps.{Step, Accepts, Clocks, Closes, Reads, Shuts, Writes, Waits, Answers, failure_of}
 use Rattle.srcp_door.specs.Calls.{Call, ExpectCall, NowCall, AcceptCall, ReadCall, WriteCall, CloseCall}
 use Rattle.srcp_door.specs.declared.door.Got.TheVariants as got
 
@@ -117,10 +117,10 @@ may_close a = is_lingering a
 
 -- ---- what a step says
 
-abbrev pub refused_write : Sent → Refusal → Sent
-refused_write sent Later = record sent { full = true }
-refused_write sent Again = sent
-refused_write sent Fault = record sent { lost = true }
+abbrev pub refused_write : Sent → IoFailure → Sent
+refused_write sent WouldBlock = record sent { full = true }
+refused_write sent Interrupted = sent
+refused_write sent Fatal = record sent { lost = true }
 
 abbrev pub wrote : Sent → List ℕ → Result ℕ ErrorKind → Sent
 wrote sent bytes (Ok count) = record sent {
@@ -128,12 +128,12 @@ wrote sent bytes (Ok count) = record sent {
   full = nat_lt count (length bytes);
   lost = sent.lost || (count == 0);
 }
-wrote sent bytes (Err fault) = refused_write sent (refusal_of fault)
+wrote sent bytes (Err fault) = refused_write sent (failure_of fault)
 
-abbrev pub refused_read : Received → Refusal → Received
-refused_read received Later = record received { quiet = true; draining = false }
-refused_read received Again = received
-refused_read received Fault = record received { failed = true }
+abbrev pub refused_read : Received → IoFailure → Received
+refused_read received WouldBlock = record received { quiet = true; draining = false }
+refused_read received Interrupted = received
+refused_read received Fatal = record received { failed = true }
 
 abbrev pub read_in : Received → List ℕ → Result ℕ ErrorKind → Received
 read_in received buffer (Ok count) = record received {
@@ -141,7 +141,7 @@ read_in received buffer (Ok count) = record received {
   quiet = not received.draining && nat_lt count (length buffer);
   ended = received.ended || (count == 0);
 }
-read_in received buffer (Err fault) = refused_read received (refusal_of fault)
+read_in received buffer (Err fault) = refused_read received (failure_of fault)
 
 abbrev pub read_of : Account → List ℕ → Result ℕ ErrorKind → Account
 read_of a buffer answer = record a { received = read_in a.received buffer answer; unread = false }
@@ -188,14 +188,14 @@ accepted a (Ok done) = record a {
 accepted a (Err fault) = a
 
 -- what the listener said
-abbrev pub heard_refusal : Received → Refusal → Received
-heard_refusal received Later = record received { quiet = true }
-heard_refusal received Again = received
-heard_refusal received Fault = received
+abbrev pub heard_refusal : Received → IoFailure → Received
+heard_refusal received WouldBlock = record received { quiet = true }
+heard_refusal received Interrupted = received
+heard_refusal received Fatal = received
 
 abbrev pub heard : Received → Result Unit ErrorKind → Received
 heard received (Ok done) = received
-heard received (Err fault) = heard_refusal received (refusal_of fault)
+heard received (Err fault) = heard_refusal received (failure_of fault)
 
 -- the core closes it
 abbrev pub left_by_core : Account → Account

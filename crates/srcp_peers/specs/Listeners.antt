@@ -3,8 +3,8 @@ use Rattle.std.specs.Prelude.{◌==◌, ◌&&◌, ◌||◌, if◌then◌else◌}
 use Rattle.srcp_peers.specs.declared.turn.Listening.{Listening}
 use Rattle.srcp_peers.specs.declared.turn.Listening.TheVariants as listening
 use Rattle.srcp_peers.specs.declared.system.Ready.{Ready}
-use Rattle.srcp_peers.specs.declared.system.Refusal.{Refusal}
-use Rattle.srcp_peers.specs.declared.system.Refusal.TheVariants.{Later, Again, Fault}
+use Rattle.srcp_peers.specs.declared.system.IoFailure.{IoFailure}
+use Rattle.srcp_peers.specs.declared.system.IoFailure.TheVariants.{WouldBlock, Interrupted, Fatal}
 
 -- after a socket was found ready
 abbrev pub woken_listening : Listening → Ready → Listening
@@ -12,7 +12,7 @@ woken_listening before ready = if (ready.socket == 0) && (ready.readable || (rea
     then listening.Ready else before
 
 -- after an accept that failed
-abbrev pub refused_listening : Refusal → Listening
-refused_listening Later = listening.Quiet
-refused_listening Again = listening.Ready
-refused_listening Fault = listening.Refused
+abbrev pub refused_listening : IoFailure → Listening
+refused_listening WouldBlock = listening.Quiet
+refused_listening Interrupted = listening.Ready
+refused_listening Fatal = listening.BackingOff

@@ -6,8 +6,8 @@ use Rattle.std.specs.Prelude.{Result, Ok, Err}
 use Rattle.std.specs.Io.{StartsWith}
 use Rattle.std.specs.declared.io.ErrorKind.{ErrorKind}
 use Rattle.srcp_peers.specs.declared.system.Ready.{Ready}
-use Rattle.srcp_peers.specs.declared.system.Refusal.{Refusal}
-use Rattle.srcp_peers.specs.declared.system.Refusal.TheVariants.{Later, Again, Fault}
+use Rattle.srcp_peers.specs.declared.system.IoFailure.{IoFailure}
+use Rattle.srcp_peers.specs.declared.system.IoFailure.TheVariants.{WouldBlock, Interrupted, Fatal}
 use Rattle.srcp_peers.specs.declared.readiness.Input.{Input}
 use Rattle.srcp_peers.specs.declared.readiness.Input.TheVariants as input
 use Rattle.srcp_peers.specs.declared.readiness.Output.{Output}
@@ -19,8 +19,8 @@ use Rattle.srcp_peers.specs.declared.stay.Stay.{Stay}
 use Rattle.srcp_peers.specs.declared.stay.Stay.TheVariants as stay
 use Rattle.srcp_door.specs.Pacing.{line_after}
 use Rattle.srcp_peers.specs.declared.ending.Ending.TheVariants as ending
-use Rattle.srcp_door.specs.declared.pacing.Line.TheVariants as line
-use Rattle.srcp_peers.specs.Steps.{Step, Reads, Tells, Writes, refusal_of}
+use Rattle.srcp_door.specs.declared.pacing.LineBoundary.TheVariants as boundary
+use Rattle.srcp_peers.specs.Steps.{Step, Reads, Tells, Writes, failure_of}
 use Rattle.srcp_peers.specs.Accounts.{Account, Lingering, Sent, Received, account, is_overdue}
 
 -- what a state of the input means, if `incoming` is held of it
@@ -75,8 +75,8 @@ pub record Agrees (a : Account) (p : Peer) : Type 0 where
   pub rightly : a.lingering.rightly ≡ true
   pub unread : (a.watched && a.unread) ≡ true → is_wanting p.input p.incoming ≡ true
   pub served : a.served ≡ true
-  pub cut : a.sent.cut ≡ p.cut
-  pub line : p.share.line ≡ line_after line.Ended a.received.handed
+  pub cut : a.sent.cut ≡ p.backpressured
+  pub line : p.share.line ≡ line_after boundary.At a.received.handed
   pub honest : a.honest ≡ true
   pub rested : a.rested ≡ true
 
@@ -107,10 +107,10 @@ IsOffered socket bytes old new = (later : List Step) → new ≡ Some later
 
 -- ---- what answers make of a peer
 
-abbrev pub refused : Output → Refusal → Output
-refused state Later = output.Full
-refused state Again = state
-refused state Fault = output.Lost
+abbrev pub refused : Output → IoFailure → Output
+refused state WouldBlock = output.Full
+refused state Interrupted = state
+refused state Fatal = output.Lost
 
 -- a write of `all` bytes that took `count` of them
 abbrev pub output_after : (count all : ℕ) → Output
@@ -150,26 +150,26 @@ given_some input.Failed left = input.Failed
 abbrev pub given : Input → ℕ → ℕ → Input
 given state count room = if count == 0 then input.Ended else given_some state (nat_lt count room)
 
-abbrev pub missed : Input → Refusal → Input
-missed state Later = input.Quiet
-missed state Again = state
-missed state Fault = input.Failed
+abbrev pub missed : Input → IoFailure → Input
+missed state WouldBlock = input.Quiet
+missed state Interrupted = state
+missed state Fatal = input.Failed
 
 abbrev pub after_read : Peer → List ℕ → Result ℕ ErrorKind → Peer
 after_read p buffer (Ok count) = record p {
   incoming = p.incoming ++ take count buffer;
   input = given p.input count (length buffer);
 }
-after_read p buffer (Err fault) = record p { input = missed p.input (refusal_of fault) }
+after_read p buffer (Err fault) = record p { input = missed p.input (failure_of fault) }
 
 -- a write of all that is queued
 abbrev pub after_write : Peer → Result ℕ ErrorKind → Peer
 after_write p (Ok count) = record p {
   outgoing = drop count p.outgoing;
   output = output_after count (length p.outgoing);
-  asked = false;
+  awaits_reply = false;
 }
-after_write p (Err fault) = record p { output = refused p.output (refusal_of fault); asked = false }
+after_write p (Err fault) = record p { output = refused p.output (failure_of fault); awaits_reply = false }
 
 -- the step that came is a read of its socket, and `new` has what that gave
 abbrev pub Asks : (p new : Peer) → Option (List Step) → Option (List Step) → Type 0
@@ -223,7 +223,7 @@ tries_again flush.Again = true
 -- what is queued is flushed: an answer, unless input of the peer is held that the core takes; and much
 abbrev pub is_due : Flush → Peer → Bool
 is_due what p = flushes_all what
-    || (nat_lt 3160 (length p.outgoing) || (p.asked && (p.cut || (length p.incoming == 0))))
+    || (nat_lt 3160 (length p.outgoing) || (p.awaits_reply && (p.backpressured || (length p.incoming == 0))))
 
 -- what is flushed of a peer that stays so, in a turn that flushes `what`: all, if it lingers
 abbrev pub flush_of : Flush → Stay → Flush
@@ -261,7 +261,7 @@ is_shut (stay.Shut since) = true
 
 -- input of it is held that the core takes
 abbrev pub holds_input : Peer → Bool
-holds_input p = is_here p.stay && (not p.cut && not (length p.incoming == 0))
+holds_input p = is_here p.stay && (not p.backpressured && not (length p.incoming == 0))
 
 -- nothing of it was handed out for 50 milliseconds when the clock shows this
 abbrev pub is_silent : (clock : ℕ) → Peer → Bool
@@ -311,7 +311,7 @@ rests_reading outgoing input.Failed = false
 -- nothing is to be done for it
 abbrev pub has_rest : Peer → Bool
 has_rest p = rests_writing p.outgoing p.output
-    && cond p.cut (length p.outgoing == 40960) ((length p.incoming == 0) && rests_reading p.outgoing p.input)
+    && cond p.backpressured (length p.outgoing == 40960) ((length p.incoming == 0) && rests_reading p.outgoing p.input)
 
 -- it is there, and may be waited for
 abbrev pub is_resting : Peer → Bool

@@ -41,8 +41,8 @@ is_ended p = is_over [] p.input && (is_settled p.ending && (length p.outgoing ==
 
 -- what is reported of it, if the turn reported no other end
 abbrev pub end_in : Turn → Peer → Result Got DoorFault
-end_in turn p = cond turn.ends (cond (is_failed p) (Err fault.Read) (cond (is_ended p) (Ok got.Ended) (Ok got.Nothing)))
-    (Ok got.Nothing)
+end_in turn p = cond turn.may_report_end
+    (cond (is_failed p) (Err fault.Read) (cond (is_ended p) (Ok got.Ended) (Ok got.Nothing))) (Ok got.Nothing)
 
 -- ---- if something is
 

@@ -3,8 +3,8 @@ use Rattle.std.specs.Prelude.{◌≡◌, ℕ, List, [], ◌∷◌, ◌++◌, fil
 use Rattle.std.specs.declared.io.ErrorKind.{ErrorKind}
 use Rattle.std.specs.declared.io.ErrorKind.TheVariants as kind
 use Rattle.srcp_peers.specs.declared.system.Ready.{Ready}
-use Rattle.srcp_peers.specs.declared.system.Refusal.{Refusal}
-use Rattle.srcp_peers.specs.declared.system.Refusal.TheVariants.{Later, Again, Fault}
+use Rattle.srcp_peers.specs.declared.system.IoFailure.{IoFailure}
+use Rattle.srcp_peers.specs.declared.system.IoFailure.TheVariants.{WouldBlock, Interrupted, Fatal}
 use Rattle.srcp_door.specs.Calls.{Call}
 
 -- a call of the system with its answer, or an answer of the door
@@ -51,7 +51,7 @@ SaysOne old call new = (later : List Step) → new ≡ Some later
     → (log : List Step) × (old ≡ Some log) × (calls later ≡ calls log ++ call ∷ [])
 
 -- what a call of the system that failed says of a socket
-abbrev pub refusal_of : ErrorKind → Refusal
-refusal_of kind.WouldBlock = Later
-refusal_of kind.Interrupted = Again
-refusal_of _ = Fault
+abbrev pub failure_of : ErrorKind → IoFailure
+failure_of kind.WouldBlock = WouldBlock
+failure_of kind.Interrupted = Interrupted
+failure_of _ = Fatal

@@ -3,18 +3,18 @@ use Rattle.std.specs.Prelude.{◌≡◌, ℕ, ◌+◌, ◌==◌, ◌&&◌, ◌||
 use Rattle.std.specs.Prelude.{Option, Some, None, Result, Ok, Err}
 use Rattle.std.specs.Option.{option_map_or}
 use Rattle.srcp_door.specs.Pacing.{fits, line_after, weight_of}
-use Rattle.srcp_door.specs.declared.pacing.Line.{Line}
-use Rattle.srcp_door.specs.declared.pacing.Line.TheVariants.{Ended}
+use Rattle.srcp_door.specs.declared.pacing.LineBoundary.{LineBoundary}
+use Rattle.srcp_door.specs.declared.pacing.LineBoundary.TheVariants.{At}
 use Rattle.srcp_door.specs.declared.door.DoorFault.{DoorFault}
 use Rattle.srcp_door.specs.declared.door.DoorFault.TheVariants.{Accept}
 use Rattle.srcp_door.specs.declared.door.Got.{Got}
 use Rattle.srcp_door.specs.Calls.{Call, NowCall, AcceptCall, ReadCall}
 use Rattle.std.specs.declared.io.ErrorKind.{ErrorKind}
-use Rattle.srcp_peers.specs.declared.system.Refusal.{Refusal}
-use Rattle.srcp_peers.specs.declared.system.Refusal.TheVariants.{Later, Again, Fault}
+use Rattle.srcp_peers.specs.declared.system.IoFailure.{IoFailure}
+use Rattle.srcp_peers.specs.declared.system.IoFailure.TheVariants.{WouldBlock, Interrupted, Fatal}
 use Rattle.srcp_peers.specs.declared.turn.Turn.{Turn}
 use Rattle.srcp_peers.specs.Accounts.{is_short_wait}
-use Rattle.srcp_peers.specs.Steps.{Step, Accepts, Clocks, Closes, Reads, Shuts, Answers, Waits, Writes, refusal_of}
+use Rattle.srcp_peers.specs.Steps.{Step, Accepts, Clocks, Closes, Reads, Shuts, Answers, Waits, Writes, failure_of}
 use Rattle.srcp_peers.specs.Turns.{after_call, after_read, after_wait, begun, first_turn, got_bytes, hands_out}
 use Rattle.srcp_peers.specs.Turns.{is_pending, moment_at, reports_end, time_left, reported_at}
 
@@ -27,7 +27,7 @@ pub record Times : Type 0 where
   pub punctual : Bool  -- no wait ended past what falls due
   pub patient : Bool  -- each long wait came after a turn in which nothing happened, or there was no panel
   pub prompt : Bool  -- no input was handed out in a turn that was late
-  pub lines : ℕ → Line  -- the line of each socket that is being handed out
+  pub lines : ℕ → LineBoundary  -- the line of each socket that is being handed out
   pub paced : Bool  -- the lines that were handed out weighed no more than might go
   pub single : Bool  -- the end of one peer was reported in each turn at most
   pub heard : Option (Result (Option ℕ) DoorFault)  -- what `accept` is to answer, if the system was asked since
@@ -43,7 +43,7 @@ first_times wall start = record {
   punctual = true;
   patient = true;
   prompt = true;
-  lines = λ socket. Ended;
+  lines = λ socket. At;
   paced = true;
   single = true;
   heard = None;
@@ -68,7 +68,7 @@ answered_moment t (Ok moment) = record t {
 answered_moment t (Err fault) = record t { turn = begun t.turn false; fresh = false }
 
 -- the line of each socket after a read
-abbrev pub lines_after : (ℕ → Line) → (who : ℕ) → Result Got DoorFault → List ℕ → (socket : ℕ) → Line
+abbrev pub lines_after : (ℕ → LineBoundary) → (who : ℕ) → Result Got DoorFault → List ℕ → (socket : ℕ) → LineBoundary
 lines_after lines who answer buffer socket =
     if who == socket then line_after (lines socket) (got_bytes answer buffer) else lines socket
 
@@ -78,19 +78,19 @@ answered_read t who answer buffer = record t {
   prompt = t.prompt && not (t.turn.late && hands_out answer);
   lines = lines_after t.lines who answer buffer;
   paced = t.paced && fits t.turn.pace (weight_of (t.lines who) (got_bytes answer buffer));
-  single = t.single && (not (reports_end answer) || t.turn.ends);
+  single = t.single && (not (reports_end answer) || t.turn.may_report_end);
 }
 
 -- what `accept` is to answer, if an accept of the system failed
-abbrev pub refused_accept : Refusal → Result (Option ℕ) DoorFault
-refused_accept Later = Ok None
-refused_accept Again = Ok None
-refused_accept Fault = Err Accept
+abbrev pub refused_accept : IoFailure → Result (Option ℕ) DoorFault
+refused_accept WouldBlock = Ok None
+refused_accept Interrupted = Ok None
+refused_accept Fatal = Err Accept
 
 -- and if it answered so
 abbrev pub accept_answer : (number : ℕ) → Result Unit ErrorKind → Result (Option ℕ) DoorFault
 accept_answer number (Ok done) = Ok (Some number)
-accept_answer number (Err fault) = refused_accept (refusal_of fault)
+accept_answer number (Err fault) = refused_accept (failure_of fault)
 
 -- that was answered. If the system was not asked, nobody came, or memory or the numbers ran out
 abbrev pub is_as_heard : (heard : Option (Result (Option ℕ) DoorFault)) → Result (Option ℕ) DoorFault → Bool

@@ -5,7 +5,7 @@ use Rattle.std.specs.Prelude.{List, [], take, Option, Some, None, Result, Ok, Er
 use Rattle.std.specs.Option.{option_map}
 use Rattle.srcp_door.specs.Moments.{next_moment, passed, target}
 use Rattle.srcp_door.specs.Pacing.{pace_of, spent, weight_of}
-use Rattle.srcp_door.specs.declared.pacing.Line.{Line}
+use Rattle.srcp_door.specs.declared.pacing.LineBoundary.{LineBoundary}
 use Rattle.srcp_door.specs.declared.pacing.Pace.{Pace}
 use Rattle.srcp_door.specs.declared.pacing.Pace.TheVariants.{Paced, OneLine}
 use Rattle.srcp_door.specs.declared.door.DoorFault.{DoorFault}
@@ -23,12 +23,12 @@ first_turn wall start = record {
   clock = 0;
   due = None;
   slack = None;
-  before = None;
+  previous_slack = None;
   busy = true;
   late = false;
   pace = Paced 0;
   next_line = 0;
-  ends = false;
+  may_report_end = false;
 }
 
 -- a call of the door after which a panel may have something coming: a peer came, was written to or was closed
@@ -43,7 +43,7 @@ stirs other = false
 
 -- after a call other than a read and that for the moment
 abbrev pub after_call : Turn → Call → Turn
-after_call turn (ExpectCall due slack) = record turn { due = due; slack = slack; before = turn.slack }
+after_call turn (ExpectCall due slack) = record turn { due = due; slack = slack; previous_slack = turn.slack }
 after_call turn (NowCall answer) = turn
 after_call turn (ReadCall peer answer buffer) = turn
 after_call turn other = record turn { busy = turn.busy || stirs other }
@@ -75,7 +75,7 @@ reports_end (Err fault) = true
 
 -- after that no other is reported in the turn
 abbrev pub ended : Turn → Turn
-ended turn = record turn { busy = true; ends = false }
+ended turn = record turn { busy = true; may_report_end = false }
 
 -- what the clock has to show before it lets a line through, after lines of that weight were handed out at that pace: if
 -- the clock let them through, which showed this, as many milliseconds more as they weigh
@@ -84,14 +84,14 @@ next_after clock next (Paced left) weight = next
 next_after clock next OneLine weight = cond (weight == 0) next (min (clock + weight) (2 ^ 64 - 1))
 
 -- after bytes were handed out of a peer whose line was that: what they weigh, no more may weigh
-abbrev pub handed_out : Turn → Line → List ℕ → Turn
+abbrev pub handed_out : Turn → LineBoundary → List ℕ → Turn
 handed_out turn line bytes = record turn {
   busy = true;
   pace = spent turn.pace (weight_of line bytes);
   next_line = next_after turn.clock turn.next_line turn.pace (weight_of line bytes);
 }
 
-abbrev pub after_read : Turn → Line → Result Got DoorFault → List ℕ → Turn
+abbrev pub after_read : Turn → LineBoundary → Result Got DoorFault → List ℕ → Turn
 after_read turn line (Ok (got.Bytes count)) buffer = handed_out turn line (take count buffer)
 after_read turn line (Ok got.Nothing) buffer = turn
 after_read turn line (Ok got.Ended) buffer = ended turn
@@ -122,7 +122,7 @@ ticks turn time = not (time == turn.clock) && nat_le turn.next_line time
 
 -- the moment was asked for: from then on lines of a turn's weight may be handed out, and one end be reported
 abbrev pub begun : Turn → (tick : Bool) → Turn
-begun turn tick = record turn { pace = pace_of turn.slack tick; ends = true }
+begun turn tick = record turn { pace = pace_of turn.slack tick; may_report_end = true }
 
 -- after a moment was reported; the turn is late if the moment is behind the time
 abbrev pub reported_at : Turn → (time moment : ℕ) → Turn
@@ -159,23 +159,23 @@ is_short (Some left) = nat_lt left 171
 
 -- how many changes the panels lack for a line to go before the clock goes on; as many as a peer is written lines in a
 -- visit if there is no panel
-abbrev pub lack : (slack : Option ℕ) → ℕ
-lack None = 300
-lack (Some left) = 160 - left
+abbrev pub shortfall : (slack : Option ℕ) → ℕ
+shortfall None = 300
+shortfall (Some left) = 160 - left
 
 -- how many lines may be queued in a visit for a peer whose socket refuses more: what the panels lack, if input is held
 abbrev pub room_of : (holds : Bool) → (slack : Option ℕ) → ℕ
-room_of true slack = lack slack
+room_of true slack = shortfall slack
 room_of false slack = 300
 
 -- how long a turn stands still though there is something to do: as long as the clock takes to go on, if a panel is so
 -- far behind for the second turn
-abbrev pub stop : Turn → ℕ
-stop turn = cond (is_behind turn.before && is_behind turn.slack) 1 0
+abbrev pub backpressure_delay : Turn → ℕ
+backpressure_delay turn = cond (is_behind turn.previous_slack && is_behind turn.slack) 1 0
 
 -- the clock went on since it showed that, or the turn stands still until it does
 abbrev pub has_ticked : Turn → (flushed : ℕ) → Bool
-has_ticked turn flushed = not (turn.clock == flushed) || nat_lt 0 (stop turn)
+has_ticked turn flushed = not (turn.clock == flushed) || nat_lt 0 (backpressure_delay turn)
 
 -- what is flushed: all once the clock went on, and before a wait for more than what is ready; the sockets that refused
 -- more are tried again then if not every line may go

@@ -20,9 +20,9 @@ mod turn;
 
 pub use ending::Ending;
 pub use lingering::{MOST_LINGERING, count_lingering, first_gone, first_shut};
-pub use peer::{Handed, Peer};
+pub use peer::{Peer, ReadOutcome};
 pub use queue::{MOST_INCOMING, MOST_OUTGOING, Outgoing, Queue, Queues};
 pub use readiness::{Flush, Input, Output};
 pub use stay::{LINGER, Stay};
-pub use system::{Ready, Refusal, System, refusal_of};
+pub use system::{IoFailure, Ready, System, failure_of};
 pub use turn::{Listening, RETRY_DELAY, Turn, longest_wait};

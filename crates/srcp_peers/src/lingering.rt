@@ -32,7 +32,7 @@ impl Peer {
 
     /// Flushes a peer that is there. Goes on with a lingering peer, with at most `reads` reads of its socket.
     #[inline(always)]
-    pub(crate) fn hand_over<S: System>(&mut self, system: &mut S, what: Flush, reads: usize)
+    pub(crate) fn flush_or_linger<S: System>(&mut self, system: &mut S, what: Flush, reads: usize)
         requires { IsKept (S.trace system.old) self.old }
         ensures kept { IsKept (S.trace system.new) self.new }
         ensures others { (other : ℕ) → other ≢ self.old.number
@@ -48,13 +48,13 @@ impl Peer {
         if self.stay.is_here() {
             self.flush(system, what);
         } else {
-            self.part(system, reads);
+            self.linger_step(system, reads);
         }
     }
 
     /// Goes on with a lingering peer: writes its queued bytes, shuts its socket down, or drops its input.
     #[inline(never)]
-    fn part<S: System>(&mut self, system: &mut S, reads: usize)
+    fn linger_step<S: System>(&mut self, system: &mut S, reads: usize)
         requires { IsKept (S.trace system.old) self.old }
         ensures kept { IsKept (S.trace system.new) self.new }
         ensures others { (other : ℕ) → other ≢ self.old.number
@@ -70,13 +70,13 @@ impl Peer {
     {
         match self.stay {
             Stay::Here => (),
-            Stay::Draining { since } => self.finish(system, since),
-            Stay::Shut { .. } => self.drain(system, reads),
+            Stay::Draining { since } => self.drain_output(system, since),
+            Stay::Shut { .. } => self.drain_input(system, reads),
         }
     }
 
     /// Writes the queued bytes, and shuts the socket down once the socket took all of them.
-    fn finish<S: System>(&mut self, system: &mut S, since: u64)
+    fn drain_output<S: System>(&mut self, system: &mut S, since: u64)
         requires kept { IsKept (S.trace system.old) self.old }
         requires draining { self.old.stay ≡ Stay.Draining since }
         ensures kept { IsKept (S.trace system.new) self.new }
@@ -114,7 +114,7 @@ impl Peer {
     }
 
     /// Drops the input that the socket gives, in at most `reads` reads.
-    fn drain<S: System>(&mut self, system: &mut S, reads: usize)
+    fn drain_input<S: System>(&mut self, system: &mut S, reads: usize)
         requires kept { IsKept (S.trace system.old) self.old }
         requires gone { is_here self.old.stay ≡ false }
         ensures kept { IsKept (S.trace system.new) self.new }

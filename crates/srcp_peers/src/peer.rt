@@ -17,15 +17,15 @@ ghost use Rattle.srcp_peers.specs.Ends.{begun, written};
 ghost use Rattle.srcp_peers.specs.Reports.{IsAnswered, end_in, is_ended, is_failed, piece_of};
 ghost use Rattle.srcp_door.specs.Pacing.{Allows, IsShort, fits, keeps_back, line_after, share_after, weight_of};
 ghost use Rattle.srcp_peers.specs.declared.ending.Ending.{Ending};
-ghost use Rattle.srcp_door.specs.declared.pacing.Line.{Line};
+ghost use Rattle.srcp_door.specs.declared.pacing.LineBoundary.{LineBoundary};
 
 use crate::ending::Ending;
 use crate::queue::{MOST_INCOMING, MOST_OUTGOING, Outgoing, Queue, Queues};
 use crate::readiness::{Flush, Input, Output};
 use crate::stay::Stay;
-use crate::system::{Ready, System, refusal_of};
+use crate::system::{Ready, System, failure_of};
 use crate::turn::Turn;
-use srcp_door::{DoorFault, Got, Line, MOST_WRITES, Share};
+use srcp_door::{DoorFault, Got, LineBoundary, MOST_WRITES, Share};
 use srcp_info::{LONGEST_LINE, MOST_IN_PIECE};
 
 /// A peer with more queued bytes than this is flushed before the clock goes on. The queue then has space for all writes
@@ -61,28 +61,28 @@ pub struct Peer {
     pub input: Input,
     /// What a write may find.
     pub output: Output,
-    /// True if the last write did not fit: the core has more for the peer, and takes no input of the peer.
-    pub cut: bool,
+    /// True if the last write did not fit the queue: the core has more for the peer, and takes no input of the peer.
+    pub backpressured: bool,
     /// Whether the peer is there, or lingers.
     pub stay: Stay,
     /// The peer's share of the lines that are handed out.
     pub share: Share,
     /// How far the peer is on the way to its end.
     pub ending: Ending,
-    /// True if input of the peer was handed out since the last flush: what the peer is written next is an answer.
-    pub asked: bool,
+    /// True if input of the peer was handed out since the last flush: the next bytes written to the peer are a reply.
+    pub awaits_reply: bool,
     /// What the monotonic clock showed when input of the peer was handed out last, or when the peer came, in
     /// milliseconds.
     pub heard: u64,
 }
 
-/// Holds the outcome of a read of a peer.
+/// Says what a read of a peer answered, and whether the pace kept a line back.
 #[derive(Clone, Copy)]
-pub struct Handed {
+pub struct ReadOutcome {
     /// The answer of the read.
     pub got: Result<Got, DoorFault>,
     /// True if a line of the peer's share was kept back.
-    pub refused: bool,
+    pub starved: bool,
 }
 
 impl Peer {
@@ -95,11 +95,11 @@ impl Peer {
           incoming = [];
           input = Input.Ready;
           output = Output.Open;
-          cut = false;
+          backpressured = false;
           stay = Stay.Here;
-          share = record { line = Line.Ended; rest = 0 };
+          share = record { line = LineBoundary.At; rest = 0 };
           ending = Ending.Open;
-          asked = true;
+          awaits_reply = true;
           heard = clock;
           room = MOST_WRITES;
         } }
@@ -111,14 +111,14 @@ impl Peer {
             incoming,
             input: Input::Ready,
             output: Output::Open,
-            cut: false,
+            backpressured: false,
             stay: Stay::Here,
             share: Share {
-                line: Line::Ended,
+                line: LineBoundary::At,
                 rest: 0,
             },
             ending: Ending::Open,
-            asked: true,
+            awaits_reply: true,
             heard: clock,
             room: MOST_WRITES,
         }
@@ -149,7 +149,7 @@ impl Peer {
         ensures same { self.new ≡ record self.old {
           outgoing = self.new.outgoing;
           output = self.new.output;
-          asked = self.new.asked;
+          awaits_reply = self.new.awaits_reply;
         } }
         ensures offered { woken_output self.old.output (tries_again what) ≡ Output.Open → self.old.outgoing ≢ []
             → is_due what self.old ≡ true
@@ -171,7 +171,7 @@ impl Peer {
         ensures same { self.new ≡ record self.old {
           outgoing = self.new.outgoing;
           output = self.new.output;
-          asked = self.new.asked;
+          awaits_reply = self.new.awaits_reply;
         } }
         ensures offered { self.old.output ≡ Output.Open → self.old.outgoing ≢ [] → is_due what self.old ≡ true
             → Offers self.old self.new (S.trace system.old) (S.trace system.new) }
@@ -179,14 +179,14 @@ impl Peer {
         if !self.output.is_open() || self.outgoing.is_empty() || !self.is_due(what) {
             return;
         }
-        self.asked = false;
+        self.awaits_reply = false;
         let all = self.outgoing.len();
         match system.write(self.number, self.outgoing.front()) {
             Ok(count) => {
                 self.outgoing.drop_front(count);
                 self.output = Output::after(count, all);
             }
-            Err(fault) => self.output = self.output.refused(refusal_of(fault)),
+            Err(fault) => self.output = self.output.refused(failure_of(fault)),
         }
     }
 
@@ -197,7 +197,7 @@ impl Peer {
     {
         what.is_all()
             || self.outgoing.len() > FLUSH_THRESHOLD
-            || self.asked && (self.cut || self.incoming.is_empty())
+            || self.awaits_reply && (self.backpressured || self.incoming.is_empty())
     }
 
     /// Begins a visit: reads the socket, and takes a step on the way to the end. With `anew`, or if the peer is silent
@@ -271,7 +271,7 @@ impl Peer {
         let room = MOST_INCOMING - self.incoming.len();
         match self.incoming.read_from(system, self.number) {
             Ok(count) => self.input = self.input.given(count, room),
-            Err(fault) => self.input = self.input.missed(refusal_of(fault)),
+            Err(fault) => self.input = self.input.missed(failure_of(fault)),
         }
     }
 
@@ -284,7 +284,7 @@ impl Peer {
         turn: &mut Turn,
         waits: bool,
         buffer: &mut [u8],
-    ) -> Handed
+    ) -> ReadOutcome
         requires kept { IsKept (S.trace system.old) self.old }
         requires here { self.old.stay ≡ Stay.Here }
         ensures kept { IsKept (S.trace system.new) self.new }
@@ -297,27 +297,28 @@ impl Peer {
         ensures number { self.new.number ≡ self.old.number }
         ensures turn { turn.new ≡ after_read turn.old self.old.share.line result.got buffer.new }
         ensures fits { fits turn.old.pace (weight_of self.old.share.line (got_bytes result.got buffer.new)) ≡ true }
-        ensures ends { reports_end result.got ≡ true → turn.old.ends ≡ true }
+        ensures ends { reports_end result.got ≡ true → turn.old.may_report_end ≡ true }
         ensures answered { IsAnswered turn.old waits self.old (length buffer.old) result.got
-            (got_bytes result.got buffer.new) result.refused }
+            (got_bytes result.got buffer.new) result.starved }
         ensures share { self.new.share ≡ share_after self.old.share (got_bytes result.got buffer.new)
-            result.refused }
-        ensures refused { result.refused ≡ true → IsShort turn.new.pace }
+            result.starved }
+        ensures starved { result.starved ≡ true → IsShort turn.new.pace }
         ensures heard { self.new.heard
             ≡ cond (length (got_bytes result.got buffer.new) == 0) self.old.heard turn.old.clock }
         ensures same { self.new ≡ record self.old {
           incoming = self.new.incoming;
           share = self.new.share;
-          asked = self.new.asked;
+          awaits_reply = self.new.awaits_reply;
           heard = self.new.heard;
         } }
     {
-        let handed = self.take_out(turn, waits, buffer);
-        system.note_read(self.number, handed.got, buffer);
-        handed
+        let outcome = self.read_into(turn, waits, buffer);
+        system.note_read(self.number, outcome.got, buffer);
+        outcome
     }
 
-    fn take_out(&mut self, turn: &mut Turn, waits: bool, buffer: &mut [u8]) -> Handed
+    /// Answers a read, as `read` does, but notes nothing.
+    fn read_into(&mut self, turn: &mut Turn, waits: bool, buffer: &mut [u8]) -> ReadOutcome
         ensures bytes { self.old.incoming ≡ got_bytes result.got buffer.new ++ self.new.incoming }
         ensures ended { result.got ≡ Ok Got.Ended → MayEnd self.old }
         ensures failed { OnErr result.got (MayFail self.old) }
@@ -326,32 +327,32 @@ impl Peer {
         ensures line { self.new.share.line ≡ line_after self.old.share.line (got_bytes result.got buffer.new) }
         ensures turn { turn.new ≡ after_read turn.old self.old.share.line result.got buffer.new }
         ensures fits { fits turn.old.pace (weight_of self.old.share.line (got_bytes result.got buffer.new)) ≡ true }
-        ensures ends { reports_end result.got ≡ true → turn.old.ends ≡ true }
+        ensures ends { reports_end result.got ≡ true → turn.old.may_report_end ≡ true }
         ensures answered { IsAnswered turn.old waits self.old (length buffer.old) result.got
-            (got_bytes result.got buffer.new) result.refused }
+            (got_bytes result.got buffer.new) result.starved }
         ensures share { self.new.share ≡ share_after self.old.share (got_bytes result.got buffer.new)
-            result.refused }
-        ensures refused { result.refused ≡ true → IsShort turn.new.pace }
+            result.starved }
+        ensures starved { result.starved ≡ true → IsShort turn.new.pace }
         ensures heard { self.new.heard
             ≡ cond (length (got_bytes result.got buffer.new) == 0) self.old.heard turn.old.clock }
         ensures same { self.new ≡ record self.old {
           incoming = self.new.incoming;
           share = self.new.share;
-          asked = self.new.asked;
+          awaits_reply = self.new.awaits_reply;
           heard = self.new.heard;
         } }
     {
         if self.incoming.is_empty() {
-            return Handed {
+            return ReadOutcome {
                 got: self.reported_end(turn),
-                refused: false,
+                starved: false,
             };
         }
-        self.hand_out(turn, waits, buffer)
+        self.deliver_input(turn, waits, buffer)
     }
 
     /// Moves held input to the start of a buffer, as far as the turn's lines go.
-    fn hand_out(&mut self, turn: &mut Turn, waits: bool, buffer: &mut [u8]) -> Handed
+    fn deliver_input(&mut self, turn: &mut Turn, waits: bool, buffer: &mut [u8]) -> ReadOutcome
         ensures bytes { self.old.incoming ≡ got_bytes result.got buffer.new ++ self.new.incoming }
         ensures ended { reports_end result.got ≡ false }
         ensures count { (n : ℕ) → result.got ≡ Ok (Got.Bytes n) → (0 < n) × (n ≤ length buffer.new) }
@@ -361,16 +362,16 @@ impl Peer {
         ensures allows { Allows (own_pace waits turn.old.pace) self.old.share (piece_of self.old (length buffer.old))
             (length (got_bytes result.got buffer.new)) }
         ensures share { self.new.share ≡ share_after self.old.share (got_bytes result.got buffer.new)
-            result.refused }
-        ensures back { result.refused ≡ keeps_back (own_pace waits turn.old.pace) self.old.share
+            result.starved }
+        ensures back { result.starved ≡ keeps_back (own_pace waits turn.old.pace) self.old.share
             (piece_of self.old (length buffer.old)) (got_bytes result.got buffer.new) }
-        ensures refused { result.refused ≡ true → IsShort turn.new.pace }
+        ensures starved { result.starved ≡ true → IsShort turn.new.pace }
         ensures heard { self.new.heard
             ≡ cond (length (got_bytes result.got buffer.new) == 0) self.old.heard turn.old.clock }
         ensures same { self.new ≡ record self.old {
           incoming = self.new.incoming;
           share = self.new.share;
-          asked = self.new.asked;
+          awaits_reply = self.new.awaits_reply;
           heard = self.new.heard;
         } }
     {
@@ -378,18 +379,18 @@ impl Peer {
         let allowed = turn.allow(waits, &mut self.share, &self.incoming.front()[..within]);
         let count = allowed.count;
         if count == 0 {
-            return Handed {
+            return ReadOutcome {
                 got: Ok(Got::Nothing),
-                refused: allowed.refused,
+                starved: allowed.starved,
             };
         }
         buffer[..count].copy_from_slice(&self.incoming.front()[..count]);
         self.incoming.drop_front(count);
-        self.asked = true;
+        self.awaits_reply = true;
         self.heard = turn.clock;
-        Handed {
+        ReadOutcome {
             got: Ok(Got::Bytes(count)),
-            refused: allowed.refused,
+            starved: allowed.starved,
         }
     }
 
@@ -401,8 +402,8 @@ impl Peer {
         ensures failed { OnErr result (MayFail self.now) }
         ensures exact { result ≡ end_in turn.old self.now }
         ensures fault { IfErr result (λ fault. fault ≡ DoorFault.Read) }
-        ensures turn { (line : Line) (buffer : List ℕ) → turn.new ≡ after_read turn.old line result buffer }
-        ensures ends { reports_end result ≡ true → turn.old.ends ≡ true }
+        ensures turn { (line : LineBoundary) (buffer : List ℕ) → turn.new ≡ after_read turn.old line result buffer }
+        ensures ends { reports_end result ≡ true → turn.old.may_report_end ≡ true }
     {
         match self.due_end() {
             Due::Nothing => Ok(Got::Nothing),
@@ -442,14 +443,14 @@ impl Peer {
         ensures same { self.new ≡ record self.old {
           outgoing = queued_more self.old.output self.old.outgoing (take result bytes.now);
           room = room_after self.old.output self.old.room;
-          cut = nat_lt result (length bytes.now);
+          backpressured = nat_lt result (length bytes.now);
           ending = written self.old.ending (not (nat_lt result (length bytes.now)));
         } }
     {
         let count = self.enqueue(bytes);
-        self.cut = count < bytes.len();
+        self.backpressured = count < bytes.len();
         if !self.ending.is_open() {
-            self.ending = self.ending.written(!self.cut);
+            self.ending = self.ending.written(!self.backpressured);
         }
         system.note_write(self.number, bytes, Ok(count));
         count
@@ -477,7 +478,7 @@ impl Peer {
     pub fn holds_input(&self) -> bool
         ensures { result ≡ holds_input self.now }
     {
-        self.stay.is_here() && !self.cut && !self.incoming.is_empty()
+        self.stay.is_here() && !self.backpressured && !self.incoming.is_empty()
     }
 
     /// Returns whether nothing of the peer was handed out for 50 ms when the clock shows `clock`.
@@ -522,7 +523,7 @@ impl Peer {
         if !self.output.is_resting(&self.outgoing) {
             return false;
         }
-        if self.cut {
+        if self.backpressured {
             self.outgoing.len() == MOST_OUTGOING
         } else {
             self.incoming.is_empty() && self.input.is_resting(&self.outgoing)

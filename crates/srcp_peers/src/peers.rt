@@ -30,7 +30,7 @@ pub fn flush<S: System>(system: &mut S, peers: &mut [Peer], what: Flush)
 {
     let reads = reads_each(peers);
     for peer in peers.iter_mut() {
-        peer.hand_over(system, what, reads);
+        peer.flush_or_linger(system, what, reads);
     }
 }
 

@@ -6,7 +6,7 @@ ghost use Rattle.srcp_peers.specs.Peers.{rests_reading, has_ended, rests_writing
 ghost use Rattle.srcp_peers.specs.Peers.{woken_output};
 
 use crate::queue::{MOST_INCOMING, Outgoing, Queue};
-use crate::system::Refusal;
+use crate::system::IoFailure;
 
 /// Says what a read of a socket may find.
 #[derive(Clone, Copy)]
@@ -101,13 +101,13 @@ impl Input {
     }
 
     /// Returns what follows a read that failed.
-    pub(crate) fn missed(self, said: Refusal) -> Input
+    pub(crate) fn missed(self, said: IoFailure) -> Input
         ensures { result ≡ missed self said }
     {
         match said {
-            Refusal::Later => Input::Quiet,
-            Refusal::Again => self,
-            Refusal::Fault => Input::Failed,
+            IoFailure::WouldBlock => Input::Quiet,
+            IoFailure::Interrupted => self,
+            IoFailure::Fatal => Input::Failed,
         }
     }
 
@@ -177,13 +177,13 @@ impl Output {
     }
 
     /// Returns what follows a write that failed.
-    pub(crate) fn refused(self, said: Refusal) -> Output
+    pub(crate) fn refused(self, said: IoFailure) -> Output
         ensures { result ≡ refused self said }
     {
         match said {
-            Refusal::Later => Output::Full,
-            Refusal::Again => self,
-            Refusal::Fault => Output::Lost,
+            IoFailure::WouldBlock => Output::Full,
+            IoFailure::Interrupted => self,
+            IoFailure::Fatal => Output::Lost,
         }
     }
 

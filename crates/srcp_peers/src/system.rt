@@ -3,7 +3,7 @@
 ghost use Rattle.std.specs.Prelude.{◌≡◌, ◌<◌, ◌≤◌, List, Option, None, IfOk, length};
 ghost use Rattle.srcp_door.specs.Calls.{ExpectCall, NowCall, AcceptCall, ReadCall, WriteCall, CloseCall};
 ghost use Rattle.srcp_peers.specs.Steps.{Step, Tells, Accepts, Clocks, Closes, Reads, Shuts, Writes, Waits, Answers};
-ghost use Rattle.srcp_peers.specs.Steps.{refusal_of};
+ghost use Rattle.srcp_peers.specs.Steps.{failure_of};
 
 use srcp_door::{DoorFault, Got};
 use std::io::ErrorKind;
@@ -25,23 +25,23 @@ pub struct Ready {
 
 /// Says what a failed call of the system means for a socket.
 #[derive(Clone, Copy)]
-pub enum Refusal {
+pub enum IoFailure {
     /// The socket takes or has nothing now.
-    Later,
+    WouldBlock,
     /// The call was interrupted, and is to be made again.
-    Again,
+    Interrupted,
     /// The socket takes or has nothing any more.
-    Fault,
+    Fatal,
 }
 
 /// Returns what a failed call means for its socket.
-pub fn refusal_of(fault: ErrorKind) -> Refusal
-    ensures { result ≡ refusal_of fault }
+pub fn failure_of(fault: ErrorKind) -> IoFailure
+    ensures { result ≡ failure_of fault }
 {
     match fault {
-        ErrorKind::WouldBlock => Refusal::Later,
-        ErrorKind::Interrupted => Refusal::Again,
-        _ => Refusal::Fault,
+        ErrorKind::WouldBlock => IoFailure::WouldBlock,
+        ErrorKind::Interrupted => IoFailure::Interrupted,
+        _ => IoFailure::Fatal,
     }
 }
 

@@ -5,10 +5,10 @@ ghost use Rattle.std.specs.Prelude.{IfErr, Result, cond, length, take, ◌↔◌
 ghost use Rattle.srcp_door.specs.declared.door.DoorFault.{DoorFault};
 ghost use Rattle.srcp_door.specs.Calls.{ExpectCall, AcceptCall, WriteCall, CloseCall};
 ghost use Rattle.srcp_door.specs.Pacing.{Allows, IsShort, fits, keeps_back, line_after, share_after, weight_of};
-ghost use Rattle.srcp_door.specs.declared.pacing.Line.{Line};
+ghost use Rattle.srcp_door.specs.declared.pacing.LineBoundary.{LineBoundary};
 ghost use Rattle.srcp_peers.specs.Turns.{after_call, after_read, after_wait, begun, earlier, ended, first_turn};
-ghost use Rattle.srcp_peers.specs.Turns.{handed_out, is_behind, is_pending, is_short, is_short_pace, lack};
-ghost use Rattle.srcp_peers.specs.Turns.{moment_at, own_pace, stop};
+ghost use Rattle.srcp_peers.specs.Turns.{handed_out, is_behind, is_pending, is_short, is_short_pace, shortfall};
+ghost use Rattle.srcp_peers.specs.Turns.{backpressure_delay, moment_at, own_pace};
 ghost use Rattle.srcp_peers.specs.Turns.{reports_end, time_left, reported_at, next_after, step_at, ticks};
 ghost use Rattle.std.specs.Option.{option_map};
 ghost use Rattle.srcp_peers.specs.Accounts.{is_short_wait};
@@ -18,7 +18,7 @@ ghost use Rattle.srcp_peers.specs.Listeners.{refused_listening};
 ghost use Rattle.srcp_peers.specs.Waiting.{IsWithin, longest_wait, sooner};
 
 use crate::peer::Peer;
-use crate::system::Refusal;
+use crate::system::IoFailure;
 use srcp_door::{Allowed, DoorFault, Got, MOST_WRITES, Pace, RESERVE, Share, Timekeeper};
 use srcp_grammar::MOST_CHANGES;
 
@@ -40,8 +40,8 @@ pub struct Turn {
     pub due: Option<u64>,
     /// How many more changes each panel can take, or `None` without a panel.
     pub slack: Option<usize>,
-    /// The slack of the turn before.
-    pub before: Option<usize>,
+    /// The slack that the turn before began with.
+    pub previous_slack: Option<usize>,
     /// True if something happened since the last wait.
     pub busy: bool,
     /// True if the last moment reported is behind the time.
@@ -51,13 +51,13 @@ pub struct Turn {
     /// What the monotonic clock has to show before the clock lets a line through, in milliseconds.
     pub next_line: u64,
     /// True if the end of a peer may still be reported in this turn.
-    pub ends: bool,
+    pub may_report_end: bool,
 }
 
 impl Turn {
     /// Starts the first turn, with nothing due and no panel. `wall` is the wall clock and `start` the monotonic clock,
     /// in milliseconds.
-    pub fn first(wall: u64, start: u64) -> Turn
+    pub fn new(wall: u64, start: u64) -> Turn
         ensures { result ≡ first_turn wall start }
     {
         Turn {
@@ -65,12 +65,12 @@ impl Turn {
             clock: 0,
             due: None,
             slack: None,
-            before: None,
+            previous_slack: None,
             busy: true,
             late: false,
             pace: Pace::Paced { left: 0 },
             next_line: 0,
-            ends: false,
+            may_report_end: false,
         }
     }
 
@@ -97,18 +97,18 @@ impl Turn {
         }
     }
 
-    /// Returns how many milliseconds a turn waits although there is work to do. The result is 1 if, for the second
-    /// turn, a panel is too far behind for a line to go before the clock goes on. Else the result is 0.
-    pub fn stop(&self) -> u64
-        ensures { result ≡ stop self.now }
+    /// Returns how many milliseconds the turn waits although there is work to do: 1 if in two turns running a panel
+    /// lacked room for a line, else 0.
+    pub fn backpressure_delay(&self) -> u64
+        ensures { result ≡ backpressure_delay self.now }
     {
-        u64::from(is_behind(self.before) && is_behind(self.slack))
+        u64::from(is_behind(self.previous_slack) && is_behind(self.slack))
     }
 
     /// Returns how many changes the panels lack for a line to go before the clock goes on. Returns `MOST_WRITES`
     /// without a panel.
-    pub fn lack(&self) -> u32
-        ensures { result ≡ lack self.now.slack }
+    pub fn shortfall(&self) -> u32
+        ensures { result ≡ shortfall self.now.slack }
     {
         match self.slack {
             Some(slack) => u32::try_from(RESERVE.saturating_sub(slack)).unwrap_or(MOST_WRITES),
@@ -129,7 +129,7 @@ impl Turn {
         ensures { self.new ≡ after_call self.old (ExpectCall due slack) }
     {
         self.due = due;
-        self.before = self.slack;
+        self.previous_slack = self.slack;
         self.slack = slack;
     }
 
@@ -192,26 +192,26 @@ impl Turn {
         ensures { self.new ≡ begun self.old tick }
     {
         self.pace = Pace::of_turn(self.slack, tick);
-        self.ends = true;
+        self.may_report_end = true;
     }
 
     /// Returns whether the end of a peer may be reported now. If so, no other end may be reported in this turn.
     pub(crate) fn allow_end(&mut self) -> bool
-        ensures allowed { result ≡ self.old.ends }
+        ensures allowed { result ≡ self.old.may_report_end }
         ensures new { self.new ≡ cond result (ended self.old) self.old }
     {
-        let allowed = self.ends;
+        let allowed = self.may_report_end;
         self.busy = self.busy || allowed;
-        self.ends = false;
+        self.may_report_end = false;
         allowed
     }
 
     /// Answers a read of a peer whose end is due: with the end, unless the turn reported another.
     pub(crate) fn report_end(&mut self) -> Result<Got, DoorFault>
-        ensures exact { result ≡ cond self.old.ends (Ok Got.Ended) (Ok Got.Nothing) }
+        ensures exact { result ≡ cond self.old.may_report_end (Ok Got.Ended) (Ok Got.Nothing) }
         ensures reported { (result ≡ Ok Got.Nothing) ⊎ (result ≡ Ok Got.Ended) }
-        ensures new { (line : Line) (buffer : List ℕ) → self.new ≡ after_read self.old line result buffer }
-        ensures ends { reports_end result ≡ true → self.old.ends ≡ true }
+        ensures new { (line : LineBoundary) (buffer : List ℕ) → self.new ≡ after_read self.old line result buffer }
+        ensures ends { reports_end result ≡ true → self.old.may_report_end ≡ true }
     {
         if self.allow_end() {
             Ok(Got::Ended)
@@ -225,10 +225,10 @@ impl Turn {
     /// # Errors
     /// Returns `Read` unless the turn reported another end.
     pub fn report_fault(&mut self) -> Result<Got, DoorFault>
-        ensures exact { result ≡ cond self.old.ends (Err DoorFault.Read) (Ok Got.Nothing) }
+        ensures exact { result ≡ cond self.old.may_report_end (Err DoorFault.Read) (Ok Got.Nothing) }
         ensures reported { (result ≡ Ok Got.Nothing) ⊎ (result ≡ Err DoorFault.Read) }
-        ensures new { (line : Line) (buffer : List ℕ) → self.new ≡ after_read self.old line result buffer }
-        ensures ends { reports_end result ≡ true → self.old.ends ≡ true }
+        ensures new { (line : LineBoundary) (buffer : List ℕ) → self.new ≡ after_read self.old line result buffer }
+        ensures ends { reports_end result ≡ true → self.old.may_report_end ≡ true }
     {
         if self.allow_end() {
             Err(DoorFault::Read)
@@ -268,10 +268,10 @@ impl Turn {
         ensures line { share.new.line ≡ line_after share.old.line (take result.count piece.now) }
         ensures fits { fits self.old.pace (weight_of share.old.line (take result.count piece.now)) ≡ true }
         ensures allows { Allows (own_pace waits self.old.pace) share.old piece.now result.count }
-        ensures share { share.new ≡ share_after share.old (take result.count piece.now) result.refused }
-        ensures back { result.refused
+        ensures share { share.new ≡ share_after share.old (take result.count piece.now) result.starved }
+        ensures back { result.starved
             ≡ keeps_back (own_pace waits self.old.pace) share.old piece.now (take result.count piece.now) }
-        ensures fair { result.refused ≡ true → IsShort self.new.pace }
+        ensures fair { result.starved ≡ true → IsShort self.new.pace }
     {
         let mut pace = self.own_pace(waits);
         let allowed = pace.allow(share, piece);
@@ -348,8 +348,8 @@ const LONGEST_WAIT: u64 = 3_600_000;
 pub enum Listening {
     /// A pending connection may be accepted.
     Ready,
-    /// A pending connection may be accepted, but the system refused the last.
-    Refused,
+    /// A pending connection may be accepted after the retry delay, since the last accept failed.
+    BackingOff,
     /// No pending connection may be accepted, until the listener is found ready.
     Quiet,
 }
@@ -363,13 +363,13 @@ impl Listening {
     }
 
     /// Returns what follows an accept that failed.
-    pub fn refused(said: Refusal) -> Listening
+    pub fn refused(said: IoFailure) -> Listening
         ensures { result ≡ refused_listening said }
     {
         match said {
-            Refusal::Later => Listening::Quiet,
-            Refusal::Again => Listening::Ready,
-            Refusal::Fault => Listening::Refused,
+            IoFailure::WouldBlock => Listening::Quiet,
+            IoFailure::Interrupted => Listening::Ready,
+            IoFailure::Fatal => Listening::BackingOff,
         }
     }
 }
@@ -392,12 +392,12 @@ pub fn longest_wait(
 {
     let left = sooner(turn.left(), most);
     if turn.is_pending() || are_busy(peers) {
-        return sooner(left, Some(turn.stop()));
+        return sooner(left, Some(turn.backpressure_delay()));
     }
     match listening {
         Listening::Ready => Some(0),
         Listening::Quiet if are_resting(peers) => left.map(|left| left.min(LONGEST_WAIT)),
-        Listening::Quiet | Listening::Refused => sooner(left, Some(RETRY_DELAY)),
+        Listening::Quiet | Listening::BackingOff => sooner(left, Some(RETRY_DELAY)),
     }
 }
 

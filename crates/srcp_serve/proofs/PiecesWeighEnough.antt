@@ -14,30 +14,31 @@ use Rattle.srcp_grammar.specs.Weight.{weight}
 use Rattle.srcp_rules.proofs.WeightLaws.{weights_small}
 use Rattle.srcp_core.specs.Waits.{weight_of_mark}
 use Rattle.srcp_door.specs.Pacing.{Seen, line_after, line_weight, seen_after, seen_of, weight_of, with_text}
-use Rattle.srcp_door.specs.declared.pacing.Line.{Line}
-use Rattle.srcp_door.specs.declared.pacing.Line.TheVariants.{Ended, Begun}
+use Rattle.srcp_door.specs.declared.pacing.LineBoundary.{LineBoundary}
+use Rattle.srcp_door.specs.declared.pacing.LineBoundary.TheVariants.{At, Inside}
 use Rattle.srcp_serve.proofs.CarriageReturns.{cut_weighs}
 
 -- ---- what the door has seen
 
 -- the door saw these bytes of a line that has not ended: all of them, or it knows that some came before
-abbrev SeesOf : Line → (text bytes : List ℕ) → Type 0
-SeesOf Ended text bytes = text ≡ bytes
-SeesOf Begun text bytes = ⊤
+abbrev SeesOf : LineBoundary → (text bytes : List ℕ) → Type 0
+SeesOf At text bytes = text ≡ bytes
+SeesOf Inside text bytes = ⊤
 
-sees_more : (line : Line) (text bytes : List ℕ) (byte : ℕ) → SeesOf line text bytes → SeesOf line (text ++ byte ∷ []) (bytes ++ byte ∷ [])
-sees_more Ended text bytes byte e = ap (λ xs. xs ++ byte ∷ []) e
-sees_more Begun text bytes byte e = tt
+sees_more : (line : LineBoundary) (text bytes : List ℕ) (byte : ℕ) → SeesOf line text bytes
+    → SeesOf line (text ++ byte ∷ []) (bytes ++ byte ∷ [])
+sees_more At text bytes byte e = ap (λ xs. xs ++ byte ∷ []) e
+sees_more Inside text bytes byte e = tt
 
 -- a line weighs no more than the door says
-mark_weighs : (line : Line) (text bytes : List ℕ) → SeesOf line text bytes → weight_of_mark (mark_of bytes) ≤ line_weight line text
+mark_weighs : (line : LineBoundary) (text bytes : List ℕ) → SeesOf line text bytes → weight_of_mark (mark_of bytes) ≤ line_weight line text
 mark_weighs line text bytes e =
     cond_both (nat_lt 1000 (length bytes)) TooLong (LineMark (without_cr bytes)) (λ mark. weight_of_mark mark ≤ line_weight line text)
     (λ _. omega arith) (λ _. by line e)
   where
-    by : (line : Line) → SeesOf line text bytes → weight (without_cr bytes) ≤ line_weight line text
-    by Ended e = subst (λ seen. weight (without_cr bytes) ≤ weight seen) (sym e) (cut_weighs bytes)
-    by Begun e = weights_small (without_cr bytes)
+    by : (line : LineBoundary) → SeesOf line text bytes → weight (without_cr bytes) ≤ line_weight line text
+    by At e = subst (λ seen. weight (without_cr bytes) ≤ weight seen) (sym e) (cut_weighs bytes)
+    by Inside e = weights_small (without_cr bytes)
 
 -- how much the lines weigh that end in these bytes
 abbrev weigh : List ℕ → ℕ
@@ -48,18 +49,19 @@ abbrev said : Seen → (piece : List ℕ) → ℕ
 said seen piece = (fold seen_after seen piece).weight
 
 -- so it is with the lines that end in a piece, if no line ends in the bytes before
-lines_weigh : (piece : List ℕ) (line : Line) (text bytes : List ℕ) (before : ℕ) → list_any is_lf bytes ≡ false → SeesOf line text bytes
+lines_weigh : (piece : List ℕ) (line : LineBoundary) (text bytes : List ℕ) (before : ℕ) → list_any is_lf bytes ≡ false
+    → SeesOf line text bytes
     → before + weigh (bytes ++ piece) ≤ said (record { line = line; text = text; weight = before }) piece
 lines_weigh [] line text bytes before none sees =
     rw (append-nil, marks_none bytes none) (omega arith)
 lines_weigh (byte ∷ piece) line text bytes before none sees =
     by (byte == 10) refl
-    (lines_weigh piece Ended [] [] (before + line_weight line text) refl refl)
+    (lines_weigh piece At [] [] (before + line_weight line text) refl refl)
     (λ no_end. lines_weigh piece line (text ++ byte ∷ []) (bytes ++ byte ∷ []) before no_end (sees_more line text bytes byte sees))
   where
     by : (ends : Bool) → (byte == 10) ≡ ends
         → before + line_weight line text + weigh piece
-        ≤ said (record { line = Ended; text = []; weight = before + line_weight line text }) piece
+        ≤ said (record { line = At; text = []; weight = before + line_weight line text }) piece
         → (list_any is_lf (bytes ++ byte ∷ []) ≡ false
         → before + weigh ((bytes ++ byte ∷ []) ++ piece) ≤ said (record { line = line; text = text ++ byte ∷ []; weight = before }) piece)
         → before + weigh (bytes ++ byte ∷ piece) ≤ said (seen_after (record { line = line; text = text; weight = before }) byte) piece
@@ -75,20 +77,20 @@ lines_weigh (byte ∷ piece) line text bytes before none sees =
 
 -- it sees what has begun in them
 sees_rest : (bytes text : List ℕ) (before : ℕ) → list_any is_lf text ≡ false
-    → (let seen = fold seen_after (record { line = Ended; text = text; weight = before }) bytes in
-    (seen.line ≡ Ended) × (seen.text ≡ rest (text ++ bytes)))
+    → (let seen = fold seen_after (record { line = At; text = text; weight = before }) bytes in
+    (seen.line ≡ At) × (seen.text ≡ rest (text ++ bytes)))
 sees_rest [] text before none = (refl, sym (ap rest (append-nil text) ∙ rest_none text none))
 sees_rest (byte ∷ bytes) text before none =
     by (byte == 10) refl (sees_rest bytes [] (before + weight text) refl) (λ no_end. sees_rest bytes (text ++ byte ∷ []) before no_end)
   where
     by : (ends : Bool) → (byte == 10) ≡ ends
-        → (let seen = fold seen_after (record { line = Ended; text = []; weight = before + weight text }) bytes in
-        (seen.line ≡ Ended) × (seen.text ≡ rest bytes))
+        → (let seen = fold seen_after (record { line = At; text = []; weight = before + weight text }) bytes in
+        (seen.line ≡ At) × (seen.text ≡ rest bytes))
         → (list_any is_lf (text ++ byte ∷ []) ≡ false
-        → (let seen = fold seen_after (record { line = Ended; text = text ++ byte ∷ []; weight = before }) bytes in
-        (seen.line ≡ Ended) × (seen.text ≡ rest ((text ++ byte ∷ []) ++ bytes))))
-        → (let seen = fold seen_after (seen_after (record { line = Ended; text = text; weight = before }) byte) bytes in
-        (seen.line ≡ Ended) × (seen.text ≡ rest (text ++ byte ∷ bytes)))
+        → (let seen = fold seen_after (record { line = At; text = text ++ byte ∷ []; weight = before }) bytes in
+        (seen.line ≡ At) × (seen.text ≡ rest ((text ++ byte ∷ []) ++ bytes))))
+        → (let seen = fold seen_after (seen_after (record { line = At; text = text; weight = before }) byte) bytes in
+        (seen.line ≡ At) × (seen.text ≡ rest (text ++ byte ∷ bytes)))
     by true e next more =
         let same : byte ≡ 10 = grind (arith, nat_tests) in
         rw (e, same, rest_line text bytes none) next
@@ -96,30 +98,30 @@ sees_rest (byte ∷ bytes) text before none =
         let no_end : list_any is_lf (text ++ byte ∷ []) ≡ false = grind (arith, list_any-append) in
         rw e (rw (append_assoc text (byte ∷ []) bytes) at (more no_end))
 
-line_is : (bytes : List ℕ) → line_after Ended bytes ≡ with_text Ended (rest bytes)
+line_is : (bytes : List ℕ) → line_after At bytes ≡ with_text At (rest bytes)
 line_is bytes = let s = sees_rest bytes [] 0 refl in rw (s.0, s.1) refl
 
-sees_nothing : (bytes : List ℕ) → SeesOf (with_text Ended bytes) [] bytes
+sees_nothing : (bytes : List ℕ) → SeesOf (with_text At bytes) [] bytes
 sees_nothing [] = refl
 sees_nothing (byte ∷ bytes) = tt
 
 -- the lines that end in a piece weigh no more than the door says of it
 pub piece_weighs : (fed piece : List ℕ)
-    → sum_by weight_of_mark (drop (length (marks fed)) (marks (fed ++ piece))) ≤ weight_of (line_after Ended fed) piece
+    → sum_by weight_of_mark (drop (length (marks fed)) (marks (fed ++ piece))) ≤ weight_of (line_after At fed) piece
 piece_weighs fed piece =
     let new : drop (length (marks fed)) (marks (fed ++ piece)) ≡ marks (rest fed ++ piece) =
     ap (drop (length (marks fed))) (marks-append fed piece) ∙ drop-append_seam (marks fed) (marks (rest fed ++ piece)) in
-    let all = lines_weigh piece (with_text Ended (rest fed)) [] (rest fed) 0 (rest_within fed) (sees_nothing (rest fed)) in
+    let all = lines_weigh piece (with_text At (rest fed)) [] (rest fed) 0 (rest_within fed) (sees_nothing (rest fed)) in
     rw (new, line_is fed) (omega (arith, all))
 
 -- ---- the line after two pieces
 
-begun_after : (line : Line) (text : List ℕ) (byte : ℕ) → with_text line (text ++ byte ∷ []) ≡ Begun
+begun_after : (line : LineBoundary) (text : List ℕ) (byte : ℕ) → with_text line (text ++ byte ∷ []) ≡ Inside
 begun_after line [] byte = refl
 begun_after line (first ∷ text) byte = refl
 
 -- it is the same for all that is seen so
-abbrev line_in : Seen → Line
+abbrev line_in : Seen → LineBoundary
 line_in seen = with_text seen.line seen.text
 
 same_line : (bytes : List ℕ) (one other : Seen) → line_in one ≡ line_in other
@@ -128,14 +130,15 @@ same_line [] one other e = e
 same_line (byte ∷ bytes) one other e =
     same_line bytes (seen_after one byte) (seen_after other byte) (by (byte == 10))
   where
-    by : (ends : Bool) → line_in (cond ends (record { line = Ended; text = []; weight = one.weight + line_weight one.line one.text })
+    by : (ends : Bool) → line_in (cond ends (record { line = At; text = []; weight = one.weight + line_weight one.line one.text })
         (record { line = one.line; text = one.text ++ byte ∷ []; weight = one.weight }))
-        ≡ line_in (cond ends (record { line = Ended; text = []; weight = other.weight + line_weight other.line other.text })
+        ≡ line_in (cond ends (record { line = At; text = []; weight = other.weight + line_weight other.line other.text })
         (record { line = other.line; text = other.text ++ byte ∷ []; weight = other.weight }))
     by true = refl
     by false = begun_after one.line one.text byte ∙ sym (begun_after other.line other.text byte)
 
-pub lines_go_on : (line : Line) (first second : List ℕ) → line_after (line_after line first) second ≡ line_after line (first ++ second)
+pub lines_go_on : (line : LineBoundary) (first second : List ℕ)
+    → line_after (line_after line first) second ≡ line_after line (first ++ second)
 lines_go_on line first second =
     same_line second (record { line = line_after line first; text = []; weight = 0 }) (seen_of line first) refl
     ∙ sym (ap line_in (fold-append seen_after (record { line = line; text = []; weight = 0 }) first second))

@@ -6,8 +6,8 @@ use Rattle.srcp_core.specs.Connection.{Connection}
 use Rattle.srcp_core.specs.Course.{course, new_marks}
 use Rattle.srcp_core.specs.Waits.{IsOverrun, brought_besides, changes_since, option_or_256, weighs, weight_of_mark}
 use Rattle.srcp_door.specs.Pacing.{line_after, weight_of}
-use Rattle.srcp_door.specs.declared.pacing.Line.{Line}
-use Rattle.srcp_door.specs.declared.pacing.Line.TheVariants.{Ended}
+use Rattle.srcp_door.specs.declared.pacing.LineBoundary.{LineBoundary}
+use Rattle.srcp_door.specs.declared.pacing.LineBoundary.TheVariants.{At}
 use Rattle.srcp_serve.specs.Given.{Call, ExpectCall}
 use Rattle.srcp_serve.specs.Serving.{Stand, IsServed, OfEachTurn, empty_stand, events_of, turned, turns}
 
@@ -20,7 +20,7 @@ trace_room (other ∷ calls) = 256
 
 -- what the door knows of a peer's bytes is the same, whether they were handed out in two pieces or in one
 abbrev pub LinesGoOn : Type 0
-LinesGoOn = (line : Line) (first second : List ℕ)
+LinesGoOn = (line : LineBoundary) (first second : List ℕ)
     → line_after (line_after line first) second ≡ line_after line (first ++ second)
 
 module _ (buses : List Bus) where
@@ -28,7 +28,7 @@ module _ (buses : List Bus) where
   -- door knows only whether they end within a line
   abbrev pub PiecesWeighEnough : Type 0
   PiecesWeighEnough = (fed piece : List ℕ)
-      → sum_by weight_of_mark (new_marks buses fed piece) ≤ weight_of (line_after Ended fed) piece
+      → sum_by weight_of_mark (new_marks buses fed piece) ≤ weight_of (line_after At fed) piece
 
   -- how many changes the turn brought
   abbrev pub brought_in : Stand → List Call → ℕ

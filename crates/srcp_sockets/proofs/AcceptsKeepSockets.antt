@@ -6,19 +6,19 @@ use Rattle.std.proofs.lemmas.Bool.{cases_eq, cases_lt}
 use Rattle.std.proofs.lemmas.List.{length-append, get_or_push, get_or_append_left}
 use Rattle.std.proofs.lemmas.List.Elements.{All-push}
 use Rattle.std.specs.declared.io.ErrorKind.{ErrorKind}
-use Rattle.srcp_peers.specs.declared.system.Refusal.{Refusal}
-use Rattle.srcp_peers.specs.declared.system.Refusal.TheVariants.{Later, Again, Fault}
+use Rattle.srcp_peers.specs.declared.system.IoFailure.{IoFailure}
+use Rattle.srcp_peers.specs.declared.system.IoFailure.TheVariants.{WouldBlock, Interrupted, Fatal}
 use Rattle.srcp_peers.specs.declared.peer.Peer.{Peer}
 use Rattle.srcp_peers.specs.declared.readiness.Input.TheVariants as input
 use Rattle.srcp_peers.specs.declared.readiness.Output.TheVariants as output
 use Rattle.srcp_peers.specs.declared.stay.Stay.TheVariants as stay
 use Rattle.srcp_peers.specs.declared.turn.Listening.{Listening}
-use Rattle.srcp_peers.specs.Steps.{Accepts, Step, Tells, refusal_of}
+use Rattle.srcp_peers.specs.Steps.{Accepts, Step, Tells, failure_of}
 use Rattle.srcp_peers.specs.Accounts.{Account, accepted, account, account_step, heard, heard_refusal}
 use Rattle.srcp_peers.specs.Peers.{Agrees, IsKept, Spares}
 use Rattle.srcp_door.specs.Pacing.{line_after}
 use Rattle.srcp_peers.specs.declared.ending.Ending.TheVariants as ending
-use Rattle.srcp_door.specs.declared.pacing.Line.TheVariants as line
+use Rattle.srcp_door.specs.declared.pacing.LineBoundary.TheVariants as boundary
 use Rattle.srcp_peers.specs.Listeners.{refused_listening}
 use Rattle.srcp_peers.specs.AllPeers.{AreApart, AreKept, IsAbsent}
 use Rattle.srcp_sockets.specs.Doors.{Closed, Fresh, Hears, Sound, Stands}
@@ -33,11 +33,11 @@ new_peer clock number = record {
   incoming = [];
   input = input.Ready;
   output = output.Open;
-  cut = false;
+  backpressured = false;
   stay = stay.Here;
-  share = record { line = line.Ended; rest = 0 };
+  share = record { line = boundary.At; rest = 0 };
   ending = ending.Open;
-  asked = true;
+  awaits_reply = true;
   heard = clock;
   room = 300;
 }
@@ -71,7 +71,7 @@ fresh_agrees clock number a done f s = record {
   writes = (f.written ∙ sym (ap (λ h. h ++ []) f.took), refl);
   cut = refl;
   stays = (refl, refl, refl);
-  line = sym (ap (line_after line.Ended) f.handed);
+  line = sym (ap (line_after boundary.At) f.handed);
   honest = s.honest;
   rested = s.rested;
   rightly = s.rightly;
@@ -155,9 +155,9 @@ stands_come old new peers l clock last done tells stands = record {
     kept = at_push (IsKept new) peers (new_peer clock (last + 1)) old_kept one_kept
 
 -- an accept that failed
-refused_hears : (a : Account) (l : Listening) (said : Refusal) → Hears a l
+refused_hears : (a : Account) (l : Listening) (said : IoFailure) → Hears a l
     → Hears (record a { received = heard_refusal a.received said }) (refused_listening said)
-refused_hears a l Later h = record {
+refused_hears a l WouldBlock h = record {
   fresh = record { written = h.fresh.written; took = h.fresh.took; gave = h.fresh.gave; handed = h.fresh.handed };
   lost = h.lost;
   cut = h.cut;
@@ -165,11 +165,11 @@ refused_hears a l Later h = record {
   failed = h.failed;
   heard = refl;
 }
-refused_hears a l Again h = record { fresh = h.fresh; lost = h.lost; cut = h.cut; ended = h.ended; failed = h.failed; heard = tt }
-refused_hears a l Fault h = record { fresh = h.fresh; lost = h.lost; cut = h.cut; ended = h.ended; failed = h.failed; heard = tt }
+refused_hears a l Interrupted h = record { fresh = h.fresh; lost = h.lost; cut = h.cut; ended = h.ended; failed = h.failed; heard = tt }
+refused_hears a l Fatal h = record { fresh = h.fresh; lost = h.lost; cut = h.cut; ended = h.ended; failed = h.failed; heard = tt }
 
-refused_sound : (a : Account) (said : Refusal) → Sound a → Sound (record a { received = heard_refusal a.received said })
-refused_sound a Later h = record {
+refused_sound : (a : Account) (said : IoFailure) → Sound a → Sound (record a { received = heard_refusal a.received said })
+refused_sound a WouldBlock h = record {
   took = h.took;
   handed = h.handed;
   honest = h.honest;
@@ -177,18 +177,18 @@ refused_sound a Later h = record {
   rightly = h.rightly;
   served = h.served;
 }
-refused_sound a Again h = h
-refused_sound a Fault h = h
+refused_sound a Interrupted h = h
+refused_sound a Fatal h = h
 
-refused_closed : (a : Account) (said : Refusal) → Closed a → Closed (record a { received = heard_refusal a.received said })
-refused_closed a Later h = record { watched = h.watched; kept = h.kept }
-refused_closed a Again h = h
-refused_closed a Fault h = h
+refused_closed : (a : Account) (said : IoFailure) → Closed a → Closed (record a { received = heard_refusal a.received said })
+refused_closed a WouldBlock h = record { watched = h.watched; kept = h.kept }
+refused_closed a Interrupted h = h
+refused_closed a Fatal h = h
 
-refused_fresh : (a : Account) (said : Refusal) → Fresh a → Fresh (record a { received = heard_refusal a.received said })
-refused_fresh a Later h = record { written = h.written; took = h.took; gave = h.gave; handed = h.handed }
-refused_fresh a Again h = h
-refused_fresh a Fault h = h
+refused_fresh : (a : Account) (said : IoFailure) → Fresh a → Fresh (record a { received = heard_refusal a.received said })
+refused_fresh a WouldBlock h = record { written = h.written; took = h.took; gave = h.gave; handed = h.handed }
+refused_fresh a Interrupted h = h
+refused_fresh a Fatal h = h
 
 spares_refused : (old new : Option (List Step)) (number : ℕ) (fault : ErrorKind) (other : ℕ) → (other ≡ 0 → ⊥)
     → Tells old (Accepts number (Err fault)) new → Spares other old new
@@ -200,7 +200,7 @@ spares_refused old new number fault other ne tells =
 
 pub stands_refused : (old new : Option (List Step)) (peers : List Peer) (l : Listening) (last number : ℕ) (fault : ErrorKind)
     → Tells old (Accepts number (Err fault)) new → Stands old peers l last
-    → Stands new peers (refused_listening (refusal_of fault)) last
+    → Stands new peers (refused_listening (failure_of fault)) last
 stands_refused old new peers l last number fault tells stands = record {
   kept = λ k d lt.
       let some : 0 < (slice_index_or peers k d).number = (stands.within k d lt).0 in
@@ -210,7 +210,7 @@ stands_refused old new peers l last number fault tells stands = record {
   within = stands.within;
   sound = λ log is socket. ⊎_elim
       (λ (e : socket ≡ 0). subst (λ (n : ℕ). Sound (account n log)) (sym e)
-      (subst Sound (sym (more log is)) (refused_sound (account 0 (tells log is).0) (refusal_of fault)
+      (subst Sound (sym (more log is)) (refused_sound (account 0 (tells log is).0) (failure_of fault)
       (stands.sound (tells log is).0 (tells log is).1 0))))
       (λ (ne : socket ≡ 0 → ⊥). spared Sound socket old new (spares_refused old new number fault socket ne tells)
       (λ lg e. stands.sound lg e socket) log is)
@@ -220,20 +220,20 @@ stands_refused old new peers l last number fault tells stands = record {
       (λ lg e. stands.fresh lg e socket above) log is;
   closed = λ log is socket absent. ⊎_elim
       (λ (e : socket ≡ 0). subst (λ (n : ℕ). Closed (account n log)) (sym e)
-      (subst Closed (sym (more log is)) (refused_closed (account 0 (tells log is).0) (refusal_of fault)
+      (subst Closed (sym (more log is)) (refused_closed (account 0 (tells log is).0) (failure_of fault)
       (stands.closed (tells log is).0 (tells log is).1 0 (subst (λ (n : ℕ). IsAbsent n peers) e absent)))))
       (λ (ne : socket ≡ 0 → ⊥). spared Closed socket old new
       (spares_refused old new number fault socket ne tells)
       (λ lg e. stands.closed lg e socket absent) log is)
       (cases_eq socket 0);
-  heard = λ log is. subst (λ (a : Account). Hears a (refused_listening (refusal_of fault))) (sym (more log is))
-      (refused_hears (account 0 (tells log is).0) l (refusal_of fault) (stands.heard (tells log is).0 (tells log is).1));
+  heard = λ log is. subst (λ (a : Account). Hears a (refused_listening (failure_of fault))) (sym (more log is))
+      (refused_hears (account 0 (tells log is).0) l (failure_of fault) (stands.heard (tells log is).0 (tells log is).1));
 }
   where
     more : (log : List Step) (is : new ≡ Some log)
         → account 0 log ≡ record (account 0 (tells log is).0) {
           received = heard_refusal (account 0 (tells log is).0).received
-              (refusal_of fault);
+              (failure_of fault);
         }
     more log is = ap (account 0) (tells log is).2 ∙ account_more 0 (tells log is).0 (Accepts number (Err fault))
 

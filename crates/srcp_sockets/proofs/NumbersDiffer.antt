@@ -7,8 +7,8 @@ use Rattle.std.proofs.lemmas.Bool.{cases_lt}
 use Rattle.std.proofs.lemmas.Bool.Decides.{nat_tests}
 use Rattle.std.proofs.lemmas.List.{length-append, get_or_push, get_or_append_left}
 use Rattle.std.proofs.lemmas.List.Elements.{filter_map-append}
-use Rattle.srcp_peers.specs.declared.system.Refusal.{Refusal}
-use Rattle.srcp_peers.specs.declared.system.Refusal.TheVariants.{Later, Again, Fault}
+use Rattle.srcp_peers.specs.declared.system.IoFailure.{IoFailure}
+use Rattle.srcp_peers.specs.declared.system.IoFailure.TheVariants.{WouldBlock, Interrupted, Fatal}
 use Rattle.srcp_door.specs.Calls.{AcceptCall, Call, peer_of}
 use Rattle.srcp_sockets.specs.Names.{IsNamed, Named}
 use Rattle.srcp_peers.specs.Steps.{SaysNothing, SaysOne, Step, calls}
@@ -64,10 +64,10 @@ named_come old new last n below says named later is =
     subst (λ (xs : List ℕ). Named xs n) (sym more) (named_push (filter_map peer_of (calls s.0)) last n below (named s.0 s.1))
 
 -- nobody came
-pub nobody_named : (said : Refusal) → filter_map peer_of (AcceptCall (refused_accept said) ∷ []) ≡ []
-nobody_named Later = refl
-nobody_named Again = refl
-nobody_named Fault = refl
+pub nobody_named : (said : IoFailure) → filter_map peer_of (AcceptCall (refused_accept said) ∷ []) ≡ []
+nobody_named WouldBlock = refl
+nobody_named Interrupted = refl
+nobody_named Fatal = refl
 
 named_nobody : (last : ℕ) → Named [] last
 unfolding IsDistinct

@@ -11,7 +11,7 @@ use Rattle.srcp_door.specs.declared.door.DoorFault.{DoorFault}
 use Rattle.srcp_door.specs.declared.door.DoorFault.TheVariants as fault
 use Rattle.srcp_door.specs.declared.door.Got.{Got}
 use Rattle.srcp_door.specs.declared.door.Got.TheVariants as got
-use Rattle.srcp_door.specs.declared.pacing.Line.{Line}
+use Rattle.srcp_door.specs.declared.pacing.LineBoundary.{LineBoundary}
 use Rattle.srcp_door.specs.declared.pacing.Pace.{Pace}
 use Rattle.srcp_door.specs.declared.pacing.Pace.TheVariants.{Paced, OneLine}
 use Rattle.srcp_door.specs.declared.pacing.Share.{Share}
@@ -39,7 +39,8 @@ use Rattle.srcp_sockets.proofs.TimesGoOn.{line_kept}
 
 -- ---- what is handed out
 
-light_longest : (line : Line) (most : ℕ) (piece : List ℕ) (count : ℕ) → IsLongest line most piece count → IsHandedOut line piece count
+light_longest : (line : LineBoundary) (most : ℕ) (piece : List ℕ) (count : ℕ) → IsLongest line most piece count
+    → IsHandedOut line piece count
 light_longest line most piece count h = record {
   begun = h.begun;
   light = λ n within none. ⊎_elim
@@ -50,7 +51,8 @@ light_longest line most piece count h = record {
       (cases_lt (lines (take count piece)) (lines (take n piece)));
 }
 
-granted : (line : Line) (most rest : ℕ) (piece : List ℕ) (count : ℕ) → IsShare line most rest piece count → IsHandedOut line piece count
+granted : (line : LineBoundary) (most rest : ℕ) (piece : List ℕ) (count : ℕ) → IsShare line most rest piece count
+    → IsHandedOut line piece count
 granted line most rest piece count h = light_longest line (weight_of line (take h.own (take rest piece))) piece count h.longest
 
 allowed : (pace : Pace) (share : Share) (piece : List ℕ) (count : ℕ) → Allows pace share piece count
@@ -172,7 +174,7 @@ read_done wall start trace turn waits p answer buffer room kept log is timed agr
           let fails : is_failed p ≡ true = ap (λ b. b || has_failed p.input) (lost_as a.sent p.outgoing p.output h.writes)
           ∙ ap (λ b. a.sent.lost || b) (failed_as a.received p.incoming p.input reads)
           ∙ and_right (not (is_held a.received)) (a.sent.lost || a.received.failed) rest in
-          let may : turn.ends ≡ true = ap (λ (t : Turn). t.ends) (sym (timed log is).same) ∙ ends in
+          let may : turn.may_report_end ≡ true = ap (λ (t : Turn). t.may_report_end) (sym (timed log is).same) ∙ ends in
           let end : Result Got DoorFault = cond (is_ended p) (Ok got.Ended) (Ok got.Nothing) in
           ap is_fault (answered.end none ∙ ap (λ b. cond b (cond (is_failed p) (Err fault.Read) end) (Ok got.Nothing)) may
           ∙ ap (λ b. cond b (Err fault.Read) end) fails);
@@ -183,13 +185,13 @@ read_done wall start trace turn waits p answer buffer room kept log is timed agr
           and_left (may_end a && not (is_failing a)) (is_settled (ending_of p.number log)) leaving in
           let l = leaves a p (ending_of p.number log) h here far (and_left (may_end a) (not (is_failing a)) sound)
           (not_so (is_failing a) (and_right (may_end a) (not (is_failing a)) sound)) settled in
-          let may : turn.ends ≡ true = ap (λ (t : Turn). t.ends) (sym (timed log is).same) ∙ ends in
+          let may : turn.may_report_end ≡ true = ap (λ (t : Turn). t.may_report_end) (sym (timed log is).same) ∙ ends in
           let end : Result Got DoorFault = cond (is_ended p) (Ok got.Ended) (Ok got.Nothing) in
           ap is_end (answered.end l.0 ∙ ap (λ b. cond b (cond (is_failed p) (Err fault.Read) end) (Ok got.Nothing)) may
           ∙ ap (λ b. cond b (Err fault.Read) end) l.1 ∙ ap (λ b. cond b (Ok got.Ended) (Ok got.Nothing)) l.2);
       held = λ watched e. (answered.some (some e)).0;
       handed = λ watched e.
-          subst (λ (l : Line). IsHandedOut l (held_piece a.received (length buffer)) (length (got_bytes answer buffer)))
+          subst (λ (l : LineBoundary). IsHandedOut l (held_piece a.received (length buffer)) (length (got_bytes answer buffer)))
           (sym (line_kept trace wall start p log agrees is))
           (subst (λ (xs : List ℕ). IsHandedOut p.share.line xs (length (got_bytes answer buffer))) piece
           (allowed (own_pace waits turn.pace) p.share (piece_of p room) (length (got_bytes answer buffer)) (answered.some (some e)).1));
@@ -198,10 +200,10 @@ read_done wall start trace turn waits p answer buffer room kept log is timed agr
 -- of one that is not there
 pub missing_done : (wall start : ℕ) (trace : Option (List Step)) (turn : Turn) (who : ℕ) (answer : Result Got DoorFault) (buffer : List ℕ)
     (log : List Step) → trace ≡ Some log → IsTimedFrom wall start trace turn → (account who log).watched ≡ false
-    → answer ≡ cond turn.ends (Err fault.Read) (Ok got.Nothing) → IsReadDone wall start log who answer buffer
+    → answer ≡ cond turn.may_report_end (Err fault.Read) (Ok got.Nothing) → IsReadDone wall start log who answer buffer
 missing_done wall start trace turn who answer buffer log is timed missing answered = record {
   told = λ ends failing.
-      let may : turn.ends ≡ true = ap (λ (t : Turn). t.ends) (sym (timed log is).same) ∙ ends in
+      let may : turn.may_report_end ≡ true = ap (λ (t : Turn). t.may_report_end) (sym (timed log is).same) ∙ ends in
       ap is_fault (answered ∙ ap (λ b. cond b (Err fault.Read) (Ok got.Nothing)) may);
   ended = λ ends leaving.
       let a : Account = account who log in

@@ -17,7 +17,7 @@ use Rattle.srcp_door.specs.Calls.{Call}
 use Rattle.srcp_peers.specs.Accounts.{Account, account, account_step, answered_step}
 use Rattle.srcp_peers.specs.Peers.{Agrees, IsKept, Spares, WritesAs}
 use Rattle.srcp_peers.specs.declared.ending.Ending.TheVariants as ending
-use Rattle.srcp_door.specs.declared.pacing.Line.TheVariants as line
+use Rattle.srcp_door.specs.declared.pacing.LineBoundary.TheVariants as boundary
 use Rattle.srcp_peers.specs.AllPeers.{AreKept, AreThose, AreWithin, IsAbsent}
 use Rattle.srcp_sockets.specs.Doors.{Closed, Fresh, Hears, Sound, Stands}
 use Rattle.srcp_sockets.specs.Doors.{IsThere}
@@ -34,11 +34,11 @@ nobody = record {
   incoming = [];
   input = input.Ready;
   output = output.Open;
-  cut = false;
+  backpressured = false;
   stay = stay.Here;
-  share = record { line = line.Ended; rest = 0 };
+  share = record { line = boundary.At; rest = 0 };
   ending = ending.Open;
-  asked = true;
+  awaits_reply = true;
   heard = 0;
   room = 300;
 }

@@ -10,8 +10,8 @@ use Rattle.srcp_door.specs.declared.door.Got.{Got}
 use Rattle.srcp_door.specs.declared.door.Got.TheVariants as got
 use Rattle.srcp_door.specs.Pacing.{fits, weight_of}
 use Rattle.srcp_door.specs.Moments.{Moments}
-use Rattle.srcp_door.specs.declared.pacing.Line.{Line}
-use Rattle.srcp_door.specs.declared.pacing.Line.TheVariants as line
+use Rattle.srcp_door.specs.declared.pacing.LineBoundary.{LineBoundary}
+use Rattle.srcp_door.specs.declared.pacing.LineBoundary.TheVariants as boundary
 use Rattle.srcp_door.specs.declared.pacing.Pace.{Pace}
 use Rattle.srcp_door.specs.declared.pacing.Pace.TheVariants.{Paced, OneLine}
 use Rattle.srcp_peers.specs.declared.peer.Peer.{Peer}
@@ -163,7 +163,7 @@ unless_ended : (reports ends : Bool) → (reports ≡ true → ends ≡ true) �
 unless_ended true ends f = f refl
 unless_ended false ends f = refl
 
-read_clock : (turn : Turn) (line : Line) (answer : Result Got DoorFault) (buffer : List ℕ)
+read_clock : (turn : Turn) (line : LineBoundary) (answer : Result Got DoorFault) (buffer : List ℕ)
     → turn.clock ≡ (after_read turn line answer buffer).clock
 read_clock turn line (Ok (got.Bytes count)) buffer = refl
 read_clock turn line (Ok got.Nothing) buffer = refl
@@ -171,12 +171,12 @@ read_clock turn line (Ok got.Ended) buffer = refl
 read_clock turn line (Err fault) buffer = refl
 
 -- what is to hold of a read in a turn, of a socket whose line that is
-pub record IsAllowed (turn : Turn) (line : Line) (answer : Result Got DoorFault) (buffer : List ℕ) : Type 0 where
+pub record IsAllowed (turn : Turn) (line : LineBoundary) (answer : Result Got DoorFault) (buffer : List ℕ) : Type 0 where
   pub prompt : turn.late ≡ true → hands_out answer ≡ false
   pub light : fits turn.pace (weight_of line (got_bytes answer buffer)) ≡ true
-  pub single : reports_end answer ≡ true → turn.ends ≡ true
+  pub single : reports_end answer ≡ true → turn.may_report_end ≡ true
 
-read_rightly : (t : Times) (before : Turn) (line : Line) (who : ℕ) (answer : Result Got DoorFault) (buffer : List ℕ)
+read_rightly : (t : Times) (before : Turn) (line : LineBoundary) (who : ℕ) (answer : Result Got DoorFault) (buffer : List ℕ)
     → t.lines who ≡ line → IsAllowed before line answer buffer → Timed t before
     → Timed (answered_read t who answer buffer) (after_read before line answer buffer)
 read_rightly t before line who answer buffer lined allowed h = record {
@@ -193,14 +193,14 @@ read_rightly t before line who answer buffer lined allowed h = record {
     light = both t.paced (fits t.turn.pace (weight_of (t.lines who) (got_bytes answer buffer))) h.paced.light
         (ap (λ (u : Turn). fits u.pace (weight_of (t.lines who) (got_bytes answer buffer))) h.same
         ∙ ap (λ l. fits before.pace (weight_of l (got_bytes answer buffer))) lined ∙ allowed.light);
-    once = both t.single (not (reports_end answer) || t.turn.ends) h.paced.once
-        (unless_ended (reports_end answer) t.turn.ends (λ e. ap (λ (u : Turn). u.ends) h.same ∙ allowed.single e));
+    once = both t.single (not (reports_end answer) || t.turn.may_report_end) h.paced.once
+        (unless_ended (reports_end answer) t.turn.may_report_end (λ e. ap (λ (u : Turn). u.may_report_end) h.same ∙ allowed.single e));
   };
   heard = h.heard;
   honest = h.honest;
 }
 
-read_from : (wall start : ℕ) (old new : Option (List Step)) (before : Turn) (line : Line) (who : ℕ) (answer : Result Got DoorFault)
+read_from : (wall start : ℕ) (old new : Option (List Step)) (before : Turn) (line : LineBoundary) (who : ℕ) (answer : Result Got DoorFault)
     (buffer : List ℕ)
     → ((log : List Step) → old ≡ Some log → (times wall start log).lines who ≡ line) → IsAllowed before line answer buffer
     → Tells old (Answers (ReadCall who answer buffer)) new → IsTimedFrom wall start old before
@@ -211,7 +211,7 @@ read_from wall start old new before line who answer buffer lined allowed tells t
     (sym (ap (times wall start) t.2 ∙ times_more wall start t.0 (Answers (ReadCall who answer buffer))))
     (read_rightly (times wall start t.0) before line who answer buffer (lined t.0 t.1) allowed (timed t.0 t.1))
 
-pub read_time : (turn : Turn) (line : Line) (answer : Result Got DoorFault) (buffer : List ℕ)
+pub read_time : (turn : Turn) (line : LineBoundary) (answer : Result Got DoorFault) (buffer : List ℕ)
     → (after_read turn line answer buffer).timekeeper ≡ turn.timekeeper
 read_time turn line (Ok (got.Bytes count)) buffer = refl
 read_time turn line (Ok got.Nothing) buffer = refl
@@ -222,7 +222,7 @@ timed_by : (new : Option (List Step)) (before after : Turn) → after.timekeeper
     → IsTimedFrom before.timekeeper.wall before.timekeeper.start new after → IsTimed new after
 timed_by new before after same timed = subst (λ (m : Moments). IsTimedFrom m.wall m.start new after) (sym same) timed
 
-pub timed_read : (old new : Option (List Step)) (before after : Turn) (line : Line) (who : ℕ) (answer : Result Got DoorFault)
+pub timed_read : (old new : Option (List Step)) (before after : Turn) (line : LineBoundary) (who : ℕ) (answer : Result Got DoorFault)
     (buffer : List ℕ)
     → after ≡ after_read before line answer buffer
     → ((wall start : ℕ) (log : List Step) → old ≡ Some log → (times wall start log).lines who ≡ line)
@@ -244,8 +244,8 @@ fits_none : (pace : Pace) → fits pace 0 ≡ true
 fits_none (Paced left) = grind (arith, nat_tests)
 fits_none OneLine = refl
 
-none_allowed : (turn : Turn) (line : Line) (answer : Result Got DoorFault) (buffer : List ℕ) → got_bytes answer buffer ≡ []
-    → hands_out answer ≡ false → (reports_end answer ≡ true → turn.ends ≡ true) → IsAllowed turn line answer buffer
+none_allowed : (turn : Turn) (line : LineBoundary) (answer : Result Got DoorFault) (buffer : List ℕ) → got_bytes answer buffer ≡ []
+    → hands_out answer ≡ false → (reports_end answer ≡ true → turn.may_report_end ≡ true) → IsAllowed turn line answer buffer
 none_allowed turn line answer buffer none kept_back ends = record {
   prompt = λ e. kept_back;
   light = ap (λ xs. fits turn.pace (weight_of line xs)) none ∙ fits_none turn.pace;
@@ -253,8 +253,8 @@ none_allowed turn line answer buffer none kept_back ends = record {
 }
 
 none_from : (wall start : ℕ) (old new : Option (List Step)) (before after : Turn) (who : ℕ) (answer : Result Got DoorFault)
-    (buffer : List ℕ) → ((line : Line) → after ≡ after_read before line answer buffer)
-    → ((line : Line) → IsAllowed before line answer buffer) → Tells old (Answers (ReadCall who answer buffer)) new
+    (buffer : List ℕ) → ((line : LineBoundary) → after ≡ after_read before line answer buffer)
+    → ((line : LineBoundary) → IsAllowed before line answer buffer) → Tells old (Answers (ReadCall who answer buffer)) new
     → IsTimedFrom wall start old before → IsTimedFrom wall start new after
 none_from wall start old new before after who answer buffer is allowed tells timed =
     timed_step wall start old new (Answers (ReadCall who answer buffer)) before after tells
@@ -270,11 +270,11 @@ timed_nothing old new turn who buffer tells timed =
 -- nobody was there: that was reported, or nothing
 pub timed_missed : (old new : Option (List Step)) (before after : Turn) (who : ℕ) (answer : Result Got DoorFault) (buffer : List ℕ)
     → (answer ≡ Ok got.Nothing ⊎ answer ≡ Err DoorFault.Read)
-    → ((line : Line) (bytes : List ℕ) → after ≡ after_read before line answer bytes)
-    → (reports_end answer ≡ true → before.ends ≡ true)
+    → ((line : LineBoundary) (bytes : List ℕ) → after ≡ after_read before line answer bytes)
+    → (reports_end answer ≡ true → before.may_report_end ≡ true)
     → Tells old (Answers (ReadCall who answer buffer)) new → IsTimed old before → IsTimed new after
 timed_missed old new before after who answer buffer reported is ends tells timed =
-    timed_by new before after (ap (λ (u : Turn). u.timekeeper) (is line.Ended buffer) ∙ read_time before line.Ended answer buffer)
+    timed_by new before after (ap (λ (u : Turn). u.timekeeper) (is boundary.At buffer) ∙ read_time before boundary.At answer buffer)
     (none_from before.timekeeper.wall before.timekeeper.start old new before after who answer buffer (λ line. is line buffer)
     (λ line. none_allowed before line answer buffer none kept_back ends) tells timed)
   where

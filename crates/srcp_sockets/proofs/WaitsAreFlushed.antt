@@ -273,7 +273,8 @@ due_or_none a p what h all = by p.output refl h.writes
     flushes (stay.Shut since) = refl
 
     due : is_due (flush_of what p.stay) p ≡ true
-    due = ap (λ b. b || (nat_lt 3160 (length p.outgoing) || (p.asked && (p.cut || (length p.incoming == 0))))) (flushes p.stay)
+    due = ap (λ b. b || (nat_lt 3160 (length p.outgoing) || (p.awaits_reply && (p.backpressured || (length p.incoming == 0)))))
+        (flushes p.stay)
 
     queued : (outgoing : List ℕ) → p.outgoing ≡ outgoing → p.output ≡ output.Open → a.sent.written ≡ a.sent.took ++ p.outgoing
         → IsFlushed (flush_of what p.stay) p ⊎ ((not (is_owed a.sent) || (a.sent.full || a.sent.lost)) ≡ true)

@@ -55,7 +55,7 @@ woken_closed socket a (one ∷ more) h = woken_closed socket (woken socket a one
 -- the listener, when a socket was found ready
 still_heard : (quiet : Bool) (l : Listening) → HeardAs quiet l → HeardAs (quiet && true) l
 still_heard quiet listening.Ready h = tt
-still_heard quiet listening.Refused h = tt
+still_heard quiet listening.BackingOff h = tt
 still_heard quiet listening.Quiet h = ap (λ b. b && true) h
 
 woken_hears : (a : Account) (l : Listening) (one : Ready) → Hears a l → Hears (woken 0 a one) (woken_listening l one)

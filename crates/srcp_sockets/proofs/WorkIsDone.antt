@@ -17,15 +17,15 @@ use Rattle.srcp_peers.specs.declared.readiness.Input.TheVariants as input
 use Rattle.srcp_peers.specs.declared.stay.Stay.{Stay}
 use Rattle.srcp_peers.specs.declared.stay.Stay.TheVariants as stay
 use Rattle.srcp_peers.specs.declared.system.Ready.{Ready}
-use Rattle.srcp_peers.specs.declared.system.Refusal.{Refusal}
-use Rattle.srcp_peers.specs.declared.system.Refusal.TheVariants.{Later, Again, Fault}
+use Rattle.srcp_peers.specs.declared.system.IoFailure.{IoFailure}
+use Rattle.srcp_peers.specs.declared.system.IoFailure.TheVariants.{WouldBlock, Interrupted, Fatal}
 use Rattle.srcp_peers.specs.declared.turn.Listening.{Listening}
 use Rattle.srcp_peers.specs.declared.turn.Turn.{Turn}
 use Rattle.srcp_peers.specs.Accounts.{Account, Received, accepted, account, account_step, closed, heard_refusal, is_held, read_in, read_of}
 use Rattle.srcp_peers.specs.Accounts.{refused_read, refused_write, shut_down, untouched, waited, woken, woken_came, woken_sent}
 use Rattle.srcp_peers.specs.Peers.{Agrees, ComesAs, ReadsAs, StaysAs, holds_input, is_here}
 use Rattle.srcp_peers.specs.Steps.{Accepts, Answers, Clocks, Closes, Reads, SaysNothing, Shuts, Step, Tells, Waits, Writes}
-use Rattle.srcp_peers.specs.Steps.{call_of, calls, refusal_of}
+use Rattle.srcp_peers.specs.Steps.{call_of, calls, failure_of}
 use Rattle.srcp_peers.specs.Times.{KeepsTimes, Times, first_times, times, times_step}
 use Rattle.srcp_peers.proofs.AccountsHoldStreams.{if_same}
 use Rattle.srcp_peers.proofs.PeersStayKept.{account_more}
@@ -178,13 +178,13 @@ takes_accepted socket number a (Ok done) takes = by (socket == 0) (number == soc
     by true c = takes
     by false true = and_right (not a.sent.cut) (is_held a.received) (and_right a.watched (not a.sent.cut && is_held a.received) takes)
     by false false = takes
-takes_accepted socket number a (Err fault) takes = by (socket == 0) (number == socket) (refusal_of fault)
+takes_accepted socket number a (Err fault) takes = by (socket == 0) (number == socket) (failure_of fault)
   where
-    by : (b c : Bool) (said : Refusal)
+    by : (b c : Bool) (said : IoFailure)
         → takes_input (if b then record a { received = heard_refusal a.received said } else if c then a else a) ≡ true
-    by true c Later = takes
-    by true c Again = takes
-    by true c Fault = takes
+    by true c WouldBlock = takes
+    by true c Interrupted = takes
+    by true c Fatal = takes
     by false true said = takes
     by false false said = takes
 
@@ -201,17 +201,17 @@ takes_read a buffer (Ok count) takes = by a.watched a.sent.cut takes
         ∙ longer (length a.received.handed) (length a.received.gave) (length (take count buffer)) h
     by true true h = absurd (true≢false (sym h))
     by false cut h = absurd (true≢false (sym h))
-takes_read a buffer (Err fault) takes = by (refusal_of fault)
+takes_read a buffer (Err fault) takes = by (failure_of fault)
   where
-    by : (said : Refusal) → takes_input (record a { received = refused_read a.received said; unread = false }) ≡ true
-    by Later = takes
-    by Again = takes
-    by Fault = takes
+    by : (said : IoFailure) → takes_input (record a { received = refused_read a.received said; unread = false }) ≡ true
+    by WouldBlock = takes
+    by Interrupted = takes
+    by Fatal = takes
 
-takes_wrote : (a : Account) (said : Refusal) → takes_input (record a { sent = refused_write a.sent said }) ≡ takes_input a
-takes_wrote a Later = refl
-takes_wrote a Again = refl
-takes_wrote a Fault = refl
+takes_wrote : (a : Account) (said : IoFailure) → takes_input (record a { sent = refused_write a.sent said }) ≡ takes_input a
+takes_wrote a WouldBlock = refl
+takes_wrote a Interrupted = refl
+takes_wrote a Fatal = refl
 
 -- one of two
 either : (b : Bool) (x a : Account) → takes_input x ≡ true → takes_input a ≡ true → takes_input (if b then x else a) ≡ true
@@ -225,7 +225,7 @@ takes_step socket a (Reads who buffer answer) none takes = either (who == socket
     (takes_read a buffer answer takes) takes
 takes_step socket a (Writes who bytes (Ok count)) none takes = either (who == socket) _ a takes takes
 takes_step socket a (Writes who bytes (Err fault)) none takes = either (who == socket) _ a
-    (takes_wrote a (refusal_of fault) ∙ takes) takes
+    (takes_wrote a (failure_of fault) ∙ takes) takes
 takes_step socket a (Waits most count ready) none takes = woken_takes socket (waited socket a most) (take count ready) ∙ takes
 takes_step socket a (Shuts who) none takes = either (who == socket) (shut_down a) a takes takes
 takes_step socket a (Closes who) none takes = either (who == socket) (closed a) a takes takes
@@ -286,8 +286,8 @@ takes_as : (a : Account) (p : Peer) → Agrees a p → holds_input p ≡ true �
 takes_as a p h holds = by p.stay h.reads h.stays holds
   where
     by : (here : Stay) → ComesAs a.received p.incoming p.input here → StaysAs a.watched a.lingering p.outgoing here
-        → (is_here here && (not p.cut && not (length p.incoming == 0))) ≡ true → takes_input a ≡ true
-    by stay.Here reads stays e = takes_so a.watched a.sent.cut (is_held a.received) p.cut (length p.incoming == 0) stays.0 h.cut
+        → (is_here here && (not p.backpressured && not (length p.incoming == 0))) ≡ true → takes_input a ≡ true
+    by stay.Here reads stays e = takes_so a.watched a.sent.cut (is_held a.received) p.backpressured (length p.incoming == 0) stays.0 h.cut
         (held_is a.received p.incoming (gave_as a.received p.incoming p.input reads)) e
     by (stay.Draining since) reads stays e = absurd (true≢false (sym e))
     by (stay.Shut since) reads stays e = absurd (true≢false (sym e))

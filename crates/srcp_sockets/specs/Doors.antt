@@ -85,7 +85,7 @@ flushed_in turn flushed peers =
 
 abbrev pub HeardAs : Bool → Listening → Type 0
 HeardAs quiet listening.Ready = ⊤
-HeardAs quiet listening.Refused = ⊤
+HeardAs quiet listening.BackingOff = ⊤
 HeardAs quiet listening.Quiet = quiet ≡ true
 
 pub record Hears (a : Account) (listening : Listening) : Type 0 where

@@ -7,7 +7,7 @@ use Rattle.srcp_door.specs.Pacing.{lines, weight_of}
 use Rattle.srcp_door.specs.declared.door.DoorFault.{DoorFault}
 use Rattle.srcp_door.specs.declared.door.Got.{Got}
 use Rattle.srcp_door.specs.declared.door.Got.TheVariants as got
-use Rattle.srcp_door.specs.declared.pacing.Line.{Line}
+use Rattle.srcp_door.specs.declared.pacing.LineBoundary.{LineBoundary}
 use Rattle.srcp_peers.specs.Accounts.{Account, Received, account, is_held, may_end}
 use Rattle.srcp_peers.specs.Reports.{is_settled}
 use Rattle.srcp_peers.specs.Steps.{Accepts, Answers, Clocks, Closes, Reads, Shuts, Step, Waits, Writes}
@@ -63,7 +63,7 @@ is_failing a = not a.watched || (not (is_held a.received) && (a.sent.lost || a.r
 
 -- of a piece of a line so many bytes are handed out: all, if no line ends in it; and not fewer lines than those at its
 -- start that weigh nothing
-pub record IsHandedOut (line : Line) (piece : List ℕ) (count : ℕ) : Type 0 where
+pub record IsHandedOut (line : LineBoundary) (piece : List ℕ) (count : ℕ) : Type 0 where
   pub begun : lines piece ≡ 0 → count ≡ length piece
   pub light : (n : ℕ) → n ≤ length piece → weight_of line (take n piece) ≡ 0
       → lines (take n piece) ≤ lines (take count piece)
@@ -87,8 +87,9 @@ is_leaving who log = (may_end (account who log) && not (is_failing (account who 
 -- reported no other end. If input of it is held, that is handed out, and no end is reported
 pub record IsReadDone (wall start : ℕ) (log : List Step) (who : ℕ) (answer : Result Got DoorFault) (buffer : List ℕ)
     : Type 0 where
-  pub told : (times wall start log).turn.ends ≡ true → is_failing (account who log) ≡ true → is_fault answer ≡ true
-  pub ended : (times wall start log).turn.ends ≡ true → is_leaving who log ≡ true → is_end answer ≡ true
+  pub told : (times wall start log).turn.may_report_end ≡ true → is_failing (account who log) ≡ true
+      → is_fault answer ≡ true
+  pub ended : (times wall start log).turn.may_report_end ≡ true → is_leaving who log ≡ true → is_end answer ≡ true
   pub held : (account who log).watched ≡ true → is_held (account who log).received ≡ true → reports_end answer ≡ false
   pub handed : (account who log).watched ≡ true → is_held (account who log).received ≡ true
       → IsHandedOut ((times wall start log).lines who) (held_piece (account who log).received (length buffer))

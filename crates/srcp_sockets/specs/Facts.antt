@@ -41,7 +41,7 @@ StaysAs-prop watched lingering outgoing (stay.Shut since) = hlevel props
 
 HeardAs-prop : (quiet : Bool) (state : Listening) → IsProp (HeardAs quiet state)
 HeardAs-prop quiet listening.Ready = hlevel props
-HeardAs-prop quiet listening.Refused = hlevel props
+HeardAs-prop quiet listening.BackingOff = hlevel props
 HeardAs-prop quiet listening.Quiet = hlevel props
 
 pub Stands-prop : (trace : Option (List Step)) (peers : List Peer) (l : Listening) (last : ℕ) → IsProp

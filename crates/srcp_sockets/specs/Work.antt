@@ -57,7 +57,7 @@ IsClocked turn answer old new = (shown : Option ℕ) × (answer ≡ moment_of tu
 -- no connection is pending, for all that is known
 abbrev pub is_quiet : Listening → Bool
 is_quiet listening.Ready = false
-is_quiet listening.Refused = false
+is_quiet listening.BackingOff = false
 is_quiet listening.Quiet = true
 
 -- one that lingers has to be closed first: there is no place for one more, or 64 linger
@@ -76,7 +76,7 @@ may_accept heard places peers = not (is_quiet heard) && not (is_crowded places p
 
 -- a place is made: the first peer that lingers and is owed nothing is closed. Without one nobody comes in for now
 pub record MakesRoom (peers : List Peer) (heard : Listening) (old new : Option (List Step)) : Type 0 where
-  pub none : position (λ peer. is_shut peer.stay) peers ≡ None → heard ≡ listening.Refused
+  pub none : position (λ peer. is_shut peer.stay) peers ≡ None → heard ≡ listening.BackingOff
   pub one : (index : ℕ) → position (λ peer. is_shut peer.stay) peers ≡ Some index → Makes is_close 1 old new
 
 -- ---- who is read

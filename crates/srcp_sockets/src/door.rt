@@ -57,7 +57,7 @@ impl<S: System + Drop> SocketDoor<S> {
         let mut ready = Vec::new(alloc);
         ready.resize(MOST_READY, nothing)?;
         Ok(SocketDoor {
-            sockets: Sockets::new(system, alloc, MOST_PEERS, Turn::first(wall, start))?,
+            sockets: Sockets::new(system, alloc, MOST_PEERS, Turn::new(wall, start))?,
             alloc,
             ready,
             faults: 0,
@@ -141,7 +141,7 @@ impl<S: System + Drop> Door for SocketDoor<S> {
         ensures late { self.old.sockets.turn.late ≡ true → result ≡ Ok Got.Nothing }
         ensures answered { self.old.sockets.turn.late ≡ false
             → IsPeerRead self.old.sockets.turn self.old.sockets.peers.items peer (length buf.old) result
-            (got_bytes result buf.new) self.old.sockets.refused self.new.sockets.refused }
+            (got_bytes result buf.new) self.old.sockets.starved self.new.sockets.starved }
     {
         if self.sockets.is_late() {
             return self.sockets.hold_back(peer, buf);

@@ -208,7 +208,7 @@ pub fn faults_are_told<S: System + Drop>(door: &SocketDoor<S>)
         → S.trace door.now.sockets.system ≡ Some (before ++ Answers (ReadCall socket answer buffer) ∷ after)
         → is_failing (account socket before) ≡ true
         → (let t = times door.now.sockets.turn.timekeeper.wall door.now.sockets.turn.timekeeper.start before in
-        t.turn.late ≡ false → t.turn.ends ≡ true → is_fault answer ≡ true) }
+        t.turn.late ≡ false → t.turn.may_report_end ≡ true → is_fault answer ≡ true) }
 {
     let _sockets = &door.sockets;
 }
@@ -222,7 +222,7 @@ pub fn ends_are_told<S: System + Drop>(door: &SocketDoor<S>)
         → S.trace door.now.sockets.system ≡ Some (before ++ Answers (ReadCall socket answer buffer) ∷ after)
         → is_leaving socket before ≡ true
         → (let t = times door.now.sockets.turn.timekeeper.wall door.now.sockets.turn.timekeeper.start before in
-        t.turn.late ≡ false → t.turn.ends ≡ true → is_end answer ≡ true) }
+        t.turn.late ≡ false → t.turn.may_report_end ≡ true → is_end answer ≡ true) }
 {
     let _sockets = &door.sockets;
 }

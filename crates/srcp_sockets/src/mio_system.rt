@@ -111,7 +111,7 @@ impl<C: Clock + Drop> MioCalls<C> {
         })
     }
 
-    fn welcome(&mut self, number: u32) -> io::Result<()> {
+    fn accept_and_register(&mut self, number: u32) -> io::Result<()> {
         let (mut stream, _) = self.listener.accept()?;
         self.poll.registry().register(
             &mut stream,
@@ -166,7 +166,7 @@ impl<C: Clock + Drop> MioCalls<C> {
     }
 
     fn accept(&mut self, number: u32) -> Result<(), ErrorKind> {
-        match self.welcome(number) {
+        match self.accept_and_register(number) {
             Ok(()) => Ok(()),
             Err(fault) => Err(fault.kind()),
         }

@@ -53,8 +53,8 @@ pub(crate) struct Sockets<S: System + Drop> {
     pub most: Option<u64>,
     // What the clock showed when all queued bytes were last flushed, in milliseconds.
     flushed: u64,
-    // True if a line of a peer's share was kept back since the turn began: the shares stay then.
-    refused: bool,
+    // True if a line of a peer's share was kept back since the turn began: each peer then keeps the rest of its share.
+    starved: bool,
     // The queues made for a connection that was not accepted: the next connection has these.
     spare: Option<Queues>,
     ghost stands: { Stands (S.trace system) peers.items listening last } by { Stands-prop _ _ _ _ },
@@ -70,7 +70,7 @@ impl<S: System + Drop> Sockets<S> {
     /// Notes what falls due next, and how many changes the panels can still take.
     pub(crate) fn expect(&mut self, due: Option<u64>, slack: Option<usize>)
         ensures trace { SaysOne (S.trace self.old.system) (ExpectCall due slack) (S.trace self.new.system) }
-        ensures keeps { (self.new.flushed ≡ self.old.flushed) × (self.new.refused ≡ self.old.refused) }
+        ensures keeps { (self.new.flushed ≡ self.old.flushed) × (self.new.starved ≡ self.old.starved) }
     {
         self.system.note_expect(due, slack);
         self.turn.expect(due, slack);
@@ -79,7 +79,7 @@ impl<S: System + Drop> Sockets<S> {
     /// Limits how long a turn waits, in milliseconds.
     pub(crate) fn wait_at_most(&mut self, milliseconds: u64)
         ensures most { self.new.most ≡ Some milliseconds }
-        ensures keeps { (self.new.flushed ≡ self.old.flushed) × (self.new.refused ≡ self.old.refused) }
+        ensures keeps { (self.new.flushed ≡ self.old.flushed) × (self.new.starved ≡ self.old.starved) }
         ensures system { self.new.system ≡ self.old.system }
     {
         self.most = Some(milliseconds);
@@ -101,14 +101,14 @@ impl<S: System + Drop> Sockets<S> {
         ensures rooms { All (λ peer. peer.room ≡ room_of (list_any holds_input self.old.peers.items)
             self.old.turn.slack) self.new.peers.items }
         ensures flushed { self.new.flushed ≡ self.old.turn.clock }
-        ensures reset { self.new.refused ≡ false }
+        ensures reset { self.new.starved ≡ false }
     {
         let holds = self.holds_input();
         let held = self.goes_on(holds);
         let what = self.flushing(held);
         self.flush(what);
         self.close_gone();
-        self.look(held, ready);
+        self.poll_unless_held(held, ready);
         self.begin_visits(holds);
     }
 
@@ -116,7 +116,7 @@ impl<S: System + Drop> Sockets<S> {
     fn has_ticked(&self) -> bool
         ensures { result ≡ has_ticked self.now.turn self.now.flushed }
     {
-        self.turn.clock != self.flushed || self.turn.stop() > 0
+        self.turn.clock != self.flushed || self.turn.backpressure_delay() > 0
     }
 
     /// Returns whether the turn goes on with held input. `holds` says whether input is held. The turn does so until the
@@ -161,7 +161,7 @@ impl<S: System + Drop> Sockets<S> {
     }
 
     /// Waits unless `held` says that the turn goes on with held input.
-    fn look(&mut self, held: bool, ready: &mut [Ready])
+    fn poll_unless_held(&mut self, held: bool, ready: &mut [Ready])
         requires ready { length ready.old ≡ 128 }
         requires may { held ≡ false → MayWait self.old.turn (S.trace self.old.system) }
         ensures calls { SaysNothing (S.trace self.old.system) (S.trace self.new.system) }
@@ -173,7 +173,7 @@ impl<S: System + Drop> Sockets<S> {
             self.old.listening self.new.listening (S.trace self.old.system) (S.trace self.new.system) }
         ensures slack { self.new.turn.slack ≡ self.old.turn.slack }
         ensures flushed { self.new.flushed ≡ self.old.flushed }
-        ensures refused { self.new.refused ≡ self.old.refused }
+        ensures starved { self.new.starved ≡ self.old.starved }
     {
         if held {
             return;
@@ -187,7 +187,7 @@ impl<S: System + Drop> Sockets<S> {
         ensures offered { AreOffered what self.old.peers.items (S.trace self.old.system) (S.trace self.new.system) }
         ensures out { AreFlushed (flushes_all what) (S.trace self.new.system) }
         ensures times { KeepsTimes (S.trace self.old.system) (S.trace self.new.system) }
-        ensures keeps { (self.new.turn ≡ self.old.turn) × (self.new.refused ≡ self.old.refused) }
+        ensures keeps { (self.new.turn ≡ self.old.turn) × (self.new.starved ≡ self.old.starved) }
         ensures flushed { self.new.flushed ≡ self.old.turn.clock }
     {
         self.flushed = self.turn.clock;
@@ -205,7 +205,7 @@ impl<S: System + Drop> Sockets<S> {
         ensures looked { HasLooked (S.trace self.new.system) }
         ensures turn { self.new.turn ≡ after_wait self.old.turn }
         ensures flushed { self.new.flushed ≡ self.old.flushed }
-        ensures refused { self.new.refused ≡ self.old.refused }
+        ensures starved { self.new.starved ≡ self.old.starved }
     {
         let most = self.longest_wait();
         let count = self.system.wait(most, ready);
@@ -220,16 +220,16 @@ impl<S: System + Drop> Sockets<S> {
         ensures calls { SaysNothing (S.trace self.old.system) (S.trace self.new.system) }
         ensures read { AreRead (S.trace self.new.system) }
         ensures visited { AreVisited (S.trace self.new.system) self.new.peers.items }
-        ensures shares { AreShared (not self.old.refused) self.old.turn.clock
+        ensures shares { AreShared (not self.old.starved) self.old.turn.clock
             self.old.peers.items self.new.peers.items }
         ensures rooms { All (λ peer. peer.room ≡ room_of holds self.old.turn.slack) self.new.peers.items }
         ensures times { KeepsTimes (S.trace self.old.system) (S.trace self.new.system) }
         ensures flushed { self.new.flushed ≡ self.old.flushed }
-        ensures reset { self.new.refused ≡ false }
+        ensures reset { self.new.starved ≡ false }
     {
-        let anew = !self.refused;
+        let anew = !self.starved;
         let room = self.room(holds);
-        self.refused = false;
+        self.starved = false;
         let clock = self.turn.clock;
         begin_visits(
             &mut self.system,
@@ -246,7 +246,11 @@ impl<S: System + Drop> Sockets<S> {
     fn room(&self, holds: bool) -> u32
         ensures { result ≡ room_of holds self.now.turn.slack }
     {
-        if holds { self.turn.lack() } else { MOST_WRITES }
+        if holds {
+            self.turn.shortfall()
+        } else {
+            MOST_WRITES
+        }
     }
 
     /// Delivers the bytes that were taken, for 10 seconds at most, and returns the system.
@@ -264,7 +268,7 @@ impl<S: System + Drop> Sockets<S> {
             turn,
             most: _,
             flushed: _,
-            refused: _,
+            starved: _,
             spare: _,
         } = self;
         let until = turn.clock.saturating_add(LINGER);
@@ -297,7 +301,7 @@ impl<S: System + Drop> Sockets<S> {
             turn,
             most: None,
             flushed: 0,
-            refused: false,
+            starved: false,
             spare: None,
         })
     }
@@ -306,7 +310,7 @@ impl<S: System + Drop> Sockets<S> {
     /// queued bytes and its input ended, for 10 seconds at most.
     pub(crate) fn close(&mut self, number: u32) -> Result<(), DoorFault>
         ensures trace { SaysOne (S.trace self.old.system) (CloseCall number result) (S.trace self.new.system) }
-        ensures keeps { (self.new.flushed ≡ self.old.flushed) × (self.new.refused ≡ self.old.refused) }
+        ensures keeps { (self.new.flushed ≡ self.old.flushed) × (self.new.starved ≡ self.old.starved) }
         ensures fault { IfErr result (λ fault. fault ≡ DoorFault.Close) }
     {
         let Some(index) = self.index_of(number) else {
@@ -325,7 +329,7 @@ impl<S: System + Drop> Sockets<S> {
         ensures calls { SaysNothing (S.trace self.old.system) (S.trace self.new.system) }
         ensures last { self.new.last ≡ self.old.last }
         ensures times { KeepsTimes (S.trace self.old.system) (S.trace self.new.system) }
-        ensures keeps { (self.new.turn ≡ self.old.turn) × (self.new.refused ≡ self.old.refused) }
+        ensures keeps { (self.new.turn ≡ self.old.turn) × (self.new.starved ≡ self.old.starved) }
         ensures flushed { self.new.flushed ≡ self.old.flushed }
         ensures closed { AreClosedUp self.old.turn.clock self.new.peers.items
             (S.trace self.old.system) (S.trace self.new.system) }
@@ -348,7 +352,7 @@ impl<S: System + Drop> Sockets<S> {
         ensures calls { SaysNothing (S.trace self.old.system) (S.trace self.new.system) }
         ensures last { self.new.last ≡ self.old.last }
         ensures times { KeepsTimes (S.trace self.old.system) (S.trace self.new.system) }
-        ensures keeps { (self.new.turn ≡ self.old.turn) × (self.new.refused ≡ self.old.refused) }
+        ensures keeps { (self.new.turn ≡ self.old.turn) × (self.new.starved ≡ self.old.starved) }
         ensures flushed { self.new.flushed ≡ self.old.flushed }
         ensures closed { Makes is_close 1 (S.trace self.old.system) (S.trace self.new.system) }
         ensures out { (all : Bool) → AreFlushed all (S.trace self.old.system)
@@ -372,7 +376,7 @@ impl<S: System + Drop> Sockets<S> {
         ensures fault { IfErr result (λ fault. fault ≡ DoorFault.Now) }
         ensures clock { IsClocked self.old.turn result (S.trace self.old.system) (S.trace self.new.system) }
         ensures flushed { self.new.flushed ≡ self.old.flushed }
-        ensures refused { self.new.refused ≡ self.old.refused }
+        ensures starved { self.new.starved ≡ self.old.starved }
     {
         let shown = self.system.clock();
         let answer = self.turn.report_moment(shown);
@@ -439,7 +443,7 @@ impl<S: System + Drop> Sockets<S> {
         ensures trace { SaysOne (S.trace self.old.system) (ReadCall number result buffer.now)
             (S.trace self.new.system) }
         ensures nothing { result ≡ Ok Got.Nothing }
-        ensures keeps { (self.new.flushed ≡ self.old.flushed) × (self.new.refused ≡ self.old.refused) }
+        ensures keeps { (self.new.flushed ≡ self.old.flushed) × (self.new.starved ≡ self.old.starved) }
     {
         let answer = Ok(Got::Nothing);
         self.system.note_read(number, answer, buffer);
@@ -473,9 +477,9 @@ impl<S: System + Drop> Sockets<S> {
         ensures count { (n : ℕ) → result ≡ Ok (Got.Bytes n) → (0 < n) × (n ≤ length buffer.old) }
         ensures fault { IfErr result (λ fault. fault ≡ DoorFault.Read) }
         ensures answered { IsPeerRead self.old.turn self.old.peers.items number (length buffer.old) result
-            (got_bytes result buffer.new) self.old.refused self.new.refused }
+            (got_bytes result buffer.new) self.old.starved self.new.starved }
         ensures flushed { self.new.flushed ≡ self.old.flushed }
-        ensures stays { self.old.refused ≡ true → self.new.refused ≡ true }
+        ensures stays { self.old.starved ≡ true → self.new.starved ≡ true }
     {
         let Some(index) = self.index_of(number) else {
             return self.read_nobody(number, buffer);
@@ -483,7 +487,7 @@ impl<S: System + Drop> Sockets<S> {
         let waits = self.goes_behind(&self.peers[index]);
         self.recent = index;
         let handed = self.peers[index].read(&mut self.system, &mut self.turn, waits, buffer);
-        self.refused |= handed.refused;
+        self.starved |= handed.starved;
         handed.got
     }
 
@@ -496,7 +500,7 @@ impl<S: System + Drop> Sockets<S> {
         ensures trace { SaysOne (S.trace self.old.system) (ReadCall number result buffer.now)
             (S.trace self.new.system) }
         ensures nothing { (result ≡ Ok Got.Nothing) ⊎ (result ≡ Err DoorFault.Read) }
-        ensures keeps { (self.new.flushed ≡ self.old.flushed) × (self.new.refused ≡ self.old.refused) }
+        ensures keeps { (self.new.flushed ≡ self.old.flushed) × (self.new.starved ≡ self.old.starved) }
     {
         let answer = self.turn.report_fault();
         self.system.note_read(number, answer, buffer);
@@ -509,7 +513,7 @@ impl<S: System + Drop> Sockets<S> {
             (S.trace self.new.system) }
         ensures count { IfOk result (λ n. n ≤ length bytes.now) }
         ensures fault { IfErr result (λ fault. fault ≡ DoorFault.Write) }
-        ensures keeps { (self.new.flushed ≡ self.old.flushed) × (self.new.refused ≡ self.old.refused) }
+        ensures keeps { (self.new.flushed ≡ self.old.flushed) × (self.new.starved ≡ self.old.starved) }
     {
         let Some(index) = self.index_of(number) else {
             self.system.note_write(number, bytes, Err(DoorFault::Write));

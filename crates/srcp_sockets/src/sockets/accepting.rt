@@ -12,8 +12,8 @@ ghost use Rattle.srcp_peers.specs.Steps.{Closes, SaysNothing, SaysOne, Tells};
 use super::Sockets;
 use srcp_door::DoorFault;
 use srcp_peers::{
-    Listening, MOST_LINGERING, Peer, Queues, Refusal, System, count_lingering, first_shut,
-    refusal_of,
+    IoFailure, Listening, MOST_LINGERING, Peer, Queues, System, count_lingering, failure_of,
+    first_shut,
 };
 use std::alloc::{AllocError, Global};
 
@@ -25,15 +25,15 @@ impl<S: System + Drop> Sockets<S> {
     pub(crate) fn accept(&mut self, alloc: Global) -> Result<Option<u32>, DoorFault>
         ensures trace { SaysOne (S.trace self.old.system) (AcceptCall result) (S.trace self.new.system) }
         ensures fault { IfErr result (λ fault. fault ≡ DoorFault.Accept) }
-        ensures rests { OnErr result (self.new.listening ≡ Listening.Refused) }
+        ensures rests { OnErr result (self.new.listening ≡ Listening.BackingOff) }
         ensures asks { may_accept self.old.listening (vec_capacity self.old.peers) self.old.peers.items ≡ true
             → (result ≡ Err DoorFault.Accept)
             ⊎ Makes is_accept 1 (S.trace self.old.system) (S.trace self.new.system) }
-        ensures keeps { (self.new.flushed ≡ self.old.flushed) × (self.new.refused ≡ self.old.refused) }
+        ensures keeps { (self.new.flushed ≡ self.old.flushed) × (self.new.starved ≡ self.old.starved) }
         ensures full { is_quiet self.old.listening ≡ false
             → is_crowded (vec_capacity self.old.peers) self.old.peers.items ≡ true
             → position (λ peer. is_shut peer.stay) self.old.peers.items ≡ None
-            → self.new.listening ≡ Listening.Refused }
+            → self.new.listening ≡ Listening.BackingOff }
     {
         if !self.may_accept() {
             return self.note_nobody(Ok(None));
@@ -55,7 +55,7 @@ impl<S: System + Drop> Sockets<S> {
         ensures is { result ≡ may_accept self.old.listening (vec_capacity self.old.peers) self.old.peers.items }
         ensures same { result ≡ true → S.trace self.new.system ≡ S.trace self.old.system }
         ensures excused { result ≡ false → MayRefuse (S.trace self.new.system) }
-        ensures keeps { (self.new.flushed ≡ self.old.flushed) × (self.new.refused ≡ self.old.refused) }
+        ensures keeps { (self.new.flushed ≡ self.old.flushed) × (self.new.starved ≡ self.old.starved) }
         ensures makes { is_quiet self.old.listening ≡ false
             → is_crowded (vec_capacity self.old.peers) self.old.peers.items ≡ true
             → MakesRoom self.old.peers.items self.new.listening (S.trace self.old.system) (S.trace self.new.system) }
@@ -75,10 +75,10 @@ impl<S: System + Drop> Sockets<S> {
     fn put_off(&mut self) -> Result<Option<u32>, DoorFault>
         ensures trace { SaysOne (S.trace self.old.system) (AcceptCall result) (S.trace self.new.system) }
         ensures fault { result ≡ Err DoorFault.Accept }
-        ensures keeps { (self.new.flushed ≡ self.old.flushed) × (self.new.refused ≡ self.old.refused) }
-        ensures rests { self.new.listening ≡ Listening.Refused }
+        ensures keeps { (self.new.flushed ≡ self.old.flushed) × (self.new.starved ≡ self.old.starved) }
+        ensures rests { self.new.listening ≡ Listening.BackingOff }
     {
-        self.listening = Listening::Refused;
+        self.listening = Listening::BackingOff;
         self.note_nobody(Err(DoorFault::Accept))
     }
 
@@ -92,7 +92,7 @@ impl<S: System + Drop> Sockets<S> {
         ensures trace { SaysOne (S.trace self.old.system) (AcceptCall result) (S.trace self.new.system) }
         ensures same { result ≡ answer }
         ensures listening { self.new.listening ≡ self.old.listening }
-        ensures keeps { (self.new.flushed ≡ self.old.flushed) × (self.new.refused ≡ self.old.refused) }
+        ensures keeps { (self.new.flushed ≡ self.old.flushed) × (self.new.starved ≡ self.old.starved) }
     {
         self.system.note_accept(answer);
         self.turn.note_accept(answer);
@@ -105,9 +105,9 @@ impl<S: System + Drop> Sockets<S> {
         requires room { length self.old.peers.items < vec_capacity self.old.peers }
         ensures trace { SaysOne (S.trace self.old.system) (AcceptCall result) (S.trace self.new.system) }
         ensures fault { IfErr result (λ fault. fault ≡ DoorFault.Accept) }
-        ensures rests { OnErr result (self.new.listening ≡ Listening.Refused) }
+        ensures rests { OnErr result (self.new.listening ≡ Listening.BackingOff) }
         ensures asks { Makes is_accept 1 (S.trace self.old.system) (S.trace self.new.system) }
-        ensures keeps { (self.new.flushed ≡ self.old.flushed) × (self.new.refused ≡ self.old.refused) }
+        ensures keeps { (self.new.flushed ≡ self.old.flushed) × (self.new.starved ≡ self.old.starved) }
     {
         match self.system.accept(number) {
             Ok(()) => {
@@ -121,7 +121,7 @@ impl<S: System + Drop> Sockets<S> {
             }
             Err(fault) => {
                 self.spare = Some(queues);
-                let said = refusal_of(fault);
+                let said = failure_of(fault);
                 self.listening = Listening::refused(said);
                 let answer = nobody(said);
                 self.system.note_accept(answer);
@@ -145,17 +145,17 @@ impl<S: System + Drop> Sockets<S> {
     fn make_room(&mut self)
         ensures calls { SaysNothing (S.trace self.old.system) (S.trace self.new.system) }
         ensures last { self.new.last ≡ self.old.last }
-        ensures keeps { (self.new.flushed ≡ self.old.flushed) × (self.new.refused ≡ self.old.refused) }
+        ensures keeps { (self.new.flushed ≡ self.old.flushed) × (self.new.starved ≡ self.old.starved) }
         ensures closes { (S.trace self.new.system ≡ S.trace self.old.system)
             ⊎ ((who : ℕ) × Tells (S.trace self.old.system) (Closes who) (S.trace self.new.system)) }
         ensures none { position (λ peer. is_shut peer.stay) self.old.peers.items ≡ None
-            → self.new.listening ≡ Listening.Refused }
+            → self.new.listening ≡ Listening.BackingOff }
         ensures one { (index : ℕ) → position (λ peer. is_shut peer.stay) self.old.peers.items ≡ Some index
             → Makes is_close 1 (S.trace self.old.system) (S.trace self.new.system) }
     {
         match first_shut(self.peers.as_slice()) {
             Some(index) => self.close_at(index),
-            None => self.listening = Listening::Refused,
+            None => self.listening = Listening::BackingOff,
         }
     }
 }
@@ -169,12 +169,12 @@ fn spare_or_new(spare: &mut Option<Queues>, alloc: Global) -> Result<Queues, All
 }
 
 /// Answers for an accept that failed.
-fn nobody(said: Refusal) -> Result<Option<u32>, DoorFault>
+fn nobody(said: IoFailure) -> Result<Option<u32>, DoorFault>
     ensures answer { result ≡ refused_accept said }
     ensures fault { IfErr result (λ fault. fault ≡ DoorFault.Accept) }
 {
     match said {
-        Refusal::Later | Refusal::Again => Ok(None),
-        Refusal::Fault => Err(DoorFault::Accept),
+        IoFailure::WouldBlock | IoFailure::Interrupted => Ok(None),
+        IoFailure::Fatal => Err(DoorFault::Accept),
     }
 }

@@ -4,7 +4,7 @@ use Rattle.std.proofs.Math.Seq.{take-length}
 use Rattle.std.proofs.lemmas.Grind.{common_steps}
 use Rattle.std.proofs.lemmas.List.{take_rest}
 use Rattle.srcp_door.specs.Pacing.{Seen, lines, seen_of, weight_of}
-use Rattle.srcp_door.specs.declared.pacing.Line.TheVariants.{Ended}
+use Rattle.srcp_door.specs.declared.pacing.LineBoundary.TheVariants.{At}
 use Rattle.srcp_door.proofs.Lines.{ends_line, found-end, lines_behind, lines_of-end, lines_of_part}
 use Rattle.srcp_door.proofs.Lines.{lines_within, longest_at, weight_by_lines, weight_none, weight_same}
 use Rattle.srcp_door.proofs.pacing.longest_prefix.Goals as goal
@@ -24,7 +24,7 @@ lines-preserved c =
     record {
       within = omega arith;
       seen =
-          subst (λ n. record { line = Ended; text = []; weight = c.lines.weight + n } ≡ seen_of c.args.line (take (end + 1) piece))
+          subst (λ n. record { line = At; text = []; weight = c.lines.weight + n } ≡ seen_of c.args.line (take (end + 1) piece))
           (sym c.weight-next.ensures.weight) ended;
       few = omega arith;
       lines = omega (arith, c.lines.invariant.lines, same, one);

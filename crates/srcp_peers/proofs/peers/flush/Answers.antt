@@ -21,30 +21,32 @@ loop-peer-init g c = record {
 }
 
 pub loop-peer-preserved : goal.loop-peer-preserved
-loop-peer-preserved g c = record {
-  kept = set_kept (g.S.System.trace c.loop-peer.system) (g.S.System.trace c.hand_over.new.system) c.loop-peer.peers c.loop-peer.peer-index
-      c.peer-item.result c.hand_over.new.self (omega arith) c.loop-peer.invariant.apart c.loop-peer.invariant.kept
-      c.hand_over.ensures.kept c.hand_over.ensures.others;
-  apart = set_apart c.loop-peer.peers c.loop-peer.peer-index c.peer-item.result c.hand_over.new.self (omega arith)
-      c.hand_over.ensures.number c.loop-peer.invariant.apart;
-  those = set_those c.args.peers.now c.loop-peer.peers c.loop-peer.peer-index c.peer-item.result c.hand_over.new.self (omega arith)
-      c.loop-peer.auto.peers c.hand_over.ensures.number c.loop-peer.invariant.those;
-  others = λ other absent. spares_then other (g.S.System.trace c.args.system.now) (g.S.System.trace c.loop-peer.system)
-      (g.S.System.trace c.hand_over.new.system)
-      (c.loop-peer.invariant.others other absent)
-      (c.hand_over.ensures.others other (absent_there other c.args.peers.now c.loop-peer.peers c.loop-peer.peer-index c.peer-item.result
-      (omega arith)
-      c.loop-peer.auto.peers c.loop-peer.invariant.those absent));
-  calls = says_then (g.S.System.trace c.args.system.now) (g.S.System.trace c.loop-peer.system) (g.S.System.trace c.hand_over.new.system)
-      c.loop-peer.invariant.calls c.hand_over.ensures.calls;
-  times = keeps_then (g.S.System.trace c.args.system.now) (g.S.System.trace c.loop-peer.system) (g.S.System.trace c.hand_over.new.system)
-      c.loop-peer.invariant.times c.hand_over.ensures.times;
-  offered = set_offered (g.S.System.trace c.args.system.now) (g.S.System.trace c.loop-peer.system) (g.S.System.trace c.hand_over.new.system)
-      c.args.what c.args.peers.now c.loop-peer.peers c.loop-peer.peer-index c.peer-item.result (omega arith) c.loop-peer.invariant.rest
-      c.loop-peer.invariant.calls c.hand_over.ensures.calls c.hand_over.ensures.offered c.loop-peer.invariant.offered;
-  shut = set_stays c.args.peers.now c.loop-peer.peers c.loop-peer.peer-index c.peer-item.result c.hand_over.new.self (omega arith)
-      c.hand_over.ensures.stay c.loop-peer.invariant.rest c.loop-peer.invariant.shut;
-  endings = set_each (λ (p q : Peer). q.ending ≡ p.ending) c.args.peers.now c.loop-peer.peers c.loop-peer.peer-index c.peer-item.result
-      c.hand_over.new.self (omega arith) c.hand_over.ensures.ending c.loop-peer.invariant.rest c.loop-peer.invariant.endings;
-  rest = set_rest c.args.peers.now c.loop-peer.peers c.loop-peer.peer-index c.hand_over.new.self c.loop-peer.invariant.rest;
-}
+loop-peer-preserved g c =
+    let each = c.flush_or_linger in
+    record {
+      kept = set_kept (g.S.System.trace c.loop-peer.system) (g.S.System.trace each.new.system) c.loop-peer.peers c.loop-peer.peer-index
+          c.peer-item.result each.new.self (omega arith) c.loop-peer.invariant.apart c.loop-peer.invariant.kept
+          each.ensures.kept each.ensures.others;
+      apart = set_apart c.loop-peer.peers c.loop-peer.peer-index c.peer-item.result each.new.self (omega arith)
+          each.ensures.number c.loop-peer.invariant.apart;
+      those = set_those c.args.peers.now c.loop-peer.peers c.loop-peer.peer-index c.peer-item.result each.new.self (omega arith)
+          c.loop-peer.auto.peers each.ensures.number c.loop-peer.invariant.those;
+      others = λ other absent. spares_then other (g.S.System.trace c.args.system.now) (g.S.System.trace c.loop-peer.system)
+          (g.S.System.trace each.new.system)
+          (c.loop-peer.invariant.others other absent)
+          (each.ensures.others other (absent_there other c.args.peers.now c.loop-peer.peers c.loop-peer.peer-index c.peer-item.result
+          (omega arith)
+          c.loop-peer.auto.peers c.loop-peer.invariant.those absent));
+      calls = says_then (g.S.System.trace c.args.system.now) (g.S.System.trace c.loop-peer.system) (g.S.System.trace each.new.system)
+          c.loop-peer.invariant.calls each.ensures.calls;
+      times = keeps_then (g.S.System.trace c.args.system.now) (g.S.System.trace c.loop-peer.system) (g.S.System.trace each.new.system)
+          c.loop-peer.invariant.times each.ensures.times;
+      offered = set_offered (g.S.System.trace c.args.system.now) (g.S.System.trace c.loop-peer.system) (g.S.System.trace each.new.system)
+          c.args.what c.args.peers.now c.loop-peer.peers c.loop-peer.peer-index c.peer-item.result (omega arith) c.loop-peer.invariant.rest
+          c.loop-peer.invariant.calls each.ensures.calls each.ensures.offered c.loop-peer.invariant.offered;
+      shut = set_stays c.args.peers.now c.loop-peer.peers c.loop-peer.peer-index c.peer-item.result each.new.self (omega arith)
+          each.ensures.stay c.loop-peer.invariant.rest c.loop-peer.invariant.shut;
+      endings = set_each (λ (p q : Peer). q.ending ≡ p.ending) c.args.peers.now c.loop-peer.peers c.loop-peer.peer-index c.peer-item.result
+          each.new.self (omega arith) each.ensures.ending c.loop-peer.invariant.rest c.loop-peer.invariant.endings;
+      rest = set_rest c.args.peers.now c.loop-peer.peers c.loop-peer.peer-index each.new.self c.loop-peer.invariant.rest;
+    }

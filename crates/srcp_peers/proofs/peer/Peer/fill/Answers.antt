@@ -38,5 +38,5 @@ returns-in-Err-clause-asked g c ready few = (
   Err c.in-Err.fault,
   c.in-Err.ensures.2,
   c.in-Err.ensures.3,
-  c.missed-self.ensures ∙ ap (missed c.args.self.now.input) c.refusal_of.ensures,
+  c.missed-self.ensures ∙ ap (missed c.args.self.now.input) c.failure_of.ensures,
 )

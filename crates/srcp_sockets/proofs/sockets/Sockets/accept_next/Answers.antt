@@ -2,8 +2,8 @@ use Rattle.std.specs.declared.io.ErrorKind.{ErrorKind}
 use Rattle.std.specs.Prelude.{Result, filter_map}
 use Rattle.std.proofs.Common.{◌≡◌, ◌∙◌, ◌∷◌, ◌++◌, [], ap, le_trans, refl, rules, sym, subst, arith, true, Ok, Err, Some}
 use Rattle.srcp_door.specs.Calls.{AcceptCall, peer_of}
-use Rattle.srcp_peers.specs.declared.system.Refusal.{Refusal}
-use Rattle.srcp_peers.specs.declared.system.Refusal.TheVariants.{Later, Again, Fault}
+use Rattle.srcp_peers.specs.declared.system.IoFailure.{IoFailure}
+use Rattle.srcp_peers.specs.declared.system.IoFailure.TheVariants.{WouldBlock, Interrupted, Fatal}
 use Rattle.srcp_peers.specs.declared.turn.Listening.{Listening}
 use Rattle.srcp_sockets.specs.Doors.{Stands}
 use Rattle.srcp_peers.specs.Listeners.{refused_listening}
@@ -62,10 +62,10 @@ returns-in-Ok-clause-trace g c =
     (says_call mid new call c.note_accept.ensures)
 
 -- what is answered is what the system said
-answered_so : (said : Refusal) → is_as_heard (Some (refused_accept said)) (refused_accept said) ≡ true
-answered_so Later = refl
-answered_so Again = refl
-answered_so Fault = refl
+answered_so : (said : IoFailure) → is_as_heard (Some (refused_accept said)) (refused_accept said) ≡ true
+answered_so WouldBlock = refl
+answered_so Interrupted = refl
+answered_so Fatal = refl
 
 pub invariant_of-self-in-Err : goal.invariant_of-self-in-Err
 invariant_of-self-in-Err g c =
@@ -77,18 +77,18 @@ invariant_of-self-in-Err g c =
     let said : Result Unit ErrorKind = Err c.in-Err.fault in
     let answer = c.nobody-answer.result in
     let call = AcceptCall answer in
-    let is : answer ≡ refused_accept c.refusal_of-said.result = c.nobody-answer.ensures.answer in
+    let is : answer ≡ refused_accept c.failure_of-said.result = c.nobody-answer.ensures.answer in
     record {
       stands = stands_answered mid new self.peers.items c.refused-self.result self.last call (λ s a. refl) c.note_accept-in-Err.ensures
           (subst (λ (l : Listening). Stands mid self.peers.items l self.last)
-          (sym (c.refused-self.ensures ∙ ap refused_listening c.refusal_of-said.ensures))
+          (sym (c.refused-self.ensures ∙ ap refused_listening c.failure_of-said.ensures))
           (stands_refused old mid self.peers.items self.listening self.last number c.in-Err.fault c.in-Err.ensures self.stands));
       named = named_call mid new self.last call (says_call mid new call c.note_accept-in-Err.ensures)
-          (ap (λ a. filter_map peer_of (AcceptCall a ∷ [])) is ∙ nobody_named c.refusal_of-said.result)
+          (ap (λ a. filter_map peer_of (AcceptCall a ∷ [])) is ∙ nobody_named c.failure_of-said.result)
           (named_silent old mid self.last (says_step old mid (Accepts number said) c.in-Err.ensures refl) self.named);
       timed = timed_asked old mid new self.turn c.note_accept-in-Err-2.new.self number said answer c.note_accept-in-Err-2.ensures
-          (ap (λ a. is_as_heard (Some a) answer) (ap refused_accept (sym c.refusal_of-said.ensures))
-          ∙ ap (is_as_heard (Some (refused_accept c.refusal_of-said.result))) is ∙ answered_so c.refusal_of-said.result)
+          (ap (λ a. is_as_heard (Some a) answer) (ap refused_accept (sym c.failure_of-said.ensures))
+          ∙ ap (is_as_heard (Some (refused_accept c.failure_of-said.result))) is ∙ answered_so c.failure_of-said.result)
           c.in-Err.ensures c.note_accept-in-Err.ensures self.timed;
       asked = asked_accept mid new answer c.note_accept-in-Err.ensures (λ e. was_asked old mid number said c.in-Err.ensures)
           (asked_step old mid (Accepts number said) c.in-Err.ensures refl self.asked);

@@ -22,10 +22,10 @@ returns-clause-calls g c =
     let old = g.S.System.trace c.args.self.now.system in
     let flushed = g.S.System.trace c.flush.new.self.system in
     let gone = g.S.System.trace c.close_gone.new.self.system in
-    let looked = g.S.System.trace c.look.new.self.system in
+    let looked = g.S.System.trace c.poll_unless_held.new.self.system in
     let new = g.S.System.trace c.begin_visits.new.self.system in
     says_then old gone new (says_then old flushed gone c.flush.ensures.calls c.close_gone.ensures.calls)
-    (says_then gone looked new c.look.ensures.calls c.begin_visits.ensures.calls)
+    (says_then gone looked new c.poll_unless_held.ensures.calls c.begin_visits.ensures.calls)
 
 pub returns-clause-offered : goal.returns-clause-offered
 returns-clause-offered g c =
@@ -33,7 +33,7 @@ returns-clause-offered g c =
     let old = g.S.System.trace was.system in
     let flushed = g.S.System.trace c.flush.new.self.system in
     let gone = g.S.System.trace c.close_gone.new.self.system in
-    let looked = g.S.System.trace c.look.new.self.system in
+    let looked = g.S.System.trace c.poll_unless_held.new.self.system in
     let new = g.S.System.trace c.begin_visits.new.self.system in
     let what = flushed_in was.turn was.flushed was.peers.items in
     let ticked = has_ticked was.turn was.flushed in
@@ -42,7 +42,7 @@ returns-clause-offered g c =
     all_offered_then what was.peers.items old flushed new
     (subst (λ (f : Flush). AreOffered f was.peers.items old flushed) same c.flush.ensures.offered)
     (says_then flushed gone new c.close_gone.ensures.calls
-    (says_then gone looked new c.look.ensures.calls c.begin_visits.ensures.calls))
+    (says_then gone looked new c.poll_unless_held.ensures.calls c.begin_visits.ensures.calls))
 
 pub returns-clause-waits : goal.returns-clause-waits
 returns-clause-waits g c =
@@ -50,7 +50,7 @@ returns-clause-waits g c =
     let old = g.S.System.trace was.system in
     let flushed = g.S.System.trace c.flush.new.self.system in
     let gone = g.S.System.trace c.close_gone.new.self.system in
-    let looked = g.S.System.trace c.look.new.self.system in
+    let looked = g.S.System.trace c.poll_unless_held.new.self.system in
     let new = g.S.System.trace c.begin_visits.new.self.system in
     let ticked = has_ticked was.turn was.flushed in
     let held : c.goes_on-held.result ≡ goes_on was.turn was.flushed was.peers.items = c.goes_on-held.ensures
@@ -58,7 +58,7 @@ returns-clause-waits g c =
     subst (λ (h : Bool). HasWaited (cond h 0 1) old new) held
     (waited_keeps (cond c.goes_on-held.result 0 1) old looked new
     (waited_after (cond c.goes_on-held.result 0 1) old gone looked
-    (keeps_then old flushed gone c.flush.ensures.times c.close_gone.ensures.times) c.look.ensures.waits)
+    (keeps_then old flushed gone c.flush.ensures.times c.close_gone.ensures.times) c.poll_unless_held.ensures.waits)
     c.begin_visits.ensures.times)
 
 pub returns-clause-may : goal.returns-clause-may
@@ -67,17 +67,17 @@ returns-clause-may g c =
     let old = g.S.System.trace was.system in
     let flushed = g.S.System.trace c.flush.new.self.system in
     let gone = g.S.System.trace c.close_gone.new.self.system in
-    let looked = g.S.System.trace c.look.new.self.system in
+    let looked = g.S.System.trace c.poll_unless_held.new.self.system in
     let new = g.S.System.trace c.begin_visits.new.self.system in
     may_tell old new was.peers.items was.listening was.last c.goes_on-held.result was.stands
     (says_then old gone new (says_then old flushed gone c.flush.ensures.calls c.close_gone.ensures.calls)
-    (says_then gone looked new c.look.ensures.calls c.begin_visits.ensures.calls))
+    (says_then gone looked new c.poll_unless_held.ensures.calls c.begin_visits.ensures.calls))
     (λ held. sym c.holds_input-holds.ensures
     ∙ and_right (not (has_ticked was.turn was.flushed)) c.holds_input-holds.result (sym c.goes_on-held.ensures ∙ held))
-    (λ none. looked_silent looked new c.begin_visits.ensures.calls (c.look.ensures.looked none))
+    (λ none. looked_silent looked new c.begin_visits.ensures.calls (c.poll_unless_held.ensures.looked none))
 
-pub look-requires-clause-may : goal.look-requires-clause-may
-look-requires-clause-may g c none =
+pub poll_unless_held-requires-clause-may : goal.poll_unless_held-requires-clause-may
+poll_unless_held-requires-clause-may g c none =
     let was = c.args.self.now in
     let at = c.close_gone.new.self in
     let flushed = g.S.System.trace c.flush.new.self.system in

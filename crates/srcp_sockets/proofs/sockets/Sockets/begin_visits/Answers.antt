@@ -64,7 +64,7 @@ returns-clause-visited g c =
 
 pub returns-clause-shares : goal.returns-clause-shares
 returns-clause-shares g c =
-    let anew = not c.args.self.now.refused in
+    let anew = not c.args.self.now.starved in
     let clock = c.args.self.now.turn.clock in
     subst (λ (ps : List Peer). AreShared anew clock c.args.self.now.peers.items ps)
     (sym (with_items_is c.args.self.now.peers c.begin_visits.new.peers (c.begin_visits.auto.peers ∙ search rules)))

@@ -12,7 +12,7 @@ invariant-loop g l = record {
   last : l.self.last ≡ l.fn.self.last;
   times : KeepsTimes (g.S.System.trace l.fn.self.system) (g.S.System.trace l.self.system);
   turn : l.self.turn ≡ l.fn.self.turn;
-  refused : l.self.refused ≡ l.fn.self.refused;
+  starved : l.self.starved ≡ l.fn.self.starved;
   flushed : l.self.flushed ≡ l.fn.self.flushed;
   made : Makes is_close l.counter (g.S.System.trace l.fn.self.system) (g.S.System.trace l.self.system);
   out : (all : Bool) → AreFlushed all (g.S.System.trace l.fn.self.system) → AreFlushed all (g.S.System.trace l.self.system);

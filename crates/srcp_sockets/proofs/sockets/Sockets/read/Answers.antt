@@ -57,7 +57,7 @@ invariant_of-self g c =
           (done_step turn.timekeeper.wall turn.timekeeper.start old new (Answers (ReadCall x.number answer buffer))
           c.read-handed.ensures.trace
           (λ log logged early. read_done turn.timekeeper.wall turn.timekeeper.start old turn c.goes_behind-waits.result x answer
-          buffer (length c.args.buffer.now) c.read-handed.result.refused log logged c.args.self.now.timed
+          buffer (length c.args.buffer.now) c.read-handed.result.starved log logged c.args.self.now.timed
           (subst (IsKept old) (sym is) (c.args.self.now.stands.kept c.in-Some.index x within))
           here (subst (λ (p : Peer). is_as_far (ending_of p.number log) p.ending ≡ true) (sym is)
           (c.args.self.now.ending log logged c.in-Some.index x within (c.in-Some.ensures.found.1 x).1))
@@ -105,10 +105,10 @@ returns-clause-answered g c k d lt there =
     let room = length c.args.buffer.now in
     let bytes = got_bytes handed.result.got handed.new.buffer in
     let behind = c.goes_behind-waits.ensures ∙ ap (goes_behind self.turn self.peers.items) seen in (
-      handed.result.refused,
+      handed.result.starved,
       subst (λ (w : Bool). IsAnswered self.turn w (slice_index_or self.peers.items k d) room handed.result.got bytes
-          handed.result.refused) behind
-          (subst (λ (p : Peer). IsAnswered self.turn c.goes_behind-waits.result p room handed.result.got bytes handed.result.refused)
+          handed.result.starved) behind
+          (subst (λ (p : Peer). IsAnswered self.turn c.goes_behind-waits.result p room handed.result.got bytes handed.result.starved)
           is handed.ensures.answered),
       search rules,
     )

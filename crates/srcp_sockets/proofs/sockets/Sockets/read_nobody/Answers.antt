@@ -2,7 +2,7 @@ use Rattle.std.proofs.Common.{ap, refl}
 use Rattle.srcp_door.specs.Calls.{ReadCall}
 use Rattle.srcp_peers.specs.Steps.{Answers}
 use Rattle.srcp_peers.specs.Turns.{after_read}
-use Rattle.srcp_door.specs.declared.pacing.Line.TheVariants.{Ended}
+use Rattle.srcp_door.specs.declared.pacing.LineBoundary.TheVariants.{At}
 use Rattle.srcp_peers.proofs.CallsAreOfTheDoor.{says_call}
 use Rattle.srcp_sockets.proofs.AcceptsAreAsked.{asked_step}
 use Rattle.srcp_sockets.proofs.WorkIsDone.{done_step, done_turn}
@@ -30,10 +30,10 @@ invariant_of-self g c =
           c.report_fault-answer.ensures.reported c.report_fault-answer.ensures.new c.report_fault-answer.ensures.ends c.note_read.ensures
           c.args.self.now.timed;
       asked = asked_step old new (Answers call) c.note_read.ensures refl c.args.self.now.asked;
-      done = done_turn new self.turn c.report_fault-answer.new.self (after_read self.turn Ended answer c.args.buffer.now)
-          (c.report_fault-answer.ensures.new Ended c.args.buffer.now)
-          (ap (λ m. m.wall) (read_time self.turn Ended answer c.args.buffer.now))
-          (ap (λ m. m.start) (read_time self.turn Ended answer c.args.buffer.now))
+      done = done_turn new self.turn c.report_fault-answer.new.self (after_read self.turn At answer c.args.buffer.now)
+          (c.report_fault-answer.ensures.new At c.args.buffer.now)
+          (ap (λ m. m.wall) (read_time self.turn At answer c.args.buffer.now))
+          (ap (λ m. m.start) (read_time self.turn At answer c.args.buffer.now))
           (done_step wall start old new (Answers call) c.note_read.ensures
           (λ log is early. missing_done wall start old self.turn c.args.number answer c.args.buffer.now log is self.timed
           (unwatched_is old self.peers.items self.listening self.last c.args.number log is c.requires self.stands)

@@ -3,7 +3,7 @@ use Rattle.srcp_peers.specs.declared.readiness.Flush.TheVariants as flush
 use Rattle.srcp_peers.proofs.PeersStayKept.{spares_then}
 use Rattle.srcp_peers.proofs.QueuedIsOffered.{due_all, flushed_now, offered_then}
 use Rattle.srcp_peers.proofs.CallsAreOfTheDoor.{says_then}
-use Rattle.srcp_peers.proofs.peer.Peer.finish.Goals as goal
+use Rattle.srcp_peers.proofs.peer.Peer.drain_output.Goals as goal
 
 pub returns-then-not-is_lost-clause-others : goal.returns-then-not-is_lost-clause-others
 returns-then-not-is_lost-clause-others g c = λ other differ. spares_then other (g.S.System.trace c.args.system.now)

@@ -8,7 +8,7 @@ use Rattle.srcp_door.specs.declared.pacing.Pace.{Pace}
 use Rattle.srcp_door.specs.declared.pacing.Share.{Share}
 use Rattle.srcp_peers.specs.Reports.{piece_of}
 use Rattle.srcp_peers.specs.Turns.{own_pace}
-use Rattle.srcp_peers.proofs.peer.Peer.hand_out.Goals as goal
+use Rattle.srcp_peers.proofs.peer.Peer.deliver_input.Goals as goal
 
 pub returns-clause-allows : goal.returns-clause-allows
 returns-clause-allows c =
@@ -29,10 +29,10 @@ take_within (suc n) (suc m) [] le = refl
 take_within (suc n) (suc m) (x ∷ xs) le = ap (λ (l : List ℕ). x ∷ l) (take_within n m xs (omega (arith, le)))
 
 -- the same bytes of a piece are kept back, of which these are handed out
-kept_alike : (pace : Pace) (share : Share) (refused : Bool) (piece : List ℕ) (count : ℕ) (copied rest : List ℕ)
-    → refused ≡ keeps_back pace share piece (take count piece) → take count piece ≡ copied → length copied ≡ count
-    → refused ≡ keeps_back pace share piece (take count (copied ++ rest))
-kept_alike pace share refused piece count copied rest h same long = h
+kept_alike : (pace : Pace) (share : Share) (starved : Bool) (piece : List ℕ) (count : ℕ) (copied rest : List ℕ)
+    → starved ≡ keeps_back pace share piece (take count piece) → take count piece ≡ copied → length copied ≡ count
+    → starved ≡ keeps_back pace share piece (take count (copied ++ rest))
+kept_alike pace share starved piece count copied rest h same long = h
     ∙ ap (keeps_back pace share piece) (same ∙ sym (ap (λ n. take n (copied ++ rest)) (sym long) ∙ take-append_seam copied rest))
 
 pub returns-clause-back : goal.returns-clause-back
@@ -45,6 +45,6 @@ returns-clause-back c =
     let copied : c.copy_from_slice.new.self ≡ take count p.incoming = search rules in
     let same : take count piece ≡ c.copy_from_slice.new.self =
     take_within count (min 256 (length c.args.buffer.now)) p.incoming few ∙ sym copied in
-    kept_alike (own_pace c.args.waits c.args.turn.now.pace) p.share c.allow-allowed.result.refused piece count
+    kept_alike (own_pace c.args.waits c.args.turn.now.pace) p.share c.allow-allowed.result.starved piece count
     c.copy_from_slice.new.self (drop count c.args.buffer.now)
     (search (rules, c.allow-allowed.ensures.back, take_min)) same long

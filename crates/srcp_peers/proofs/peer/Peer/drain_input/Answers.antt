@@ -3,7 +3,7 @@ use Rattle.srcp_peers.specs.Peers.{Makes, is_here, is_read_of}
 use Rattle.srcp_peers.proofs.CallsAreOfTheDoor.{says_none, says_then, keeps_none, keeps_then}
 use Rattle.srcp_peers.proofs.PeersStayKept.{spares_none, spares_then}
 use Rattle.srcp_peers.proofs.StepsAreCounted.{asked_more, makes_none}
-use Rattle.srcp_peers.proofs.peer.Peer.drain.Goals as goal
+use Rattle.srcp_peers.proofs.peer.Peer.drain_input.Goals as goal
 
 pub loop-init : goal.loop-init
 loop-init g c = record {

@@ -1,5 +1,5 @@
 use Rattle.srcp_peers.proofs.QueuedIsOffered.{due_here, flushed_now}
-use Rattle.srcp_peers.proofs.peer.Peer.hand_over.Goals as goal
+use Rattle.srcp_peers.proofs.peer.Peer.flush_or_linger.Goals as goal
 
 pub returns-then-is_here-clause-offered : goal.returns-then-is_here-clause-offered
 returns-then-is_here-clause-offered g c =

@@ -4,7 +4,7 @@ use Rattle.srcp_peers.specs.Waiting.{longest_wait}
 use Rattle.srcp_peers.proofs.CallsAreOfTheDoor.{says_none}
 use Rattle.srcp_sockets.specs.Delivery.{HasWaited}
 use Rattle.srcp_sockets.proofs.EndsAreDelivered.{waited_more, waited_none}
-use Rattle.srcp_sockets.proofs.sockets.Sockets.look.Goals as goal
+use Rattle.srcp_sockets.proofs.sockets.Sockets.poll_unless_held.Goals as goal
 
 pub returns-then-held-clause-calls : goal.returns-then-held-clause-calls
 returns-then-held-clause-calls g c = says_none (g.S.System.trace c.args.self.now.system)

@@ -2,7 +2,7 @@ use Rattle.std.proofs.Common.{◌≡◌, ◌≢◌, ℕ, false}
 use Rattle.srcp_peers.specs.Steps.{SaysNothing}
 use Rattle.srcp_peers.specs.Times.{KeepsTimes}
 use Rattle.srcp_peers.specs.Peers.{IsKept, Makes, Spares, is_here, is_read_of}
-use Rattle.srcp_peers.proofs.peer.Peer.drain.Given as goal
+use Rattle.srcp_peers.proofs.peer.Peer.drain_input.Given as goal
 
 abbrev pub invariant-loop : goal.invariant-loop
 invariant-loop g l = record {
