@@ -76,8 +76,6 @@ def limits_of_the_architecture_page(_):
     for limit, value, constant, least, _ in rows:
         value, (file, *name) = int(value.replace(",", "")), quoted(constant)
         got = values.get((file, *name))
-        if len(name) == 1 and "<" in name[0]:
-            got = value if name[0] in (CRATES / file).read_text() and str(value) in name[0] else None
         if got != value:
             return f"{limit}: {value} on the page, {got} in {constant}"
         if missing := [word for word in quoted(least) if word not in names]:
@@ -88,15 +86,16 @@ def limits_of_the_architecture_page(_):
 
 
 def refusals_of_the_architecture_page(_):
-    """Asserts that what refuses a wrong limit is there: a file of the proof, a name in the crates, or a case. The limit
-    stands as a number in each file of definitions."""
+    """Asserts that what refuses a wrong limit is there: a file of the proof, a name in the crates, or a case. Each file
+    of definitions cites the limit by the name of its constant in small letters, or has it as a number."""
     cases = "".join(file.read_text() for file in (TOP / "tests").glob("*.py"))
     code = "".join(file.read_text() for part in ("src", "specs", "proofs")
                    for file in CRATES.glob(f"*/{part}/**/*.*t*"))
-    for limit, value, *_, refuses in rows_under("architecture.md", "Limits"):
+    for limit, value, constant, _, refuses in rows_under("architecture.md", "Limits"):
+        forms = (value.replace(",", ""), quoted(constant)[-1].lower())
         for text in quoted(refuses):
-            if "/specs/" in text and not is_in((CRATES / text).read_text(), value.replace(",", "")):
-                return f"{limit}: no {value} in {text}"
+            if "/specs/" in text and not any(is_in((CRATES / text).read_text(), form) for form in forms):
+                return f"{limit}: none of {forms} in {text}"
             is_case = (TOP / "tests" / "cases" / text).is_dir() or f"def {text.replace('-', '_')}(program)" in cases
             if not (is_case or (CRATES / text).exists() or is_in(code, text.rstrip("!"))):
                 return f"{limit}: no {text}"
@@ -125,17 +124,22 @@ def limits_of_the_configuration_page(_):
     return None
 
 
+def pins_of_the_definitions():
+    """Returns each definition that is a number: its file, its name and the number."""
+    return [(str(file.relative_to(CRATES)), name, int(number)) for file in sorted(CRATES.glob("*/specs/**/*.antt"))
+            for name, number in re.findall(r"^(\w+) = (\d+)$", file.read_text(), re.M)]
+
+
 def definitions_named_as_constants(_):
     """Each definition that is a number, and is named as a constant of the code, is what that is set to."""
     values = {}
     for (_, name), value in constants_of_the_code().items():
         values.setdefault(name.lower(), set()).add(value)
-    pins = [(file, name, int(number)) for file in CRATES.glob("*/specs/**/*.antt")
-            for name, number in re.findall(r"^(\w+) = (\d+)$", file.read_text(), re.M) if name in values]
-    for file, name, number in pins:
+    pins = [(place, name, number) for place, name, number in pins_of_the_definitions() if name in values]
+    for place, name, number in pins:
         if values[name] != {number}:
-            return f"{file.relative_to(CRATES)}: {name} is {number}, and {values[name]} in the code"
-    return None if len(pins) > 8 else f"{len(pins)} definitions"
+            return f"{place}: {name} is {number}, and {values[name]} in the code"
+    return None if len(pins) > 25 else f"{len(pins)} definitions"
 
 
 def clauses_of_the_core_page(_):

@@ -11,6 +11,8 @@ use Rattle.srcp_info.specs.declared.key.Group.TheVariants as group
 use Rattle.srcp_info.specs.declared.value.Letter.{Letter}
 use Rattle.srcp_info.specs.declared.change.Code.{Code}
 use Rattle.srcp_info.specs.declared.change.Code.TheVariants.{C412, C418}
+use Rattle.srcp_info.specs.Limits.{greatest_bus, greatest_speed, greatest_id, fewest_ports, most_ports}
+use Rattle.srcp_info.specs.Limits.{most_functions, most_milliseconds}
 use Rattle.srcp_info.specs.WellFormed.{is_text, IsSpeed}
 use Rattle.srcp_text.specs.Words.{number_of, is_numeral, words_of}
 use Rattle.std.specs.Str.Parse.{digits_value}
@@ -76,10 +78,10 @@ bits_length [] = grind arith
 bits_length (word ∷ words) = grind (arith, bits_length words)
 
 time_tail : (word : List ℕ) (b : Bool)
-    → IfOk (cond b (Ok None) (number_in 0 60000 word >>= (λ n. Ok (Some n)))) (λ t. IfSome t (λ n. n ≤ 60000))
+    → IfOk (cond b (Ok None) (number_in 0 most_milliseconds word >>= (λ n. Ok (Some n)))) (λ t. IfSome t (λ n. n ≤ most_milliseconds))
 time_tail word b = grind arith
 
-pub time_range : (word : List ℕ) → IfOk (time_of word) (λ t. IfSome t (λ n. n ≤ 60000))
+pub time_range : (word : List ℕ) → IfOk (time_of word) (λ t. IfSome t (λ n. n ≤ most_milliseconds))
 time_range word = time_tail word _
 
 -- ---- what the bus has
@@ -115,7 +117,7 @@ module _ (buses : List Bus) (layout : IsLayout buses) (bus : Bus) (found : bus_a
 
   -- an accessory of the bus has from two to eight ports
   abbrev HasPorts : Bus → Type 0
-  HasPorts b = 0 < b.ga_max → (2 ≤ b.ga_ports) × (b.ga_ports ≤ 8)
+  HasPorts b = 0 < b.ga_max → (fewest_ports ≤ b.ga_ports) × (b.ga_ports ≤ most_ports)
 
   each_ports : (bs : List Bus) → AllByRecursion IsBus bs → AllByRecursion HasPorts bs
   each_ports [] h = tt
@@ -141,7 +143,8 @@ module _ (buses : List Bus) (layout : IsLayout buses) (bus : Bus) (found : bus_a
   powered_fits words on_bus = grind arith
 
   -- V in mode 2 is kept as 0
-  kept_within : (mode v vmax : ℕ) → mode ≤ 2 → v ≤ 65535 → vmax ≤ 65535 → (nat_le v vmax || vmax == 0) ≡ true → (b : Bool) → (mode == 2) ≡ b
+  kept_within : (mode v vmax : ℕ) → mode ≤ 2 → v ≤ greatest_speed → vmax ≤ greatest_speed
+      → (nat_le v vmax || vmax == 0) ≡ true → (b : Bool) → (mode == 2) ≡ b
       → IsSpeed mode (cond b 0 v) vmax
   kept_within mode v vmax m x y e b t = grind arith
 
@@ -153,10 +156,11 @@ module _ (buses : List Bus) (layout : IsLayout buses) (bus : Bus) (found : bus_a
   with_top fs address mode v vmax =
       cond (nat_le v vmax || vmax == 0) (bits_of fs >>= (λ functions. Ok (drive address mode v vmax functions))) (Err C412)
 
-  drive_fits : (fs : List (List ℕ)) → nat_lt 29 (length fs) ≡ false → (address : ℕ) → 1 ≤ address → address ≤ bus.gl_max
-      → (mode : ℕ) → mode ≤ 2 → (v : ℕ) → v ≤ 65535 → (vmax : ℕ) → vmax ≤ 65535 → IfOk (with_top fs address mode v vmax) (IsDrive buses)
+  drive_fits : (fs : List (List ℕ)) → nat_lt most_functions (length fs) ≡ false → (address : ℕ) → 1 ≤ address → address ≤ bus.gl_max
+      → (mode : ℕ) → mode ≤ 2 → (v : ℕ) → v ≤ greatest_speed → (vmax : ℕ) → vmax ≤ greatest_speed
+      → IfOk (with_top fs address mode v vmax) (IsDrive buses)
   drive_fits fs few address low high mode m v s vmax x =
-      let short = ltb-false 29 (length fs) few in
+      let short = ltb-false most_functions (length fs) few in
       let two = gl_rows address low high in
       then_ok (IsDrive buses) (nat_le v vmax || vmax == 0) C412
       (bits_of fs >>= (λ functions. Ok (drive address mode v vmax functions))) (λ e.
@@ -177,12 +181,14 @@ module _ (buses : List Bus) (layout : IsLayout buses) (bus : Bus) (found : bus_a
   driven_fits (a ∷ m ∷ v ∷ []) = tt
   driven_fits (a ∷ m ∷ v ∷ x ∷ fs) =
       let from_v : ℕ → ℕ → Result Drive Code =
-      λ address mode. number_in 0 65535 v >>= (λ speed. number_in 0 65535 x >>= with_top fs address mode speed) in
-      if_ok (IsDrive buses) (nat_lt 29 (length fs)) C418 (number_in 1 bus.gl_max a >>= (λ address. number_in 0 2 m >>= from_v address))
+      λ address mode. number_in 0 greatest_speed v >>= (λ speed. number_in 0 greatest_speed x >>= with_top fs address mode speed) in
+      if_ok (IsDrive buses) (nat_lt most_functions (length fs)) C418
+      (number_in 1 bus.gl_max a >>= (λ address. number_in 0 2 m >>= from_v address))
       (λ few. number_read 1 bus.gl_max a (λ address. number_in 0 2 m >>= from_v address) (λ address low high.
       number_read 0 2 m (from_v address) (λ mode l2 h2.
-      number_read 0 65535 v (λ speed. number_in 0 65535 x >>= with_top fs address mode speed) (λ speed l3 h3.
-      number_read 0 65535 x (with_top fs address mode speed) (λ top l4 h4. drive_fits fs few address low high mode h2 speed h3 top h4)))))
+      number_read 0 greatest_speed v (λ speed. number_in 0 greatest_speed x >>= with_top fs address mode speed) (λ speed l3 h3.
+      number_read 0 greatest_speed x (with_top fs address mode speed)
+      (λ top l4 h4. drive_fits fs few address low high mode h2 speed h3 top h4)))))
 
   abbrev new_gl : (address : ℕ) → Letter → (version steps functions : ℕ) → NewGl
   new_gl address letter version steps functions =
@@ -193,7 +199,7 @@ module _ (buses : List Bus) (layout : IsLayout buses) (bus : Bus) (found : bus_a
 
   -- a port that the bus has, of an address that it has
   port_place : (address port : ℕ) → 1 ≤ address → address ≤ bus.ga_max → port ≤ bus.ga_ports - 1
-      → IsKeyOf buses (key_at (device_in devices.Ga bus.number address) (1 + port)) × (1 + port ≤ 8)
+      → IsKeyOf buses (key_at (device_in devices.Ga bus.number address) (1 + port)) × (1 + port ≤ most_ports)
   port_place address port low high h = grind (arith, ga_rows, ports)
 
   get_ga_fits : (words : List (List ℕ)) → Fits (get_ga bus words)
@@ -226,7 +232,7 @@ module _ (buses : List Bus) (layout : IsLayout buses) (bus : Bus) (found : bus_a
 
   asked_fits : (operation : Operation) (g : CommandGroup) (words : List (List ℕ)) → has_group bus g ≡ true
       → Fits (asked bus operation g words)
-  asked_fits Get Session words on = one_number_fits 0 4294967295 GetSession words (λ n low high. omega arith)
+  asked_fits Get Session words on = one_number_fits 0 greatest_id GetSession words (λ n low high. omega arith)
   asked_fits Term Session words on = term_session_fits words
   asked_fits Get Power words on = alone_fits (GetPower bus.number) words (let one = power_rows on in omega (arith, one))
   asked_fits Set Power words on = made SetPower (powered bus words) (powered_fits words on)
@@ -269,7 +275,7 @@ module _ (buses : List Bus) (layout : IsLayout buses) where
   directed_fits : (operation : Operation) (words : List (List ℕ)) → IfOk (directed buses operation words) (IsCommandOf buses)
   directed_fits operation [] = tt
   directed_fits operation (n ∷ []) = tt
-  directed_fits operation (n ∷ w ∷ ws) = search (read, read_any, then_ok, bus_found (number_of 250 n), asked_fits)
+  directed_fits operation (n ∷ w ∷ ws) = search (read, read_any, then_ok, bus_found (number_of greatest_bus n), asked_fits)
 
   parsed_fits : (words : List (List ℕ)) → IfOk (parsed buses words) (IsCommandOf buses)
   parsed_fits words = grind (arith, read_any, directed_fits)

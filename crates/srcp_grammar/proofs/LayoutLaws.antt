@@ -6,6 +6,7 @@ use Rattle.std.specs.List.{AllByRecursion}
 use Rattle.srcp_info.specs.declared.key.Group.{Group}
 use Rattle.srcp_info.specs.declared.key.Group.TheVariants as group
 use Rattle.srcp_info.specs.declared.key.Key.{Key}
+use Rattle.srcp_info.specs.Limits.{greatest_bus, greatest_gl, greatest_ga, greatest_fb, most_ports}
 use Rattle.srcp_info.specs.WellFormed.{IsAddress, IsBetween}
 use Rattle.srcp_grammar.specs.declared.layout.Bus.{Bus}
 use Rattle.srcp_grammar.specs.Layout.{IsBus, IsLayout, IsKeyOf, server, bus_at, is_within, row_count, rows_if, rows_on}
@@ -14,10 +15,10 @@ use Rattle.srcp_info.proofs.ListingLaws.{find_passes}
 
 -- the limits of a bus; the server has no group of these
 pub record HasLimits (bus : Bus) : Type 0 where
-  pub number : bus.number ≤ 250
-  pub gl_max : bus.gl_max ≤ 10239
-  pub ga_max : bus.ga_max ≤ 2044
-  pub fb_ports : bus.fb_ports ≤ 4096
+  pub number : bus.number ≤ greatest_bus
+  pub gl_max : bus.gl_max ≤ greatest_gl
+  pub ga_max : bus.ga_max ≤ greatest_ga
+  pub fb_ports : bus.fb_ports ≤ greatest_fb
   pub groups : bus.number ≡ 0 → (bus.power ≡ false) × (bus.gl_max ≡ 0) × (bus.ga_max ≡ 0) × (bus.fb_ports ≡ 0)
 
 server-limits : HasLimits server
@@ -44,14 +45,14 @@ positive zero h = absurd (h refl)
 positive (suc n) h = omega arith
 
 -- a number of a bus that has something
-on_bus : (bus : Bus) → HasLimits bus → (n most : ℕ) → IsBetween 1 most n → (bus.number ≡ 0 → most ≡ 0) → IsBetween 1 250 bus.number
+on_bus : (bus : Bus) → HasLimits bus → (n most : ℕ) → IsBetween 1 most n → (bus.number ≡ 0 → most ≡ 0) → IsBetween 1 greatest_bus bus.number
 on_bus bus limits n most h none = grind arith
 
 ranged : (bus : Bus) → HasLimits bus → (n most limit count : ℕ) → 0 < rows_if (is_within 1 most n) count → most ≤ limit
-    → (bus.number ≡ 0 → most ≡ 0) → IsBetween 1 250 bus.number × IsBetween 1 limit n
+    → (bus.number ≡ 0 → most ≡ 0) → IsBetween 1 greatest_bus bus.number × IsBetween 1 limit n
 ranged bus limits n most limit count h below none = grind arith
 
-powered : (bus : Bus) → HasLimits bus → (n : ℕ) → (bus.power && (n == 0)) ≡ true → IsBetween 1 250 bus.number × (n ≡ 0)
+powered : (bus : Bus) → HasLimits bus → (n : ℕ) → (bus.power && (n == 0)) ≡ true → IsBetween 1 greatest_bus bus.number × (n ≡ 0)
 powered bus limits n e = grind arith
 
 address_on : (bus : Bus) → HasLimits bus → (g : Group) (address : ℕ) → 0 < rows_on bus g address → IsAddress g bus.number address
@@ -69,7 +70,7 @@ key_address buses layout key h = found_address buses layout key.bus key.group ke
 -- ---- accessories
 
 abbrev HasFewPorts : Bus → Type 0
-HasFewPorts bus = 0 < bus.ga_max → bus.ga_ports ≤ 8
+HasFewPorts bus = 0 < bus.ga_max → bus.ga_ports ≤ most_ports
 
 each_few : (buses : List Bus) → AllByRecursion IsBus buses → AllByRecursion HasFewPorts buses
 each_few [] h = grind arith

@@ -3,6 +3,7 @@ use Rattle.std.specs.Prelude.{◌≡◌, ℕ, ◌+◌, ◌≤◌, ◌<◌, ◌^�
 use Rattle.srcp_info.specs.declared.key.Device.{Device}
 use Rattle.srcp_info.specs.declared.value.Value.{Value}
 use Rattle.srcp_info.specs.declared.value.Value.TheVariants.{Power, GlInit, GlState, GaPort}
+use Rattle.srcp_info.specs.Limits.{most_milliseconds, most_ports, most_seconds}
 use Rattle.srcp_info.specs.WellFormed.{IsValueAt}
 use Rattle.srcp_grammar.specs.declared.layout.Bus.{Bus}
 use Rattle.srcp_grammar.specs.declared.command.DeviceGroup.TheVariants.{Gl, Ga}
@@ -40,7 +41,7 @@ module _ (buses : List Bus) where
   abbrev pub IsSwitch : Switch → Type 0
   IsSwitch switch =
       IsSetting (device_in Ga switch.bus switch.address) (1 + switch.port) (GaPort switch.on)
-      × IfSome switch.time (λ t. t ≤ 60000)
+      × IfSome switch.time (λ t. t ≤ most_milliseconds)
 
   -- the settings of a power
   abbrev pub IsPowerSwitch : PowerSwitch → Type 0
@@ -56,7 +57,7 @@ module _ (buses : List Bus) where
 
   -- the settings of a lock
   abbrev pub IsTimedLock : TimedLock → Type 0
-  IsTimedLock lock = IsLock lock.target × (lock.seconds ≤ 86400)
+  IsTimedLock lock = IsLock lock.target × (lock.seconds ≤ most_seconds)
 
   -- a command of the layout, and all that the grammar reads is one: the device is one of the layout, the words are in
   -- range; a new accessory has the ports that its bus gives it; INIT of sensors asks for nothing
@@ -77,7 +78,7 @@ module _ (buses : List Bus) where
   IsCommandOf (SetGa switch) = IsSwitch switch
   IsCommandOf (CheckGa switch) = IsSwitch switch
   IsCommandOf (InitGa ga) =
-      (row_count buses (device_in Ga ga.bus ga.address) ≡ 1 + ga.ports) × (ga.ports ≤ 8)
+      (row_count buses (device_in Ga ga.bus ga.address) ≡ 1 + ga.ports) × (ga.ports ≤ most_ports)
   IsCommandOf (TermGa bus address) = 0 < row_count buses (device_in Ga bus address)
   IsCommandOf (GetFb bus port) = 0 < row_count buses (fb_device bus port)
   IsCommandOf (SetFb sensor) = IsSensor sensor

@@ -8,6 +8,8 @@ use Rattle.srcp_info.specs.declared.change.Code.{Code}
 use Rattle.srcp_info.specs.declared.change.Code.TheVariants.{C410, C412, C418, C419, C420, C421, C422, C423}
 use Rattle.srcp_info.specs.declared.value.Letter.{Letter}
 use Rattle.srcp_info.specs.declared.value.Letter.TheVariants.{N, M, S, P}
+use Rattle.srcp_info.specs.Limits.{greatest_bus, greatest_version, greatest_speed, greatest_id, most_steps}
+use Rattle.srcp_info.specs.Limits.{most_functions, most_milliseconds, most_seconds}
 use Rattle.srcp_info.specs.WellFormed.{is_text}
 use Rattle.srcp_text.specs.Words.{words_of, number_of, is_keyword}
 use Rattle.srcp_grammar.specs.declared.layout.Bus.{Bus}
@@ -107,10 +109,10 @@ letter_of word = ok_or (named_in letters word) C420
 abbrev pub text_of : Parser (List ℕ)
 text_of words = if is_text (join_with_byte 32 words) then Ok (join_with_byte 32 words) else Err C412
 
--- milliseconds up to 60000, or none if the word is -1
+-- milliseconds up to the most, or none if the word is -1
 abbrev pub time_of : List ℕ → Result (Option ℕ) Code
 time_of word =
-    if bytes_eq word (codes "-1") then Ok None else (Some <$> number_in 0 60000) word
+    if bytes_eq word (codes "-1") then Ok None else (Some <$> number_in 0 most_milliseconds) word
 
 -- ---- the words after the group word
 
@@ -131,7 +133,7 @@ one_number least most make words = miscounted 1 words
 -- none, or the id of a session
 abbrev pub term_session : Parser Command
 term_session [] = Ok (TermSession None)
-term_session words = one_number 0 4294967295 (λ id. TermSession (Some id)) words
+term_session words = one_number 0 greatest_id (λ id. TermSession (Some id)) words
 
 module _ (bus : Bus) where
   -- the group of a LOCK command, which has to be on the bus
@@ -148,14 +150,14 @@ module _ (bus : Bus) where
     shown ← text_of ws
     Ok (record { bus = bus.number; on = on; text = shown })
 
-  -- address, mode, V, Vmax, and at most 29 functions
+  -- address, mode, V, Vmax, and no more functions than a locomotive may have
   abbrev pub driven : Parser Drive
   driven (a ∷ m ∷ v ∷ x ∷ fs) =
-      if nat_lt 29 (length fs) then Err C418 else do
+      if nat_lt most_functions (length fs) then Err C418 else do
         address ← number_in 1 bus.gl_max a
         mode ← number_in 0 2 m
-        speed ← number_in 0 65535 v
-        top ← number_in 0 65535 x
+        speed ← number_in 0 greatest_speed v
+        top ← number_in 0 greatest_speed x
         if nat_le speed top || top == 0 then (do
           functions ← bits_of fs
           Ok (record {
@@ -178,9 +180,9 @@ module _ (bus : Bus) where
   init_gl (a ∷ l ∷ v ∷ s ∷ f ∷ []) = do
     address ← number_in 1 bus.gl_max a
     protocol ← letter_of l
-    version ← number_in 0 255 v
-    steps ← number_in 1 1000 s
-    functions ← number_in 0 29 f
+    version ← number_in 0 greatest_version v
+    steps ← number_in 1 most_steps s
+    functions ← number_in 0 most_functions f
     Ok (record {
       bus = bus.number;
       address = address;
@@ -241,13 +243,13 @@ module _ (bus : Bus) where
   abbrev pub timed_lock : Parser TimedLock
   timed_lock (g ∷ a ∷ s ∷ []) = do
     target ← named_lock (g ∷ a ∷ [])
-    seconds ← number_in 0 86400 s
+    seconds ← number_in 0 most_seconds s
     Ok (record { target = target; seconds = seconds })
   timed_lock words = miscounted 3 words
 
   -- the operations of each group, with their words; any other pair is refused
   abbrev pub asked : Operation → CommandGroup → Parser Command
-  asked Get Session = one_number 0 4294967295 GetSession
+  asked Get Session = one_number 0 greatest_id GetSession
   asked Term Session = term_session
   asked Get Power = alone (GetPower bus.number)
   asked Set Power = SetPower <$> powered
@@ -278,7 +280,7 @@ module _ (bus : Bus) where
 -- the bus, then the group, which has to be on it
 abbrev pub directed : List Bus → Operation → Parser Command
 directed buses operation (number ∷ word ∷ words) = do
-  bus ← ok_or (option_and_then (bus_at buses) (number_of 250 number)) C412
+  bus ← ok_or (option_and_then (bus_at buses) (number_of greatest_bus number)) C412
   group ← ok_or (named_in groups word) C421
   if has_group bus group then asked bus operation group words else Err C422
 directed buses operation words = Err C419

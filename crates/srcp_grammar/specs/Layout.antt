@@ -9,6 +9,8 @@ use Rattle.srcp_info.specs.declared.key.Group.TheVariants.{Session, Power, Gl, G
 use Rattle.srcp_info.specs.declared.key.Device.{Device}
 use Rattle.srcp_info.specs.declared.key.Key.{Key}
 use Rattle.srcp_info.specs.Key.{device_of}
+use Rattle.srcp_info.specs.Limits.{greatest_bus, greatest_gl, greatest_ga, greatest_fb, fewest_ports, most_ports}
+use Rattle.srcp_info.specs.Limits.{greatest_id}
 use Rattle.srcp_grammar.specs.declared.layout.Bus.{Bus}
 use Rattle.srcp_grammar.specs.declared.layout.LayoutFault.{LayoutFault}
 use Rattle.srcp_grammar.specs.declared.layout.LayoutFault.TheVariants.{OutOfRange, Twice, Memory}
@@ -19,11 +21,11 @@ use Rattle.srcp_grammar.specs.declared.command.DeviceGroup.TheVariants as device
 
 -- a bus within the limits; how many ports an accessory has is free if the bus has none
 pub record IsBus (bus : Bus) : Type 0 where
-  pub number : (1 ≤ bus.number) × (bus.number ≤ 250)
-  pub gl_max : bus.gl_max ≤ 10239
-  pub ga_max : bus.ga_max ≤ 2044
-  pub ga_ports : 0 < bus.ga_max → (2 ≤ bus.ga_ports) × (bus.ga_ports ≤ 8)
-  pub fb_ports : bus.fb_ports ≤ 4096
+  pub number : (1 ≤ bus.number) × (bus.number ≤ greatest_bus)
+  pub gl_max : bus.gl_max ≤ greatest_gl
+  pub ga_max : bus.ga_max ≤ greatest_ga
+  pub ga_ports : 0 < bus.ga_max → (fewest_ports ≤ bus.ga_ports) × (bus.ga_ports ≤ most_ports)
+  pub fb_ports : bus.fb_ports ≤ greatest_fb
 
 -- buses within the limits, by rising number
 pub record IsLayout (buses : List Bus) : Type 0 where
@@ -84,7 +86,7 @@ module _ (bus : Bus) where
 
   -- how many rows a device of this group and address has on the bus, 0 if there is no such device
   abbrev pub rows_on : Group → (address : ℕ) → ℕ
-  rows_on Session address = rows_if (bus.number == 0 && is_within 1 4294967295 address) 1
+  rows_on Session address = rows_if (bus.number == 0 && is_within 1 greatest_id address) 1
   rows_on Power address = rows_if (bus.power && address == 0) 1
   rows_on Gl address = rows_if (is_within 1 bus.gl_max address) 2
   rows_on Ga address = rows_if (is_within 1 bus.ga_max address) (1 + bus.ga_ports)

@@ -5,6 +5,10 @@ use Rattle.std.specs.Str.{bytes_eq}
 use Rattle.srcp_text.specs.Words.{words_of, is_keyword}
 use Rattle.srcp_grammar.specs.Grammar.{named_in}
 
+-- the most changes of a command: a lock and its device go, and an accessory gets its row and the rows of its ports
+abbrev pub most_changes : ℕ
+most_changes = 11
+
 -- by the first word: GET and CHECK change nothing, SET changes one row, and GO adds the row of a session
 abbrev pub weights : List (List ℕ × ℕ)
 weights = (codes "GET", 0) ∷ (codes "SET", 1) ∷ (codes "CHECK", 0) ∷ (codes "GO", 1) ∷ []
@@ -15,11 +19,11 @@ names_session (bus ∷ group ∷ words) = bytes_eq bus (codes "0") && is_keyword
 names_session words = false
 
 -- no words bring nothing, nor does TERM 0 SESSION, since what the end of a session changes is no change of its line;
--- any other first word may bring 11
+-- any other first word may bring the most
 abbrev pub weight_of : List (List ℕ) → ℕ
 weight_of [] = 0
 weight_of (word ∷ words) =
-    if is_keyword (codes "TERM") word && names_session words then 0 else unwrap_or (named_in weights word) 11
+    if is_keyword (codes "TERM") word && names_session words then 0 else unwrap_or (named_in weights word) most_changes
 
 -- the weight of a line
 abbrev pub weight : List ℕ → ℕ

@@ -9,6 +9,7 @@ ghost use Rattle.srcp_grammar.specs.Grammar.{driven, ga_port, get_ga, init_ga, i
 ghost use Rattle.srcp_grammar.specs.Grammar.{named_lock, powered, sensed, switched, term_session, timed_lock, bit_of};
 ghost use Rattle.srcp_grammar.specs.Grammar.{bits_of};
 ghost use Rattle.srcp_info.specs.declared.change.Code.TheVariants.{C418 as TooLong};
+ghost use Rattle.srcp_info.specs.Limits.{greatest_id};
 
 use crate::command::{
     Command, DeviceGroup, Drive, NewGa, NewGl, PowerSwitch, Sensor, Switch, Target, TimedLock,
@@ -20,8 +21,8 @@ use crate::single_words::{
     parse_time,
 };
 use srcp_info::{
-    Bits, Code, DriveMode, GREATEST_SPEED, GREATEST_VERSION, Letter, MOST_FUNCTIONS, MOST_SECONDS,
-    MOST_STEPS,
+    Bits, Code, DriveMode, GREATEST_ID, GREATEST_SPEED, GREATEST_VERSION, Letter, MOST_FUNCTIONS,
+    MOST_SECONDS, MOST_STEPS,
 };
 use srcp_text::{Words, is_keyword};
 
@@ -37,12 +38,12 @@ pub(crate) fn parse_address(most: u32, mut words: Words<'_>) -> Result<u32, Code
 }
 
 pub(crate) fn parse_get_session(mut words: Words<'_>) -> Result<Command, Code>
-    ensures { result ≡ one_number 0 4294967295 GetSession words.entry }
+    ensures { result ≡ one_number 0 greatest_id GetSession words.entry }
 {
     let word = next_word(&mut words)?;
     no_more(words)?;
     Ok(Command::GetSession {
-        session: parse_number(0, u32::MAX, word)?,
+        session: parse_number(0, GREATEST_ID, word)?,
     })
 }
 
@@ -54,7 +55,7 @@ pub(crate) fn parse_term_session(mut words: Words<'_>) -> Result<Command, Code>
     };
     no_more(words)?;
     Ok(Command::TermSession {
-        session: Some(parse_number(0, u32::MAX, word)?),
+        session: Some(parse_number(0, GREATEST_ID, word)?),
     })
 }
 

@@ -3,7 +3,7 @@
 ghost use Rattle.std.specs.Prelude.{◌≡◌, ◌↔◌, [], false, IsTrue, OnOk, OnErr, IfErr, option_copied};
 ghost use Rattle.srcp_grammar.specs.Layout.{IsBus, IsLayout, IsFaultOf, bus_numbered, has_number, with_bus};
 
-use srcp_info::{GREATEST_BUS, GREATEST_FB, GREATEST_GA, GREATEST_GL, MOST_PORTS};
+use srcp_info::{FEWEST_PORTS, GREATEST_BUS, GREATEST_FB, GREATEST_GA, GREATEST_GL, MOST_PORTS};
 use std::alloc::Global;
 use std::marker::Model;
 
@@ -34,7 +34,8 @@ impl Bus {
             && self.number <= GREATEST_BUS
             && self.gl_max <= GREATEST_GL
             && self.ga_max <= GREATEST_GA
-            && (self.ga_max == 0 || 2 <= self.ga_ports && u32::from(self.ga_ports) <= MOST_PORTS)
+            && (self.ga_max == 0
+                || FEWEST_PORTS <= self.ga_ports && u32::from(self.ga_ports) <= MOST_PORTS)
             && self.fb_ports <= GREATEST_FB
     }
 }

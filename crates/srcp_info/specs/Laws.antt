@@ -5,17 +5,18 @@ use lib.Chars.{codes}
 use Rattle.srcp_text.specs.Marks.{is_lf}
 use Rattle.srcp_info.specs.declared.change.Change.{Change}
 use Rattle.srcp_info.specs.declared.change.Reply.{Reply}
+use Rattle.srcp_info.specs.Limits.{longest_line}
 use Rattle.srcp_info.specs.Line.{line, reply_line}
 use Rattle.srcp_info.specs.WellFormed.{IsWellFormed, IsWellFormedReply, IsMoment}
 use Rattle.srcp_info.specs.Client.{IsRisingBy, changed, client, HoldsLines}
 use Rattle.srcp_info.specs.Read.{Reads}
 
--- at most 126 bytes, of which the last is LF and no other
+-- no more bytes than a line may have, of which the last is LF and no other
 pub record IsLine (bytes : List ℕ) : Type 0 where
   pub text : List ℕ
   pub ends : bytes ≡ text ++ codes "\n"
   pub no_more : list_any is_lf text ≡ false
-  pub short : length bytes ≤ 126
+  pub short : length bytes ≤ longest_line
 
 -- each change has a line
 abbrev pub ChangesHaveLines : Type 0

@@ -1,4 +1,4 @@
-//! The limits of rows and lines.
+//! The limits of rows, lines, pieces and panels.
 
 /// The greatest number of a bus. The least is 1: bus 0 is the server itself.
 pub const GREATEST_BUS: u8 = 250;
@@ -11,6 +11,9 @@ pub const GREATEST_GA: u32 = 2044;
 
 /// The greatest number of a sensor.
 pub const GREATEST_FB: u32 = 4096;
+
+/// The fewest ports of an accessory.
+pub const FEWEST_PORTS: u8 = 2;
 
 /// The most ports of an accessory.
 pub const MOST_PORTS: u32 = 8;
@@ -33,11 +36,17 @@ pub const MOST_SECONDS: u32 = 86400;
 /// The most milliseconds for which a port of an accessory is set.
 pub const MOST_MILLISECONDS: u32 = 60000;
 
+/// The greatest id of a session.
+pub const GREATEST_ID: u32 = 4_294_967_295;
+
 /// The most bytes of the text of a power row.
 pub const LONGEST_TEXT: usize = 80;
 
 /// The most bytes of a piece: what one call hands to a connection.
 pub const MOST_IN_PIECE: usize = 256;
+
+/// The most changes that wait for a panel.
+pub const MOST_WAITING: usize = 256;
 
 /// The most bytes of a line, LF included.
 pub const LONGEST_LINE: usize = 126;

@@ -24,6 +24,7 @@ use Rattle.srcp_grammar.specs.Devices.{key_at, session_device, device_in, lock_a
 use Rattle.srcp_rules.specs.State.{State, Update, AddsNoRow, IsRising, IsWhole, opening, row_at, is_there}
 use Rattle.srcp_rules.specs.State.{updated, updated_all, row_put}
 use Rattle.srcp_grammar.specs.Command.{IsCommandOf}
+use Rattle.srcp_grammar.specs.Weight.{most_changes}
 use Rattle.srcp_rules.specs.Effect.{effect, refused, is_locked, port_key, row_of_port, row_of_lock, moment_after}
 use Rattle.srcp_rules.specs.Obeyed.{MayObey}
 use Rattle.srcp_rules.specs.Due.{due, freed, began, is_due, is_held_by}
@@ -93,11 +94,11 @@ BeginningsAddNoRow =
 
 -- ---- what is told
 
--- a command makes at most 11 changes
+-- a command makes no more changes than the most
 abbrev pub CommandsChangeLittle : Type 0
 CommandsChangeLittle =
     (buses : List Bus) (state : State) (session moment : ℕ) (command : Command) → IsCommandOf buses command
-    → length (effect state session moment command).updates ≤ 11
+    → length (effect state session moment command).updates ≤ most_changes
 
 -- each of the changes can be written as a line
 abbrev pub CanBeTold : List Update → Type 0

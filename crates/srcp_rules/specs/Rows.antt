@@ -1,6 +1,7 @@
 -- What a keeper of rows has, and what may be added to it.
-use Rattle.std.specs.Prelude.{◌≡◌, ℕ, ◌≤◌, false, List, map, fold, length}
+use Rattle.std.specs.Prelude.{◌≡◌, ℕ, ◌+◌, ◌≤◌, false, List, map, fold, length}
 use Rattle.std.specs.List.{AllByRecursion, range_with_len}
+use Rattle.srcp_info.specs.Limits.{most_ports}
 use Rattle.srcp_info.specs.declared.key.Device.{Device}
 use Rattle.srcp_info.specs.declared.key.Group.{Group}
 use Rattle.srcp_info.specs.declared.key.Group.TheVariants.{Gl, Ga}
@@ -22,13 +23,13 @@ put_rows rows state = fold (λ before row. put_row row before) state rows
 -- how many rows a device of the group has at most
 abbrev pub most_rows : Group → ℕ
 most_rows Gl = 2
-most_rows Ga = 9
+most_rows Ga = 1 + most_ports
 most_rows other = 1
 
 -- these are all the rows of the device, in key order
 pub record AreRowsOf (buses : List Bus) (device : Device) (rows : List Row) : Type 0 where
   pub keys : map (λ row. row.shown.key) rows ≡ map (key_at device) (range_with_len 0 (row_count buses device))
-  pub few : length rows ≤ 9
+  pub few : length rows ≤ most_rows Ga
   pub each : AllByRecursion (IsRowOf buses) rows
 
 -- these are all the rows of the device, and none of them is there yet

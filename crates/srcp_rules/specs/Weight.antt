@@ -5,7 +5,7 @@ use Rattle.srcp_grammar.specs.declared.layout.Bus.{Bus}
 use Rattle.srcp_grammar.specs.declared.command.Command.{Command}
 use Rattle.srcp_grammar.specs.Layout.{IsLayout}
 use Rattle.srcp_grammar.specs.Grammar.{reads}
-use Rattle.srcp_grammar.specs.Weight.{weight}
+use Rattle.srcp_grammar.specs.Weight.{most_changes, weight}
 use Rattle.srcp_rules.specs.State.{State}
 use Rattle.srcp_rules.specs.Effect.{effect}
 
@@ -15,9 +15,9 @@ LinesWeighEnough = (buses : List Bus) (state : State) (session moment : ℕ) (li
     → IsLayout buses → reads buses line ≡ Ok command
     → length (effect state session moment command).updates ≤ weight line
 
--- no line weighs more than 11
+-- no line weighs more than the most changes of a command
 abbrev pub WeightsAreSmall : Type 0
-WeightsAreSmall = (line : List ℕ) → weight line ≤ 11
+WeightsAreSmall = (line : List ℕ) → weight line ≤ most_changes
 
 -- a line whose first word is GO weighs 1
 abbrev pub GoesWeighOne : Type 0

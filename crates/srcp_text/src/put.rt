@@ -6,8 +6,11 @@ ghost use Rattle.srcp_text.specs.Stamp.{stamp};
 
 use arrayvec::ArrayVec;
 
-/// Holds a line while its bytes are written. The 256 bytes stand in the value itself: no memory is allocated.
-pub type LineBuf = ArrayVec<u8, 256>;
+/// The most bytes of a line that is written.
+pub const LONGEST_WRITTEN: usize = 256;
+
+/// Holds a line while its bytes are written. The bytes stand in the value itself: no memory is allocated.
+pub type LineBuf = ArrayVec<u8, LONGEST_WRITTEN>;
 
 /// Appends bytes as they are. The line must have room for these bytes.
 pub fn put_bytes<const N: usize>(bytes: &[u8], line: &mut ArrayVec<u8, N>)

@@ -9,7 +9,7 @@ use memchr::memchr;
 use std::marker::Model;
 
 // The most bytes of a line, the CR counted.
-const LONGEST: usize = 1000;
+const LONGEST_READ: usize = 1000;
 
 /// Says what a feed found.
 #[derive(Clone, Copy, Debug, PartialEq, Eq)]
@@ -44,7 +44,7 @@ enum State {
 #[derive(Debug, Drop)]
 pub struct LineReader {
     // The first `len` bytes are those of the line.
-    bytes: [u8; LONGEST],
+    bytes: [u8; LONGEST_READ],
     len: usize,
     state: State,
 }
@@ -53,12 +53,13 @@ impl Model for LineReader {
     ghost use Rattle.std.specs.Prelude.{◌≡◌, ◌≤◌, length, take};
     ghost use Rattle.srcp_text.specs.Reading.{Reading};
     ghost use Rattle.srcp_text.specs.Reader.{reading_of};
+    ghost use Rattle.srcp_text.specs.declared.reader.TheConstants.{LONGEST_READ};
 
     ghost Value = { Reading };
 
     ghost view = { λ reader. reading_of reader.state (take reader.len reader.bytes) };
 
-    ghost invariant = { λ reader. (reader.len ≤ 1000) × (length reader.bytes ≡ 1000) };
+    ghost invariant = { λ reader. (reader.len ≤ LONGEST_READ) × (length reader.bytes ≡ LONGEST_READ) };
 }
 
 impl LineReader {
@@ -67,7 +68,7 @@ impl LineReader {
         ensures { result ≡ nothing_read }
     {
         LineReader {
-            bytes: [0; LONGEST],
+            bytes: [0; LONGEST_READ],
             len: 0,
             state: State::Begun,
         }
@@ -123,7 +124,7 @@ impl LineReader {
             State::Begun => self.len,
         };
         let len = kept + more.len();
-        if len > LONGEST {
+        if len > LONGEST_READ {
             self.state = State::TooLong;
             return;
         }
