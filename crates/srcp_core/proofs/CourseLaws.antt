@@ -1,6 +1,7 @@
 -- The laws of every course of events.
 pub mod Histories
 pub mod ListedInOrder
+pub mod SessionsArePanels
 pub mod ShownRegistry
 pub mod RoomGivesWhatIsOwed
 pub mod SessionsOfACourse

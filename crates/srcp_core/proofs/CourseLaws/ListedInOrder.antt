@@ -148,7 +148,7 @@ pub rows_of_course : (buses : List Bus) (w : World) (k : ℕ)
 rows_of_course buses w k = cc (history_take k _ w.steps, shown_after (opening buses 0) (take k w.steps))
 
 -- what was heard until the end begins as all that happened
-heard_prefix : (shut : Option ℕ) (history : History) (k : ℕ) → k ≤ length (heard shut history)
+pub heard_prefix : (shut : Option ℕ) (history : History) (k : ℕ) → k ≤ length (heard shut history)
     → take k (heard shut history) ≡ take k history
 heard_prefix None history k h = refl
 heard_prefix (Some n) history k h =

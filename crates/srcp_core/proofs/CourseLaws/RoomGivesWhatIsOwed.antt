@@ -70,7 +70,7 @@ nothing_owed go items done history rows e =
     (no_map Told _ both.0, no_map Listed _ both.1)
 
 -- what a session that is done now was told
-before_done : (go : ℕ) (items : List Item) (history : History)
+pub before_done : (go : ℕ) (items : List Item) (history : History)
     → concerning_by go (cursor_by (Some (length history)) items) history ≡ concerning_by go (cursor_by None items) history
 before_done go items history =
     concerning_same go _ _ 0 history (λ k low high. rw (lt-leb (length history) k (omega (arith, high))) refl)

@@ -31,17 +31,17 @@ all_push P xs x a p = all_append P xs (x ∷ []) a (p, tt)
 
 -- ---- what keeps the law of one connection
 
+pub none_concern : (changes : List Change) → filter (concerns Start) changes ≡ []
+none_concern [] = refl
+none_concern (change ∷ changes) = none_concern changes
+
 pub concerning_start : (go n : ℕ) (history : History) → flat_map (part go (cursor_by None [])) (enumerate_from n history) ≡ []
 concerning_start go n [] = refl
 concerning_start go n (changes ∷ history) =
     cc (none _ changes, concerning_start go (n + 1) history)
   where
-    nobody : (changes : List Change) → filter (concerns Start) changes ≡ []
-    nobody [] = refl
-    nobody (change ∷ changes) = nobody changes
-
     none : (t : Bool) (changes : List Change) → (if t then filter (concerns Start) changes else []) ≡ []
-    none true changes = nobody changes
+    none true changes = none_concern changes
     none false changes = refl
 
 pub in_order_after : (first : List Shown) (history : History) → IsRisingBy key_at first → IsRisingBy key_at (rows_after first history)
