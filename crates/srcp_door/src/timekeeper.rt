@@ -10,6 +10,12 @@ const MOST_BEHIND: u64 = 600_000;
 
 /// Reports moments in milliseconds since 1970: the wall clock at the start, and what elapsed since on the monotonic
 /// clock. Contracts see both clocks at the start, and the last moment.
+///
+/// ```
+/// let mut timekeeper = Timekeeper::new(wall, elapsed);
+/// timekeeper.pass(later, None);
+/// let moment = timekeeper.report(later, 10);
+/// ```
 #[derive(Drop)]
 pub struct Timekeeper {
     wall: u64,

@@ -40,6 +40,14 @@ pub enum Next {
 
 /// Gives an information session its changes and rows: the waiting changes, then the next rows of its listing. Holds the
 /// listing's cursor and the waiting changes, and no row.
+///
+/// ```
+/// let mut feed = InfoFeed::begin(alloc, &rows)?;
+/// if feed.tell(&change) == Told::Overrun {
+///     return Err(closed());
+/// }
+/// while feed.next(&rows) != Next::Settled {}
+/// ```
 #[derive(Drop)]
 pub struct InfoFeed {
     cursor: Cursor,

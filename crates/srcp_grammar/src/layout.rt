@@ -59,6 +59,19 @@ pub enum LayoutFault {
 }
 
 /// Holds the buses of a server, by rising number.
+///
+/// ```
+/// let mut layout = Layout::new(alloc);
+/// let bus = Bus {
+///     number: 1,
+///     power: true,
+///     gl_max: 100,
+///     ga_max: 0,
+///     ga_ports: 2,
+///     fb_ports: 8,
+/// };
+/// layout.add(bus)?;
+/// ```
 #[derive(Drop)]
 pub struct Layout {
     buses: Vec<Bus>,

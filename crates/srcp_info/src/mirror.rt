@@ -28,6 +28,14 @@ pub enum MirrorFault {
 
 /// Holds the rows of a client, which applies each line sent to the client. Contracts see the list of the rows, by
 /// rising key.
+///
+/// ```
+/// let mut mirror = Mirror::new(alloc);
+/// mirror.apply(b"1.000 100 INFO 1 POWER ON")?;
+/// for row in mirror.rows() {
+///     show(row);
+/// }
+/// ```
 #[derive(Drop)]
 pub struct Mirror {
     by_key: BTreeMap<Key, Shown>,

@@ -14,6 +14,13 @@ use std::vec::Vec;
 
 /// Sets the routes of a plan and gives them back, by the lines sent to the box. These are the lines of a panel, and the
 /// replies of the command session that sends the box's lines.
+///
+/// ```
+/// let mut signal_box = SignalBox::new(alloc, 9, routes)?;
+/// if let Some(line) = signal_box.step(b"1.000 100 INFO 9 GA 3 1 1") {
+///     command_session.write(&line)?;
+/// }
+/// ```
 #[derive(Drop)]
 pub struct SignalBox {
     own: u8,

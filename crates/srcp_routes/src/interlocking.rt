@@ -32,6 +32,16 @@ pub enum Event {
 }
 
 /// Sets routes and gives routes back: one order at a time, each after the reply to the order before.
+///
+/// ```
+/// let mut interlocking = Interlocking::new(alloc, routes)?;
+/// for event in [Event::Lost, Event::Ask(0)] {
+///     let mut order = interlocking.step(event);
+///     while let Some(sent) = order {
+///         order = interlocking.step(Event::Reply(is_accepted(sent)));
+///     }
+/// }
+/// ```
 #[derive(Drop)]
 pub struct Interlocking {
     routes: Vec<Route>,

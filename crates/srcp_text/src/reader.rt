@@ -41,6 +41,15 @@ enum State {
 /// Finds the lines of bytes, in whatever pieces the bytes come. The form of a line is from SRCP 0.8: a line ends in LF,
 /// and a single CR just before the LF is dropped. At most 1,000 bytes may stand before the LF, the CR counted. The
 /// bytes of a begun line stand in the value itself: no memory is allocated.
+///
+/// ```
+/// let mut reader = LineReader::new();
+/// let mut start = 0;
+/// while let Fed::Line { stop } = reader.feed(b"GET 0 SESSION 1\nGE", start) {
+///     answer(reader.line());
+///     start = stop;
+/// }
+/// ```
 #[derive(Debug, Drop)]
 pub struct LineReader {
     // The first `len` bytes are those of the line.
