@@ -3,7 +3,7 @@ use crate::outcome::{Outcome, Refused};
 use clap::error::ErrorKind;
 use srcp_core::{Core, CoreFault};
 use srcp_feed::InfoFeed;
-use srcp_info::{Change, Mirror, MirrorFault};
+use srcp_info::{Change, MOST_WAITING, Mirror, MirrorFault};
 use srcp_layout_file::{ConfigFault, read_layout};
 use srcp_rules::{Bus, Flat, Layout, LayoutFault, Nested, Rows};
 use srcp_script::{Cause, read_script};
@@ -11,9 +11,6 @@ use srcp_tool::{Tool, read_words};
 use std::alloc::Global;
 use std::string::String;
 use std::vec::Vec;
-
-/// The most changes waiting for a panel.
-const MOST_WAITING: usize = 256;
 
 /// A configuration of a single bus.
 const CONFIGURATION: &[u8] =

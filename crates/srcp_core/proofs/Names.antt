@@ -8,7 +8,7 @@ pub use Rattle.srcp_core.specs.Course.{World, absent_fault, accepted, answered, 
 pub use Rattle.srcp_core.specs.Course.{course, denied_fed, denied_in, denied_lines, denied_over, did, ended, entered, fault, fed_to, fresh}
 pub use Rattle.srcp_core.specs.Course.{goes, greeted, happens, history, history_from, if_open, is_info, new_lines, new_marks, numbered}
 pub use Rattle.srcp_core.specs.Course.{obeyed, open_connection, or_refused, order_of, ordered, replied, rows, shut_as, start, state}
-pub use Rattle.srcp_core.specs.Course.{state_after, updates_of, wants_as, with_numbered}
+pub use Rattle.srcp_core.specs.Course.{state_after, wants_as, with_numbered}
 pub use Rattle.srcp_core.specs.Handshake.{Chooses, Goes, Greeting, Refuses, Speaks}
 pub use Rattle.srcp_core.specs.Held.{AreSessions, Held, IsLive, IsSessionAt, IsSound, Place, at, open_count, place_at}
 pub use Rattle.srcp_core.specs.Laws.{AddsUp, AllMoments, HasMoment, IsRecordOf, IsSession, has_key, last_line, listed, listed_row, rows_at}
@@ -24,9 +24,9 @@ pub use Rattle.srcp_core.specs.Recording.{Keeps, Recording, changed_record, fini
 pub use Rattle.srcp_core.specs.Recording.{nothing_recorded, record_of, shut, stepped, without_key}
 pub use Rattle.srcp_core.specs.Run.{Happened, HasPlainMoment, PlainMoments, Runs, Tells, count_at, taken_at, taking}
 pub use Rattle.srcp_core.specs.Stands.{IsAt, IsOwned, StandsBy, StandsFor, panel_at, place_of}
-pub use Rattle.srcp_core.specs.Under.{At, Began, Bytes, Ended, Event, Heard, Moment, Obeyed, Open, Order, Piece, Room, Shut, Step}
-pub use Rattle.srcp_core.specs.Under.{all_under, denied_by, giving, greeting_under, greets, lines_under, recorded_step, under, wants_memory}
-pub use Rattle.srcp_core.specs.Waits.{IsOverrun, brought, least, lesser, option_or_256, room, slack_of}
+pub use Rattle.srcp_core.specs.Under.{At, Bytes, Event, Heard, Open, Piece, Room, Shut}
+pub use Rattle.srcp_core.specs.Under.{all_under, denied_by, giving, greeting_under, greets, lines_under, recorded_step, under}
+pub use Rattle.srcp_core.specs.Waits.{IsOverrun, brought, least, lesser, changes_left, room, slack_of}
 pub use Rattle.srcp_core.specs.declared.connection.Panel.{Panel}
 pub use Rattle.srcp_core.specs.declared.connection.Panel.TheVariants.{Absent, Listening, Overran}
 pub use Rattle.srcp_core.specs.declared.line.Asked.{Asked}
@@ -47,7 +47,7 @@ pub use Rattle.srcp_grammar.proofs.FindLaws.{each_filtered}
 pub use Rattle.srcp_grammar.proofs.GrammarLaws.{reads_fits}
 pub use Rattle.srcp_grammar.specs.Command.{IsCommandOf}
 pub use Rattle.srcp_grammar.specs.Devices.{power_device, session_device}
-pub use Rattle.srcp_grammar.specs.Layout.{IsKeyOf, IsLayout, is_within}
+pub use Rattle.srcp_grammar.specs.Layout.{IsLayout}
 pub use Rattle.srcp_grammar.specs.declared.command.Command.{Command}
 pub use Rattle.srcp_grammar.specs.declared.layout.Bus.{Bus}
 pub use Rattle.srcp_info.proofs.ClientLaws.{after_from_less, after_not_itself, all_append, all_filter, all_weaker, key_at}
@@ -71,7 +71,7 @@ pub use Rattle.srcp_info.specs.declared.key.Key.{Key}
 pub use Rattle.srcp_info.specs.declared.value.Mode.{Mode}
 pub use Rattle.srcp_info.specs.declared.value.Mode.TheVariants.{Info}
 pub use Rattle.srcp_rules.proofs.CursorLaws.{fewer_beyond}
-pub use Rattle.srcp_rules.proofs.DueLaws.{began_kept, due_kept, freed_kept}
+pub use Rattle.srcp_rules.proofs.DueLaws.{due_kept, freed_kept}
 pub use Rattle.srcp_rules.proofs.EffectLaws.{effect_kept}
 pub use Rattle.srcp_rules.proofs.KeyLaws.{same_key, same_key-true}
 pub use Rattle.srcp_rules.proofs.OpeningLaws.{opening_whole}
@@ -83,6 +83,7 @@ pub use Rattle.srcp_rules.specs.Effect.{Effect, effect, refused}
 pub use Rattle.srcp_rules.specs.Laws.{CanBeTold}
 pub use Rattle.srcp_rules.specs.State.{IsRising, IsRowOf, IsWhole, State, Update, first_row, has_row, is_there, opening, opening_on}
 pub use Rattle.srcp_rules.specs.State.{row_after, row_at, shown_rows, updated, updated_all}
+pub use Rattle.srcp_rules.specs.Steps.{updates_of, Began, Ended, Moment, Obeyed, Order, Step, wants_memory}
 pub use Rattle.srcp_text.specs.Marks.{Line, Mark, TooLong, is_lf}
 pub use Rattle.srcp_text.specs.Reading.{Reading, StandsAt, nothing_read}
 pub use Rattle.std.proofs.Common.{Bool, List, [], add-one, ap, append-nil, append_assoc, arith, cond, drop, false, inl, inr, length}

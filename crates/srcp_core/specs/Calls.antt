@@ -2,6 +2,7 @@
 -- by the equations that they promise and no more.
 use Rattle.std.specs.Prelude.{◌≡◌, ℕ, ◌<◌, ◌≤◌, true, false, List, [], ◌∷◌, ◌++◌, map, length, Option, Some, None}
 use Rattle.std.specs.Prelude.{◌+◌, is_none, is_some, count_by, IsSome}
+use Rattle.srcp_info.specs.Limits.{most_in_piece}
 use Rattle.srcp_info.specs.declared.limits.TheConstants.{LONGEST_LINE}
 use Rattle.srcp_grammar.specs.declared.layout.Bus.{Bus}
 use Rattle.srcp_core.specs.Agrees.{OfCourse, AtKey, OfConnection, replies_taken}
@@ -70,7 +71,7 @@ pub record CallsAgree : Type 0 where
       (λ buses events n. bytes_fault key piece.bytes held ≡ fault buses (course buses events) (Bytes n piece))
   pub takes : (key : ℕ) (held : Held) → is_none (bytes_fault key [] held) ≡ true
       → OfConnection key held (λ buses events n.
-      (piece : Piece) → length piece.bytes ≤ 256 → fault buses (course buses events) (Bytes n piece) ≡ None)
+      (piece : Piece) → length piece.bytes ≤ most_in_piece → fault buses (course buses events) (Bytes n piece) ≡ None)
   pub closes : (key : ℕ) (held : Held)
       → OfConnection key held (λ buses events n. is_last (finish_at key held) ≡ closes_in buses (course buses events) n)
   pub lends : (key : ℕ) (held : Held)

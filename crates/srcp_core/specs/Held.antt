@@ -2,6 +2,7 @@
 -- connection. The key of a connection is the index of its slot.
 use Rattle.std.specs.Prelude.{◌≡◌, ℕ, ◌<◌, ◌≤◌, Bool, true, false, List, Option, Some, None, is_some, count_by}
 use Rattle.std.specs.Prelude.{slice_index_or}
+use Rattle.srcp_core.specs.Limits.{most_connections}
 use Rattle.srcp_info.specs.WellFormed.{IsMoment}
 use Rattle.srcp_info.specs.declared.value.Mode.{Mode}
 use Rattle.srcp_text.specs.Reading.{Reading}
@@ -57,7 +58,7 @@ pub record AreSessions (last_id : ℕ) (rows : State) (places : List (Option Pla
 -- what holds of every core
 pub record IsSound (held : Held) : Type 0 where
   pub moment : IsMoment held.moment
-  pub few : open_count held ≤ 64
+  pub few : open_count held ≤ most_connections
   pub whole : IsWhole held.buses held.rows
   pub sessions : AreSessions held.last_id held.rows held.places
 

@@ -18,9 +18,10 @@ use Rattle.srcp_rules.specs.Due.{is_due}
 use Rattle.srcp_rules.specs.Laws.{comes_to}
 use Rattle.srcp_rules.specs.SafetyLaws.{has_lock, may_unlock}
 use Rattle.srcp_rules.specs.State.{State, opening, row_at}
-use Rattle.srcp_core.specs.Course.{course, state_after, stepped}
+use Rattle.srcp_rules.specs.Steps.{stepped, Step, Obeyed, Began, Moment, Ended, Order, effect}
+use Rattle.srcp_core.specs.Course.{course, state_after}
 use Rattle.srcp_core.specs.Laws.{AllMoments}
-use Rattle.srcp_core.specs.Under.{Event, Step, Obeyed, Began, Moment, Ended, Order, effect}
+use Rattle.srcp_core.specs.Under.{Event}
 
 -- the step is a command of the session
 abbrev pub is_command_of : (session : ℕ) → Step → Bool

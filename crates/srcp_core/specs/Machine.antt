@@ -3,6 +3,9 @@ use Rattle.std.specs.Prelude.{⊤, ◌≡◌, ◌≢◌, ℕ, suc, ◌+◌, ◌-
 use Rattle.std.specs.Prelude.{◌&&◌, ◌||◌, ◌==◌, if◌then◌else◌, List, [], ◌∷◌, ◌++◌, map, drop, length, fold, nat_lt}
 use Rattle.std.specs.Prelude.{slice_set, Option, Some, None, Result, Ok, Err}
 use Rattle.std.specs.Option.{option_map, option_map_or, option_to_list}
+use Rattle.srcp_core.specs.Limits.{most_connections}
+use Rattle.srcp_info.specs.Limits.{greatest_id, greatest_u64, longest_line, longest_short_reply}
+use Rattle.srcp_info.specs.Limits.{most_in_piece, most_waiting}
 use Rattle.srcp_info.specs.Line.{reply_line}
 use Rattle.srcp_info.specs.declared.change.Change.{Change}
 use Rattle.srcp_info.specs.declared.change.Code.{Code}
@@ -17,6 +20,7 @@ use Rattle.srcp_grammar.specs.declared.command.Command.{Command}
 use Rattle.srcp_rules.specs.Due.{due, freed, began}
 use Rattle.srcp_rules.specs.Effect.{Effect, effect}
 use Rattle.srcp_rules.specs.State.{Update, opening, updated_all, shown_rows}
+use Rattle.srcp_rules.specs.Steps.{wants_memory}
 use Rattle.srcp_text.specs.Marks.{Mark, Line, TooLong}
 use Rattle.srcp_text.specs.Reading.{Reading, nothing_read}
 use Rattle.srcp_text.specs.Feeding.{feed_of}
@@ -29,7 +33,7 @@ use Rattle.srcp_core.specs.Connection.{is_nil, line_of}
 use Rattle.srcp_core.specs.Course.{welcome, command_of}
 use Rattle.srcp_core.specs.Handshake.{Greeting, Speaks, Chooses, Goes, Refuses, greets}
 use Rattle.srcp_core.specs.Held.{Place, Held, place_at, at, open_count}
-use Rattle.srcp_core.specs.Under.{denied_by, wants_memory}
+use Rattle.srcp_core.specs.Under.{denied_by}
 use Rattle.srcp_core.specs.declared.connection.Panel.{Panel}
 use Rattle.srcp_core.specs.declared.connection.Panel.TheVariants.{Absent, Listening, Overran}
 use Rattle.srcp_core.specs.declared.line.Asked.{Asked}
@@ -86,11 +90,11 @@ abbrev pub has_overrun : Panel → Bool
 has_overrun Overran = true
 has_overrun _ = false
 
--- how many more changes it can queue; 256 if it overran, since none wait then
+-- how many more changes it can queue; as many as may wait if it overran, since none wait then
 abbrev pub slack_in : Panel → Option ℕ
 slack_in Absent = None
-slack_in (Listening feed) = Some (256 - length feed.queue)
-slack_in Overran = Some 256
+slack_in (Listening feed) = Some (most_waiting - length feed.queue)
+slack_in Overran = Some most_waiting
 
 -- and of the connection of a slot
 abbrev pub slack_at : Option Place → Option ℕ
@@ -206,7 +210,7 @@ unsent_at key held = unsent_of (at held key)
 
 -- one more allocation was refused; the count stops at its greatest value
 abbrev pub one_denied : Held → Held
-one_denied held = record held { denied = min (held.denied + 1) 18446744073709551615 }
+one_denied held = record held { denied = min (held.denied + 1) greatest_u64 }
 
 -- the reply is put at the end of what is to be sent
 abbrev pub replied : ℕ → Reply → Held → Held
@@ -225,7 +229,7 @@ session_begun key id mode held =
 -- GO, by whether memory was given to it
 abbrev pub goes : Bool → ℕ → Mode → Held → Held
 goes granted key mode held =
-    if nat_lt held.last_id 4294967295
+    if nat_lt held.last_id greatest_id
     then (if granted then replied key (Go (held.last_id + 1)) (session_begun key (held.last_id + 1) mode held)
     else denied_line key held)
     else replied key (Refused C500) held
@@ -278,7 +282,7 @@ steps_in line = option_to_list line.step ++ option_to_list line.end
 -- the steps of GO: the beginning of a session, if an id is left and memory was given
 abbrev pub steps_gone : Bool → Mode → Held → List Step
 steps_gone granted mode held =
-    if nat_lt held.last_id 4294967295 && granted then Began (held.last_id + 1) held.moment mode ∷ [] else []
+    if nat_lt held.last_id greatest_id && granted then Began (held.last_id + 1) held.moment mode ∷ [] else []
 
 -- the steps of a line before the session
 abbrev pub steps_greeted : Bool → Mode → Greeting → Held → List Step
@@ -301,13 +305,13 @@ steps_answered granted (Commands session command) held = steps_commanded granted
 
 -- how many bytes a reply has at most
 abbrev pub longest : Reply → ℕ
-longest (Shows _) = 126
-longest _ = 64
+longest (Shows _) = longest_line
+longest _ = longest_short_reply
 
 -- how many bytes the answer to a line has at most
 abbrev pub longest_answer : Asked → ℕ
-longest_answer (Commands _ (Ok _)) = 126
-longest_answer _ = 64
+longest_answer (Commands _ (Ok _)) = longest_line
+longest_answer _ = longest_short_reply
 
 -- ---- calls
 
@@ -318,17 +322,17 @@ opening_held buses moment last_id =
 
 -- there was room for one more, and it has the key
 pub record IsAdmitted (key : ℕ) (old new : Held) : Type 0 where
-  pub room : open_count old < 64
+  pub room : open_count old < most_connections
   pub was_free : at old key ≡ None
   pub fresh : at new key ≡ Some fresh_place
   pub others : (other : ℕ) → other ≢ key → at new other ≡ at old other
   pub count : open_count new ≡ open_count old + 1
   pub rest : new ≡ record old { places = new.places }
 
--- no connection was opened: 64 are open, or fewer are and memory was refused, which is counted
+-- no connection was opened: the most are open, or fewer are and memory was refused, which is counted
 abbrev pub IsNotAdmitted : CoreFault → Held → Held → Type 0
-IsNotAdmitted Full old new = (open_count old ≡ 64) × (new ≡ old)
-IsNotAdmitted MemoryFault old new = (open_count old < 64) × (new ≡ one_denied old)
+IsNotAdmitted Full old new = (open_count old ≡ most_connections) × (new ≡ old)
+IsNotAdmitted MemoryFault old new = (open_count old < most_connections) × (new ≡ one_denied old)
 IsNotAdmitted _ _ _ = ⊥
 
 -- why bytes are refused, the first cause
@@ -337,7 +341,7 @@ bytes_fault_from _ None = Some NoSuch
 bytes_fault_from piece (Some p) =
     if p.ended || has_overrun p.panel then Some Closing
     else (if not (is_nil p.unsent) then Some Busy
-    else (if nat_lt 256 (length piece) then Some PieceTooLong else None))
+    else (if nat_lt most_in_piece (length piece) then Some PieceTooLong else None))
 
 -- the same of the connection of that key
 abbrev pub bytes_fault : ℕ → List ℕ → Held → Option CoreFault
@@ -377,12 +381,12 @@ abbrev pub lines_answered : ℕ → List ℕ → List Bool → Held → ℕ × H
 lines_answered key piece grants held =
     fold (λ before granted. line_answered key granted before (heard_at key piece before.0 before.1)) (0, held) grants
 
--- the lines up to an offset in the piece are answered. Then 64 bytes at most are unsent for each byte of the piece so
--- far, and 62 more for a reply that shows a row; and no line has begun
+-- the lines up to an offset in the piece are answered. Then a short reply at most is unsent for each byte of the piece
+-- so far, and what a reply that shows a row has more; and no line has begun
 pub record HasRoom (key : ℕ) (piece : List ℕ) (start : ℕ) (held : Held) : Type 0 where
   pub far : start ≤ length piece
   pub idle : start ≡ 0 → length (unsent_at key held) ≡ 0
-  pub room : length (unsent_at key held) ≤ 62 + 64 * start
+  pub room : length (unsent_at key held) ≤ longest_line - longest_short_reply + longest_short_reply * start
   pub begun : 0 < start → line_begun_at key held ≡ Some []
 
 -- the next line of the piece is answered

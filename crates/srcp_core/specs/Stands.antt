@@ -1,6 +1,7 @@
 -- The model of the code: what a core holds, and the course that it stands for.
 use Rattle.std.specs.Prelude.{◌≡◌, ℕ, Bool, true, false, ◌&&◌, if◌then◌else◌, List, [], length, filter, nat_lt, Option}
 use Rattle.std.specs.Prelude.{Some, None}
+use Rattle.srcp_info.specs.Limits.{most_waiting}
 use Rattle.srcp_info.specs.declared.change.Change.{Change}
 use Rattle.srcp_info.specs.declared.change.Cursor.{Cursor}
 use Rattle.srcp_grammar.specs.declared.layout.Bus.{Bus}
@@ -17,7 +18,7 @@ use Rattle.srcp_core.specs.declared.connection.Panel.TheVariants.{Absent, Listen
 abbrev pub panel_at : (info : Bool) → Cursor → List Change → Panel
 panel_at false _ _ = Absent
 panel_at true cursor queue =
-    if nat_lt 256 (length queue) then Overran else Listening (record { cursor = cursor; queue = queue })
+    if nat_lt most_waiting (length queue) then Overran else Listening (record { cursor = cursor; queue = queue })
 
 -- what is held of a connection of a course with that history; if more changes wait than may, the unsent bytes are
 -- dropped
@@ -29,7 +30,7 @@ place_of reader history conn =
       mode = conn.mode;
       session = conn.session;
       ended = conn.ended;
-      unsent = if conn.info && nat_lt 256 (length queue) then [] else unsent conn;
+      unsent = if conn.info && nat_lt most_waiting (length queue) then [] else unsent conn;
       panel = panel_at conn.info (cursor_at conn (length history)) queue;
     }
 

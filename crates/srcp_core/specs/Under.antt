@@ -1,14 +1,12 @@
 -- To be believed: what memory answers in each event, and what of that the course of the events takes in.
-use Rattle.std.specs.Prelude.{ℕ, ◌+◌, min, fold, Bool, true, false, not, ◌&&◌, ◌||◌, if◌then◌else◌, List, [], ◌∷◌}
+use Rattle.std.specs.Prelude.{ℕ, ◌+◌, min, fold, Bool, true, false, if◌then◌else◌, List, [], ◌∷◌}
 use Rattle.std.specs.Prelude.{drop, nat_lt, Result, Ok, Err}
+use Rattle.srcp_info.specs.Limits.{greatest_id, greatest_u64}
 use Rattle.srcp_info.specs.declared.change.Code.{Code}
 use Rattle.srcp_info.specs.declared.change.Code.TheVariants.{C500}
-use Rattle.srcp_info.specs.declared.change.Reply.{Reply}
-use Rattle.srcp_info.specs.declared.change.Reply.TheVariants.{Accepted}
-use Rattle.srcp_info.specs.declared.value.Mode.{Mode}
 use Rattle.srcp_grammar.specs.declared.command.Command.{Command}
-use Rattle.srcp_rules.specs.Effect.{Effect, effect as effect_of, adds_rows, refused}
 use Rattle.srcp_rules.specs.State.{State}
+use Rattle.srcp_rules.specs.Steps.{Step, Obeyed, Began, Moment, Ended, wants_memory}
 use Rattle.srcp_text.specs.Marks.{Mark}
 use Rattle.srcp_core.specs.Handshake.{Greeting, Goes, Refuses, greets as greets_of}
 use Rattle.srcp_core.specs.declared.event.Event.{Event as PlainEvent}
@@ -44,7 +42,7 @@ first_of (granted ∷ _) = granted
 -- how many allocations were refused, after these answers too; the count stops at the greatest u64
 abbrev pub denied_by : ℕ → List Bool → ℕ
 denied_by denied grants =
-    fold (λ count granted. if granted then count else min (count + 1) 18446744073709551615) denied grants
+    fold (λ count granted. if granted then count else min (count + 1) greatest_u64) denied grants
 
 -- the event, with these answers
 abbrev pub under : List Bool → PlainEvent → Event
@@ -82,26 +80,11 @@ greeting_under _ greeting = greeting
 abbrev pub greets : Heard → Greeting
 greets line = greeting_under line.granted (greets_of line.mark)
 
--- ---- commands and steps
-
--- a command, and what memory answers to it
-pub record Order : Type 0 where
-  pub command : Command
-  pub granted : Bool
-
--- the reply accepts the command
-abbrev pub is_accepted : Reply → Bool
-is_accepted Accepted = true
-is_accepted _ = false
-
--- the command wants memory: it adds rows, and nothing else refuses it
-abbrev pub wants_memory : State → (session moment : ℕ) → Command → Bool
-wants_memory state session moment command =
-    adds_rows state command && is_accepted (effect_of state session moment command).reply
+-- ---- what wants memory, and what is recorded
 
 -- a line before the session wants memory: it is GO, and an id is left
 abbrev pub greeting_wants : (last_id : ℕ) → Greeting → Bool
-greeting_wants last_id Goes = nat_lt last_id 4294967295
+greeting_wants last_id Goes = nat_lt last_id greatest_id
 greeting_wants _ _ = false
 
 -- a line of a session wants memory: it reads as a command that does
@@ -109,20 +92,7 @@ abbrev pub reading_wants : State → (session moment : ℕ) → Result Command C
 reading_wants _ _ _ (Err _) = false
 reading_wants state session moment (Ok command) = wants_memory state session moment command
 
--- what the command does: nothing if it wants memory, which is refused to it
-abbrev pub effect : State → (session moment : ℕ) → Order → Effect
-effect state session moment order =
-    if order.granted || not (wants_memory state session moment order.command)
-    then effect_of state session moment order.command else refused C500
-
--- what the registry goes through, one thing at a time
-pub data Step : Type 0 where
-  Obeyed : (session moment : ℕ) (order : Order) → Step
-  Began : (session moment : ℕ) (mode : Mode) → Step
-  Moment : (moment : ℕ) → Step
-  Ended : (session moment : ℕ) → Step
-
--- what is recorded of it: a command is recorded whatever came of it
+-- what is recorded of a step: a command is recorded whatever came of it
 abbrev pub recorded_step : Step → PlainStep
 recorded_step (Obeyed session moment order) = recorded.Obeyed session moment order.command
 recorded_step (Began session moment mode) = recorded.Began session moment mode

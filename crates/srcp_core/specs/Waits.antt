@@ -3,15 +3,16 @@ use Rattle.std.specs.Prelude.{◌≡◌, ℕ, ◌+◌, ◌-◌, ◌≤◌, min, 
 use Rattle.std.specs.Prelude.{drop, length, flat_map, Option, Some, None}
 use Rattle.std.specs.List.{sum_by}
 use Rattle.std.specs.Option.{option_map_or}
+use Rattle.srcp_info.specs.Limits.{most_waiting}
 use Rattle.srcp_grammar.specs.Layout.{IsLayout}
 use Rattle.srcp_rules.specs.State.{State}
+use Rattle.srcp_rules.specs.Steps.{stepped, updates_of, Step, Obeyed, Began}
 use Rattle.srcp_grammar.specs.Weight.{weight}
 use Rattle.srcp_grammar.specs.declared.layout.Bus.{Bus}
 use Rattle.srcp_text.specs.Marks.{Mark, Line, TooLong}
 use Rattle.srcp_core.specs.Connection.{Connection, History, waiting, is_open, overran}
 use Rattle.srcp_core.specs.Course.{World, course, happens, history, new_marks, numbered, open_connection, state}
-use Rattle.srcp_core.specs.Course.{stepped, updates_of}
-use Rattle.srcp_core.specs.Under.{Event, Bytes, Step, Obeyed, Began}
+use Rattle.srcp_core.specs.Under.{Event, Bytes}
 
 -- the lesser number, or the only one
 abbrev pub lesser : Option ℕ → Option ℕ → Option ℕ
@@ -24,17 +25,18 @@ abbrev pub least : List (Option ℕ) → Option ℕ
 least [] = None
 least (one ∷ others) = lesser one (least others)
 
--- how many more changes may come before an information session overruns; 256 after it did, since it can not do so again
+-- how many more changes may come before an information session overruns; as many as may wait if it has, since it can
+-- not do so again
 abbrev pub slack_of : History → Connection → Option ℕ
 slack_of history conn =
     if is_open conn && conn.info
-    then Some (if overran conn history then 256 else 256 - length (waiting conn history))
+    then Some (if overran conn history then most_waiting else most_waiting - length (waiting conn history))
     else None
 
--- the number, or 256
-abbrev pub option_or_256 : Option ℕ → ℕ
-option_or_256 None = 256
-option_or_256 (Some n) = n
+-- how many changes may come: as many as the least slack says, or as many as may wait for a panel, since one may begin
+abbrev pub changes_left : Option ℕ → ℕ
+changes_left None = most_waiting
+changes_left (Some n) = n
 
 -- how many changes a line can bring; one that is too long brings none
 abbrev pub weight_of_mark : Mark → ℕ
@@ -91,9 +93,9 @@ module _ (buses : List Bus) where
       → length (waiting later (history buses (course buses (events ++ more))))
       ≤ length (waiting conn (history buses (course buses events))) + brought events more
 
-  -- how many changes may come: the least over all panels, and 256 if there is none, since one may begin
+  -- how many changes may come: the least over all panels, or as many as may wait if there is none
   abbrev pub room : World → ℕ
-  room w = option_or_256 (slack w)
+  room w = changes_left (slack w)
 
   -- only those sessions overran by the end of the later events that overran before them, whether shut since or not
   abbrev pub NoneOverruns : (events more : List Event) → Type 0

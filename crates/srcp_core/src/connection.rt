@@ -16,9 +16,8 @@ use crate::accepted::Accepted;
 use crate::handshake::{Greeting, greet};
 use crate::limits::MOST_UNSENT;
 use crate::line::Asked;
-use crate::panel_line::PanelLine;
-use srcp_feed::{ChangeLine, InfoFeed, MOST_WAITING, Next, Told};
-use srcp_info::{Code, InfoLine, LONGEST_LINE, Mode, Reply, write_reply};
+use srcp_feed::{ChangeLine, InfoFeed, Next, Told, WrittenLine};
+use srcp_info::{Code, InfoLine, LONGEST_LINE, MOST_WAITING, Mode, Reply, write_reply};
 use srcp_rules::{Layout, Memory, Rows, parse_command};
 use srcp_text::{Fed, LineReader};
 use std::alloc::Global;
@@ -59,7 +58,7 @@ pub struct Connection {
     ended: bool,
     // The line of an information session, or else the replies: `line` or `reply` is empty. The last `left` bytes are
     // unsent.
-    line: PanelLine,
+    line: WrittenLine,
     reply: Vec<u8>,
     left: usize,
     panel: Panel,
@@ -102,7 +101,7 @@ impl Connection {
             mode: Mode::Command,
             session: 0,
             ended: false,
-            line: PanelLine::new(),
+            line: WrittenLine::new(),
             reply,
             left: WELCOME.len(),
             panel: Panel::Absent,
@@ -359,7 +358,7 @@ impl Connection {
 
 /// Writes the next line of the session, or no bytes if nothing is left.
 #[inline(always)]
-fn give<R: Rows>(feed: &mut InfoFeed, rows: &R, line: &mut PanelLine)
+fn give<R: Rows>(feed: &mut InfoFeed, rows: &R, line: &mut WrittenLine)
     requires well_formed { AllByRecursion IsWellFormed feed.old.queue }
     requires shown { AllByRecursion IsWellFormedShown (shown_rows (R.state rows.now)) }
     ensures feed { feed.new ≡ after_next (shown_rows (R.state rows.now)) feed.old }
@@ -367,7 +366,7 @@ fn give<R: Rows>(feed: &mut InfoFeed, rows: &R, line: &mut PanelLine)
     ensures most { length line.new ≤ LONGEST_LINE }
 {
     if let Some(first) = feed.first() {
-        line.put_change(first);
+        first.put_into(line);
         feed.drop_first();
         return;
     }
@@ -378,7 +377,7 @@ fn give<R: Rows>(feed: &mut InfoFeed, rows: &R, line: &mut PanelLine)
 }
 
 /// Moves the unsent bytes, from `start` on, to the beginning of the reply buffer.
-fn compact(line: &mut PanelLine, reply: &mut Vec<u8>, start: usize)
+fn compact(line: &mut WrittenLine, reply: &mut Vec<u8>, start: usize)
     requires one { (line.old ≡ []) ⊎ (reply.old.items ≡ []) }
     requires within { start ≤ length (line.old ++ reply.old.items) }
     requires room { MOST_UNSENT ≤ vec_capacity reply.old }

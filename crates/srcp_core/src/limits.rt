@@ -5,9 +5,9 @@ use srcp_info::{LONGEST_SHORT_REPLY, MOST_IN_PIECE};
 /// The most connections that are open at once.
 pub const MOST_CONNECTIONS: usize = 64;
 
-/// The most unsent bytes of a connection: a short reply for each byte of a piece, and 256 for a line begun in an
+/// The most unsent bytes of a connection: a short reply for each byte of a piece, and the reply to a line begun in an
 /// earlier piece.
-pub const MOST_UNSENT: usize = LONGEST_SHORT_REPLY * MOST_IN_PIECE + 256;
+pub const MOST_UNSENT: usize = LONGEST_SHORT_REPLY * MOST_IN_PIECE + MOST_OF_BEGUN;
 
-/// The greatest session id.
-pub const LAST_ID: u32 = 4_294_967_295;
+/// The bytes that are kept for the reply to a line begun in an earlier piece.
+const MOST_OF_BEGUN: usize = 256;

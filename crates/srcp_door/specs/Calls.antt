@@ -2,6 +2,7 @@
 use Rattle.std.specs.Prelude.{⊤, ◌≡◌, ℕ, ◌+◌, ◌<◌, ◌≤◌, ◌==◌, Bool, true, false, not, if◌then◌else◌, min, List, [], ◌∷◌}
 use Rattle.std.specs.Prelude.{◌++◌, length, filter_map, Option, Some, None, IfSome, Result, Ok}
 use Rattle.std.specs.List.{take_while, IsDistinct}
+use Rattle.srcp_info.specs.Limits.{greatest_u64}
 use Rattle.srcp_door.specs.declared.door.DoorFault.{DoorFault}
 use Rattle.srcp_door.specs.declared.door.Got.{Got}
 use Rattle.srcp_door.specs.declared.door.Got.TheVariants as got
@@ -17,7 +18,7 @@ pub data Call : Type 0 where
 
 -- a count of failures after one more
 abbrev pub one_more : ℕ → ℕ
-one_more n = min (n + 1) 18446744073709551615
+one_more n = min (n + 1) greatest_u64
 
 -- the calls of a door so far, if it keeps them
 abbrev pub Trace : Type 0

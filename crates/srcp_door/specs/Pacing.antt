@@ -2,7 +2,9 @@
 use Rattle.std.specs.Prelude.{◌≡◌, ◌≢◌, ℕ, ◌+◌, ◌-◌, ◌<◌, ◌≤◌, ◌==◌, Bool, ◌&&◌, cond}
 use Rattle.std.specs.Prelude.{false, nat_le, nat_lt, Option, ⊤, List, [], ◌∷◌, ◌++◌, length, take, fold, count_by}
 use Rattle.std.specs.Option.{unwrap_or}
-use Rattle.srcp_grammar.specs.Weight.{weight}
+use Rattle.srcp_info.specs.Limits.{most_waiting}
+use Rattle.srcp_grammar.specs.Weight.{most_changes, weight}
+use Rattle.srcp_door.specs.Limits.{reserve}
 use Rattle.srcp_door.specs.declared.pacing.LineBoundary.{LineBoundary}
 use Rattle.srcp_door.specs.declared.pacing.LineBoundary.TheVariants.{At, Inside}
 use Rattle.srcp_door.specs.declared.pacing.Pace.{Pace}
@@ -15,11 +17,11 @@ lines bytes = count_by (λ byte. byte == 10) bytes
 
 -- ---- the weight of lines
 
--- the changes that a line brings at most: what its bytes say, or 11 if it began in an earlier piece, whose bytes are
--- gone
+-- the changes that a line brings at most: what its bytes say, or the most if it began in an earlier piece, whose
+-- bytes are gone
 abbrev pub line_weight : LineBoundary → (text : List ℕ) → ℕ
 line_weight At text = weight text
-line_weight Inside text = 11
+line_weight Inside text = most_changes
 
 -- what is seen of bytes: those of the line that has not ended, whether it began in an earlier piece, and how much the
 -- lines weigh that ended
@@ -86,12 +88,12 @@ pub record IsOneLine (line : LineBoundary) (rest : ℕ) (piece : List ℕ) (coun
   pub is_first : IsFirstWeight line (take rest piece) first
   pub share : IsShare line first rest piece count
 
--- how much may be let through in a turn: what the slack of the panels leaves beside the 160 changes of moments and ends
--- of sessions; the slack is 256 if no panel is there, since one may begin; if that leaves less than any line can weigh,
--- one line at each tick of the clock
+-- how much may be let through in a turn: what the slack of the panels leaves beside the reserve for moments and ends of
+-- sessions; the slack is as many as may wait for a panel if none is there, since one may begin; if that leaves less
+-- than any line can weigh, one line at each tick of the clock
 abbrev pub pace_of : (slack : Option ℕ) (tick : Bool) → Pace
 pace_of slack tick =
-    let left = unwrap_or slack 256 - 160 in cond (tick && nat_lt left 11) OneLine (Paced left)
+    let left = unwrap_or slack most_waiting - reserve in cond (tick && nat_lt left most_changes) OneLine (Paced left)
 
 -- the prefix of a peer's piece that may go in a turn; a peer that had its share gets no line that weighs something
 abbrev pub Allows : Pace → Share → (piece : List ℕ) (count : ℕ) → Type 0

@@ -2,12 +2,13 @@
 
 ghost use Rattle.std.specs.Prelude.{◌+◌, ◌≤◌};
 
-use crate::pacing::{MOST_SLACK, RESERVE};
+use crate::pacing::RESERVE;
 use srcp_grammar::MOST_CHANGES;
+use srcp_info::MOST_WAITING;
 
 /// States that the reserve for moments and ends of sessions is enough for a session that ends with 150 locks. The rest
 /// of the slack is enough for any line while no change waits for a panel.
 pub fn turns_suffice()
     ensures ends { 150 + 1 ≤ RESERVE }
-    ensures lines { RESERVE + MOST_CHANGES ≤ MOST_SLACK }
+    ensures lines { RESERVE + MOST_CHANGES ≤ MOST_WAITING }
 {}

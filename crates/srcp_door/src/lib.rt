@@ -11,5 +11,5 @@ mod pacing;
 mod timekeeper;
 
 pub use door::{Door, DoorFault, Got, MOST_WRITES};
-pub use pacing::{Allowed, LineBoundary, MOST_SLACK, Pace, RESERVE, Share};
+pub use pacing::{Allowed, LineBoundary, Pace, RESERVE, Share};
 pub use timekeeper::Timekeeper;

@@ -8,10 +8,7 @@ ghost use Rattle.srcp_door.specs.Pacing.{lines, pace_of, share_after, spent, wei
 
 use memchr::memchr;
 use srcp_grammar::{MOST_CHANGES, weight};
-
-/// The most changes of a turn before a panel overruns, if the turn begins without a panel: a panel may begin in the
-/// turn.
-pub const MOST_SLACK: usize = 256;
+use srcp_info::MOST_WAITING;
 
 /// The changes of a turn that are reserved for moments and the ends of sessions.
 pub const RESERVE: usize = 160;
@@ -85,12 +82,12 @@ pub struct Allowed {
 
 impl Pace {
     /// Returns what may be let through in a turn. `slack` is the number of changes before a panel overruns, if a panel
-    /// is there. With `tick` a line may go even if the panels take nothing. No peer starves then behind a panel that
-    /// does not read.
+    /// is there. Without a panel it counts as `MOST_WAITING`, since a panel may begin in the turn. With `tick` a line
+    /// may go even if the panels take nothing. No peer starves then behind a panel that does not read.
     pub fn of_turn(slack: Option<usize>, tick: bool) -> Pace
         ensures { result ≡ pace_of slack tick }
     {
-        let left = slack.unwrap_or(MOST_SLACK).saturating_sub(RESERVE);
+        let left = slack.unwrap_or(MOST_WAITING).saturating_sub(RESERVE);
         if tick && left < MOST_CHANGES {
             Pace::OneLine
         } else {

@@ -1,6 +1,7 @@
 -- What an information session is still to be given, and what becomes of a change that it is told.
 use Rattle.std.specs.Prelude.{◌≡◌, ◌⊎◌, ℕ, Bool, not, ◌&&◌, List, [], ◌∷◌, ◌++◌, map, drop, length, nat_lt}
 use Rattle.std.specs.Prelude.{if◌then◌else◌}
+use Rattle.srcp_info.specs.Limits.{most_waiting}
 use Rattle.srcp_info.specs.Client.{client}
 use Rattle.srcp_info.specs.Line.{line}
 use Rattle.srcp_info.specs.WellFormed.{IsWellFormed}
@@ -27,7 +28,7 @@ beginning = record { cursor = Start; queue = [] }
 
 -- as many changes wait as may wait
 abbrev pub is_full : Feed → Bool
-is_full feed = not (nat_lt (length feed.queue) 256)
+is_full feed = not (nat_lt (length feed.queue) most_waiting)
 
 -- what becomes of a change: the listing will meet it, it waits, or the queue is full
 abbrev pub told_answer : Change → Feed → Told

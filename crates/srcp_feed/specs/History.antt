@@ -89,7 +89,7 @@ listed_row _ = None
 
 -- the rows that were listed, in order
 abbrev pub listed : List Given → List Shown
-listed given = filter_map (λ line. listed_row line.what) given
+listed given = filter_map (λ item. listed_row item.what) given
 
 -- how often the row at the key was listed
 abbrev pub times_listed : Key → List Given → ℕ
@@ -97,11 +97,11 @@ times_listed key given = length (filter (λ row. eq_by_cmp key_cmp row.key key) 
 
 -- what was given is no row, or is listed as it was then
 abbrev pub IsHeld : Given → Type 0
-IsHeld line = IfSome (listed_row line.what) (λ row. shown_at row.key line.rows ≡ Some row)
+IsHeld item = IfSome (listed_row item.what) (λ row. shown_at row.key item.rows ≡ Some row)
 
 -- the changes that were told, a row as one that is put
 abbrev pub tells : List Given → List Change
-tells given = flat_map (λ line. said line.what) given
+tells given = flat_map (λ item. said item.what) given
 
 -- nothing is left to give
 abbrev pub IsSettled : Panel → Type 0

@@ -1,10 +1,12 @@
 //! A change with its line, and a written line.
 
 ghost use Rattle.std.specs.Prelude.{◌≡◌, ◌≤◌, ◌==◌, [], length};
-ghost use Rattle.srcp_info.specs.WellFormed.{IsWellFormed};
+ghost use Rattle.srcp_info.specs.Line.{line};
+ghost use Rattle.srcp_info.specs.WellFormed.{IsWellFormed, IsWellFormedShown};
+ghost use Rattle.srcp_info.specs.declared.change.Change.{Change};
 ghost use Rattle.srcp_feed.specs.Feed.{IsLineOrNone};
 
-use srcp_info::{Change, InfoLine, LONGEST_LINE, write_change};
+use srcp_info::{Change, InfoLine, LONGEST_LINE, Shown, write_change, write_shown};
 use std::marker::Model;
 
 /// The bytes of a line in memory: a multiple of 16, since a copy of such a length needs no call.
@@ -41,17 +43,40 @@ impl WrittenLine {
         }
     }
 
-    /// Becomes a line of the same bytes as `line`.
-    pub(crate) fn put(&mut self, line: &InfoLine)
-        ensures { self.new ≡ line.now.items }
+    /// Becomes the line of a change.
+    pub(crate) fn put_change(&mut self, change: &Change)
+        requires { IsWellFormed change.now }
+        ensures line { self.new ≡ line change.now }
+        ensures most { length self.new ≤ LONGEST_LINE }
     {
-        let len = line.len();
-        self.bytes[..len].copy_from_slice(line.as_slice());
+        let mut written = InfoLine::new();
+        write_change(change, &mut written);
+        self.put(&written);
+    }
+
+    /// Becomes the line of a row.
+    pub fn put_row(&mut self, row: &Shown)
+        requires { IsWellFormedShown row.now }
+        ensures line { self.new ≡ line (Change.Put row.now) }
+        ensures most { length self.new ≤ LONGEST_LINE }
+    {
+        let mut written = InfoLine::new();
+        write_shown(row, &mut written);
+        self.put(&written);
+    }
+
+    /// Becomes a line of these bytes.
+    fn put(&mut self, written: &InfoLine)
+        ensures value { self.new ≡ written.now.items }
+        ensures most { length self.new ≤ LONGEST_LINE }
+    {
+        let len = written.len();
+        self.bytes[..len].copy_from_slice(written.as_slice());
         self.len = len as u8;
     }
 
     /// Returns a copy.
-    pub fn copied(&self) -> WrittenLine
+    pub(crate) fn copied(&self) -> WrittenLine
         ensures { result ≡ self.now }
     {
         WrittenLine {
@@ -61,7 +86,7 @@ impl WrittenLine {
     }
 
     /// Becomes a copy of another line.
-    pub fn copy_from(&mut self, line: &WrittenLine)
+    pub(crate) fn copy_from(&mut self, line: &WrittenLine)
         ensures value { self.new ≡ line.now }
         ensures most { length self.new ≤ LONGEST_LINE }
     {
@@ -125,10 +150,8 @@ impl<'a> ChangeLine<'a> {
         requires { IsWellFormed change.now }
         ensures { result ≡ change.now }
     {
-        let mut line = InfoLine::new();
-        write_change(change, &mut line);
         let mut told = ChangeLine::without_line(change);
-        told.line.put(&line);
+        told.line.put_change(change);
         told
     }
 

@@ -10,8 +10,8 @@ ghost use Rattle.srcp_feed.specs.Cursor.{concerns, said};
 ghost use Rattle.srcp_feed.specs.Feed.{beginning, told, told_answer, next_of, after_next, HoldsPassed};
 
 use crate::ChangeLine;
-use crate::queue::{MOST_WAITING, Queue, Waiting};
-use srcp_info::{Change, Cursor, Row, Shown};
+use crate::queue::{Queue, Waiting};
+use srcp_info::{Change, Cursor, MOST_WAITING, Row, Shown};
 use srcp_rules::{Memory, Rows};
 use std::alloc::Global;
 use std::marker::Model;

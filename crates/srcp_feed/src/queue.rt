@@ -2,17 +2,16 @@
 
 ghost use Rattle.std.specs.Prelude.{◌≡◌, ◌<◌, ◌≤◌, ◌+◌, ◌-◌, [], ◌∷◌, ◌++◌, IfOk, take, drop, length, nat_lt, not};
 ghost use Rattle.std.specs.Prelude.{option_copied, slice_get, vec_capacity};
+ghost use Rattle.srcp_info.specs.Line.{line};
+ghost use Rattle.srcp_info.specs.WellFormed.{IsWellFormed};
 ghost use Rattle.srcp_feed.specs.Feed.{IsLineOrNone};
 
 use crate::{ChangeLine, WrittenLine};
-use srcp_info::{Change, read_change};
+use srcp_info::{Change, LONGEST_LINE, MOST_WAITING, read_change};
 use srcp_rules::Memory;
 use std::alloc::Global;
 use std::marker::Model;
 use std::vec::Vec;
-
-/// The most changes to wait for a session. SRCP 0.8 has no such limit.
-pub const MOST_WAITING: usize = 256;
 
 /// The slots of a queue: twice the limit. Waiting changes then move to the front at most once in `MOST_WAITING` pushes.
 const SLOTS: usize = 2 * MOST_WAITING;
@@ -30,7 +29,8 @@ pub(crate) struct Queue {
 impl Model for Queue {
     ghost use Rattle.std.specs.Prelude.{◌≡◌, ◌≤◌, ◌+◌, List, take, drop, length, vec_capacity};
     ghost use Rattle.srcp_info.specs.declared.change.Change.{Change};
-    ghost use Rattle.srcp_feed.specs.declared.queue.TheConstants.{MOST_WAITING, SLOTS};
+    ghost use Rattle.srcp_info.specs.declared.limits.TheConstants.{MOST_WAITING};
+    ghost use Rattle.srcp_feed.specs.declared.queue.TheConstants.{SLOTS};
 
     ghost Value = { List Change };
 
@@ -188,8 +188,20 @@ impl Waiting {
         }
     }
 
+    /// Puts the change's line into `to`: a copy, or written there if no line was written.
+    pub fn put_into(&self, to: &mut WrittenLine)
+        requires { IsWellFormed self.now }
+        ensures line { to.new ≡ line self.now }
+        ensures most { length to.new ≤ LONGEST_LINE }
+    {
+        to.copy_from(self.line());
+        if to.is_empty() {
+            to.put_change(&self.change());
+        }
+    }
+
     /// Lends the line, which has no bytes if no line was written.
-    pub fn line(&self) -> &WrittenLine
+    fn line(&self) -> &WrittenLine
         ensures { IsLineOrNone result.now self.now }
     {
         &self.line

@@ -1,6 +1,7 @@
 //! Serving a file.
 
 ghost use Rattle.std.specs.Prelude.{◌≡◌, ◌<◌, IfErr, IfOk};
+ghost use Rattle.srcp_info.specs.Limits.{greatest_u64};
 ghost use Rattle.srcp_host.specs.Hosting.{Refuses, Serves};
 
 use crate::fault::HostFault;
@@ -39,7 +40,7 @@ pub fn serve_file<R: Rows, O: Opener>(
 ) -> Result<Hosted<O::System>, HostFault>
     ensures served { IfOk result (λ hosted. Serves O.answers O.System.trace file.now turns opener.old opener.new
         hosted.served hosted.door.sockets.system) }
-    ensures faults { IfOk result (λ hosted. hosted.door.faults < 18446744073709551615
+    ensures faults { IfOk result (λ hosted. hosted.door.faults < greatest_u64
         → hosted.served.faults ≡ hosted.door.faults) }
     ensures refused { IfErr result (λ fault. Refuses O.answers file.now opener.old opener.new fault) }
 {

@@ -1,6 +1,7 @@
 //! The machine: sockets and clocks.
 
 ghost use Rattle.std.specs.Prelude.{◌≡◌, ◌<◌, IfErr, IfOk};
+ghost use Rattle.srcp_info.specs.Limits.{greatest_u64};
 ghost use Rattle.srcp_host.specs.Here.{IsOpen, RefusesHere, ServesHere};
 
 use crate::fault::HostFault;
@@ -46,7 +47,7 @@ pub fn serve_here<'a, K: Rows, R: Net + Clock>(
     turns: u64,
 ) -> Result<Hosted<MioSystem<&'a R>>, HostFault>
     ensures served { IfOk result (λ hosted. ServesHere file.now turns hosted.served hosted.door.sockets.system) }
-    ensures faults { IfOk result (λ hosted. hosted.door.faults < 18446744073709551615
+    ensures faults { IfOk result (λ hosted. hosted.door.faults < greatest_u64
         → hosted.served.faults ≡ hosted.door.faults) }
     ensures refused { IfErr result (λ fault. RefusesHere file.now fault) }
 {

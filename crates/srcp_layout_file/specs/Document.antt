@@ -6,8 +6,8 @@ use Rattle.srcp_grammar.specs.Layout.{has_number, with_bus}
 use Rattle.srcp_grammar.specs.declared.layout.Bus.{Bus}
 use Rattle.srcp_layout_file.specs.Faults.{config_key}
 use Rattle.srcp_layout_file.specs.Gives.{◌>>=◌}
-use Rattle.srcp_layout_file.specs.Limits.{default_port, greatest_port, greatest_bus, greatest_gl, greatest_ga}
-use Rattle.srcp_layout_file.specs.Limits.{greatest_fb, fewest_ports, most_ports}
+use Rattle.srcp_info.specs.Limits.{greatest_bus, greatest_gl, greatest_ga, greatest_fb, fewest_ports, most_ports}
+use Rattle.srcp_layout_file.specs.Limits.{default_port, greatest_port}
 use Rattle.srcp_layout_file.specs.Member.{array_at, document, given_or, number_at}
 use Rattle.srcp_layout_file.specs.declared.config.Config.{Config}
 use Rattle.srcp_layout_file.specs.declared.config.ConfigFault.{ConfigFault}

@@ -2,7 +2,7 @@
 use Rattle.std.specs.Prelude.{ℕ, Bool, ◌&&◌, ◌==◌, nat_lt, if◌then◌else◌, List, [], ◌∷◌, ◌++◌, flat_map, codes, decimal}
 use Rattle.srcp_info.specs.Line.{spaced}
 use Rattle.srcp_grammar.specs.declared.layout.Bus.{Bus}
-use Rattle.srcp_layout_file.specs.Limits.{fewest_ports}
+use Rattle.srcp_info.specs.Limits.{fewest_ports}
 use Rattle.srcp_layout_file.specs.declared.config.Config.{Config}
 
 -- a group's name and how many devices it has, if it has any

@@ -13,11 +13,11 @@ ghost use Rattle.srcp_layout_file.specs.Member.{given_or, number_at};
 mod groups;
 
 use crate::config::{Config, ConfigFault, Field};
-use crate::limits::{DEFAULT_PORT, FEWEST_PORTS, GREATEST_PORT};
+use crate::limits::{DEFAULT_PORT, GREATEST_PORT};
 use crate::member::{array_at, given_or, number_at, read_members};
 use groups::groups_in;
 use srcp_grammar::{Bus, Layout, LayoutFault};
-use srcp_info::{GREATEST_BUS, GREATEST_FB, GREATEST_GA, GREATEST_GL, MOST_PORTS};
+use srcp_info::{FEWEST_PORTS, GREATEST_BUS, GREATEST_FB, GREATEST_GA, GREATEST_GL, MOST_PORTS};
 use std::alloc::Global;
 use toml::{Table, Value};
 

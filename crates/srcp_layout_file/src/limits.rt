@@ -5,6 +5,3 @@ pub(crate) const GREATEST_PORT: u32 = 65535;
 
 /// The port to listen on if a configuration names none.
 pub(crate) const DEFAULT_PORT: u32 = 4303;
-
-/// The fewest ports of an accessory, and how many an accessory has if a configuration does not say.
-pub(crate) const FEWEST_PORTS: u8 = 2;

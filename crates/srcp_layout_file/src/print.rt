@@ -6,8 +6,8 @@ ghost use Rattle.srcp_info.specs.Line.{after_spaces};
 ghost use Rattle.srcp_layout_file.specs.Output.{bus_line, checked, group_words, port_line, port_words, power_words};
 
 use crate::config::Config;
-use crate::limits::FEWEST_PORTS;
 use srcp_grammar::Bus;
+use srcp_info::FEWEST_PORTS;
 use std::alloc::{AllocError, Global};
 use std::string::String;
 use std::vec::Vec;

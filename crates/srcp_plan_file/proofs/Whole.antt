@@ -9,7 +9,7 @@ use Rattle.std.proofs.lemmas.List.Quantifiers.{all_pairs_push}
 use Rattle.toml.specs.Data.{Data, string, integer, float, boolean, datetime, array, table, Members}
 use Rattle.srcp_grammar.specs.Layout.{is_within}
 use Rattle.srcp_layout_file.specs.Gives.{◌>>=◌}
-use Rattle.srcp_layout_file.specs.Limits.{greatest_bus, greatest_ga, greatest_fb}
+use Rattle.srcp_info.specs.Limits.{greatest_bus, greatest_ga, greatest_fb}
 use Rattle.srcp_layout_file.specs.Member.{array_at, array_in, document, if_given, number_at, ranged, required, value_at}
 use Rattle.srcp_routes.specs.Conflicts.{has_accessory, is_same}
 use Rattle.srcp_routes.specs.declared.route.Device.{Device}

@@ -3,7 +3,7 @@ use Rattle.std.specs.Prelude.{ℕ, Bool, ◌==◌, if◌then◌else◌, List, []
 use Rattle.std.specs.List.{list_any}
 use Rattle.toml.specs.Data.{Data, table, Members}
 use Rattle.srcp_layout_file.specs.Gives.{◌>>=◌}
-use Rattle.srcp_layout_file.specs.Limits.{greatest_bus, greatest_ga, greatest_fb}
+use Rattle.srcp_info.specs.Limits.{greatest_bus, greatest_ga, greatest_fb}
 use Rattle.srcp_layout_file.specs.Member.{array_at, array_in, document, if_given, number_at, ranged, value_at}
 use Rattle.srcp_routes.specs.Conflicts.{has_accessory}
 use Rattle.srcp_routes.specs.declared.route.Device.{Device}

@@ -3,7 +3,7 @@ use Rattle.std.specs.Prelude.{◌≡◌, ◌≢◌, ℕ, ◌-◌, ◌≤◌, Boo
 use Rattle.std.specs.Prelude.{Option, IfSome}
 use Rattle.std.specs.List.{All, AllPairs}
 use Rattle.std.specs.Option.{option_map_or}
-use Rattle.srcp_layout_file.specs.Limits.{greatest_bus, greatest_ga, greatest_fb, most_ports}
+use Rattle.srcp_info.specs.Limits.{greatest_bus, greatest_ga, greatest_fb, most_ports}
 use Rattle.srcp_routes.specs.Conflicts.{has_accessory, is_same}
 use Rattle.srcp_routes.specs.declared.route.Device.{Device}
 use Rattle.srcp_routes.specs.declared.route.Route.{Route}

@@ -1,6 +1,6 @@
 -- What a moment makes of each row, and what a timed SET leaves behind.
 use Rattle.srcp_rules.proofs.Names
-use Names.{cases_Bool, inl, inr, ◌≡◌, ℕ, ◌+◌, min, Bool, true, false, cond, map, filter, List, [], ◌∷◌, Option, Some, None, refl, sym}
+use Names.{cases_Bool, inl, inr, ◌≡◌, ℕ, Bool, true, false, cond, map, filter, List, [], ◌∷◌, Option, Some, None, refl, sym}
 use Names.{ap, subst, ◌∙◌, arith, false_from_ne_true, option_map_or, AllByRecursion, Key, Value, Row, Code, Accepted, device_of, first_key}
 use Names.{owns, IsMoment, IsValueAt, is_lock, Bus, SetLock, lock_at, State, Update, IsWhole, MayFall, row_at, updated, updated_all}
 use Names.{row_put, put_of, nat_le, SetGa, unless_refused, refusals, port_end, lock_end, due, due_change, is_due, device_from_owns}
@@ -166,8 +166,4 @@ lock_runs_out buses state session moment later lock may begins now some e =
 -- ---- the greatest moment
 
 pub ends_in_time : MomentsEnd
-ends_in_time moment milliseconds = (
-  λ h. min-eq_left (omega (arith, h)),
-  λ h. let e : min (moment + milliseconds) 18446744073709551615 ≡ 18446744073709551615 = min-eq_right (omega (arith, h)) in
-      omega (arith, e),
-)
+ends_in_time moment milliseconds = (λ h. min-eq_left h, λ h. min-eq_right h)

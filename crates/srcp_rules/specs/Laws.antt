@@ -1,5 +1,5 @@
 -- What holds of every command, every moment, and every session's beginning and end.
-use Rattle.std.specs.Prelude.{◌≡◌, ◌≢◌, ℕ, ◌+◌, ◌*◌, ◌≤◌, ◌<◌, ◌^◌, true, false, nat_le, if◌then◌else◌, List, []}
+use Rattle.std.specs.Prelude.{◌≡◌, ◌≢◌, ℕ, ◌+◌, ◌*◌, ◌≤◌, ◌<◌, true, false, nat_le, if◌then◌else◌, List, []}
 use Rattle.std.specs.Prelude.{take, drop, length, IsTrue, Option, Some, None, IfSome}
 use Rattle.std.specs.List.{AllByRecursion}
 use Rattle.std.specs.Option.{option_map_or, ForSome}
@@ -10,7 +10,7 @@ use Rattle.srcp_info.specs.declared.change.Row.{Row}
 use Rattle.srcp_info.specs.Key.{first_key}
 use Rattle.srcp_info.specs.declared.change.Code.{Code}
 use Rattle.srcp_info.specs.declared.change.Reply.TheVariants.{Accepted, Refused}
-use Rattle.srcp_info.specs.declared.value.Mode.{Mode}
+use Rattle.srcp_info.specs.Limits.{greatest_u64}
 use Rattle.srcp_info.specs.WellFormed.{IsMoment, IsWellFormed, IsWellFormedReply}
 use Rattle.srcp_grammar.specs.declared.layout.Bus.{Bus}
 use Rattle.srcp_grammar.specs.declared.command.DeviceGroup.{DeviceGroup}
@@ -27,7 +27,8 @@ use Rattle.srcp_grammar.specs.Command.{IsCommandOf}
 use Rattle.srcp_grammar.specs.Weight.{most_changes}
 use Rattle.srcp_rules.specs.Effect.{effect, refused, is_locked, port_key, row_of_port, row_of_lock, moment_after}
 use Rattle.srcp_rules.specs.Obeyed.{MayObey}
-use Rattle.srcp_rules.specs.Due.{due, freed, began, is_due, is_held_by}
+use Rattle.srcp_rules.specs.Due.{due, freed, is_due, is_held_by}
+use Rattle.srcp_rules.specs.Steps.{Order, Step, IsStepOf, IsTimely, effect as effect_under, stepped, updates_of}
 
 -- ---- whole registries
 
@@ -40,13 +41,12 @@ OpeningsAreWhole =
 abbrev pub UpdatesKeepRising : Type 0
 UpdatesKeepRising = (update : Update) (state : State) → IsRising state → IsRising (updated update state)
 
--- the updates of a command, taken together, leave the registry whole
-abbrev pub CommandsKeepWhole : Type 0
-CommandsKeepWhole = (buses : List Bus) (state : State) (session moment : ℕ) (command : Command)
-    → MayObey buses state session command → IsMoment moment
-    → IsWhole buses (updated_all (effect state session moment command).updates state)
+-- a step, with all its updates, leaves the registry whole
+abbrev pub StepsKeepWhole : Type 0
+StepsKeepWhole = (buses : List Bus) (state : State) (step : Step) → IsWhole buses state → IsStepOf buses step
+    → IsTimely state step → IsWhole buses (stepped state step)
 
--- those of a moment do so one by one: after the first k of them it is whole, and the others are still to come
+-- the updates of a moment do so one by one: after the first k of them it is whole, and the others are still to come
 abbrev pub MomentsKeepWhole : Type 0
 MomentsKeepWhole = (buses : List Bus) (state : State) (moment k : ℕ) → IsWhole buses state → IsMoment moment
     → let after = updated_all (take k (due state moment)) state in
@@ -58,39 +58,17 @@ EndsKeepWhole = (buses : List Bus) (state : State) (session moment k : ℕ) → 
     → let after = updated_all (take k (freed state session moment)) state in
     IsWhole buses after × (freed after session moment ≡ drop k (freed state session moment))
 
--- and a session's beginning
-abbrev pub BeginningsKeepWhole : Type 0
-BeginningsKeepWhole = (buses : List Bus) (state : State) (session moment : ℕ) (mode : Mode) → IsWhole buses state
-    → IsMoment moment → 1 ≤ session → session < 2 ^ 32
-    → IsWhole buses (updated (began session moment mode) state)
-
 -- ---- the rows of a device come and go together
 
--- no Put of these gives a row to a device that has rows
-abbrev pub AddNoRow : State → List Update → Type 0
-AddNoRow state updates = AllByRecursion (λ update. AddsNoRow state update.change) updates
+-- no Put of a step gives a row to a device that has rows
+abbrev pub StepsAddNoRow : Type 0
+StepsAddNoRow = (buses : List Bus) (state : State) (step : Step) → IsWhole buses state → IsStepOf buses step
+    → AllByRecursion (λ update. AddsNoRow state update.change) (updates_of state step)
 
--- no Put of a command does so
-abbrev pub CommandsAddNoRow : Type 0
-CommandsAddNoRow = (buses : List Bus) (state : State) (session moment : ℕ) (command : Command) → IsWhole buses state
-    → IsCommandOf buses command
-    → AddNoRow state (effect state session moment command).updates
-
--- nor one of a moment
-abbrev pub MomentsAddNoRow : Type 0
-MomentsAddNoRow =
-    (buses : List Bus) (state : State) (moment : ℕ) → IsWhole buses state → AddNoRow state (due state moment)
-
--- nor one of a session's end, which has none
+-- nor does a session's end, whatever the registry
 abbrev pub EndsAddNoRow : Type 0
-EndsAddNoRow = (state : State) (session moment : ℕ) → AddNoRow state (freed state session moment)
-
--- nor that of a session's beginning
-abbrev pub BeginningsAddNoRow : Type 0
-BeginningsAddNoRow =
-    (buses : List Bus) (state : State) (session moment : ℕ) (mode : Mode) → IsWhole buses state → 1 ≤ session
-    → session < 2 ^ 32
-    → AddsNoRow state (began session moment mode).change
+EndsAddNoRow = (state : State) (session moment : ℕ)
+    → AllByRecursion (λ update. AddsNoRow state update.change) (freed state session moment)
 
 -- ---- what is told
 
@@ -104,27 +82,16 @@ CommandsChangeLittle =
 abbrev pub CanBeTold : List Update → Type 0
 CanBeTold updates = AllByRecursion (λ update. IsWellFormed update.change) updates
 
--- the changes of a command can be told, and so can its reply
-abbrev pub CommandsCanBeTold : Type 0
-CommandsCanBeTold = (buses : List Bus) (state : State) (session moment : ℕ) (command : Command)
+-- the changes of a step can be told
+abbrev pub StepsCanBeTold : Type 0
+StepsCanBeTold = (buses : List Bus) (state : State) (step : Step) → IsWhole buses state → IsStepOf buses step
+    → IsTimely state step → CanBeTold (updates_of state step)
+
+-- and so can the reply to a command
+abbrev pub RepliesCanBeTold : Type 0
+RepliesCanBeTold = (buses : List Bus) (state : State) (session moment : ℕ) (command : Command)
     → MayObey buses state session command → IsMoment moment
-    → CanBeTold (effect state session moment command).updates
-    × IsWellFormedReply (effect state session moment command).reply
-
--- so can those of a moment
-abbrev pub MomentsCanBeTold : Type 0
-MomentsCanBeTold = (buses : List Bus) (state : State) (moment : ℕ) → IsWhole buses state → IsMoment moment
-    → CanBeTold (due state moment)
-
--- and those of a session's end
-abbrev pub EndsCanBeTold : Type 0
-EndsCanBeTold = (buses : List Bus) (state : State) (session moment : ℕ) → IsWhole buses state → IsMoment moment
-    → CanBeTold (freed state session moment)
-
--- and that of a session's beginning
-abbrev pub BeginningsCanBeTold : Type 0
-BeginningsCanBeTold = (session moment : ℕ) (mode : Mode) → IsMoment moment → 1 ≤ session → session < 2 ^ 32
-    → IsWellFormed (began session moment mode).change
+    → IsWellFormedReply (effect state session moment command).reply
 
 -- ---- what a command does not do
 
@@ -133,6 +100,12 @@ abbrev pub RefusalsChangeNothing : Type 0
 RefusalsChangeNothing = (state : State) (session moment : ℕ) (command : Command) (code : Code)
     → (effect state session moment command).reply ≡ Refused code
     → effect state session moment command ≡ refused code
+
+-- a command that another rule refuses has that refusal, whatever memory answers
+abbrev pub RefusalsNeedNoMemory : Type 0
+RefusalsNeedNoMemory = (state : State) (session moment : ℕ) (order : Order) (code : Code)
+    → (effect state session moment order.command).reply ≡ Refused code
+    → effect_under state session moment order ≡ effect state session moment order.command
 
 -- the SET that a CHECK is about
 abbrev pub set_of : Command → Option Command
@@ -244,5 +217,5 @@ LocksRunOut = (buses : List Bus) (state : State) (session moment later : ℕ) (l
 -- a time ends that many milliseconds later if there is such a moment, and else at the greatest one
 abbrev pub MomentsEnd : Type 0
 MomentsEnd = (moment milliseconds : ℕ)
-    → (moment + milliseconds < 2 ^ 64 → moment_after moment milliseconds ≡ moment + milliseconds)
-    × (2 ^ 64 ≤ moment + milliseconds → moment_after moment milliseconds + 1 ≡ 2 ^ 64)
+    → (moment + milliseconds ≤ greatest_u64 → moment_after moment milliseconds ≡ moment + milliseconds)
+    × (greatest_u64 ≤ moment + milliseconds → moment_after moment milliseconds ≡ greatest_u64)

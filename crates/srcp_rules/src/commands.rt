@@ -17,7 +17,7 @@ use crate::init::term_device;
 use crate::lock::{refusal, refuse_if, set_lock, term_lock};
 use crate::new_device::{init_ga, init_gl};
 use crate::obeyed::Obeyed;
-use crate::registry::{set_one, show};
+use crate::registry::{replace_row, show};
 use crate::rows::Rows;
 use crate::sender::Sender;
 use srcp_grammar::{Command, MOST_CHANGES, PowerSwitch, Sensor, Switch, Target};
@@ -48,7 +48,7 @@ fn set_power<R: Rows>(rows: &mut R, sender: Sender, power: &PowerSwitch, obeyed:
     let PowerSwitch { bus, on, text } = *power;
     let key = power_device(bus).first_key();
     let value = Value::Power { on, text };
-    set_one(rows, sender.moment, key, value, None, obeyed);
+    replace_row(rows, sender.moment, key, value, None, obeyed);
 }
 
 /// Carries out SET of a feedback port.
@@ -63,7 +63,7 @@ fn set_fb<R: Rows>(rows: &mut R, sender: Sender, sensor: Sensor, obeyed: &mut Ob
 {
     let Sensor { bus, port, on } = sensor;
     let key = fb_device(bus, port).first_key();
-    set_one(rows, sender.moment, key, Value::Fb { on }, None, obeyed);
+    replace_row(rows, sender.moment, key, Value::Fb { on }, None, obeyed);
 }
 
 /// Answers GET of a locomotive or an accessory with its row at a port.

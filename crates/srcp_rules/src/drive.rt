@@ -12,7 +12,7 @@ ghost use Rattle.srcp_rules.specs.State.{IsWhole, functions_of, is_there};
 use crate::device::{device_at, ga, gl, key_at};
 use crate::lock::{is_locked, refusal};
 use crate::obeyed::Obeyed;
-use crate::registry::set_one;
+use crate::registry::replace_row;
 use crate::rows::Rows;
 use crate::sender::Sender;
 use srcp_grammar::{Command, Drive, Switch};
@@ -106,7 +106,7 @@ pub(crate) fn set_gl<R: Rows>(rows: &mut R, sender: Sender, drive: &Drive, obeye
         functions: functions_after(&drive.functions, &before),
     };
     let key = key_at(device_at(gl(drive.bus, drive.address)), 1);
-    set_one(rows, sender.moment, key, driven, None, obeyed);
+    replace_row(rows, sender.moment, key, driven, None, obeyed);
 }
 
 /// Returns when a port set for a time goes back, or `None` if the port is set to 0, for no time or for ever.
@@ -142,5 +142,5 @@ pub(crate) fn set_ga<R: Rows>(rows: &mut R, sender: Sender, switch: &Switch, obe
     }
     let key = key_at(device_at(target), 1 + port);
     let due = port_end(sender.moment, on, time);
-    set_one(rows, sender.moment, key, Value::GaPort { on }, due, obeyed);
+    replace_row(rows, sender.moment, key, Value::GaPort { on }, due, obeyed);
 }

@@ -1,13 +1,11 @@
 //! Laws of every command, every moment, and every session's beginning and end. Each function does nothing: its
 //! `ensures` is a law.
 
-ghost use Rattle.srcp_rules.specs.Laws.{OpeningsAreWhole, UpdatesKeepRising, CommandsKeepWhole, MomentsKeepWhole};
-ghost use Rattle.srcp_rules.specs.Laws.{EndsKeepWhole, BeginningsKeepWhole};
-ghost use Rattle.srcp_rules.specs.Laws.{CommandsAddNoRow, MomentsAddNoRow, EndsAddNoRow, BeginningsAddNoRow};
+ghost use Rattle.srcp_rules.specs.Laws.{OpeningsAreWhole, UpdatesKeepRising, StepsKeepWhole, MomentsKeepWhole};
+ghost use Rattle.srcp_rules.specs.Laws.{EndsKeepWhole, StepsAddNoRow, EndsAddNoRow, StepsCanBeTold, RepliesCanBeTold};
 ghost use Rattle.srcp_rules.specs.Laws.{CommandsChangeLittle};
-ghost use Rattle.srcp_rules.specs.Laws.{CommandsCanBeTold, MomentsCanBeTold, EndsCanBeTold, BeginningsCanBeTold};
-ghost use Rattle.srcp_rules.specs.Laws.{RefusalsChangeNothing, ChecksAnswerAsSets, LocksHold, CommandsKeepSessions};
-ghost use Rattle.srcp_rules.specs.Laws.{MomentsKeepSessions, EndsFreeAll};
+ghost use Rattle.srcp_rules.specs.Laws.{RefusalsChangeNothing, RefusalsNeedNoMemory, ChecksAnswerAsSets, LocksHold};
+ghost use Rattle.srcp_rules.specs.Laws.{CommandsKeepSessions, MomentsKeepSessions, EndsFreeAll};
 ghost use Rattle.srcp_rules.specs.Weight.{LinesWeighEnough, WeightsAreSmall, GoesWeighOne};
 ghost use Rattle.srcp_rules.specs.Laws.{MomentsCarryOut, PortsAreSet, LocksAreSet, PortsFallBack, LocksRunOut};
 ghost use Rattle.srcp_rules.specs.Laws.{MomentsEnd};
@@ -24,44 +22,19 @@ pub fn updates_keep_rising()
     ensures { UpdatesKeepRising }
 {}
 
-/// States: a command leaves a whole registry whole.
-pub fn commands_keep_whole()
-    ensures { CommandsKeepWhole }
+/// States: a command, a moment, and a session's beginning and end leave a whole registry whole (`steps`). So does each
+/// change of a moment and of an end, and the later changes are still to come (`moments`, `ends`).
+pub fn steps_keep_whole()
+    ensures steps { StepsKeepWhole }
+    ensures moments { MomentsKeepWhole }
+    ensures ends { EndsKeepWhole }
 {}
 
-/// States: each change of a moment leaves a whole registry whole, and the later changes still to come.
-pub fn moments_keep_whole()
-    ensures { MomentsKeepWhole }
-{}
-
-/// States: each change of a session's end leaves a whole registry whole, and the later changes still to come.
-pub fn ends_keep_whole()
-    ensures { EndsKeepWhole }
-{}
-
-/// States: the beginning of a session leaves a whole registry whole.
-pub fn beginnings_keep_whole()
-    ensures { BeginningsKeepWhole }
-{}
-
-/// States: no Put of a command gives a row to a device that has rows.
-pub fn commands_add_no_row()
-    ensures { CommandsAddNoRow }
-{}
-
-/// States: no Put of a moment gives a row to a device that has rows.
-pub fn moments_add_no_row()
-    ensures { MomentsAddNoRow }
-{}
-
-/// States: no Put of a session's end gives a row to a device that has rows.
-pub fn ends_add_no_row()
-    ensures { EndsAddNoRow }
-{}
-
-/// States: the Put of a session's beginning gives no row to a device that has rows.
-pub fn beginnings_add_no_row()
-    ensures { BeginningsAddNoRow }
+/// States: no Put of a step gives a row to a device that has rows. A session's end gives none
+/// in any registry (`ends`).
+pub fn steps_add_no_row()
+    ensures steps { StepsAddNoRow }
+    ensures ends { EndsAddNoRow }
 {}
 
 /// States: a command makes at most 11 changes.
@@ -76,29 +49,17 @@ pub fn lines_weigh_enough()
     ensures goes { GoesWeighOne }
 {}
 
-/// States: the changes and the reply of a command can be written as lines.
-pub fn commands_can_be_told()
-    ensures { CommandsCanBeTold }
+/// States: the changes of a step and the reply to a command can be written as lines.
+pub fn steps_can_be_told()
+    ensures changes { StepsCanBeTold }
+    ensures replies { RepliesCanBeTold }
 {}
 
-/// States: the changes of a moment can be written as lines.
-pub fn moments_can_be_told()
-    ensures { MomentsCanBeTold }
-{}
-
-/// States: the changes of a session's end can be written as lines.
-pub fn ends_can_be_told()
-    ensures { EndsCanBeTold }
-{}
-
-/// States: the change of a session's beginning can be written as a line.
-pub fn beginnings_can_be_told()
-    ensures { BeginningsCanBeTold }
-{}
-
-/// States: a refused command changes nothing and ends nothing.
+/// States: a refused command changes nothing and ends nothing (`nothing`). A command refused by another rule has this
+/// refusal, whatever memory answers (`memory`).
 pub fn refusals_change_nothing()
-    ensures { RefusalsChangeNothing }
+    ensures nothing { RefusalsChangeNothing }
+    ensures memory { RefusalsNeedNoMemory }
 {}
 
 /// States: CHECK answers what SET would, and changes nothing.

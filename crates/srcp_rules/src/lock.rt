@@ -8,7 +8,7 @@ ghost use Rattle.srcp_rules.specs.Obeyed.{IsObeyed, IsTold, MayObey, Took};
 
 use crate::device::{device_at, lock_at};
 use crate::obeyed::Obeyed;
-use crate::registry::{is_there, put_of, remove, row_put, set_one};
+use crate::registry::{is_there, put_of, remove, replace_row, row_put};
 use crate::rows::Rows;
 use crate::sender::Sender;
 use srcp_grammar::{Command, Target, TimedLock};
@@ -44,7 +44,7 @@ pub(crate) fn refusal<R: Rows>(rows: &R, session: u32, target: Target) -> Option
     None
 }
 
-/// Refuses with the code, if there is one. Otherwise leaves the answer: accepted, as SET would be.
+/// Refuses with the code, if there is one.
 pub(crate) fn refuse_if(refusal: Option<Code>, obeyed: &mut Obeyed)
     requires { IsTold (accepted []) obeyed.old }
     ensures { IsTold (option_map_or refused refusal (accepted [])) obeyed.new }
@@ -85,7 +85,7 @@ pub(crate) fn set_lock<R: Rows>(rows: &mut R, sender: Sender, lock: TimedLock, o
     };
     let due = lock_end(sender.moment, seconds);
     if is_there(rows, device) {
-        return set_one(rows, sender.moment, device.first_key(), value, due, obeyed);
+        return replace_row(rows, sender.moment, device.first_key(), value, due, obeyed);
     }
     let row = row_put(sender.moment, device.first_key(), value, due);
     if rows.add(&[row]).is_err() {

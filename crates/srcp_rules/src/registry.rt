@@ -36,8 +36,8 @@ pub(crate) fn put_of(row: &Row) -> Change
     Change::Put(row.shown)
 }
 
-/// Replaces a row, and makes this the only change of the command. The row has to be there.
-pub(crate) fn set_one<R: Rows>(
+/// Replaces a row, and makes that the command's only change. The row has to be there.
+pub(crate) fn replace_row<R: Rows>(
     rows: &mut R,
     moment: u64,
     key: Key,

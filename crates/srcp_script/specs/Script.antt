@@ -5,6 +5,7 @@ use Rattle.std.specs.Prelude.{codes}
 use Rattle.std.specs.Char.{is_digit, digit_value}
 use Rattle.std.specs.List.{enumerate_from, slice_split, join_with_byte}
 use Rattle.std.specs.Str.{bytes_eq}
+use Rattle.srcp_info.specs.Limits.{greatest_u64}
 use Rattle.srcp_text.specs.Marks.{is_lf}
 use Rattle.srcp_text.specs.Words.{is_empty, number_of}
 use Rattle.srcp_core.specs.declared.event.Event.{Event}
@@ -68,12 +69,9 @@ abbrev pub or_fault : {A : Type 0} → Cause → Option A → Result A Cause
 or_fault cause None = Err cause
 or_fault cause (Some a) = Ok a
 
--- the greatest numbers of 32 and of 64 bits
+-- the greatest number of 32 bits
 abbrev pub greatest_u32 : ℕ
 greatest_u32 = 4294967295
-
-abbrev pub greatest_u64 : ℕ
-greatest_u64 = 18446744073709551615
 
 -- a number within its limits
 abbrev pub number_from : (least most : ℕ) → List ℕ → Result ℕ Cause

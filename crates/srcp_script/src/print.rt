@@ -14,7 +14,7 @@ ghost use Rattle.srcp_script.specs.Output.{printed_end};
 
 use srcp_core::{ConnRecord, CoreFault, Finish, Record, Refusal};
 use srcp_info::{InfoLine, Row, Shown, write_shown};
-use srcp_text::{LineBuf, put_bytes, put_number};
+use srcp_text::{LONGEST_WRITTEN, LineBuf, put_bytes, put_number};
 use std::alloc::{AllocError, Global};
 use std::string::String;
 use std::vec::Vec;
@@ -37,7 +37,7 @@ pub fn connection_line(number: usize, conn: &ConnRecord) -> LineBuf
 /// Appends a number of at most 20 bytes and a space.
 #[tactic(auto, using(crate::proofs::Prints::number_most))]
 fn put_count(number: usize, line: &mut LineBuf)
-    requires { length line.old.items + 21 ≤ 256 }
+    requires { length line.old.items + 21 ≤ LONGEST_WRITTEN }
     ensures items { line.new.items ≡ line.old.items ++ decimal number ++ 32 ∷ [] }
     ensures most { length line.new.items ≤ length line.old.items + 21 }
 {

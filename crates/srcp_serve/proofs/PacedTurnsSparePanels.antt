@@ -3,7 +3,7 @@ use Rattle.srcp_serve.proofs.Names.{drop, ◌≡◌, ◌∙◌, ℕ, List, [], �
 use Rattle.srcp_serve.proofs.Names.{filter_map, flat_map, fold, Bus, Event, At, Open, Accepted, Call, ExpectCall, Stand, begun, moment_of}
 use Rattle.srcp_serve.proofs.Names.{accept_of, clients, timed, turned, visit_events, with_accept, with_moment, Expects, OfEachTurn}
 use Rattle.srcp_serve.proofs.Names.{empty_stand, expects, question, turn_asks, turns, Connection, course, IsLayout, drop_at, IsOverrun}
-use Rattle.srcp_serve.proofs.Names.{option_or_256, slack, room, IsLight, IsPaced, ServingSparesAll, TurnsSpare, SparesPanels, trace_room}
+use Rattle.srcp_serve.proofs.Names.{changes_left, slack, room, IsLight, IsPaced, ServingSparesAll, TurnsSpare, SparesPanels, trace_room}
 use Rattle.srcp_core.proofs.CourseLaws.WaitsGrow.{few_close_none}
 use Rattle.srcp_core.proofs.CourseLaws.LinesBringTheirWeight.{light_lines}
 use Rattle.srcp_serve.proofs.CallsByTurnAndPeer.{accept_as, each_turn, turns_parted}
@@ -59,7 +59,7 @@ module _ (buses : List Bus) where
   room_trace stand (ExpectCall due slack_expected ∷ calls) e =
       let head : Expects due slack_expected ≡ expects buses stand.events = cc in
       let same : slack_expected ≡ slack buses (course buses stand.events) = cc in
-      ap option_or_256 same
+      ap changes_left same
   room_trace stand other e = cc
 
   spares : (stand : Stand) (calls : List Call) → map question calls ≡ turn_asks buses stand calls → IsPaced buses stand calls

@@ -1,22 +1,23 @@
 -- To be believed: which turns make no panel overrun, by how many changes they bring and what the door was told.
 use Rattle.std.specs.Prelude.{◌≡◌, ℕ, ◌+◌, ◌≤◌, List, [], ◌∷◌, ◌++◌, drop, length}
 use Rattle.std.specs.List.{sum_by}
+use Rattle.srcp_info.specs.Limits.{most_waiting}
 use Rattle.srcp_grammar.specs.declared.layout.Bus.{Bus}
 use Rattle.srcp_core.specs.Connection.{Connection}
 use Rattle.srcp_core.specs.Course.{course, new_marks}
-use Rattle.srcp_core.specs.Waits.{IsOverrun, brought_besides, changes_since, option_or_256, weighs, weight_of_mark}
+use Rattle.srcp_core.specs.Waits.{IsOverrun, brought_besides, changes_since, changes_left, weighs, weight_of_mark}
 use Rattle.srcp_door.specs.Pacing.{line_after, weight_of}
 use Rattle.srcp_door.specs.declared.pacing.LineBoundary.{LineBoundary}
 use Rattle.srcp_door.specs.declared.pacing.LineBoundary.TheVariants.{At}
 use Rattle.srcp_serve.specs.Given.{Call, ExpectCall}
 use Rattle.srcp_serve.specs.Serving.{Stand, IsServed, OfEachTurn, empty_stand, events_of, turned, turns}
 
--- how many changes the turn may bring, by the slack that the door was told: 256 if there was no panel, since one may
--- begin
+-- how many changes the turn may bring, by the slack that the door was told: as many as may wait for a panel if there
+-- was none, since one may begin
 abbrev pub trace_room : List Call → ℕ
-trace_room [] = 256
-trace_room (ExpectCall due slack ∷ calls) = option_or_256 slack
-trace_room (other ∷ calls) = 256
+trace_room [] = most_waiting
+trace_room (ExpectCall due slack ∷ calls) = changes_left slack
+trace_room (other ∷ calls) = most_waiting
 
 -- what the door knows of a peer's bytes is the same, whether they were handed out in two pieces or in one
 abbrev pub LinesGoOn : Type 0

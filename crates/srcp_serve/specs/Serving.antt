@@ -8,6 +8,9 @@ use Rattle.std.specs.Prelude.{⊤, ◌≡◌, ℕ, ◌+◌, Bool, true, false, n
 use Rattle.std.specs.Prelude.{◌∷◌, ◌++◌, map, take, length, filter, filter_map, flat_map, fold, count_by, replicate}
 use Rattle.std.specs.Prelude.{Option, Some, None, is_none, option_map, Ok, Err}
 use Rattle.std.specs.List.{list_any, AllByRecursion}
+use Rattle.srcp_core.specs.Limits.{most_connections}
+use Rattle.srcp_door.specs.Limits.{most_writes}
+use Rattle.srcp_info.specs.Limits.{most_in_piece}
 use Rattle.srcp_grammar.specs.declared.layout.Bus.{Bus}
 use Rattle.srcp_core.specs.Agrees.{closes, lent as lent_in}
 use Rattle.srcp_core.specs.Connection.{Connection, sent}
@@ -142,9 +145,9 @@ pub record Stand : Type 0 where
   pub connected : List ℕ  -- the peers that got a connection: the first has connection 1, the next 2, and so on
   pub slots : Slots
 
--- the state before the first turn: no event, no connection, all 64 slots free
+-- the state before the first turn: no event, no connection, all slots free
 abbrev pub empty_stand : Stand
-empty_stand = record { events = []; connected = []; slots = replicate 64 None }
+empty_stand = record { events = []; connected = []; slots = replicate most_connections None }
 
 -- those that have a slot, in the order of the slots
 abbrev pub clients : Slots → List Client
@@ -167,10 +170,10 @@ kept calls (Some client) = if list_any is_close (visit calls client) then None e
 
 -- ---- what a visit makes happen
 
--- at last the connection lent no bytes: the peer was not lost, took all, and was written to fewer than 300 times
+-- at last the connection lent no bytes: the peer was not lost, took all, and was written to less often than it may be
 abbrev pub lent_none_last : List Call → Bool
 lent_none_last calls =
-    not (list_any loses calls) && (not (list_any falls_short calls) && nat_lt (count_by is_write calls) 300)
+    not (list_any loses calls) && (not (list_any falls_short calls) && nat_lt (count_by is_write calls) most_writes)
 
 -- the room that the visit made: what each write took, and 0 if at last no bytes were lent
 abbrev pub rooms : List Call → List ℕ
@@ -273,14 +276,14 @@ module _ (buses : List Bus) where
   handed conn events (count ∷ counts) = unless_nil (lent conn events)
       (if count == length (lent conn events) then handed conn (events ++ Room conn count ∷ []) counts else [])
 
-  -- a visit begins with one read of at most 256 bytes, if the connection accepts bytes
+  -- a visit begins with one read of a piece, if the connection accepts bytes
   abbrev pub reads_of : List Event → Client → List Question
-  reads_of events client = if is_ready client.conn events then Reads client.peer 256 ∷ [] else []
+  reads_of events client = if is_ready client.conn events then Reads client.peer most_in_piece ∷ [] else []
 
-  -- then it writes, at most 300 times; not at all if the read lost the peer
+  -- then it writes, as often as it may; not at all if the read lost the peer
   abbrev pub writes_of : List Event → List Call → Client → List Question
   writes_of events calls client = if list_any loses_reading calls then [] else map (Writes client.peer)
-      (take 300
+      (take most_writes
       (handed client.conn (events ++ map (Bytes client.conn) (filter_map piece_of calls)) (filter_map count_of calls)))
 
   -- then it closes the peer, if that is lost or its connection is to be closed

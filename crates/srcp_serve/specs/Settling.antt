@@ -2,6 +2,7 @@
 use Rattle.std.specs.Prelude.{◌≡◌, ℕ, ◌+◌, ◌*◌, ◌≤◌, if◌then◌else◌, true, false, fold, List, [], ◌++◌, length}
 use Rattle.std.specs.Prelude.{slice_get, Some}
 use Rattle.std.specs.List.{list_any, AllByRecursion}
+use Rattle.srcp_door.specs.Limits.{most_writes}
 use Rattle.srcp_grammar.specs.Layout.{IsLayout}
 use Rattle.srcp_grammar.specs.declared.layout.Bus.{Bus}
 use Rattle.srcp_core.specs.Connection.{Connection, is_nil, is_settled, owed, unsent, waiting}
@@ -44,7 +45,7 @@ module _ (buses : List Bus) where
   writes_left w conn = length (owed conn (history buses w) (rows buses w)) + (if is_nil (unsent conn) then 0 else 1)
 
   -- over any layout, the session of a peer that has a slot is settled after turns without a change, in each of which
-  -- its peer took all, if 300 times their number is at least what was left
+  -- its peer took all, if the most writes of a visit times their number is at least what was left
   abbrev pub SettlesSoon : Type 0
   SettlesSoon = IsLayout buses → (count : ℕ) (trace : List Call) → IsServed buses count trace → PeersDiffer buses trace
       → AllByRecursion IsFair trace → (before after : List (List Call)) → turns trace ≡ before ++ after
@@ -53,6 +54,6 @@ module _ (buses : List Bus) where
       (slot : ℕ) (client : Client) → slice_get now.slots slot ≡ Some (Some client)
       → (conn : Connection) → IsPanel buses (course buses now.events) client.conn conn
       → OfEachTurn buses (λ stand calls. (brought_in buses stand calls ≡ 0) × TakesAll calls client) now after
-      → writes_left (course buses now.events) conn ≤ 300 * length after
+      → writes_left (course buses now.events) conn ≤ most_writes * length after
       → (later : Connection) → numbered client.conn w.connections ≡ Some later
       → is_settled later (history buses w) (rows buses w) ≡ true

@@ -2,6 +2,7 @@
 use Rattle.std.specs.Prelude.{◌≡◌, ℕ, ◌<◌, Bool, true, false, not, ◌&&◌, if◌then◌else◌, ◌⊎◌, List, [], ◌∷◌, ◌++◌, map}
 use Rattle.std.specs.Prelude.{take, length, filter_map, Option, Some, Result, Ok, Err}
 use Rattle.std.specs.List.{list_any}
+use Rattle.srcp_door.specs.Limits.{most_writes}
 use Rattle.srcp_grammar.specs.Layout.{IsLayout}
 use Rattle.srcp_grammar.specs.declared.layout.Bus.{Bus}
 use Rattle.srcp_core.specs.Course.{course, denied_over, start}
@@ -111,10 +112,10 @@ module _ (peer key : ℕ) (old : Held) (trace_old : Trace) (new : Held) (trace_n
   WritesOnce wrote =
       FromEveryCourse (λ buses events keys n trace. HasWritten buses events keys n peer trace_old trace new wrote)
 
-  -- the peer is written to as long as it takes all, at most 300 times
+  -- the peer is written to as long as it takes all, as often as it may be
   abbrev pub WritesOut : Bool → Type 0
   WritesOut = Acts (λ buses events calls client.
-      map (Writes client.peer) (take 300 (handed buses client.conn events (filter_map count_of calls))))
+      map (Writes client.peer) (take most_writes (handed buses client.conn events (filter_map count_of calls))))
       (λ calls client. map (Room client.conn) (rooms calls)) loses false
 
   -- its connection is shut, and the peer is closed

@@ -1,6 +1,7 @@
 //! Turns of a server: what a server asks of the door in each turn, and what the server does with the answers.
 
 ghost use Rattle.std.specs.Prelude.{◌≡◌, ◌<◌, ◌≤◌, ◌+◌, replicate, None, Some, is_none, length, position, slice_set};
+ghost use Rattle.srcp_info.specs.Limits.{greatest_u64};
 ghost use Rattle.srcp_core.specs.declared.limits.TheConstants.{MOST_CONNECTIONS};
 ghost use Rattle.srcp_serve.specs.Slots.{AcceptsOne, MakesTurn, MayFree, Connects, ServesCourse, TakesMoment, one_if};
 ghost use Rattle.srcp_serve.specs.Slots.{VisitsSlot, VisitsSlots, AreFreeFrom};
@@ -12,14 +13,10 @@ mod visit;
 
 use crate::tally::Tally;
 use srcp_core::{Core, MOST_CONNECTIONS, MOST_IN_PIECE};
-use srcp_door::{Door, MOST_SLACK};
-use srcp_feed::MOST_WAITING;
+use srcp_door::Door;
 use srcp_rules::Rows;
 use std::marker::Model;
 use visit::Client;
-
-// As many changes may wait for a panel as may come before a panel overruns for which none waits.
-const _: () = prove!(MOST_SLACK == MOST_WAITING);
 
 /// Counts what a server did until its end.
 #[derive(Clone, Copy, Debug, PartialEq, Eq)]
@@ -51,7 +48,7 @@ struct Server<'d, D: Door> {
 /// refused. A new peer is closed then, or a line is answered 500.
 pub fn serve<R: Rows, D: Door>(core: &mut Core<'_, R>, door: &mut D, turns: u64) -> Served
     ensures turns { result.turns ≡ turns }
-    ensures faults { D.faults door.new < 18446744073709551615 → D.faults door.old + result.faults ≡ D.faults door.new }
+    ensures faults { D.faults door.new < greatest_u64 → D.faults door.old + result.faults ≡ D.faults door.new }
     ensures trace { Asks (AreTurns turns) (D.trace door.old) (D.trace door.new) }
     ensures course { ServesCourse turns result.opened core.old (D.trace door.old) core.new (D.trace door.new) }
 {
@@ -70,7 +67,7 @@ pub fn serve<R: Rows, D: Door>(core: &mut Core<'_, R>, door: &mut D, turns: u64)
 
 /// Returns the count, plus 1 if `counts` is true.
 fn one_more_if(counts: bool, count: u64) -> u64
-    requires { count < 18446744073709551615 }
+    requires { count < greatest_u64 }
     ensures { result ≡ count + one_if counts }
 {
     if counts { count + 1 } else { count }

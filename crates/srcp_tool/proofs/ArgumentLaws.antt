@@ -9,7 +9,7 @@ use Rattle.std.proofs.lemmas.Str.{digit_value_digit}
 use Rattle.std.proofs.lemmas.Str.Parse.{digit_from_value, tells_all_ascii_digits}
 use Rattle.clap.specs.Words.{ReadsOne}
 use Rattle.srcp_text.specs.Words.{is_empty, is_numeral}
-use Rattle.srcp_script.specs.Script.{greatest_u64}
+use Rattle.srcp_info.specs.Limits.{greatest_u64}
 use Rattle.srcp_tool.specs.Arguments.{turns_of}
 
 digits_pass : (ds : List ℕ) → AllDigits 10 ds → all_ascii_digits ds ≡ true

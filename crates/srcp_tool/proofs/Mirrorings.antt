@@ -15,7 +15,8 @@ use Rattle.srcp_info.specs.WellFormed.{IsWellFormed}
 use Rattle.srcp_info.specs.declared.change.Change.{Change}
 use Rattle.srcp_info.proofs.ClientLaws.{all_append}
 use Rattle.srcp_info.proofs.LineLaws.{length-line-le}
-use Rattle.srcp_tool.specs.Mirroring.{HasTaken, IsBegun, longest_line}
+use Rattle.srcp_info.specs.Limits.{longest_line}
+use Rattle.srcp_tool.specs.Mirroring.{HasTaken, IsBegun}
 use Rattle.srcp_tool.specs.Output.{RefusesLine}
 use Rattle.srcp_tool.specs.declared.stream.lines.MirroredLines.{MirroredLines}
 

@@ -11,7 +11,7 @@ use Rattle.clap.specs.Words.{with_subcommand}
 use Rattle.clap.specs.declared.builder.value_parser.ValueParser.TheVariants.{Unsigned}
 use Rattle.clap.specs.declared.error.kind.ErrorKind.TheVariants as kind
 use Rattle.srcp_text.specs.Words.{number_of}
-use Rattle.srcp_script.specs.Script.{greatest_u64}
+use Rattle.srcp_info.specs.Limits.{greatest_u64}
 use Rattle.srcp_tool.specs.declared.tool.Tool.{Tool}
 use Rattle.srcp_tool.specs.declared.tool.Tool.TheVariants as tool
 

@@ -1,15 +1,12 @@
 -- How far the lines of a stream were applied.
 use Rattle.std.specs.Prelude.{◌≡◌, ℕ, ◌<◌, List, length, Option, Some, None}
 use Rattle.std.specs.Bool.{MatchBool}
+use Rattle.srcp_info.specs.Limits.{longest_line}
 use Rattle.srcp_info.specs.Client.{client, HoldsLines}
 use Rattle.srcp_info.specs.declared.change.Change.{Change}
 use Rattle.srcp_tool.specs.Output.{RefusesLine}
 use Rattle.srcp_tool.specs.declared.stream.begun.BegunLine.{BegunLine}
 use Rattle.srcp_tool.specs.declared.stream.lines.MirroredLines.{MirroredLines}
-
--- the most bytes of the line of a change, LF included
-abbrev pub longest_line : ℕ
-longest_line = 126
 
 -- the line that has begun is this text, or it is known that the text is longer than any line of a change
 abbrev pub IsBegun : BegunLine → (text : List ℕ) → Type 0

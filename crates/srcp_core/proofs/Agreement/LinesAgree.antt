@@ -9,13 +9,12 @@ use Rattle.srcp_core.proofs.Names.{with_unsent, entered_place, carried, changed_
 use Rattle.srcp_core.proofs.Names.{asked_of, panel_for, key_of, StandsBy, place_of, Asked, Dropped, Greets, Commands, if_two}
 use Rattle.srcp_info.specs.declared.change.Reply.TheVariants.{Mode as ModeReply}
 use Rattle.srcp_rules.specs.Effect.{effect as effect_of}
-use Rattle.srcp_core.specs.Under.{effect}
+use Rattle.srcp_rules.specs.Steps.{effect}
 use Rattle.srcp_core.specs.Course.{replied as course_replied, goes as course_goes, greeted as course_greeted, ended as course_ended}
 use Rattle.srcp_core.specs.Course.{obeyed as course_obeyed, commanded as course_commanded, answered as course_answered}
 use Rattle.srcp_core.specs.Handshake.{greets as greets_of}
 use Rattle.srcp_core.specs.Machine.{replied, goes, greeted, obeyed, commanded, answered}
-use Rattle.srcp_core.proofs.Agreement.PlacesChange.{replied_still, entered_place_of, is_over_place, untold_shut}
-use Rattle.srcp_core.proofs.Agreement.PlacesChange.{place_info}
+use Rattle.srcp_core.proofs.Agreement.PlacesChange.{replied_still, entered_place_of, is_over_place, untold_shut, place_info}
 use Rattle.srcp_core.proofs.CourseLaws.SessionsOfACourse.{anything, at_number}
 use Rattle.srcp_core.proofs.Agreement.NumbersAndKeys.{numbered_with}
 use Rattle.srcp_core.proofs.Agreement.StandsAfterAChange.{stands_as, Anything, AllFine, found_at, stands_at, stands_did}

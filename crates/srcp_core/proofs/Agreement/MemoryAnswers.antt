@@ -1,36 +1,14 @@
 -- What memory answers: each line and each order has its answer, and what a denied order does is nothing.
-use Rattle.srcp_core.proofs.Names.{cond_both, ◌≡◌, ℕ, ◌+◌, min, Bool, true, false, List, [], ◌∷◌, ◌++◌, length, refl, ap, sym, ◌∙◌, arith}
-use Rattle.srcp_core.proofs.Names.{fold-append, not, ◌&&◌, ◌||◌, if◌then◌else◌, IsTrue, Option, Some, None, Result, Ok, Err, IfOk}
-use Rattle.srcp_core.proofs.Names.{AllByRecursion, fold, Code, C500, Command, Effect, refused, State, Connection, World, start}
-use Rattle.srcp_core.proofs.Names.{at_connection, open_connection, counted, ordered, fed_to, or_refused, happens, course, replied, goes}
-use Rattle.srcp_core.proofs.Names.{greeted, HasMoment, AllMoments, HasPlainMoment, PlainMoments, CoreFault, Mark, Order, Heard, greets}
-use Rattle.srcp_core.proofs.Names.{lines_under, under, all_under, giving, denied_by, Bus, Protocol, Refused, Mode, Greeting, Speaks}
-use Rattle.srcp_core.proofs.Names.{Chooses, Goes, Refuses}
-use Rattle.srcp_rules.specs.Effect.{effect as effect_of, adds_rows}
+use Rattle.srcp_core.proofs.Names.{◌≡◌, ℕ, ◌+◌, min, Bool, true, false, List, [], ◌∷◌, ◌++◌, length, refl, ap, sym, ◌∙◌, arith, fold-append}
+use Rattle.srcp_core.proofs.Names.{if◌then◌else◌, IsTrue, Option, Some, None, Result, Ok, Err, IfOk, AllByRecursion, fold, Code, Command}
+use Rattle.srcp_core.proofs.Names.{Connection, World, start, at_connection, open_connection, counted, ordered, fed_to, or_refused, happens}
+use Rattle.srcp_core.proofs.Names.{course, replied, goes, greeted, HasMoment, AllMoments, HasPlainMoment, PlainMoments, CoreFault, Mark}
+use Rattle.srcp_core.proofs.Names.{Heard, greets, lines_under, under, all_under, giving, denied_by, Bus, Protocol, Refused, Mode, Greeting}
+use Rattle.srcp_core.proofs.Names.{Speaks, Chooses, Goes, Refuses}
 use Rattle.srcp_core.specs.declared.event.Event.TheVariants as plain
-use Rattle.srcp_core.specs.Under.{effect, is_accepted, first_of}
+use Rattle.srcp_core.specs.Under.{first_of}
 use Rattle.srcp_core.specs.declared.event.Event.{Event as PlainEvent}
 use Rattle.srcp_info.specs.declared.change.Reply.TheVariants.{Mode as ModeReply}
-
--- what holds of the command's effect and of a refusal holds of what the order does
-pub effect_law : (P : Effect → Type 0) (state : State) (session moment : ℕ) (order : Order)
-    → P (effect_of state session moment order.command) → P (refused C500) → P (effect state session moment order)
-effect_law P state session moment order e r = cond_both _ _ _ P (λ _. e) (λ _. r)
-
--- a command that another rule refuses has that refusal
-pub refusals_stand : (state : State) (session moment : ℕ) (order : Order) (code : Code)
-    → (effect_of state session moment order.command).reply ≡ Refused code
-    → effect state session moment order ≡ effect_of state session moment order.command
-refusals_stand state session moment order code e =
-    by order.granted (adds_rows state order.command) (is_accepted (effect_of state session moment order.command).reply) (ap is_accepted e)
-  where
-    by : (granted adds accepted : Bool) → accepted ≡ false
-        → (if granted || not (adds && accepted) then effect_of state session moment order.command else refused C500)
-        ≡ effect_of state session moment order.command
-    by true adds accepted h = refl
-    by false false accepted h = refl
-    by false true true h = cc
-    by false true false h = refl
 
 pub ordered_law : (buses : List Bus) (P : Command → Type 0) (granted : Bool) (command : Result Command Code) → IfOk command P
     → IfOk (ordered buses granted command) (λ order. P order.command)

@@ -1,10 +1,10 @@
 -- A core that stands for a course, after the place of one connection changed, and after a step.
+use Rattle.srcp_rules.specs.Steps.{stepped}
 use Rattle.srcp_core.proofs.Names.{◌≡◌, ◌≢◌, ℕ, ⊎_elim, true, false, List, [], ◌∷◌, ◌++◌, map, refl, ap, sym, ◌∙◌, arith, fold-append}
 use Rattle.srcp_core.proofs.Names.{Option, Some, None, slice_set, Change, Reading, StandsAt, Bus, Update, opening, shown_rows}
 use Rattle.srcp_core.proofs.Names.{Refusal, Step, Connection, History, is_open, World, numbered, at_connection, open_connection, did}
 use Rattle.srcp_core.proofs.Names.{updates_of, state, history, Place, Held, at, place_at, told_each, carried, changed_at, key_of, StandsBy}
 use Rattle.srcp_core.proofs.Names.{IsAt, IsOwned, place_of, Item, cases_Bool}
-use Rattle.srcp_core.specs.Course.{stepped}
 use Rattle.srcp_core.proofs.Invariants.PlacesCover.{Where, Here, Away, where_is, place_set, place_set_here, set_count, told_each_count}
 use Rattle.srcp_core.proofs.Agreement.NumbersAndKeys.{opens_same, length_with, key_within, numbered_none, look_with}
 use Rattle.srcp_core.proofs.Agreement.PlacesChange.{told_each_at, told_place_of}

@@ -1,13 +1,12 @@
--- What an information session was given and what waits for it: together they are the rows that its listing has passed.
-use Rattle.srcp_core.proofs.Names.{◌≡◌, ℕ, ◌+◌, ◌-◌, ◌≤◌, true, List, [], ◌∷◌, ◌++◌, map, length, drop, refl, ap, sym, ◌∙◌}
-use Rattle.srcp_core.proofs.Names.{subst, arith, append-nil, append_assoc, length-append, length-drop, le-leb, length_push, drop-append-le}
-use Rattle.srcp_core.proofs.Names.{drop-drop, flat_map-append, filter_map-append, fold-append, filter, filter_map, nat_le, Option, Some}
-use Rattle.srcp_core.proofs.Names.{None, IsRisingBy, Change, Put, Start, After, Done, Shown, passed, beyond, moved, said, changed_all, Next}
-use Rattle.srcp_core.proofs.Names.{Told, Listed, key_at, lists_one, beyond_done, History, tells, told_change, items_of, Item, le_refl}
-use Rattle.srcp_info.specs.Client.{changed}
-use Rattle.srcp_feed.proofs.Steps.{ListsOne, passed_changed}
+-- What an information session was given and what waits for it, and what a step and a line make of both.
+use Rattle.srcp_core.proofs.Names.{◌≡◌, ℕ, ◌+◌, ◌-◌, ◌≤◌, true, List, [], ◌∷◌, ◌++◌, map, length, drop, refl, ap, ◌∙◌}
+use Rattle.srcp_core.proofs.Names.{subst, arith, append-nil, append_assoc, length-append, length-drop, le-leb, length_push}
+use Rattle.srcp_core.proofs.Names.{drop-drop, filter_map-append, fold-append, filter, filter_map, nat_le, Option, Some}
+use Rattle.srcp_core.proofs.Names.{None, IsRisingBy, Change, Start, After, Done, Shown, beyond, moved, changed_all, Next}
+use Rattle.srcp_core.proofs.Names.{Told, Listed, key_at, lists_one, beyond_done, History, told_change, items_of, Item, le_refl}
+use Rattle.srcp_feed.proofs.Steps.{ListsOne}
 use Rattle.srcp_core.proofs.CourseLaws.Histories.{rows_after, concerning_by, concerning_push, concerning_same, cursor_by, AreBy, IsDoneBy}
-use Rattle.srcp_core.proofs.CourseLaws.Histories.{by_all, by_more, done_more, cursor_later, cursor_before}
+use Rattle.srcp_core.proofs.CourseLaws.Histories.{by_all, by_more, done_more, cursor_before}
 use Rattle.srcp_core.proofs.Names.{all_append, cases_Bool, ⊎_elim}
 
 -- the changes that were told
@@ -21,14 +20,12 @@ abbrev pub owed_by : ℕ → List Item → Option ℕ → History → List Shown
 owed_by go items done history rows =
     map Told (untold_by go items done history) ++ map Listed (beyond (cursor_by done items (length history)) rows)
 
--- a session whose client, once it is told what waits, holds the rows that its listing has passed
+-- what was given and told is of the steps so far
 pub record Fits (start : List Shown) (history : History) (go : ℕ) (items : List Item) (done : Option ℕ) : Type 0 where
   pub numbers : AreBy (length history) items
   pub finished : IsDoneBy (length history) done
   pub began : go ≤ length history
   pub enough : length (tolds items) ≤ length (concerning_by go (cursor_by done items) history)
-  pub kept : changed_all (tells items ++ untold_by go items done history) []
-      ≡ passed (cursor_by done items (length history)) (rows_after start history)
 
 pub rows_push : (start : List Shown) (history : History) (changes : List Change)
     → rows_after start (history ++ changes ∷ []) ≡ changed_all changes (rows_after start history)
@@ -41,14 +38,10 @@ fits_push start history changes go items done f =
     let len : length (history ++ changes ∷ []) ≡ length history + 1 = length_push history changes in
     let up : length history ≤ length (history ++ changes ∷ []) = omega arith in
     let numbers = f.numbers in
-    let cur : cursor_by done items (length (history ++ changes ∷ [])) ≡ cursor_by done items (length history) =
-    cursor_later _ _ done items up f.finished f.numbers in
     let before : List Change = concerning_by go _ history in
     let extra : List Change = filter _ changes in
     let con : concerning_by go (cursor_by done items) (history ++ changes ∷ []) ≡ before ++ extra =
     concerning_push go _ history changes f.began in
-    let more : untold_by go items done (history ++ changes ∷ []) ≡ untold_by go items done history ++ extra =
-    cc (drop-append-le _ before extra f.enough) in
     let longer : length (concerning_by go (cursor_by done items) (history ++ changes ∷ [])) ≡ length before + length extra =
     cc (length-append before extra) in
     let enough = f.enough in
@@ -58,16 +51,6 @@ fits_push start history changes go items done f =
       finished = done_more _ _ done up f.finished;
       began = omega arith;
       enough = omega arith;
-      kept =
-          cc (
-            more,
-            append_assoc (tells items) (untold_by go items done history) extra,
-            fold-append (λ rows change. changed change rows) [] (tells items ++ untold_by go items done history) extra,
-            f.kept,
-            passed_changed (cursor_by done items (length history)) changes (rows_after start history),
-            rows_push start history changes,
-            cur,
-          );
     }
 
 -- ---- one line more
@@ -112,8 +95,6 @@ pub fits_told : (start : List Shown) (history : History) (go : ℕ) (items : Lis
 fits_told start history go items done change changes f e =
     let con = concerning_item history go items done (Told change) in
     let cur = cursor_told history items done change f.numbers in
-    let tel : tells (items ++ item_of history (Told change) ∷ []) ≡ tells items ++ change ∷ [] =
-    flat_map-append (λ (item : Item). said _) items _ in
     let tol : tolds (items ++ item_of history (Told change) ∷ []) ≡ tolds items ++ change ∷ [] =
     filter_map-append (λ (item : Item). told_change _) items _ in
     let len : length (tolds (items ++ item_of history (Told change) ∷ [])) ≡ length (tolds items) + 1 =
@@ -130,7 +111,6 @@ fits_told start history go items done change changes f e =
         finished = f.finished;
         began = f.began;
         enough = omega arith;
-        kept = cc (append_assoc (tells items) (change ∷ []) changes, f.kept);
       };
       waiting = waits;
       listing = cc;
@@ -156,8 +136,6 @@ fits_listed start history go items None row left order f e b =
     let con = concerning_item history go items None (Listed row) in
     let cur : cursor_by None (items ++ item_of history (Listed row) ∷ []) (length history) ≡ After row.key =
     cursor_item history items (Listed row) f.numbers in
-    let tel : tells (items ++ item_of history (Listed row) ∷ []) ≡ tells items ++ Put row ∷ [] =
-    flat_map-append (λ (item : Item). said item.what) items (item_of history (Listed row) ∷ []) in
     let tol : tolds (items ++ item_of history (Listed row) ∷ []) ≡ tolds items =
     filter_map-append (λ (item : Item). told_change item.what) items (item_of history (Listed row) ∷ []) ∙ append-nil (tolds items) in
     let len : length (tolds (items ++ item_of history (Listed row) ∷ [])) ≡ length (tolds items) = ap length tol in
@@ -169,16 +147,12 @@ fits_listed start history go items None row left order f e b =
     let waits : untold_by go (items ++ item_of history (Listed row) ∷ []) None history ≡ [] =
     ap (λ n. drop n (concerning_by go (cursor_by None (items ++ item_of history (Listed row) ∷ [])) history)) len
     ∙ ap (drop (length (tolds items))) con ∙ e in
-    let held : changed_all (tells items) [] ≡ passed (cursor_by None items (length history)) (rows_after start history) =
-    ap (λ u. changed_all u []) (sym (append-nil (tells items)) ∙ ap (λ u. tells items ++ u) (sym e)) ∙ f.kept in
     record {
       fits = record {
         numbers = all_append _ items _ f.numbers (le_refl _, tt);
         finished = f.finished;
         began = f.began;
         enough = omega arith;
-        kept =
-            cc (append-nil _, fold-append (λ rows change. changed change rows) [] (tells items) (Put row ∷ []), one.taken);
       };
       waiting = waits;
       listing = cc one.left;

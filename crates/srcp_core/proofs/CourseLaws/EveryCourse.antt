@@ -4,10 +4,10 @@ use Rattle.srcp_core.specs.Laws.{IsHeldRightly, IsSentNoMoreSince, IsServedRight
 use Rattle.srcp_core.proofs.CourseLaws.RoomsAddUp.{rooms_add_up, rooms_are_one, sends_all_replies, takes_within}
 use Rattle.srcp_core.proofs.CourseLaws.NothingAfterTheEnd.{sends_no_more}
 use Rattle.srcp_core.proofs.CourseLaws.OneLineIsUnsent.{leaves_one_line}
-use Rattle.srcp_core.proofs.CourseLaws.ListedInOrder.{lists_still, lists_rising, lists_held}
-use Rattle.srcp_core.proofs.CourseLaws.ListedExactlyOnce.{lists_each_once, lists_none_twice}
+use Rattle.srcp_core.proofs.CourseLaws.ListedInOrder.{lists_held, lists_none_twice, lists_rising, lists_still}
+use Rattle.srcp_core.proofs.CourseLaws.ListedExactlyOnce.{lists_each_once}
 use Rattle.srcp_core.proofs.CourseLaws.OverrunAt256.{meets_overruns}
-use Rattle.srcp_core.proofs.CourseLaws.SessionsOfACourse.{holds_passed}
+use Rattle.srcp_core.proofs.CourseLaws.SessionsArePanels.{holds_passed}
 use Rattle.srcp_core.proofs.CourseLaws.RoomSettles.{sends_replies, settles_after_owed}
 use Rattle.srcp_core.proofs.CourseLaws.SentLinesAreOneList.{all_prefix, always_sends_lines, holds_registry}
 use Rattle.srcp_core.proofs.CourseLaws.RegistryStaysWhole.{keeps_whole}

@@ -1,4 +1,5 @@
 -- What later events bring is at most what their lines weigh, beside what moments and the ends of sessions bring.
+use Rattle.srcp_rules.specs.Steps.{stepped, effect}
 use Rattle.srcp_core.proofs.Names.{◌≡◌, ℕ, ◌+◌, ◌≤◌, Bool, true, false, List, [], ◌∷◌, ◌++◌, map, length, drop, refl, ap, sym, ◌∙◌, arith}
 use Rattle.srcp_core.proofs.Names.{append-nil, append_assoc, length-append, length-map, option_map_or, fold-append, sum_by-cons, fold}
 use Rattle.srcp_core.proofs.Names.{flat_map, nat_lt, codes, ◌==◌, ◌||◌, ◌&&◌, Option, Some, None, if◌then◌else◌, Result, Ok, Err, Change}
@@ -15,14 +16,12 @@ use Rattle.std.specs.Prelude.{max}
 use Rattle.srcp_info.specs.declared.change.Code.TheVariants.{C400, C401, C410}
 use Rattle.srcp_info.specs.declared.value.Mode.TheVariants.{Command as CommandMode}
 use Rattle.srcp_grammar.specs.Grammar.{reads}
-use Rattle.srcp_core.specs.Course.{stepped}
 use Rattle.srcp_core.specs.Handshake.{greets as greets_of, greets_mode, greets_protocol, greets_words, is_version}
 use Rattle.srcp_text.specs.Words.{words_of, is_keyword}
-use Rattle.srcp_core.specs.Under.{effect}
 use Rattle.srcp_core.specs.Waits.{brought_besides, completed, due_and_freed, may_bring, weighs, weight_of_mark}
 use Rattle.srcp_grammar.specs.Weight.{weight}
 use Rattle.srcp_rules.proofs.WeightLaws.{line_weighs, go_weighs_one}
-use Rattle.srcp_core.proofs.Agreement.MemoryAnswers.{effect_law}
+use Rattle.srcp_rules.proofs.EachStepLaws.{effect_law}
 use Rattle.srcp_core.proofs.CourseLaws.ShownRegistry.{length_history}
 use Rattle.srcp_core.proofs.CourseLaws.WaitsGrow.{few_close_none}
 

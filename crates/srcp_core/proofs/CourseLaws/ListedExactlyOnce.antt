@@ -1,153 +1,20 @@
 -- Each row of a device that is there all the time is listed exactly once.
-use Rattle.srcp_core.proofs.Names.{◌≡◌, ℕ, zero, suc, ◌+◌, ◌-◌, ◌<◌, ◌≤◌, Bool, true, false, List, [], ◌∷◌, ◌++◌, take, length, refl, ap}
-use Rattle.srcp_core.proofs.Names.{sym, ◌∙◌, subst, arith, take_all, take-append-le, length_push, filter_map-append, filter, AllByRecursion}
-use Rattle.srcp_core.proofs.Names.{is_eq, Less, Equal, Option, None, IsRisingBy, key_cmp, owns, Change, Cursor, Start, After, Done, Shown}
-use Rattle.srcp_core.proofs.Names.{Device, Key, Bus, opening, shown_rows, beyond, Listed, key_cmp_total, key_at, lists_one, IsLayout, Event}
-use Rattle.srcp_core.proofs.Names.{Connection, History, is_settled, World, start, course, rows, history, listed, has_key, rows_at}
-use Rattle.srcp_core.proofs.Names.{listed_row, IsSession, AllMoments, Item, cond_both, le_refl, or-true, not, ◌&&◌}
+use Rattle.srcp_core.proofs.Names.{◌≡◌, ℕ, zero, suc, ◌+◌, ◌-◌, ◌<◌, ◌≤◌, true, List, [], ◌∷◌, ◌++◌, take, drop, length, ap, sym, ◌∙◌}
+use Rattle.srcp_core.proofs.Names.{subst, arith, append-nil, take_all, length-append, length-drop, filter-append, filter_map-append}
+use Rattle.srcp_core.proofs.Names.{filter, fold-append, key_cmp, owns, Shown, Device, Key, Bus, opening, shown_rows, changed_all}
+use Rattle.srcp_core.proofs.Names.{IsLayout, Connection, History, heard, is_settled, World, course, rows, history, listed, has_key}
+use Rattle.srcp_core.proofs.Names.{rows_at, listed_row, IsSession, AllMoments, Item, Event}
 use Rattle.std.specs.Ordering.{eq_by_cmp}
-use Rattle.std.specs.declared.cmp.Ordering.{Ordering}
-use Rattle.std.specs.declared.cmp.Ordering.TheVariants.{Greater}
-use Rattle.srcp_feed.specs.Cursor.{has_reached}
+use Rattle.std.proofs.Math.Seq.{take-add}
+use Rattle.srcp_feed.specs.History.{HasAlways, listed as listed_by, steps_of}
 use Rattle.srcp_core.specs.Laws.{IsThereFrom, times_listed}
+use Rattle.srcp_core.proofs.CourseLaws.Histories.{rows_after}
 use Rattle.srcp_core.proofs.CourseLaws.ItemsOnlyGrow.{Grows, grown_since}
-use Rattle.srcp_core.proofs.CourseLaws.Histories.{rows_after, cursor_by, cursor_later}
-use Rattle.srcp_core.proofs.CourseLaws.ListedInOrder.{listed_told, listed_more, rows_of_course, lists_rising}
-use Rattle.srcp_core.proofs.CourseLaws.ShownRegistry.{shown_after, length_history}
-use Rattle.srcp_core.proofs.CourseLaws.SessionsOfACourse.{OfSessions, stands, settled_facts, settled_both, fits_open}
-use Rattle.srcp_core.proofs.CourseLaws.ClientHoldsPassedRows.{Fits, Law, cursor_item, cursor_told}
+use Rattle.srcp_core.proofs.CourseLaws.ListedInOrder.{lists_none_twice}
 use Rattle.srcp_core.proofs.CourseLaws.RegistryStaysWhole.{KeepsKeys, keeps_keys}
-use Rattle.std.proofs.lemmas.List.Folds.{list_any-append}
-use Rattle.std.proofs.lemmas.Map.Views.{any-filter_same}
-
--- ---- at most once
-
-is_equal : (a b : Key) → eq_by_cmp key_cmp a b ≡ true → key_cmp a b ≡ Equal
-is_equal a b e = by _ refl
-  where
-    by : (o : Ordering) → key_cmp a b ≡ o → key_cmp a b ≡ Equal
-    by Less k = let bad : is_eq Less ≡ true = subst (λ o. is_eq o ≡ true) k e in cc
-    by Equal k = k
-    by Greater k = let bad : is_eq Greater ≡ true = subst (λ o. is_eq o ≡ true) k e in cc
-
--- none above a key has that key
-none_equal : (a key : Key) (rows : List Shown) → key_cmp a key ≡ Equal → AllByRecursion (λ (y : Shown). key_cmp a y.key ≡ Less) rows
-    → filter (λ row. eq_by_cmp key_cmp row.key key) rows ≡ []
-none_equal a key [] e r = refl
-none_equal a key (row ∷ rows) e r =
-    let less : key_cmp key row.key ≡ Less = sym (key_cmp_total.congr a key row.key e) ∙ r.0 in
-    let more : key_cmp row.key key ≡ Greater = cc (key_cmp_total.antisymm row.key key) in
-    rw (ap is_eq more) (none_equal a key rows e r.1)
-
-at_most_one : (key : Key) (rows : List Shown) → IsRisingBy (λ (row : Shown). row.key) rows
-    → length (filter (λ row. eq_by_cmp key_cmp row.key key) rows) ≤ 1
-at_most_one key [] r = omega arith
-at_most_one key (row ∷ rows) r =
-    cond_both _ _ _ (λ (xs : List Shown). length xs ≤ 1)
-    (λ e. rw (none_equal row.key key rows (is_equal row.key key e) r.0) (le_refl 1)) (λ e. at_most_one key rows r.1)
-
-at_least_one : (key : Key) (rows : List Shown) → has_key key rows ≡ true → 1 ≤ length (filter (λ row. eq_by_cmp key_cmp row.key key) rows)
-at_least_one key [] h = cc
-at_least_one key (row ∷ rows) h =
-    cond_both (eq_by_cmp key_cmp row.key key) (row ∷ filter (λ row. eq_by_cmp key_cmp row.key key) rows) _ (λ xs. 1 ≤ length xs)
-    (λ e. omega arith) (λ e. at_least_one key rows (rw e at h))
-
-pub lists_none_twice : (buses : List Bus) → OfSessions buses (λ w conn. (key : Key) → times_listed key conn.items ≤ 1)
-lists_none_twice buses layout events number conn s key =
-    at_most_one key (listed conn.items) (lists_rising buses layout events number conn s)
-
--- ---- at least once
-
-same_passed : (cursor : Cursor) (a b : Key) → key_cmp a b ≡ Equal → has_reached cursor a ≡ has_reached cursor b
-same_passed Start a b e = refl
-same_passed (After last) a b e = cc (key_cmp_total.congr a b last e)
-same_passed Done a b e = refl
-
--- of the rows that are left, those that the listing has not come to have the keys that they had
-has_beyond : (cursor : Cursor) (key : Key) (rows : List Shown)
-    → has_key key (beyond cursor rows) ≡ not (has_reached cursor key) && has_key key rows
-has_beyond cursor key rows =
-    any-filter_same (λ row. eq_by_cmp key_cmp row.key key) (λ row. not (has_reached cursor row.key)) (not (has_reached cursor key))
-    (λ row e. ap not (same_passed cursor row.key key (is_equal row.key key e))) rows
-
--- a key that was not passed is among those that are left
-key_beyond : (cursor : Cursor) (key : Key) (rows : List Shown) → has_reached cursor key ≡ false → has_key key rows ≡ true
-    → has_key key (beyond cursor rows) ≡ true
-key_beyond cursor key rows f h = cc (has_beyond cursor key rows)
-
-has_left : (key : Key) (xs ys : List Shown) → has_key key xs ≡ true → has_key key (xs ++ ys) ≡ true
-has_left key xs ys h = cc (list_any-append (λ row. eq_by_cmp key_cmp row.key key) xs ys)
-
-has_last : (key : Key) (xs : List Shown) (y : Shown) → eq_by_cmp key_cmp y.key key ≡ true → has_key key (xs ++ y ∷ []) ≡ true
-has_last key xs y e = cc (list_any-append (λ row. eq_by_cmp key_cmp row.key key) xs (y ∷ []), or-true (has_key key xs))
-
--- a key that was there since the session's beginning, and that the listing has passed, was listed
-abbrev Met : List Shown → History → ℕ → List Item → Option ℕ → Type 0
-Met start history go items done =
-    (key : Key) → ((k : ℕ) → go ≤ k → k ≤ length history → has_key key (rows_after start (take k history)) ≡ true)
-    → has_reached (cursor_by done items (length history)) key ≡ true → has_key key (listed items) ≡ true
-
-met_law : (start : List Shown) → Law start (Met start)
-met_law start = record {
-  fresh = λ history go h key there p. cc;
-  push = λ history changes go items done order f m key there p.
-      let l = length_push history changes in
-      let up : length history ≤ length (history ++ changes ∷ []) = omega arith in
-      m key
-      (λ k low high. cc (take-append-le k history (changes ∷ []) high, there k low (later history changes k high)))
-      (cc (cursor_later (length history) (length (history ++ changes ∷ [])) done items up f.finished f.numbers));
-  tell = λ history go items done change changes order f m e key there p.
-      cc (
-        listed_told history items change,
-        m key there (ap (λ c. has_reached c key) (sym (cursor_told history items done change f.numbers)) ∙ p),
-      );
-  list = λ history go items row left order f m e b key there p.
-      cc (
-        listed_more history items row,
-        by_passed history go items row left order f m b key there
-            (ap (λ c. has_reached c key) (sym (cursor_item history items (Listed row) f.numbers)) ∙ p)
-            (has_reached (cursor_by None items (length history)) key) refl,
-      );
-  finish =
-      λ history go items order f m e b key there p.
-      m key there (all_passed history go items f b key there (has_reached (cursor_by None items (length history)) key) refl);
-}
-  where
-    later : (history : History) (changes : List Change) (k : ℕ) → k ≤ length history → k ≤ length (history ++ changes ∷ [])
-    later history changes k h = let l = length_push history changes in omega arith
-
-    now : (history : History) (go : ℕ) (key : Key) → go ≤ length history
-        → ((k : ℕ) → go ≤ k → k ≤ length history → has_key key (rows_after start (take k history)) ≡ true)
-        → has_key key (rows_after start history) ≡ true
-    now history go key h there = cc (take_all _ history (le_refl _), there _ h (le_refl _))
-
-    by_passed : (history : History) (go : ℕ) (items : List Item) (row : Shown) (left : List Shown)
-        → IsRisingBy key_at (rows_after start history) → Fits start history go items None → Met start history go items None
-        → beyond (cursor_by None items (length history)) (rows_after start history) ≡ row ∷ left
-        → (key : Key) → ((k : ℕ) → go ≤ k → k ≤ length history → has_key key (rows_after start (take k history)) ≡ true)
-        → has_reached (After row.key) key ≡ true → (t : Bool) → has_reached (cursor_by None items (length history)) key ≡ t
-        → has_key key (listed items ++ row ∷ []) ≡ true
-    by_passed history go items row left order f m b key there p true e = has_left key (listed items) _ (m key there e)
-    by_passed history go items row left order f m b key there p false e =
-        let one = lists_one _ row left _ order b in
-        let here : has_key key (row ∷ left) ≡ true = cc (key_beyond _ key _ e (now history go key f.began there)) in
-        let away : has_key key left ≡ false =
-        cc (one.left, has_beyond (After row.key) key (rows_after start history)) in
-        has_last key (listed items) row (first here away (eq_by_cmp key_cmp row.key key) refl)
-      where
-        first : has_key key (row ∷ left) ≡ true → has_key key left ≡ false → (t : Bool) → eq_by_cmp key_cmp row.key key ≡ t
-            → eq_by_cmp key_cmp row.key key ≡ true
-        first h a true k = k
-        first h a false k = let g : has_key key left ≡ true = rw k at h in cc
-
-    all_passed : (history : History) (go : ℕ) (items : List Item) → Fits start history go items None
-        → beyond (cursor_by None items (length history)) (rows_after start history) ≡ []
-        → (key : Key) → ((k : ℕ) → go ≤ k → k ≤ length history → has_key key (rows_after start (take k history)) ≡ true) → (t : Bool)
-        → has_reached (cursor_by None items (length history)) key ≡ t → has_reached (cursor_by None items (length history)) key ≡ true
-    all_passed history go items f b key there true e = e
-    all_passed history go items f b key there false e =
-        let h : has_key key [] ≡ true = cc (key_beyond _ key _ e (now history go key f.began there)) in
-        cc
+use Rattle.srcp_core.proofs.CourseLaws.SessionsArePanels.{listed_in, sessions_are_panels, settled_in_history, told_in}
+use Rattle.srcp_core.proofs.CourseLaws.SessionsOfACourse.{anything, fits_open, settled_facts, stands}
+use Rattle.srcp_core.proofs.CourseLaws.ShownRegistry.{length_history, rows_of_course}
 
 -- a key that a device has at the end it had all the time
 had : (buses : List Bus) (w : World) (conn : Connection) (device : Device) (key : Key) → KeepsKeys buses w
@@ -163,6 +30,21 @@ had buses w conn device key keeps all owned last (suc d) k e low =
     let most : k ≤ length w.steps = omega arith in
     keeps k device key inside (all k low most) owned (had buses w conn device key keeps all owned last d (k + 1) next low')
 
+always_by : (key : Key) (first : List Shown) (steps : History)
+    → ((k : ℕ) → k ≤ length steps → has_key key (rows_after first (take k steps)) ≡ true) → HasAlways key first steps
+always_by key first [] there = there 0 (omega arith)
+always_by key first (changes ∷ steps) there =
+    (there 0 (omega arith), always_by key (changed_all changes first) steps (λ k h. there (suc k) (omega (arith, h))))
+
+-- the rows of a course, some steps after some
+rows_later : (buses : List Bus) (w : World) (go k : ℕ)
+    → rows_after (rows_at buses w go) (take k (drop go (history buses w))) ≡ rows_at buses w (go + k)
+rows_later buses w go k =
+    ap (λ rows. rows_after rows (take k (drop go (history buses w)))) (sym (rows_of_course buses w go))
+    ∙ sym (fold-append (λ rows changes. changed_all changes rows) (shown_rows (opening buses 0)) (take go (history buses w))
+    (take k (drop go (history buses w))))
+    ∙ ap (rows_after (shown_rows (opening buses 0))) (sym (take-add go k (history buses w))) ∙ rows_of_course buses w (go + k)
+
 pub lists_each_once : (buses : List Bus) → IsLayout buses → (events more : List Event) (number : ℕ) (conn later : Connection)
     → IsSession buses events number conn → IsSession buses (events ++ more) number later → AllMoments events
     → is_settled conn (history buses (course buses events)) (rows buses (course buses events)) ≡ true
@@ -171,41 +53,34 @@ pub lists_each_once : (buses : List Bus) → IsLayout buses → (events more : L
     → times_listed key later.items ≡ 1
 lists_each_once buses layout events more number conn later s t moments settled device all key owned last =
     let w = course buses events in
+    let panel = sessions_are_panels buses layout events number conn s in
     let keeps = keeps_keys buses layout events moments in
     let facts = settled_facts conn (history buses w) (rows buses w) settled in
-    let both = settled_both buses layout w conn s.info settled in
-    let law =
-    fits_open (shown_rows (opening buses 0)) (Met (shown_rows (opening buses 0))) (history buses w) conn facts.open_now
-    (stands buses layout (Met (shown_rows (opening buses 0))) (met_law (shown_rows (opening buses 0))) events number conn s) in
-    let here : has_key key (listed conn.items) ≡ true =
-    law.1 key (λ k low high. cc (rows_of_course buses w k, before keeps k high low))
-    (passed_now w conn (has_reached (cursor_by conn.done conn.items (length (history buses w))) key) refl both.1) in
+    let began : conn.go_step ≤ length (history buses w) =
+    (fits_open _ _ _ conn facts.open_now
+    (stands buses layout _ (anything (shown_rows (opening buses 0))) events number conn s)).0.began in
+    let size : length (history buses w) ≡ length w.steps = length_history (opening buses 0) w.steps in
+    let count : length (drop conn.go_step (history buses w)) ≡ length (history buses w) - conn.go_step =
+    length-drop conn.go_step (history buses w) in
+    let always : HasAlways key (rows_at buses w conn.go_step) (drop conn.go_step (history buses w)) =
+    always_by key (rows_at buses w conn.go_step) (drop conn.go_step (history buses w)) (λ k h.
+    ap (has_key key) (rows_later buses w conn.go_step k)
+    ∙ had buses w conn device key keeps all owned last (length w.steps - (conn.go_step + k)) (conn.go_step + k)
+    (omega (arith, size, count, h, began)) (omega arith)) in
+    let steps : steps_of panel.happenings ≡ drop conn.go_step (history buses w) =
+    panel.steps ∙ ap (λ shut. drop conn.go_step (heard shut (history buses w))) facts.open_now in
+    let one = (told_in buses layout events number conn s).once panel.happenings [] key (sym (append-nil panel.happenings))
+    (settled_in_history buses w conn panel s.info settled)
+    (subst (HasAlways key (rows_at buses w conn.go_step)) (sym steps) always) in
+    let early : times_listed key conn.items ≡ 1 =
+    ap (λ rows. length (filter (λ row. eq_by_cmp key_cmp row.key key) rows))
+    (sym (ap listed_by panel.given ∙ listed_in buses w conn.items)) ∙ one in
     let g : Grows conn later = grown_since buses events more number conn later s.there t.there in
-    let still : has_key key (listed later.items) ≡ true =
-    cc (
-      g.is,
-      filter_map-append (λ (item : Item). listed_row item.what) conn.items g.rest,
-      has_left key (listed conn.items) (listed g.rest) here,
-    ) in
-    let low = at_least_one key (listed later.items) still in
+    let grown : times_listed key later.items ≡ times_listed key conn.items + times_listed key g.rest =
+    ap (times_listed key) g.is
+    ∙ ap (λ rows. length (filter (λ row. eq_by_cmp key_cmp row.key key) rows))
+    (filter_map-append (λ (item : Item). listed_row item.what) conn.items g.rest)
+    ∙ ap length (filter-append (λ (row : Shown). eq_by_cmp key_cmp row.key key) (listed conn.items) (listed g.rest))
+    ∙ length-append _ _ in
     let high = lists_none_twice buses layout (events ++ more) number later t key in
-    omega arith
-  where
-    before : KeepsKeys buses (course buses events) → (k : ℕ) → k ≤ length (history buses (course buses events)) → conn.go_step ≤ k
-        → has_key key (rows_at buses (course buses events) k) ≡ true
-    before keeps k high low =
-        let l = length_history (opening buses 0) (course buses events).steps in
-        let e : k + (length (course buses events).steps - k) ≡ length (course buses events).steps = omega arith in
-        had buses (course buses events) conn device key keeps all owned last (length (course buses events).steps - k) k e low
-
-    passed_now : (w : World) (c : Connection) (t : Bool)
-        → has_reached (cursor_by conn.done conn.items (length (history buses (course buses events)))) key ≡ t
-        → beyond (cursor_by conn.done conn.items (length (history buses (course buses events))))
-        (rows_after (shown_rows (opening buses 0)) (history buses (course buses events)))
-        ≡ []
-        → has_reached (cursor_by conn.done conn.items (length (history buses (course buses events)))) key ≡ true
-    passed_now w c true e b = e
-    passed_now w c false e b =
-        let h : has_key key [] ≡ true =
-        cc (key_beyond _ key _ e
-        (ap (has_key key) (sym (shown_after _ (course buses events).steps)) ∙ last)) in cc
+    omega (arith, early, grown, high)

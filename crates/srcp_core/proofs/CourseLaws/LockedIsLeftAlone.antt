@@ -15,18 +15,18 @@ use Rattle.srcp_rules.specs.Effect.{effect as effect_of}
 use Rattle.srcp_rules.specs.Laws.{comes_to, fallen}
 use Rattle.srcp_rules.specs.SafetyLaws.{has_lock}
 use Rattle.srcp_rules.specs.State.{holder_in, holder_of, row_put}
+use Rattle.srcp_rules.specs.Steps.{stepped}
 use Rattle.srcp_rules.proofs.DueRowLaws.{lock_goes}
 use Rattle.srcp_rules.proofs.FallLaws.{due_rows, lock_set}
 use Rattle.srcp_rules.proofs.KeyLaws.{no_key}
 use Rattle.srcp_rules.proofs.LockedLaws.{locks_hold}
 use Rattle.srcp_rules.proofs.SafetyLaws.{ends_change_no_device, ends_keep_other_locks, own_locks_last}
 use Rattle.srcp_rules.proofs.StepLaws.{device_elsewhere, device_group-is_lock, is_session, lock_group-is_lock}
-use Rattle.srcp_core.specs.Course.{stepped}
 use Rattle.srcp_core.specs.Locked.{LeavesLock, LockedIsLeftAlone, LockedStepsFall, LocksBegin, LocksLast, falls_in, falls_over}
 use Rattle.srcp_core.specs.Locked.{is_command_of, is_end_of}
-use Rattle.srcp_core.proofs.Agreement.MemoryAnswers.{effect_law}
+use Rattle.srcp_rules.proofs.EachStepLaws.{effect_law, step_whole}
 use Rattle.srcp_core.proofs.CourseLaws.RegistryStaysWhole.{kept_course}
-use Rattle.srcp_core.proofs.CourseLaws.StepsKeepWhole.{AreSteps, IsStepOf, step_whole, steps_whole, whole_opening}
+use Rattle.srcp_core.proofs.CourseLaws.StepsKeepWhole.{AreSteps, Fits, steps_whole, whole_opening}
 
 -- ---- rows that fall
 
@@ -119,7 +119,7 @@ module _ (buses : List Bus) (session : ℕ) (g : DeviceGroup) (bus address : ℕ
         row_at-put_other key (row_put moment (first_key (session_device id)) (value.Session mode) None) state
         (no_key is_session true (first_key (session_device id)) key refl elsewhere)
 
-    rows_fall : (step : Step) → IsStepOf buses state step → is_command_of session step ≡ false → (port : ℕ)
+    rows_fall : (step : Step) → Fits buses state step → is_command_of session step ≡ false → (port : ℕ)
         → row_at (row_key port) (stepped state step) ≡ option_map_or (falls_in step) (row_at (row_key port) state) None
     rows_fall (Obeyed id moment order) fits other port =
         effect_law (λ did. row_at (row_key port) (updated_all did.updates state) ≡ row_at (row_key port) state) state id moment order
@@ -127,13 +127,13 @@ module _ (buses : List Bus) (session : ℕ) (g : DeviceGroup) (bus address : ℕ
         ∙ sym (kept_row (row_at (row_key port) state))
     rows_fall (Began id moment mode) fits other port =
         begun_elsewhere id moment mode (row_key port) (device_elsewhere g) ∙ sym (kept_row (row_at (row_key port) state))
-    rows_fall (Moment moment) fits other port = due_rows buses moment fits state whole (row_key port)
+    rows_fall (Moment moment) fits other port = due_rows buses moment fits.1 state whole (row_key port)
     rows_fall (Ended id moment) fits other port =
         ends_change_no_device buses state id moment (row_key port) whole (device_group-is_lock g)
         (λ e. true≢false (sym (ap is_session e) ∙ device_elsewhere g))
         ∙ sym (kept_row (row_at (row_key port) state))
 
-    lock_only_falls : (step : Step) → IsStepOf buses state step → is_command_of session step ≡ false → is_end_of session step ≡ false
+    lock_only_falls : (step : Step) → Fits buses state step → is_command_of session step ≡ false → is_end_of session step ≡ false
         → row_at lock (stepped state step) ≡ option_map_or (falls_in step) (row_at lock state) None
     lock_only_falls (Obeyed id moment order) fits other ends =
         effect_law (λ did. row_at lock (updated_all did.updates state) ≡ row_at lock state) state id moment order
@@ -141,7 +141,7 @@ module _ (buses : List Bus) (session : ℕ) (g : DeviceGroup) (bus address : ℕ
         ∙ sym (kept_row (row_at lock state))
     lock_only_falls (Began id moment mode) fits other ends =
         begun_elsewhere id moment mode lock no_session ∙ sym (kept_row (row_at lock state))
-    lock_only_falls (Moment moment) fits other ends = due_rows buses moment fits state whole lock
+    lock_only_falls (Moment moment) fits other ends = due_rows buses moment fits.1 state whole lock
     lock_only_falls (Ended id moment) fits other ends =
         ends_keep_other_locks buses state id moment g bus address whole (unheld session id ends (row_at lock state) held)
         ∙ sym (kept_row (row_at lock state))
@@ -155,7 +155,7 @@ module _ (buses : List Bus) (session : ℕ) (g : DeviceGroup) (bus address : ℕ
     row_held : (step : Step) → row_at lock (stepped state step) ≡ row_at lock state → IsHeld (stepped state step)
     row_held step e = ap (λ o. option_map_or (is_held_by session) o false) e ∙ held
 
-    lasts : (step : Step) → IsStepOf buses state step → LeavesLock session (lock_on g bus address) (row_at lock state) step
+    lasts : (step : Step) → Fits buses state step → LeavesLock session (lock_on g bus address) (row_at lock state) step
         → IsHeld (stepped state step)
     lasts (Obeyed id moment order) fits leaves = elim (cases_Bool (id == session)) [
       | inl e ↦ own (eqb-true id session e)
@@ -172,7 +172,7 @@ module _ (buses : List Bus) (session : ℕ) (g : DeviceGroup) (bus address : ℕ
     lasts (Began id moment mode) fits leaves =
         row_held (Began id moment mode) (begun_elsewhere id moment mode lock no_session)
     lasts (Moment moment) fits leaves =
-        row_held (Moment moment) (due_rows buses moment fits state whole lock ∙ not_fallen moment (row_at lock state) leaves)
+        row_held (Moment moment) (due_rows buses moment fits.1 state whole lock ∙ not_fallen moment (row_at lock state) leaves)
     lasts (Ended id moment) fits leaves =
         row_held (Ended id moment)
         (lock_only_falls (Ended id moment) fits refl (ne_eqb id session leaves) ∙ kept_row (row_at lock state))
@@ -192,7 +192,7 @@ module _ (buses : List Bus) (session : ℕ) (g : DeviceGroup) (bus address : ℕ
       let stays =
       ap (λ o. option_map_or (is_held_by session) o false) falls ∙ still_held session step later (row_at lock state) held lasts in
       let rest =
-      left_alone later (stepped state step) (step_whole buses state step whole fit.0) fit.1 stays others.1
+      left_alone later (stepped state step) (step_whole buses state step whole fit.0.0 fit.0.1) fit.1 stays others.1
       (ap (λ o. is_some (falls_over later o)) falls ∙ lasts) in (
         rest.0,
         λ port. rest.1 port ∙ ap (falls_over later) (rows_fall state whole held step fit.0 others.0.0 port),

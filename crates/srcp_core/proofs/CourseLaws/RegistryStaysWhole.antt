@@ -14,16 +14,15 @@ use Rattle.std.proofs.lemmas.Bool.{true≢false, or_parts}
 use Rattle.std.specs.Prelude.{option_map}
 use Rattle.srcp_info.specs.declared.change.Reply.TheVariants.{Mode as ModeReply}
 use Rattle.srcp_rules.specs.State.{is_there as has_device}
+use Rattle.srcp_rules.specs.Steps.{effect, stepped}
 use Rattle.srcp_rules.proofs.SessionLaws.{AreElsewhere}
 use Rattle.srcp_rules.proofs.StateLaws.{has_row-put_row}
-use Rattle.srcp_core.specs.Under.{effect}
-use Rattle.srcp_core.specs.Course.{stepped}
 use Rattle.srcp_core.specs.Laws.{IsLive, IsWholeWorld, has_key, is_there, rows_at}
-use Rattle.srcp_core.proofs.Agreement.MemoryAnswers.{effect_law, ordered_law}
-use Rattle.srcp_core.proofs.CourseLaws.StepsKeepWhole.{IsStepOf, AreSteps, are_steps_push, steps_whole, prefix_whole, history_told}
+use Rattle.srcp_rules.proofs.EachStepLaws.{effect_law}
+use Rattle.srcp_core.proofs.Agreement.MemoryAnswers.{ordered_law}
+use Rattle.srcp_core.proofs.CourseLaws.StepsKeepWhole.{Fits, AreSteps, are_steps_push, steps_whole, prefix_whole, history_told}
 use Rattle.srcp_core.proofs.CourseLaws.StepsKeepWhole.{keys_kept, whole_opening}
 use Rattle.srcp_core.proofs.Agreement.NumbersAndKeys.{numbered_with, opened, no_connection, look_with, look_push}
-use Rattle.srcp_core.proofs.Invariants.CoreStaysSound.{session_place}
 use Rattle.srcp_info.specs.declared.value.Value.TheVariants as value
 
 -- ---- the invariant
@@ -80,7 +79,7 @@ module _ (buses : List Bus) (layout : IsLayout buses) where
 
   -- a step that leaves the row of each session that goes on
   kept_did : (moment last : ℕ) (steps : List Step) (conns : List Connection) (step : Step) → Kept moment last steps conns
-      → IsStepOf buses (state_after (opening buses 0) steps) step
+      → Fits buses (state_after (opening buses 0) steps) step
       → ((m : ℕ) (c : Connection) → numbered m conns ≡ Some c → IsLive c
       → has_device (session_device c.session) (state_after (opening buses 0) steps) ≡ true
       → has_device (session_device c.session) (stepped (state_after (opening buses 0) steps) step) ≡ true)
@@ -99,7 +98,7 @@ module _ (buses : List Bus) (layout : IsLayout buses) where
   pub kept_obeyed : (session : ℕ) (command : Order) (w : World) → IsCommandOf buses command.command
       → has_device (session_device session) (state buses w) ≡ true → IsKept w → IsKept (did (Obeyed session w.moment command) w)
   kept_obeyed session command w of begun k =
-      kept_did w.moment w.last_id w.steps w.connections (Obeyed session w.moment command) k (begun, k.now, of)
+      kept_did w.moment w.last_id w.steps w.connections (Obeyed session w.moment command) k (of, (begun, k.now))
       (λ m c e live h.
       ap is_some
       (session_row-updated_all (effect (state buses w) session w.moment command).updates (state buses w) c.session
@@ -109,7 +108,7 @@ module _ (buses : List Bus) (layout : IsLayout buses) where
 
   pub kept_at : (moment : ℕ) (w : World) → moment < 2 ^ 64 → IsKept w → IsKept (did (Moment moment) (record w { moment = moment }))
   kept_at moment w h k =
-      kept_did moment w.last_id w.steps w.connections (Moment moment) (assumption h) h
+      kept_did moment w.last_id w.steps w.connections (Moment moment) (assumption h) (tt, h)
       (λ m c e live there.
       ap is_some
       (session_row-updated_all (updates_of (state buses w) (Moment moment)) (state buses w) c.session
@@ -122,7 +121,7 @@ module _ (buses : List Bus) (layout : IsLayout buses) where
       → Kept moment last steps conns → Kept moment last (steps ++ Ended conn.session moment ∷ []) (with_numbered n f conns)
   kept_ended moment last steps conns n f conn at mild dead k =
       kept_did moment last steps (with_numbered n f conns) (Ended conn.session moment)
-      (kept_change moment last steps conns n f mild k) k.now
+      (kept_change moment last steps conns n f mild k) (tt, k.now)
       (λ m c e live h.
       let s = look_with m n f conns c e in
       ap is_some
@@ -151,7 +150,7 @@ module _ (buses : List Bus) (layout : IsLayout buses) where
     few = omega (arith, low);
     steps_fit =
         are_steps_push buses (opening buses 0) w.steps (Began (w.last_id + 1) w.moment mode) k.steps_fit
-        (session_place buses (w.last_id + 1) (omega arith) (omega (arith, low)), k.now);
+        ((omega arith, omega (arith, low)), k.now);
     ids = λ m d e. let s = look_with m n _ w.connections d e in by_from m s.x d s.there s.from;
     apart = λ m o c d e g pos same.
         let s = look_with m n _ w.connections c e in

@@ -3,7 +3,7 @@ use Rattle.srcp_core.proofs.Names.{cond_both, ◌≡◌, ℕ, zero, suc, inl, in
 use Rattle.srcp_core.proofs.Names.{Bool, true, false, List, [], ◌∷◌, ◌++◌, map, take, length, refl, ap, ◌∙◌, arith, length-append}
 use Rattle.srcp_core.proofs.Names.{flat_map-append, lt-leb, ltb-true, ne_eqb, and_parts, flat_map, option_or, nat_lt, ◌==◌, ◌&&◌, Option}
 use Rattle.srcp_core.proofs.Names.{Some, None, IfSome, Shown, beyond, Next, Told, Listed, key_at, IsRisingBy}
-use Rattle.srcp_core.proofs.Names.{passed_all, passed_done, beyond_done, Connection, History, heard, is_nil, line_of, prefix, fitting}
+use Rattle.srcp_core.proofs.Names.{beyond_done, Connection, History, heard, is_nil, line_of, prefix, fitting}
 use Rattle.srcp_core.proofs.Names.{available, exhausts, text, given, unsent, took, items_of, Item, cases_lt, le_refl}
 use Rattle.std.proofs.Math.Nat.{ne_of_gt}
 use Rattle.srcp_core.proofs.CourseLaws.Histories.{rows_after, concerning_by, concerning_same, cursor_by, cursor_done}
@@ -91,7 +91,6 @@ fits_done start history go items f owes =
       finished = le_refl _;
       began = f.began;
       enough = omega arith;
-      kept = cc (f.kept, passed_all _ (rows_after start history) both.1, passed_done (rows_after start history));
     }
 
 pub done_owes : (start : List Shown) (history : History) (go : ℕ) (items : List Item) (done : Option ℕ)

@@ -4,7 +4,7 @@ use Rattle.srcp_core.proofs.Names.{◌≡◌, ℕ, zero, suc, min, ◌+◌, ◌�
 use Rattle.srcp_core.proofs.Names.{◌∙◌, subst, arith, append-nil, length-append, take_all, take-append-le, length_push, filter, flat_map}
 use Rattle.srcp_core.proofs.Names.{enumerate_from, AllByRecursion, option_or, ◌&&◌, Option, Some, None, if◌then◌else◌, IfSome, reply_line}
 use Rattle.srcp_core.proofs.Names.{Change, Start, Reply, Shown, all_weaker, key_at, Bus, opening, shown_rows, concerns, changed_all, Next}
-use Rattle.srcp_core.proofs.Names.{IsRisingBy, passed_start, Event, Step, Heard, Connection, History, heard, fitting, available, exhausts}
+use Rattle.srcp_core.proofs.Names.{IsRisingBy, Event, Step, Heard, Connection, History, heard, fitting, available, exhausts}
 use Rattle.srcp_core.proofs.Names.{items_of, given_room, owed, unsent, text, World, history_from, fresh, start, numbered, cond_both}
 use Rattle.srcp_core.proofs.Names.{with_numbered, at_connection, did, replied, is_info, rows, history, entered, answered, course, Item}
 use Rattle.srcp_info.proofs.ClientLaws.{rising_fold}
@@ -96,7 +96,6 @@ module _ (first : List Shown) (ordered : IsRisingBy key_at first) (P : History �
         finished = tt;
         began = h;
         enough = some;
-        kept = cc (passed_start (rows_after first history));
       }
 
   stands_fresh : (history : History) → Stands first P history fresh

@@ -1,21 +1,23 @@
 -- A session of a course is given what a panel is over the history of the registry.
-use Rattle.srcp_core.proofs.Names.{◌≡◌, ℕ, ◌≤◌, List, [], ◌∷◌, ◌++◌, map, take, drop, length, refl, ap, sym, ◌∙◌, subst, append-nil}
-use Rattle.srcp_core.proofs.Names.{drop-append-le, take-append-drop, take-append-le, take_all, filter, filter_map-append, fold, fold-append, le_refl}
-use Rattle.srcp_core.proofs.Names.{map-append, Option, None, IsRisingBy, key_at, Bus, opening, shown_rows, Change, Cursor, Start, Shown}
-use Rattle.srcp_core.proofs.Names.{concerns, changed_all, Next, Told, Listed, History, heard, World, course, history}
-use Rattle.srcp_core.proofs.Names.{rows_at, Item}
-use Rattle.srcp_feed.specs.History.{Changes, Given, Gives, Happening, Panel, after, begun, happens, step_of, steps_of}
-use Rattle.srcp_feed.proofs.AnyHistory.{gives_done, gives_listed, gives_told}
-use Rattle.srcp_core.specs.Panels.{SessionsArePanels, given_in}
+use Rattle.srcp_core.proofs.Names.{◌≡◌, ℕ, ◌≤◌, true, List, [], ◌∷◌, ◌++◌, map, take, drop, length, refl, ap, sym, ◌∙◌, subst, append-nil}
+use Rattle.srcp_core.proofs.Names.{drop-append-le, take-append-drop, take-append-le, take_all, filter, filter_map-append, fold}
+use Rattle.srcp_core.proofs.Names.{fold-append, le_refl, map-append, Option, None, IsRisingBy, key_at, Bus, opening, shown_rows}
+use Rattle.srcp_core.proofs.Names.{Change, Cursor, Start, Shown, concerns, changed_all, Next, Told, Listed, Connection, History, heard}
+use Rattle.srcp_core.proofs.Names.{is_open, Event, World, course, history, rows_at, Item, client, passed, waiting, length_push, arith}
+use Rattle.srcp_core.proofs.Names.{Settled, IsLayout, IsSession, beyond, cursor_at, is_settled, listed, owed, rows, said, tells}
+use Rattle.srcp_core.proofs.Names.{untold}
+use Rattle.srcp_feed.specs.History.{Changes, Given, Gives, Happening, IsSettled, IsToldRightly, Panel, after, begun, happens, step_of}
+use Rattle.srcp_feed.specs.History.{steps_of, listed as listed_by, tells as told_by}
+use Rattle.srcp_feed.proofs.AnyHistory.{told_over_any_history}
+use Rattle.srcp_feed.proofs.PanelSteps.{gives_done, gives_listed, gives_told}
+use Rattle.srcp_core.specs.Panels.{IsPanel, SessionsArePanels, given_in}
 use Rattle.srcp_core.proofs.CourseLaws.Histories.{rows_after, AreBy, concerning_by, concerning_push, cursor_by, cursor_done, cursor_later}
-use Rattle.srcp_core.proofs.CourseLaws.ShownRegistry.{shown_after, length_history}
-use Rattle.srcp_core.proofs.CourseLaws.ClientHoldsPassedRows.{Fits, Law, cursor_item, cursor_told, fits_listed, fits_told, item_of, rows_push}
-use Rattle.srcp_core.proofs.CourseLaws.ClientHoldsPassedRows.{tolds, untold_by}
+use Rattle.srcp_core.proofs.CourseLaws.ShownRegistry.{heard_prefix, length_history, rows_of_course, shown_after}
+use Rattle.srcp_core.proofs.CourseLaws.ClientHoldsPassedRows.{Fits, Law, cursor_item, cursor_told, fits_listed, fits_told, item_of}
+use Rattle.srcp_core.proofs.CourseLaws.ClientHoldsPassedRows.{rows_push, tolds, untold_by}
 use Rattle.srcp_core.proofs.CourseLaws.RoomGivesWhatIsOwed.{before_done}
 use Rattle.srcp_core.proofs.CourseLaws.SessionsAreKept.{concerning_start, in_order_after, none_concern}
-use Rattle.srcp_core.proofs.CourseLaws.SessionsOfACourse.{open_shut, opening_in_order, stands}
-use Rattle.srcp_core.proofs.CourseLaws.ListedInOrder.{heard_prefix, rows_of_course}
-use Rattle.srcp_core.proofs.Names.{length_push, arith}
+use Rattle.srcp_core.proofs.CourseLaws.SessionsOfACourse.{OfSessions, open_shut, opening_in_order, settled_facts, stands}
 
 abbrev given_by : List Shown → History → List Item → List Given
 given_by start history items = map (λ item. record { rows = rows_after start (take item.steps history); what = item.what }) items
@@ -182,7 +184,8 @@ sessions_are_panels buses layout events number conn session =
           (in_order_after first (take conn.go_step (heard conn.shut (history buses w))) (opening_in_order buses layout));
       given = ap (λ (panel : Panel). panel.given) same ∙ given;
       now = λ up.
-          let all : heard conn.shut (history buses w) ≡ history buses w = ap (λ shut. heard shut (history buses w)) (open_shut conn.shut up) in
+          let all : heard conn.shut (history buses w) ≡ history buses w =
+          ap (λ shut. heard shut (history buses w)) (open_shut conn.shut up) in
           same
           ∙ panel_same _ _ _ _ _ _ _ _
           (ap (rows_after first) all ∙ sym (shown_after (opening buses 0) w.steps))
@@ -190,3 +193,72 @@ sessions_are_panels buses layout events number conn session =
           ∙ ap (cursor_by conn.done conn.items) (length_history (opening buses 0) w.steps))
           refl given;
     }
+
+-- ---- what the laws of a history say of a session
+
+pub told_in : (buses : List Bus) (layout : IsLayout buses) (events : List Event) (number : ℕ) (conn : Connection)
+    (session : IsSession buses events number conn)
+    → IsToldRightly (rows_at buses (course buses events) conn.go_step)
+    (sessions_are_panels buses layout events number conn session).happenings
+    (after (rows_at buses (course buses events) conn.go_step)
+    (sessions_are_panels buses layout events number conn session).happenings)
+told_in buses layout events number conn session =
+    let panel = sessions_are_panels buses layout events number conn session in
+    told_over_any_history (rows_at buses (course buses events) conn.go_step) panel.happenings panel.order
+
+-- what is settled in the course is settled in the history
+pub settled_in_history : (buses : List Bus) (w : World) (conn : Connection) (panel : IsPanel buses w conn) → conn.info ≡ true
+    → is_settled conn (history buses w) (rows buses w) ≡ true → IsSettled (after (rows_at buses w conn.go_step) panel.happenings)
+settled_in_history buses w conn panel info settled =
+    let facts = settled_facts conn (history buses w) (rows buses w) settled in
+    let up : is_open conn ≡ true = rw facts.open_now refl in
+    let owes : owed conn (history buses w) (rows buses w)
+    ≡ map Told (untold conn (history buses w)) ++ map Listed (beyond (cursor_at conn (length (history buses w))) (rows buses w)) =
+    rw (facts.open_now, info) refl in
+    let none : map Told (untold conn (history buses w)) ++ map Listed (beyond (cursor_at conn (length w.steps)) (rows buses w)) ≡ [] =
+    ap (λ n. map Told (untold conn (history buses w)) ++ map Listed (beyond (cursor_at conn n) (rows buses w)))
+    (sym (length_history (opening buses 0) w.steps))
+    ∙ sym owes ∙ facts.none_owed in
+    subst IsSettled (sym (panel.now up)) none
+
+-- items and what a panel was given tell and list the same
+pub tells_in : (buses : List Bus) (w : World) (items : List Item) → told_by (given_in buses w items) ≡ tells items
+tells_in buses w [] = refl
+tells_in buses w (item ∷ items) = ap (λ changes. said item.what ++ changes) (tells_in buses w items)
+
+pub listed_in : (buses : List Bus) (w : World) (items : List Item) → listed_by (given_in buses w items) ≡ listed items
+listed_in buses w [] = refl
+listed_in buses w (item ∷ items) = by item.what (listed_in buses w items)
+  where
+    by : (what : Next) → listed_by (given_in buses w items) ≡ listed items
+        → listed_by (record { rows = rows_at buses w item.steps; what = what } ∷ given_in buses w items)
+        ≡ listed (record { steps = item.steps; what = what } ∷ items)
+    by (Told change) e = e
+    by (Listed row) e = ap (λ rows. row ∷ rows) e
+    by Settled e = e
+
+-- a client that is told what an open session was given and what waits holds what the listing has passed
+pub holds_passed : (buses : List Bus) → OfSessions buses (λ w conn.
+    is_open conn ≡ true → client (tells conn.items ++ waiting conn (history buses w))
+    ≡ passed (cursor_at conn (length w.steps)) (rows buses w))
+holds_passed buses layout events number conn s up =
+    let w = course buses events in
+    let panel = sessions_are_panels buses layout events number conn s in
+    let held : client (told_by (given_in buses w conn.items) ++ untold conn (history buses w))
+    ≡ passed (cursor_at conn (length w.steps)) (rows buses w) =
+    subst (λ (p : Panel). client (told_by p.given ++ p.feed.queue) ≡ passed p.feed.cursor p.rows) (panel.now up)
+    (told_in buses layout events number conn s).passed in
+    let waits : waiting conn (history buses w) ≡ untold conn (history buses w) = rw up refl in
+    ap (λ queue. client (tells conn.items ++ queue)) waits
+    ∙ ap (λ changes. client (changes ++ untold conn (history buses w))) (sym (tells_in buses w conn.items)) ∙ held
+
+-- a client that was told all that a settled session was given holds the registry
+pub client_settled : (buses : List Bus) → OfSessions buses (λ w conn. is_settled conn (history buses w) (rows buses w) ≡ true
+    → client (tells conn.items) ≡ rows buses w)
+client_settled buses layout events number conn s settled =
+    let w = course buses events in
+    let panel = sessions_are_panels buses layout events number conn s in
+    let facts = settled_facts conn (history buses w) (rows buses w) settled in
+    ap client (sym (ap told_by panel.given ∙ tells_in buses w conn.items))
+    ∙ (told_in buses layout events number conn s).settled (settled_in_history buses w conn panel s.info settled)
+    ∙ ap (λ (p : Panel). p.rows) (panel.now (rw facts.open_now refl))

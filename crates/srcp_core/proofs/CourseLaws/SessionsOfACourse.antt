@@ -1,13 +1,13 @@
 -- What a session's law says of a connection of a course.
 use Rattle.srcp_core.proofs.Names.{◌≡◌, ℕ, zero, suc, true, List, [], ◌∷◌, ◌++◌, length, refl, ap, sym, ◌∙◌, subst, append-nil}
 use Rattle.srcp_core.proofs.Names.{take-append-drop, flat_map-append, and_parts, flat_map, AllByRecursion, Option, Some, None}
-use Rattle.srcp_core.proofs.Names.{is_none, client, IsRisingBy, line, Shown, Bus, IsLayout, State, opening, shown_rows}
-use Rattle.srcp_core.proofs.Names.{IsRising, passed, beyond, said, Next, Told, Listed, Settled, key_at, passed_all, Event, Connection}
+use Rattle.srcp_core.proofs.Names.{is_none, IsRisingBy, line, Shown, Bus, IsLayout, State, opening, shown_rows}
+use Rattle.srcp_core.proofs.Names.{IsRising, said, Next, Told, Listed, Settled, key_at, Event, Connection}
 use Rattle.srcp_core.proofs.Names.{History, heard, is_nil, line_of, text, tells, sent, unsent, waiting, owed, is_settled, World, numbered}
-use Rattle.srcp_core.proofs.Names.{course, rows, history, IsSession, Item, cursor_at, is_open, overran, nat_lt}
-use Rattle.srcp_core.proofs.CourseLaws.Histories.{rows_after, cursor_by}
-use Rattle.srcp_core.proofs.CourseLaws.ShownRegistry.{shown_after, length_history, all_shown}
-use Rattle.srcp_core.proofs.CourseLaws.RoomGivesWhatIsOwed.{Stands, nothing_owed}
+use Rattle.srcp_core.proofs.Names.{course, rows, history, IsSession, Item, overran, nat_lt}
+use Rattle.srcp_core.proofs.CourseLaws.Histories.{rows_after}
+use Rattle.srcp_core.proofs.CourseLaws.ShownRegistry.{shown_after, all_shown}
+use Rattle.srcp_core.proofs.CourseLaws.RoomGivesWhatIsOwed.{Stands}
 use Rattle.srcp_core.proofs.CourseLaws.ClientHoldsPassedRows.{Fits, Law, owed_by, untold_by}
 use Rattle.srcp_core.proofs.CourseLaws.SessionsAreKept.{sound, owed_open}
 use Rattle.srcp_core.proofs.CourseLaws.StepsKeepWhole.{whole_opening}
@@ -69,21 +69,6 @@ pub overran_open : (history : History) (conn : Connection) → conn.shut ≡ Non
     → overran conn history ≡ nat_lt 256 (length (untold_by conn.go_step conn.items conn.done history))
 overran_open history conn shut = cc
 
-pub holds_passed : (buses : List Bus) → OfSessions buses (λ w conn.
-    is_open conn ≡ true → client (tells conn.items ++ waiting conn (history buses w))
-    ≡ passed (cursor_at conn (length w.steps)) (rows buses w))
-holds_passed buses layout events number conn s is_up =
-    let w = course buses events in
-    let shut = open_shut _ is_up in
-    let f =
-    (fits_open _ _ _ conn shut
-    (stands buses layout _ (anything (shown_rows (opening buses 0))) events number conn s)).0 in
-    ap (λ u. client (tells conn.items ++ u)) (untold_open _ conn shut)
-    ∙ f.kept
-    ∙ ap (λ n. passed (cursor_by conn.done conn.items n) (rows_after (shown_rows (opening buses 0)) (history buses w)))
-    (length_history _ w.steps)
-    ∙ ap (passed (cursor_by conn.done conn.items (length w.steps))) (sym (shown_after _ w.steps))
-
 -- ---- settled
 
 pub nil_is : {X : Type 0} (xs : List X) → is_nil xs ≡ true → xs ≡ []
@@ -125,33 +110,3 @@ pub owed_is : (buses : List Bus) (w : World) (conn : Connection) → conn.shut �
     ≡ owed conn (history buses w) (rows buses w)
 owed_is buses w conn shut info =
     cc (owed_open (shown_rows (opening buses 0)) (history buses w) (rows buses w) conn shut (shown_after (opening buses 0) w.steps))
-
--- of a settled session nothing waits and no row is left
-pub settled_both : (buses : List Bus) (layout : IsLayout buses) (w : World) (conn : Connection) → conn.info ≡ true
-    → is_settled conn (history buses w) (rows buses w) ≡ true
-    → (untold_by conn.go_step conn.items conn.done (history buses w) ≡ [])
-    × (beyond (cursor_by conn.done conn.items (length (history buses w))) (rows_after (shown_rows (opening buses 0)) (history buses w))
-    ≡ [])
-settled_both buses layout w conn info settled =
-    let facts = settled_facts conn _ _ settled in
-    nothing_owed conn.go_step conn.items conn.done (history buses w) (rows_after (shown_rows (opening buses 0)) (history buses w))
-    (owed_is buses w conn facts.open_now info ∙ facts.none_owed)
-
--- a client that was told all that a settled session was given holds the registry
-pub client_settled : (buses : List Bus) (layout : IsLayout buses) (events : List Event) (number : ℕ) (conn : Connection)
-    → IsSession buses events number conn → is_settled conn (history buses (course buses events)) (rows buses (course buses events)) ≡ true
-    → client (tells conn.items) ≡ rows buses (course buses events)
-client_settled buses layout events number conn s settled =
-    let w = course buses events in
-    let facts = settled_facts conn _ _ settled in
-    let f =
-    (fits_open _ _ _ conn facts.open_now
-    (stands buses layout _ (anything (shown_rows (opening buses 0))) events number conn s)).0 in
-    let both = settled_both buses layout w conn s.info settled in
-    cc (
-      append-nil _,
-      both.0,
-      f.kept,
-      passed_all _ _ both.1,
-      shown_after _ w.steps,
-    )

@@ -1,8 +1,11 @@
 -- What clients are shown of a registry goes by the changes of each step.
-use Rattle.srcp_core.proofs.Names.{◌≡◌, List, [], ◌∷◌, ◌++◌, map, length, refl, ap, ◌∙◌, arith, AllByRecursion, Row, Shown, State}
-use Rattle.srcp_core.proofs.Names.{shown_rows, Step, updates_of, state_after, history_from}
+use Rattle.srcp_rules.specs.Steps.{stepped}
+use Rattle.srcp_core.proofs.Names.{◌≡◌, ℕ, zero, suc, ◌≤◌, List, [], ◌∷◌, ◌++◌, map, take, length, refl, ap, ◌∙◌, arith, AllByRecursion}
+use Rattle.srcp_core.proofs.Names.{Option, Some, None, Row, Shown, Bus, State, opening, shown_rows, Step, History, World, updates_of}
+use Rattle.srcp_core.proofs.Names.{state_after, history, history_from, heard, rows_at}
+use Rattle.std.proofs.Common.{length-take}
+use Rattle.std.proofs.lemmas.List.{take-take}
 use Rattle.srcp_rules.proofs.StateLaws.{shown_rows-updated_all}
-use Rattle.srcp_core.specs.Course.{stepped}
 use Rattle.srcp_core.proofs.CourseLaws.Histories.{rows_after}
 
 -- what holds of what each row shows
@@ -29,3 +32,23 @@ history_push state (other ∷ steps) step = cc (history_push (stepped state othe
 pub length_history : (state : State) (steps : List Step) → length (history_from state steps) ≡ length steps
 length_history state [] = refl
 length_history state (step ∷ steps) = let ih = length_history (stepped state step) steps in omega arith
+
+-- ---- the history up to some step
+
+history_take : (k : ℕ) (state : State) (steps : List Step) → take k (history_from state steps) ≡ history_from state (take k steps)
+history_take zero state steps = refl
+history_take (suc k) state [] = refl
+history_take (suc k) state (step ∷ steps) = cc (history_take k _ steps)
+
+pub rows_of_course : (buses : List Bus) (w : World) (k : ℕ)
+    → rows_after (shown_rows (opening buses 0)) (take k (history buses w)) ≡ rows_at buses w k
+rows_of_course buses w k = cc (history_take k _ w.steps, shown_after (opening buses 0) (take k w.steps))
+
+-- what was heard until the end begins as all that happened
+pub heard_prefix : (shut : Option ℕ) (history : History) (k : ℕ) → k ≤ length (heard shut history)
+    → take k (heard shut history) ≡ take k history
+heard_prefix None history k h = refl
+heard_prefix (Some n) history k h =
+    let l = length-take n history in
+    let low : k ≤ n = omega arith in
+    take-take k n history low

@@ -1,11 +1,11 @@
 -- Worlds that differ in one connection alone, at an event of a connection that both have alike.
+use Rattle.srcp_rules.specs.Steps.{effect}
 use Rattle.srcp_core.proofs.Names.{◌≡◌, ℕ, ◌+◌, List, [], ◌∷◌, ◌++◌, length, refl, ap, inl, fold, Option, Some, None, Result, Ok, Err}
 use Rattle.srcp_core.proofs.Names.{reply_line, Code, Mode, Bus, Effect, Event, Bytes, Room, Shut, Step, Began, Heard, Order, greets, Piece}
 use Rattle.srcp_core.proofs.Names.{Connection, given_room, World, numbered, with_numbered, at_connection, open_connection, did, counted}
 use Rattle.srcp_core.proofs.Names.{is_info, state, rows, history, greeted, obeyed, commanded, answered_as, answered, order_of, fault}
 use Rattle.srcp_core.proofs.Names.{new_lines, fed_to, shut_as, accepted, or_refused, happens, Greeting, Speaks, Chooses, Goes, Refuses}
 use Rattle.srcp_core.proofs.Names.{CoreFault, Refusal, if_two, true, nat_lt, entered, ended, replied, Go, Refused, C500, Obeyed, Ended}
-use Rattle.srcp_core.specs.Under.{effect}
 use Rattle.srcp_core.proofs.Agreement.NumbersAndKeys.{numbered_with}
 use Rattle.srcp_core.proofs.Invariants.PlacesCover.{where_is, Here, Away}
 use Rattle.srcp_core.proofs.CourseLaws.TwinConnections.{Alike, alike_away, alike_both, alike_there}

@@ -4,7 +4,7 @@ use Rattle.srcp_core.proofs.Names.{sym, ◌∙◌, subst, arith, append-nil, len
 use Rattle.srcp_core.proofs.Names.{flat_map-append, fold-append, le-ltb, ltb-false, filter, fold, flat_map, nat_lt, Option, Some, None}
 use Rattle.srcp_core.proofs.Names.{if◌then◌else◌, Change, Bus, opening, concerns, Event, Step, Connection, History, is_open, given_room}
 use Rattle.srcp_core.proofs.Names.{overran, owed, took, waiting, World, fresh, start, numbered, at_connection, did, history_from, history}
-use Rattle.srcp_core.proofs.Names.{rows, happens, course, is_info, entered, brought, IsOverrun, room, slack_of, least, option_or_256}
+use Rattle.srcp_core.proofs.Names.{rows, happens, course, is_info, entered, brought, IsOverrun, room, slack_of, least, changes_left}
 use Rattle.srcp_core.proofs.Names.{le_refl, cond_both, take, take-append-le, take_all}
 use Rattle.srcp_core.specs.Waits.{changes_since, WaitsGrowByChanges, FewChangesCloseNone}
 use Rattle.srcp_core.proofs.CourseLaws.Histories.{concerning_by, concerning_push, concerning_none, cursor_by}
@@ -284,14 +284,14 @@ some_slack_256 : (h : History) (o : Option Connection) (n : ℕ) → slack_by h 
 some_slack_256 h None n e = cc
 some_slack_256 h (Some conn) n e = slack_256 h conn n e
 
-room_256 : (xs : List (Option ℕ)) → ((n : ℕ) → IsIn xs n → n ≤ 256) → option_or_256 (least xs) ≤ 256
+room_256 : (xs : List (Option ℕ)) → ((n : ℕ) → IsIn xs n → n ≤ 256) → changes_left (least xs) ≤ 256
 room_256 xs f = by _ refl
   where
-    by : (o : Option ℕ) → least xs ≡ o → option_or_256 o ≤ 256
+    by : (o : Option ℕ) → least xs ≡ o → changes_left o ≤ 256
     by None e = omega arith
     by (Some n) e = f n (least_in xs n e)
 
-room_most : (o : Option ℕ) (n : ℕ) → AtMost n o → option_or_256 o ≤ n
+room_most : (o : Option ℕ) (n : ℕ) → AtMost n o → changes_left o ≤ n
 room_most None n h = absurd h
 room_most (Some m) n h = h
 

@@ -1,14 +1,15 @@
 -- What holds of every core is kept.
 use Rattle.srcp_core.proofs.Names.{inl, inr, ◌⊎◌, ◌≡◌, ◌≢◌, ℕ, ◌+◌, ◌<◌, ◌≤◌, Bool, true, false, List, [], ◌∷◌, map, refl, ap, sym, ◌∙◌}
-use Rattle.srcp_core.proofs.Names.{subst, arith, ◌==◌, ◌&&◌, ◌||◌, if◌then◌else◌, Option, Some, None, is_some, slice_set, count_by}
+use Rattle.srcp_core.proofs.Names.{subst, arith, ◌==◌, ◌||◌, if◌then◌else◌, Option, Some, None, is_some, slice_set, count_by}
 use Rattle.srcp_core.proofs.Names.{first_key, IsMoment, Change, Bus, IsLayout, session_device, State, Update, IsWhole, opening, updated_all}
-use Rattle.srcp_core.proofs.Names.{is_there, Place, Held, place_at, at, open_count, IsLive, AreSessions, IsSound, IsSessionAt, Mode}
-use Rattle.srcp_core.proofs.Names.{Command, IsCommandOf, due, freed, began, effect, IsKeyOf, is_within, updated, began_kept, due_kept}
+use Rattle.srcp_core.proofs.Names.{is_there, Began, Place, Held, place_at, at, open_count, IsLive, AreSessions, IsSound, IsSessionAt, Mode}
+use Rattle.srcp_core.proofs.Names.{Command, IsCommandOf, due, freed, began, effect, updated, due_kept}
 use Rattle.srcp_core.proofs.Names.{freed_kept, effect_kept, session_row-updated_all, effect_elsewhere, due_elsewhere, freed_others}
-use Rattle.srcp_core.proofs.Names.{row_at-put_same, row_at-put_other, same_key-true, le-leb, eqb-false, pos_of_ne-zero, Panel}
+use Rattle.srcp_core.proofs.Names.{row_at-put_same, row_at-put_other, same_key-true, eqb-false, pos_of_ne-zero, Panel}
 use Rattle.srcp_core.proofs.Names.{Absent, Listening, Overran, changed_at, changed_in, changed_places, carried, told_all, told_each}
 use Rattle.srcp_core.proofs.Names.{freed_of, freed_place, entered_place, session_begun, filled, feed_in, panel_for, Shown, opening_whole}
 use Rattle.srcp_info.specs.declared.value.Value.TheVariants as value
+use Rattle.srcp_rules.proofs.EachStepLaws.{step_whole}
 use Rattle.srcp_core.specs.Machine.{filled_from, live_session_of}
 use Rattle.srcp_core.proofs.Invariants.ChangesOneByOne.{change_in}
 use Rattle.srcp_core.proofs.Invariants.PlacesCover.{IsMild, mild_itself, mild_live, Covers, covers_itself, covers_set, covers_free}
@@ -136,12 +137,6 @@ sound_freed session held now known over s =
 
 -- ---- the beginning of a session
 
-pub session_place : (buses : List Bus) (id : ℕ) → 0 < id → id ≤ 4294967295 → IsKeyOf buses (first_key (session_device id))
-session_place buses id low high =
-    let within : is_within 1 4294967295 id ≡ true = λ i. le-leb 1 id (omega (arith, low)) i && le-leb id 4294967295 high i in
-    let one : 0 < 1 = omega arith in
-    rw within one
-
 own_row : (id moment : ℕ) (mode : Mode) (rows : State) → is_there (session_device id) (updated (began id moment mode) rows) ≡ true
 own_row id moment mode rows =
     cc (row_at-put_same
@@ -216,7 +211,8 @@ sound_begun key id mode held now next high s =
     record {
       moment = s.moment;
       few = omega (arith, s.few, told, count);
-      whole = began_kept held.buses held.moment now id mode held.rows (session_place held.buses id (omega (arith, next)) high) s.whole;
+      whole =
+          step_whole held.buses held.rows (Began id held.moment mode) s.whole (omega (arith, next), high) now;
       sessions =
           sessions_begun held.last_id id key held.rows mid.rows mid.places
           (changed_places key (entered_place id (panel_for mode)) mid.places) next

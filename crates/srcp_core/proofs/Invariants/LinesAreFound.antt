@@ -11,6 +11,7 @@ use Rattle.srcp_text.specs.Reading.{after_lf, extended}
 use Rattle.srcp_text.specs.Feeding.{feed_at, fed_at}
 use Rattle.srcp_text.proofs.ScanLaws.{position_some}
 use Rattle.std.proofs.lemmas.List.{length-drop}
+use Rattle.srcp_info.specs.Limits.{longest_line, longest_short_reply, most_in_piece}
 use Rattle.srcp_core.specs.Handshake.{greets}
 use Rattle.srcp_core.specs.Machine.{heard, line_begun_at, answered, IsAsked, IsLineAnswered}
 use Rattle.srcp_core.proofs.Invariants.PlacesCover.{IsMild, place_set_here, where_is, Here, Away}
@@ -18,7 +19,7 @@ use Rattle.srcp_core.proofs.Invariants.AnswersHaveRoom.{answered_gains}
 
 -- ---- how long an answer is
 
-pub answer_most : (asked : Asked) → longest_answer asked ≤ 126
+pub answer_most : (asked : Asked) → longest_answer asked ≤ longest_line
 answer_most Dropped = omega arith
 answer_most (Greets mode greeting) = omega arith
 answer_most (Commands session (Ok command)) = omega arith
@@ -26,7 +27,8 @@ answer_most (Commands session (Err code)) = omega arith
 
 -- a line that is refused as a command has a short answer however its connection stands
 short : (i z : Bool) (p : Place) (mark : Mark) (code : Code)
-    → longest_answer (if i then Dropped else (if z then Greets p.mode (greets mark) else Commands p.session (Err code))) ≤ 64
+    → longest_answer (if i then Dropped else (if z then Greets p.mode (greets mark) else Commands p.session (Err code)))
+    ≤ longest_short_reply
 short true z p mark code = omega arith
 short false true p mark code = omega arith
 short false false p mark code = omega arith
@@ -40,7 +42,7 @@ pub record IsFound (buses : List Bus) (p new : Place) (piece : List ℕ) (start 
   pub asks : asked ≡ asked_of buses new mark
   pub unsent : new.unsent ≡ p.unsent
   pub begun : new.reader.begun ≡ Some []
-  pub few : p.reader.begun ≡ Some [] → longest_answer asked ≤ 64 * (stop - start)
+  pub few : p.reader.begun ≡ Some [] → longest_answer asked ≤ longest_short_reply * (stop - start)
 
 -- what is the same of two that are the same
 record AreSame (stop s : ℕ) (asked a : Asked) (new n : Place) : Type 0 where
@@ -65,7 +67,7 @@ module _ (buses : List Bus) (p new : Place) (piece : List ℕ) (start stop : ℕ
   found e = by _ refl e
     where
       found_as : (mark : Mark) (reader : Reading) (len : ℕ) → len < length (drop start piece) → reader.begun ≡ Some []
-          → (p.reader.begun ≡ Some [] → longest_answer (asked_of buses p mark) ≤ 64 * suc len)
+          → (p.reader.begun ≡ Some [] → longest_answer (asked_of buses p mark) ≤ longest_short_reply * suc len)
           → AreSame stop (start + len + 1) asked (asked_of buses p mark) new (record p { reader = reader })
           → IsFound buses p new piece start stop asked
       found_as mark reader len low none most same =
@@ -90,7 +92,7 @@ module _ (buses : List Bus) (p new : Place) (piece : List ℕ) (start stop : ℕ
           → IsFound buses p new piece start stop asked
       ends len low None w e =
           found_as TooLong nothing_read len low refl
-          (λ h. let s : longest_answer (asked_of buses p TooLong) ≤ 64 = short _ _ p TooLong _ in omega (arith, s))
+          (λ h. let s : longest_answer (asked_of buses p TooLong) ≤ longest_short_reply = short _ _ p TooLong _ in omega (arith, s))
           (are_same stop _ asked _ new _ e)
       ends len low (Some bytes) w e =
           found_as (Line (without_cr bytes)) (after_lf (Some bytes)) len low refl (size_of len w)
@@ -98,11 +100,11 @@ module _ (buses : List Bus) (p new : Place) (piece : List ℕ) (start stop : ℕ
           (record p { reader = after_lf (Some bytes) }) e)
         where
           size_of : (len : ℕ) → extended p.reader.begun (take len (drop start piece)) ≡ Some bytes → p.reader.begun ≡ Some []
-              → longest_answer (asked_of buses p (Line (without_cr bytes))) ≤ 64 * suc len
+              → longest_answer (asked_of buses p (Line (without_cr bytes))) ≤ longest_short_reply * suc len
           size_of zero w h =
               let none : Some [] ≡ Some bytes = cc in
               let empty : [] ≡ bytes = cc in
-              let s : longest_answer (asked_of buses p (Line [])) ≤ 64 = short _ _ p (Line []) _ in
+              let s : longest_answer (asked_of buses p (Line [])) ≤ longest_short_reply = short _ _ p (Line []) _ in
               rw (← empty) (omega (arith, s))
           size_of (suc len) w h = let m = answer_most (asked_of buses p (Line (without_cr bytes))) in omega (arith, m)
 
@@ -153,7 +155,7 @@ pub record IsLineFound (key : ℕ) (piece : List ℕ) (start stop : ℕ) (asked 
   pub asks : asked ≡ asked_of new.buses place mark
   pub unsent : unsent_at key new ≡ unsent_at key old
   pub begun : line_begun_at key new ≡ Some []
-  pub few : line_begun_at key old ≡ Some [] → longest_answer asked ≤ 64 * (stop - start)
+  pub few : line_begun_at key old ≡ Some [] → longest_answer asked ≤ longest_short_reply * (stop - start)
 
 pub line_found : (key : ℕ) (piece : List ℕ) (start stop : ℕ) (asked : Asked) (old new : Held)
     → ◌≡◌ {A = Option (ℕ × Asked) × Held} (Some (stop, asked), new) (heard_at key piece start old)
@@ -210,7 +212,8 @@ nothing_begun key piece held idle =
 module _ (key : ℕ) (piece : List ℕ) (start stop : ℕ) (asked : Asked) (held mid : Held)
     (e : ◌≡◌ {A = Option (ℕ × Asked) × Held} (Some (stop, asked), mid) (heard_at key piece start held)) where
   -- the line has room for its answer
-  pub line_room : length piece ≤ 256 → HasRoom key piece start held → length (unsent_at key mid) + longest_answer asked ≤ 16640
+  pub line_room : length piece ≤ most_in_piece → HasRoom key piece start held
+      → length (unsent_at key mid) + longest_answer asked ≤ 16640
   line_room few t =
       let f = line_found key piece start stop asked held mid e in
       let same = ap (λ (bs : List ℕ). length bs) f.unsent in

@@ -1,7 +1,7 @@
 -- Which connections have an information session, and what keeps that as it is.
 use Rattle.srcp_core.proofs.Names.{◌≡◌, ◌≤◌, ℕ, zero, suc, ◌+◌, List, [], ◌∷◌, map, length, refl, ◌∙◌, true≢false, arith, length-map}
 use Rattle.srcp_core.proofs.Names.{if◌then◌else◌, Option, Some, None, slice_set, count_by, is_some, Slab, Change, Place, place_at, is_panel}
-use Rattle.srcp_core.proofs.Names.{panel_keys, slack_in, slack_at, told_all, told_each, least, lesser, option_or_256, Panel, Absent}
+use Rattle.srcp_core.proofs.Names.{panel_keys, slack_in, slack_at, told_all, told_each, least, lesser, changes_left, Panel, Absent}
 use Rattle.srcp_core.proofs.Names.{Listening, Overran, option_map_or}
 use Rattle.std.specs.Prelude.{Bool, true, false}
 use Rattle.slab.specs.Slab.{get, Updates}
@@ -21,17 +21,17 @@ unlisted : (keys : List ℕ) → map suc keys ≡ [] → keys ≡ []
 unlisted [] none = refl
 unlisted (key ∷ keys) none = cc
 
-lesser_some : (n : ℕ) (other : Option ℕ) → lesser (Some n) other ≡ Some (option_or_256 (lesser (Some n) other))
+lesser_some : (n : ℕ) (other : Option ℕ) → lesser (Some n) other ≡ Some (changes_left (lesser (Some n) other))
 lesser_some n None = refl
 lesser_some n (Some m) = refl
 
 -- no panel can queue more than 256
-pub slack_most : (places : List (Option Place)) → option_or_256 (least (map slack_at places)) ≤ 256
+pub slack_most : (places : List (Option Place)) → changes_left (least (map slack_at places)) ≤ 256
 slack_most [] = omega arith
 slack_most (None ∷ places) = slack_most places
 slack_most (Some place ∷ places) = by place.panel (least (map slack_at places)) (slack_most places)
   where
-    by : (panel : Panel) (rest : Option ℕ) → option_or_256 rest ≤ 256 → option_or_256 (lesser (slack_in panel) rest) ≤ 256
+    by : (panel : Panel) (rest : Option ℕ) → changes_left rest ≤ 256 → changes_left (lesser (slack_in panel) rest) ≤ 256
     by Absent rest most = most
     by (Listening feed) None most = omega arith
     by (Listening feed) (Some n) most = omega (arith, most)
@@ -51,15 +51,15 @@ no_slack (Some place ∷ places) none = by _ refl none (no_slack places)
 
 -- with one there is
 pub some_slack : (places : List (Option Place)) → (panel_keys places ≡ [] → ⊥)
-    → least (map slack_at places) ≡ Some (option_or_256 (least (map slack_at places)))
+    → least (map slack_at places) ≡ Some (changes_left (least (map slack_at places)))
 some_slack [] some = absurd (some refl)
 some_slack (None ∷ places) some = some_slack places (λ none. some (cc))
 some_slack (Some place ∷ places) some = by _ refl (some_slack places)
   where
     by : (panel : Panel) → place.panel ≡ panel
-        → ((panel_keys places ≡ [] → ⊥) → least (map slack_at places) ≡ Some (option_or_256 (least (map slack_at places))))
+        → ((panel_keys places ≡ [] → ⊥) → least (map slack_at places) ≡ Some (changes_left (least (map slack_at places))))
         → lesser (slack_in panel) (least (map slack_at places))
-        ≡ Some (option_or_256 (lesser (slack_in panel) (least (map slack_at places))))
+        ≡ Some (changes_left (lesser (slack_in panel) (least (map slack_at places))))
     by Absent e rest = rest (λ none. some (cc))
     by (Listening feed) e rest = lesser_some _ _
     by Overran e rest = lesser_some _ _

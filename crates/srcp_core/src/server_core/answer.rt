@@ -8,8 +8,9 @@ ghost use Rattle.srcp_grammar.specs.Command.{IsCommandOf};
 ghost use Rattle.srcp_rules.specs.Effect.{effect};
 ghost use Rattle.srcp_grammar.specs.Devices.{session_device};
 ghost use Rattle.srcp_rules.specs.State.{is_there};
+ghost use Rattle.srcp_rules.specs.Steps.{wants_memory};
 ghost use Rattle.srcp_core.specs.Held.{IsSessionAt, IsSound};
-ghost use Rattle.srcp_core.specs.Under.{denied_by, wants_memory};
+ghost use Rattle.srcp_core.specs.Under.{denied_by};
 ghost use Rattle.srcp_core.specs.Machine.{changed_at, unsent_at, one_denied, replied, denied_line, session_begun, goes};
 ghost use Rattle.srcp_core.specs.Machine.{greeted, carried, freed_of, answered, commanded, longest, longest_answer};
 ghost use Rattle.srcp_core.specs.Machine.{steps_answered, steps_gone, steps_greeted, steps_commanded, steps_in};
@@ -19,10 +20,10 @@ use super::Core;
 use super::walk::{free_all, panel_keys, tell_all, tell_each};
 use crate::connection::Panel;
 use crate::handshake::Greeting;
-use crate::limits::{LAST_ID, MOST_UNSENT};
+use crate::limits::MOST_UNSENT;
 use crate::line::{Asked, LineRecord};
 use crate::record::Step;
-use srcp_info::{Code, LONGEST_LINE, LONGEST_SHORT_REPLY, Mode, Reply};
+use srcp_info::{Code, GREATEST_ID, LONGEST_LINE, LONGEST_SHORT_REPLY, Mode, Reply};
 use srcp_rules::{Command, Memory, Rows, begin_session, obey_into};
 
 impl<'a, R: Rows> Core<'a, R> {
@@ -80,7 +81,7 @@ impl<'a, R: Rows> Core<'a, R> {
         ensures steps { steps_in result ≡ steps_gone result.granted mode self.old }
         ensures counted { self.new.denied ≡ denied_by self.old.denied (result.granted ∷ []) }
     {
-        if self.last_id >= LAST_ID {
+        if self.last_id >= GREATEST_ID {
             self.reply(conn, &Reply::Refused(Code::OUT_OF_RESOURCES));
             return LineRecord::nothing();
         }

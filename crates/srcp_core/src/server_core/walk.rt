@@ -6,14 +6,14 @@ ghost use Rattle.srcp_info.specs.WellFormed.{IsWellFormed};
 ghost use Rattle.srcp_rules.specs.Due.{due, freed};
 ghost use Rattle.srcp_rules.specs.State.{IsWhole, updated_all};
 ghost use Rattle.srcp_core.specs.Machine.{panel_keys, slack_at, told_all, told_each};
-ghost use Rattle.srcp_core.specs.Waits.{least, option_or_256};
+ghost use Rattle.srcp_core.specs.Waits.{least, changes_left};
 
 use crate::connection::Connection;
 use crate::limits::MOST_CONNECTIONS;
 use arrayvec::ArrayVec;
 use slab::Slab;
-use srcp_feed::{ChangeLine, MOST_WAITING};
-use srcp_info::{Change, Cursor};
+use srcp_feed::ChangeLine;
+use srcp_info::{Change, Cursor, MOST_WAITING};
 use srcp_rules::{Rows, due_next, free_next};
 
 /// Holds the keys of the connections with an information session.
@@ -35,7 +35,7 @@ pub(crate) fn panel_keys(connections: &Slab<Connection>) -> PanelKeys
 
 /// Returns how many more changes each information session can queue, or `MOST_WAITING` if there is none.
 pub(crate) fn least_slack(connections: &Slab<Connection>) -> usize
-    ensures { result ≡ option_or_256 (least (map slack_at connections.now.slots)) }
+    ensures { result ≡ changes_left (least (map slack_at connections.now.slots)) }
 {
     let mut least = MOST_WAITING;
     for (_, connection) in connections.iter() {

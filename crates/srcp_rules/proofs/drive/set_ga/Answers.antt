@@ -5,8 +5,8 @@ use Rattle.srcp_rules.specs.Effect.{row_of_port}
 use Rattle.srcp_rules.proofs.ObeyLaws.{ga_row, is_not, none_applies, refused_done}
 use Rattle.srcp_rules.proofs.drive.set_ga.Goals as goal
 
-pub set_one-requires : goal.set_one-requires
-set_one-requires g c =
+pub replace_row-requires : goal.replace_row-requires
+replace_row-requires g c =
     let buses = g.R.Rows.buses c.args.rows.now in
     let state = g.R.Rows.state c.args.rows.now in
     let switch = c.args.switch.now in

@@ -12,8 +12,8 @@ returns-in-Err-clause-took g c =
     c.in-Err.code c.in-Err.ensures.refusal) (record { told = c.refuse.ensures; rows = refl })
 
 -- the locomotive is there, and no more functions are given than it has
-pub set_one-requires : goal.set_one-requires
-set_one-requires g c =
+pub replace_row-requires : goal.replace_row-requires
+replace_row-requires g c =
     let buses = g.R.Rows.buses c.args.rows.now in
     let state = g.R.Rows.state c.args.rows.now in
     let drive = c.args.drive.now in

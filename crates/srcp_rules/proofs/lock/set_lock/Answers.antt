@@ -7,8 +7,8 @@ use Rattle.srcp_rules.proofs.AddsNoRowLaws.{one_lock}
 use Rattle.srcp_rules.proofs.ObeyLaws.{lock_row, refused_done}
 use Rattle.srcp_rules.proofs.lock.set_lock.Goals as goal
 
-pub set_one-requires-clause-fits : goal.set_one-requires-clause-fits
-set_one-requires-clause-fits g c =
+pub replace_row-requires-clause-fits : goal.replace_row-requires-clause-fits
+replace_row-requires-clause-fits g c =
     rw (c.first_key.ensures, c.lock_at-device.ensures, c.lock_end-due.ensures)
     (lock_row (g.R.Rows.buses c.args.rows.now) (g.R.Rows.state c.args.rows.now)
     c.args.sender.session c.args.sender.moment c.args.sender.fits c.args.lock c.requires.may)

@@ -3,7 +3,7 @@ use Rattle.std.specs.Prelude.{option_and_then, unwrap_or}
 use Rattle.std.specs.Str.Parse.{ParsesUnsigned, ExplainsUnsignedError, HasUnsignedDigitsIfOk}
 use Rattle.clap.specs.Words.{found_of, one_text}
 use Rattle.clap.proofs.WalkLemmas.{one_text-rows}
-use Rattle.srcp_script.specs.Script.{greatest_u64}
+use Rattle.srcp_info.specs.Limits.{greatest_u64}
 use Rattle.srcp_tool.specs.Arguments.{turns_of}
 use Rattle.srcp_tool.proofs.ArgumentLaws.{turns_of-given}
 use Rattle.srcp_tool.proofs.arguments.turns_in.Goals as goal

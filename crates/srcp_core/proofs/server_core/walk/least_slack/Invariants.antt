@@ -1,4 +1,4 @@
-use Rattle.srcp_core.proofs.Names.{◌≡◌, ◌≤◌, min, slack_at, slack_in, least, option_or_256}
+use Rattle.srcp_core.proofs.Names.{◌≡◌, ◌≤◌, min, slack_at, slack_in, least, changes_left}
 use Rattle.std.specs.Prelude.{map}
 use Rattle.srcp_core.proofs.server_core.walk.least_slack.Given as goal
 
@@ -8,5 +8,5 @@ invariant-loop-connection l =
     goal.iterator-loop-connection.can_next l.connection-iterator ×
     goal.iterator-loop-connection.is_finite l.connection-iterator ×
     (l.least ≤ 256) ×
-    (min l.least (option_or_256 (least (map (λ entry. slack_in entry.1.panel) l.connection-iterator)))
-    ≡ option_or_256 (least (map slack_at l.connections.slots)))
+    (min l.least (changes_left (least (map (λ entry. slack_in entry.1.panel) l.connection-iterator)))
+    ≡ changes_left (least (map slack_at l.connections.slots)))

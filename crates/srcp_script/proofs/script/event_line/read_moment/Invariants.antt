@@ -1,6 +1,6 @@
 use Rattle.std.proofs.Common.{◌≡◌, length}
 use Rattle.srcp_text.specs.Words.{number_of}
-use Rattle.srcp_script.specs.Script.{greatest_u64}
+use Rattle.srcp_info.specs.Limits.{greatest_u64}
 use Rattle.srcp_script.proofs.script.event_line.read_moment.Given as goal
 
 abbrev pub invariant-loop-digits : goal.invariant-loop-digits
