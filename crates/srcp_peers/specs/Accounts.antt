@@ -2,12 +2,14 @@
 use Rattle.std.specs.Prelude.{ℕ, ◌+◌, ◌-◌, ◌==◌, ◌&&◌, ◌||◌, nat_le, nat_lt, Bool, true, false, not, cond}
 use Rattle.std.specs.Prelude.{if◌then◌else◌, List, [], ◌++◌, length, take, fold, Option, Some, None, Result, Ok, Err}
 use Rattle.std.specs.declared.io.ErrorKind.{ErrorKind}
+use Rattle.srcp_info.specs.Limits.{most_in_piece}
 use Rattle.srcp_peers.specs.declared.system.Ready.{Ready}
 use Rattle.srcp_peers.specs.declared.system.IoFailure.{IoFailure}
 use Rattle.srcp_peers.specs.declared.system.IoFailure.TheVariants.{WouldBlock, Interrupted, Fatal}
 use Rattle.srcp_peers.specs.Steps.{Step, Accepts, Clocks, Closes, Reads, Shuts, Writes, Waits, Answers, failure_of}
 use Rattle.srcp_door.specs.Calls.{Call, ExpectCall, NowCall, AcceptCall, ReadCall, WriteCall, CloseCall}
 use Rattle.srcp_door.specs.declared.door.Got.TheVariants as got
+use Rattle.srcp_peers.specs.Limits.{linger, most_outgoing, retry_delay}
 
 -- what was sent to it
 pub record Sent : Type 0 where
@@ -65,7 +67,7 @@ is_owed sent = nat_lt (length sent.took) (length sent.written)
 
 -- as much is queued as may be
 abbrev pub is_full : Sent → Bool
-is_full sent = length sent.took + 40960 == length sent.written
+is_full sent = length sent.took + most_outgoing == length sent.written
 
 -- something came of it that was not handed out
 abbrev pub is_held : Received → Bool
@@ -91,10 +93,10 @@ may_end a = a.received.ended && (not (is_held a.received) && not (is_owed a.sent
 abbrev pub may_fail : Account → Bool
 may_fail a = not a.watched || (a.received.failed || a.sent.lost)
 
--- a wait that ends by itself, and soon: in 8 milliseconds
+-- a wait that ends by itself, and soon
 abbrev pub is_short_wait : Option ℕ → Bool
 is_short_wait None = false
-is_short_wait (Some most) = nat_lt most 9
+is_short_wait (Some most) = nat_le most retry_delay
 
 -- ---- when it may be shut down and closed
 
@@ -104,7 +106,7 @@ is_lingering a = not a.watched && a.lingering.kept
 
 -- a peer that the core closed then lingers no longer now
 abbrev pub is_overdue : (clock since : ℕ) → Bool
-is_overdue clock since = nat_le 10000 (clock - since)
+is_overdue clock since = nat_le linger (clock - since)
 
 -- once: all that was taken for it was taken by the socket
 abbrev pub may_shut : Account → Bool
@@ -170,7 +172,7 @@ waited socket a most = record a {
 -- a read may find something, and less than a piece is held
 abbrev pub is_wanted : Received → Bool
 is_wanted received = (not received.quiet && (not received.ended && not received.failed))
-    && nat_lt (length received.gave) (length received.handed + 256)
+    && nat_lt (length received.gave) (length received.handed + most_in_piece)
 
 -- a wait is over
 abbrev pub noted : Account → Account
@@ -190,8 +192,7 @@ accepted a (Err fault) = a
 -- what the listener said
 abbrev pub heard_refusal : Received → IoFailure → Received
 heard_refusal received WouldBlock = record received { quiet = true }
-heard_refusal received Interrupted = received
-heard_refusal received Fatal = received
+heard_refusal received other = received
 
 abbrev pub heard : Received → Result Unit ErrorKind → Received
 heard received (Ok done) = received
@@ -228,7 +229,6 @@ answered_step socket a (ReadCall who (Ok (got.Bytes count)) buffer) =
     } else a
 answered_step socket a (ReadCall who (Ok got.Ended) buffer) = if who == socket
     then record a { honest = a.honest && may_end a } else a
-answered_step socket a (ReadCall who (Ok got.Nothing) buffer) = a
 answered_step socket a (ReadCall who (Err fault) buffer) = if who == socket
     then record a { honest = a.honest && may_fail a } else a
 answered_step socket a (WriteCall who bytes (Ok count)) =
@@ -238,9 +238,8 @@ answered_step socket a (WriteCall who bytes (Ok count)) =
 answered_step socket a (WriteCall who bytes (Err fault)) = if who == socket
     then record a { honest = a.honest && not a.watched } else a
 answered_step socket a (CloseCall who answer) = if who == socket then left_by_core a else a
-answered_step socket a (ExpectCall due slack) = a
 answered_step socket a (NowCall answer) = record a { served = a.served && not (a.watched && a.unread) }
-answered_step socket a (AcceptCall answer) = a
+answered_step socket a other = a
 
 abbrev pub account_step : ℕ → Account → Step → Account
 account_step socket a (Accepts number answer) =

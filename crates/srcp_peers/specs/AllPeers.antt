@@ -1,5 +1,6 @@
 -- What holds of all peers of a door.
 use Rattle.std.specs.Prelude.{◌≡◌, ◌≢◌, ℕ, ◌<◌, ◌≤◌, ◌||◌, Bool, List, length, slice_index_or, Option, cond}
+use Rattle.srcp_info.specs.Limits.{most_in_piece}
 use Rattle.srcp_peers.specs.declared.peer.Peer.{Peer}
 use Rattle.srcp_peers.specs.Steps.{Step}
 use Rattle.srcp_peers.specs.declared.readiness.Flush.{Flush}
@@ -32,7 +33,7 @@ AreThose old new = (k : ℕ) (d : Peer) → k < length old → (slice_index_or n
 -- the share of each is a whole piece with `anew`, or if it is silent; and else what was left of it
 abbrev pub AreShared : (anew : Bool) (clock : ℕ) → (old new : List Peer) → Type 0
 AreShared anew clock old new = (k : ℕ) (d : Peer) → k < length old → (slice_index_or new k d).share.rest
-    ≡ cond (anew || is_silent clock (slice_index_or old k d)) 256 (slice_index_or old k d).share.rest
+    ≡ cond (anew || is_silent clock (slice_index_or old k d)) most_in_piece (slice_index_or old k d).share.rest
 
 -- a turn that flushes `what` offers the socket of each what is queued for it, if that is flushed
 abbrev pub AreOffered : Flush → List Peer → (old new : Option (List Step)) → Type 0

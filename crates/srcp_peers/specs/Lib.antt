@@ -1,6 +1,7 @@
 pub mod Accounts
 pub mod AllPeers
 pub mod Ends
+pub mod Limits
 pub mod Listeners
 pub mod Peers
 pub mod Reports

@@ -5,6 +5,7 @@ use Rattle.std.specs.Prelude.{cond, Option, Some}
 use Rattle.std.specs.Prelude.{Result, Ok, Err}
 use Rattle.std.specs.Io.{StartsWith}
 use Rattle.std.specs.declared.io.ErrorKind.{ErrorKind}
+use Rattle.srcp_info.specs.Limits.{most_in_piece}
 use Rattle.srcp_peers.specs.declared.system.Ready.{Ready}
 use Rattle.srcp_peers.specs.declared.system.IoFailure.{IoFailure}
 use Rattle.srcp_peers.specs.declared.system.IoFailure.TheVariants.{WouldBlock, Interrupted, Fatal}
@@ -22,6 +23,7 @@ use Rattle.srcp_peers.specs.declared.ending.Ending.TheVariants as ending
 use Rattle.srcp_door.specs.declared.pacing.LineBoundary.TheVariants as boundary
 use Rattle.srcp_peers.specs.Steps.{Step, Reads, Tells, Writes, failure_of}
 use Rattle.srcp_peers.specs.Accounts.{Account, Lingering, Sent, Received, account, is_overdue}
+use Rattle.srcp_peers.specs.Limits.{most_drained, most_outgoing, silence}
 
 -- what a state of the input means, if `incoming` is held of it
 abbrev pub ReadsAs : Received → List ℕ → Input → Type 0
@@ -59,13 +61,11 @@ StaysAs watched lingering outgoing (stay.Shut since) = (watched ≡ false) × (l
 abbrev pub may_have : Input → Bool
 may_have input.Ready = true
 may_have input.Draining = true
-may_have input.Quiet = false
-may_have input.Ended = false
-may_have input.Failed = false
+may_have other = false
 
 -- it is read in the next visit: less than a piece is held
 abbrev pub is_wanting : Input → List ℕ → Bool
-is_wanting state incoming = may_have state && nat_lt (length incoming) 256
+is_wanting state incoming = may_have state && nat_lt (length incoming) most_in_piece
 
 -- a peer is what its account says
 pub record Agrees (a : Account) (p : Peer) : Type 0 where
@@ -118,15 +118,13 @@ output_after count all = if count == 0 then output.Lost else if nat_lt count all
 
 -- more is queued, unless the socket takes no more
 abbrev pub queued_more : Output → List ℕ → List ℕ → List ℕ
-queued_more output.Open outgoing bytes = outgoing ++ bytes
-queued_more output.Full outgoing bytes = outgoing ++ bytes
 queued_more output.Lost outgoing bytes = outgoing
+queued_more state outgoing bytes = outgoing ++ bytes
 
 -- how many lines may still be queued while the socket takes no more: each takes one
 abbrev pub room_after : Output → (room : ℕ) → ℕ
-room_after output.Open room = room
 room_after output.Full room = room - 1
-room_after output.Lost room = room
+room_after state room = room
 
 -- how many of as many bytes as that are queued, if `fitting` of them have space: none without room for a line while the
 -- socket takes no more; what is written to a lost peer goes nowhere
@@ -136,16 +134,12 @@ enqueued_as output.Full room fitting all = if nat_lt 0 room then fitting else 0
 enqueued_as output.Lost room fitting all = all
 
 abbrev pub enqueued : Peer → (bytes : List ℕ) → ℕ
-enqueued p bytes = enqueued_as p.output p.room (min (length bytes) (40960 - length p.outgoing)) (length bytes)
+enqueued p bytes = enqueued_as p.output p.room (min (length bytes) (most_outgoing - length p.outgoing)) (length bytes)
 
 -- a read that gave `count` bytes, if there was room for `room`
 abbrev pub given_some : Input → Bool → Input
 given_some input.Ready true = input.Quiet
-given_some input.Ready false = input.Ready
-given_some input.Draining left = input.Draining
-given_some input.Quiet left = input.Quiet
-given_some input.Ended left = input.Ended
-given_some input.Failed left = input.Failed
+given_some state left = state
 
 abbrev pub given : Input → ℕ → ℕ → Input
 given state count room = if count == 0 then input.Ended else given_some state (nat_lt count room)
@@ -185,15 +179,12 @@ Offers p new trace_old trace_new = (answer : Result ℕ ErrorKind)
 -- its socket was found ready
 abbrev pub woken_input : Input → (readable closed : Bool) → Input
 woken_input input.Ready readable closed = cond closed input.Draining input.Ready
-woken_input input.Draining readable closed = input.Draining
 woken_input input.Quiet readable closed = cond closed input.Draining (cond readable input.Ready input.Quiet)
-woken_input input.Ended readable closed = input.Ended
-woken_input input.Failed readable closed = input.Failed
+woken_input state readable closed = state
 
 abbrev pub woken_output : Output → Bool → Output
-woken_output output.Open writable = output.Open
 woken_output output.Full writable = cond writable output.Open output.Full
-woken_output output.Lost writable = output.Lost
+woken_output state writable = state
 
 abbrev pub after_wake : Peer → Ready → Peer
 after_wake p ready = if ready.socket == p.number then record p {
@@ -203,22 +194,19 @@ after_wake p ready = if ready.socket == p.number then record p {
 
 -- its socket takes no more
 abbrev pub is_lost : Output → Bool
-is_lost output.Open = false
-is_lost output.Full = false
 is_lost output.Lost = true
+is_lost other = false
 
 -- ---- what a turn does with a peer
 
 abbrev pub flushes_all : Flush → Bool
 flushes_all flush.Answers = false
-flushes_all flush.All = true
-flushes_all flush.Again = true
+flushes_all other = true
 
 -- sockets that refused more are tried, though they were not found ready
 abbrev pub tries_again : Flush → Bool
-tries_again flush.Answers = false
-tries_again flush.All = false
 tries_again flush.Again = true
+tries_again other = false
 
 -- what is queued is flushed: an answer, unless input of the peer is held that the core takes; and much
 abbrev pub is_due : Flush → Peer → Bool
@@ -228,15 +216,13 @@ is_due what p = flushes_all what
 -- what is flushed of a peer that stays so, in a turn that flushes `what`: all, if it lingers
 abbrev pub flush_of : Flush → Stay → Flush
 flush_of what stay.Here = what
-flush_of what (stay.Draining since) = flush.All
-flush_of what (stay.Shut since) = flush.All
+flush_of what other = flush.All
 
 -- how it stays behind that, if `outgoing` is still queued: it is shut down once its socket took all, if it lingers
 abbrev pub stay_after : Stay → (outgoing : List ℕ) → Output → Stay
-stay_after stay.Here outgoing state = stay.Here
 stay_after (stay.Draining since) outgoing state =
     cond ((length outgoing == 0) && not (is_lost state)) (stay.Shut since) (stay.Draining since)
-stay_after (stay.Shut since) outgoing state = stay.Shut since
+stay_after other outgoing state = other
 
 -- something is queued for it that is flushed, and its socket may take it
 abbrev pub IsFlushed : Flush → Peer → Type 0
@@ -250,22 +236,20 @@ OffersDue what p old new = IsFlushed (flush_of what p.stay) p → IsOffered p.nu
 -- it is there
 abbrev pub is_here : Stay → Bool
 is_here stay.Here = true
-is_here (stay.Draining since) = false
-is_here (stay.Shut since) = false
+is_here other = false
 
 -- it lingers, and is owed nothing
 abbrev pub is_shut : Stay → Bool
-is_shut stay.Here = false
-is_shut (stay.Draining since) = false
 is_shut (stay.Shut since) = true
+is_shut other = false
 
 -- input of it is held that the core takes
 abbrev pub holds_input : Peer → Bool
 holds_input p = is_here p.stay && (not p.backpressured && not (length p.incoming == 0))
 
--- nothing of it was handed out for 50 milliseconds when the clock shows this
+-- nothing of it was handed out for some time when the clock shows this
 abbrev pub is_silent : (clock : ℕ) → Peer → Bool
-is_silent clock p = nat_le 50 (clock - p.heard)
+is_silent clock p = nat_le silence (clock - p.heard)
 
 -- its lines go before those of peers that are not silent
 abbrev pub goes_first : (clock : ℕ) → Peer → Bool
@@ -277,11 +261,8 @@ is_waiting p = not (length p.outgoing == 0) && not (is_lost p.output)
 
 -- its input is over, and none of it held
 abbrev pub is_over : List ℕ → Input → Bool
-is_over incoming input.Ready = false
-is_over incoming input.Draining = false
-is_over incoming input.Quiet = false
 is_over incoming input.Ended = length incoming == 0
-is_over incoming input.Failed = false
+is_over incoming other = false
 
 -- its end may be reported: its input is over and was handed out, a visit had no more for it, and its socket took all
 abbrev pub MayEnd : Peer → Type 0
@@ -302,16 +283,15 @@ rests_writing outgoing output.Lost = false
 
 -- no input of it is held or may come unless its socket is ready, and its end is not to be reported
 abbrev pub rests_reading : List ℕ → Input → Bool
-rests_reading outgoing input.Ready = false
-rests_reading outgoing input.Draining = false
 rests_reading outgoing input.Quiet = true
 rests_reading outgoing input.Ended = not (length outgoing == 0)
-rests_reading outgoing input.Failed = false
+rests_reading outgoing other = false
 
 -- nothing is to be done for it
 abbrev pub has_rest : Peer → Bool
 has_rest p = rests_writing p.outgoing p.output
-    && cond p.backpressured (length p.outgoing == 40960) ((length p.incoming == 0) && rests_reading p.outgoing p.input)
+    && cond p.backpressured (length p.outgoing == most_outgoing)
+    ((length p.incoming == 0) && rests_reading p.outgoing p.input)
 
 -- it is there, and may be waited for
 abbrev pub is_resting : Peer → Bool
@@ -334,11 +314,9 @@ is_closable clock p = closable_as clock p.output p.stay
 
 -- no read finds anything any more
 abbrev pub has_ended : Input → Bool
-has_ended input.Ready = false
-has_ended input.Draining = false
-has_ended input.Quiet = false
 has_ended input.Ended = true
 has_ended input.Failed = true
+has_ended other = false
 
 abbrev pub gone_as : (clock : ℕ) → Input → Output → Stay → Bool
 gone_as clock came state stay.Here = false
@@ -349,9 +327,13 @@ gone_as clock came state (stay.Shut since) = is_lost state || (has_ended came ||
 abbrev pub is_gone : (clock : ℕ) → Peer → Bool
 is_gone clock p = gone_as clock p.input p.output p.stay
 
--- how often the socket of each that lingers is read in a turn: they share 64 reads, but each has one
+-- how often the socket of each that lingers is read in a turn: they share some reads, but each has one
 abbrev pub reads_each : List Peer → ℕ
-reads_each peers = max (64 / max (length (filter (λ peer. not (is_here peer.stay)) peers)) 1) 1
+reads_each peers = max (most_drained / max (length (filter (λ peer. not (is_here peer.stay)) peers)) 1) 1
+
+-- how many calls of the system a flush makes for it at most, if one that lingers is read so often
+abbrev pub calls_in : (reads : ℕ) → Peer → ℕ
+calls_in reads p = cond (is_here p.stay) 1 (max 2 reads)
 
 -- one that was shut down is drained: its socket was read until nothing came, or as often as that
 abbrev pub IsDrained : (reads : ℕ) (old new : Peer) → (trace_old trace_new : Option (List Step)) → Type 0

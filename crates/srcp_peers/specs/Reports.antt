@@ -1,6 +1,7 @@
 -- What a read of a peer answers.
 use Rattle.std.specs.Prelude.{◌≡◌, ◌≢◌, ℕ, ◌==◌, ◌&&◌, ◌||◌, Bool, true, false, cond, List, [], length, min, take}
 use Rattle.std.specs.Prelude.{Result, Ok, Err}
+use Rattle.srcp_info.specs.Limits.{most_in_piece}
 use Rattle.srcp_door.specs.Pacing.{Allows, keeps_back}
 use Rattle.srcp_door.specs.declared.door.DoorFault.{DoorFault}
 use Rattle.srcp_door.specs.declared.door.DoorFault.TheVariants as fault
@@ -19,17 +20,13 @@ use Rattle.srcp_peers.specs.Turns.{own_pace, reports_end}
 
 -- a read of its socket failed
 abbrev pub has_failed : Input → Bool
-has_failed input.Ready = false
-has_failed input.Draining = false
-has_failed input.Quiet = false
-has_failed input.Ended = false
 has_failed input.Failed = true
+has_failed other = false
 
 -- a whole visit behind the end of its input had no more for it
 abbrev pub is_settled : Ending → Bool
-is_settled ending.Open = false
-is_settled (ending.Settling writes) = false
 is_settled ending.Settled = true
+is_settled other = false
 
 -- it is lost: a read or a write of its socket failed
 abbrev pub is_failed : Peer → Bool
@@ -48,7 +45,7 @@ end_in turn p = cond turn.may_report_end
 
 -- the piece of it that a buffer of `room` bytes takes
 abbrev pub piece_of : Peer → (room : ℕ) → List ℕ
-piece_of p room = take (min 256 room) p.incoming
+piece_of p room = take (min most_in_piece room) p.incoming
 
 -- ---- the answer
 

@@ -1,5 +1,5 @@
 -- What the system was asked and answered, and what the door answered between it.
-use Rattle.std.specs.Prelude.{◌≡◌, ℕ, List, [], ◌∷◌, ◌++◌, filter_map, Option, Some, None, Result}
+use Rattle.std.specs.Prelude.{◌≡◌, ◌≤◌, ◌+◌, ℕ, List, [], ◌∷◌, ◌++◌, length, filter_map, Option, Some, None, Result}
 use Rattle.std.specs.declared.io.ErrorKind.{ErrorKind}
 use Rattle.std.specs.declared.io.ErrorKind.TheVariants as kind
 use Rattle.srcp_peers.specs.declared.system.Ready.{Ready}
@@ -49,6 +49,11 @@ SaysNothing old new = (later : List Step) → new ≡ Some later
 abbrev pub SaysOne : Option (List Step) → Call → Option (List Step) → Type 0
 SaysOne old call new = (later : List Step) → new ≡ Some later
     → (log : List Step) × (old ≡ Some log) × (calls later ≡ calls log ++ call ∷ [])
+
+-- no more steps came than that
+abbrev pub GrowsBy : (most : ℕ) → Option (List Step) → Option (List Step) → Type 0
+GrowsBy most old new = (later : List Step) → new ≡ Some later
+    → (log : List Step) × (old ≡ Some log) × (length later ≤ length log + most)
 
 -- what a call of the system that failed says of a socket
 abbrev pub failure_of : ErrorKind → IoFailure

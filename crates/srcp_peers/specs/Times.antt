@@ -95,16 +95,11 @@ accept_answer number (Err fault) = refused_accept (failure_of fault)
 -- that was answered. If the system was not asked, nobody came, or memory or the numbers ran out
 abbrev pub is_as_heard : (heard : Option (Result (Option ℕ) DoorFault)) → Result (Option ℕ) DoorFault → Bool
 is_as_heard (Some (Ok (Some number))) (Ok (Some peer)) = number == peer
-is_as_heard (Some (Ok (Some number))) (Ok None) = false
-is_as_heard (Some (Ok (Some number))) (Err fault) = false
-is_as_heard (Some (Ok None)) (Ok (Some peer)) = false
 is_as_heard (Some (Ok None)) (Ok None) = true
-is_as_heard (Some (Ok None)) (Err fault) = false
-is_as_heard (Some (Err said)) (Ok peer) = false
 is_as_heard (Some (Err said)) (Err fault) = true
-is_as_heard None (Ok (Some peer)) = false
 is_as_heard None (Ok None) = true
 is_as_heard None (Err fault) = true
+is_as_heard heard answer = false
 
 abbrev pub answered_accept : Times → Result (Option ℕ) DoorFault → Times
 answered_accept t answer = record t {
@@ -125,10 +120,6 @@ clocked t None = t
 
 abbrev pub times_step : Times → Step → Times
 times_step t (Accepts number answer) = record t { heard = Some (accept_answer number answer) }
-times_step t (Reads who buffer answer) = t
-times_step t (Writes who bytes answer) = t
-times_step t (Shuts who) = t
-times_step t (Closes who) = t
 times_step t (Waits most count ready) = record t {
   turn = after_wait t.turn;
   waits = t.waits + 1;
@@ -137,6 +128,7 @@ times_step t (Waits most count ready) = record t {
 }
 times_step t (Clocks answer) = clocked t answer
 times_step t (Answers call) = answered_times t call
+times_step t other = t
 
 -- what all steps say, if the clocks showed this at the start
 abbrev pub times : (wall start : ℕ) → List Step → Times

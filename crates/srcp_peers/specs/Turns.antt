@@ -3,7 +3,9 @@ use Rattle.std.specs.Prelude.{ℕ, ◌+◌, ◌-◌, ◌*◌, ◌^◌, ◌/◌, 
 use Rattle.std.specs.Prelude.{Bool, true, false, not, cond, min, max}
 use Rattle.std.specs.Prelude.{List, [], take, Option, Some, None, Result, Ok, Err}
 use Rattle.std.specs.Option.{option_map}
-use Rattle.srcp_door.specs.Moments.{next_moment, passed, target}
+use Rattle.srcp_grammar.specs.Weight.{most_changes}
+use Rattle.srcp_door.specs.Limits.{most_writes, reserve}
+use Rattle.srcp_door.specs.Moments.{next_moment, passed, target, ten_minutes}
 use Rattle.srcp_door.specs.Pacing.{pace_of, spent, weight_of}
 use Rattle.srcp_door.specs.declared.pacing.LineBoundary.{LineBoundary}
 use Rattle.srcp_door.specs.declared.pacing.Pace.{Pace}
@@ -15,6 +17,7 @@ use Rattle.srcp_door.specs.Calls.{Call, ExpectCall, NowCall, AcceptCall, ReadCal
 use Rattle.srcp_peers.specs.declared.readiness.Flush.{Flush}
 use Rattle.srcp_peers.specs.declared.readiness.Flush.TheVariants.{Again, All, Answers}
 use Rattle.srcp_peers.specs.declared.turn.Turn.{Turn}
+use Rattle.srcp_peers.specs.Limits.{tick}
 
 -- the turn that follows nothing, if the wall clock and the monotonic clock showed this at the start
 abbrev pub first_turn : (wall start : ℕ) → Turn
@@ -34,8 +37,6 @@ first_turn wall start = record {
 -- a call of the door after which a panel may have something coming: a peer came, was written to or was closed
 abbrev pub stirs : Call → Bool
 stirs (AcceptCall (Ok (Some peer))) = true
-stirs (AcceptCall (Ok None)) = false
-stirs (AcceptCall (Err fault)) = false
 stirs (WriteCall peer bytes (Ok count)) = not (count == 0)
 stirs (WriteCall peer bytes (Err fault)) = true
 stirs (CloseCall peer answer) = true
@@ -52,7 +53,7 @@ after_call turn other = record turn { busy = turn.busy || stirs other }
 
 -- not every line may go
 abbrev pub is_short_pace : Pace → Bool
-is_short_pace (Paced left) = nat_lt left 11
+is_short_pace (Paced left) = nat_lt left most_changes
 is_short_pace OneLine = true
 
 -- the pace of a peer's lines: if others go first and not every line may go, none goes that weighs something
@@ -62,16 +63,13 @@ own_pace waits pace = cond (waits && is_short_pace pace) (Paced 0) pace
 -- the bytes that it handed out
 abbrev pub got_bytes : Result Got DoorFault → List ℕ → List ℕ
 got_bytes (Ok (got.Bytes count)) buffer = take count buffer
-got_bytes (Ok got.Nothing) buffer = []
-got_bytes (Ok got.Ended) buffer = []
-got_bytes (Err fault) buffer = []
+got_bytes other buffer = []
 
 -- it reported the end of a peer, or that it is lost
 abbrev pub reports_end : Result Got DoorFault → Bool
-reports_end (Ok (got.Bytes count)) = false
-reports_end (Ok got.Nothing) = false
 reports_end (Ok got.Ended) = true
 reports_end (Err fault) = true
+reports_end other = false
 
 -- after that no other is reported in the turn
 abbrev pub ended : Turn → Turn
@@ -113,7 +111,7 @@ step_at turn time = cond turn.late (max (2 * min (time - turn.clock) 500) 1) 1
 -- something falls due meanwhile; at most 10 minutes are made up in such steps
 abbrev pub moment_at : Turn → (time : ℕ) → ℕ
 moment_at turn time =
-    next_moment (step_at turn time) 600000 (passed turn.timekeeper.last (target turn.timekeeper time) turn.due)
+    next_moment (step_at turn time) ten_minutes (passed turn.timekeeper.last (target turn.timekeeper time) turn.due)
     (target turn.timekeeper time)
 
 -- the clock went on, and lets a line through: those that it let through before are as long ago as they weigh
@@ -150,28 +148,28 @@ is_pending (Some left) stirred = stirred
 -- so few changes can a panel take that no line may go until the clock goes on
 abbrev pub is_behind : (slack : Option ℕ) → Bool
 is_behind None = false
-is_behind (Some left) = nat_le left 160
+is_behind (Some left) = nat_le left reserve
 
 -- so few that not every line may go
 abbrev pub is_short : (slack : Option ℕ) → Bool
 is_short None = false
-is_short (Some left) = nat_lt left 171
+is_short (Some left) = nat_lt left (reserve + most_changes)
 
 -- how many changes the panels lack for a line to go before the clock goes on; as many as a peer is written lines in a
 -- visit if there is no panel
 abbrev pub shortfall : (slack : Option ℕ) → ℕ
-shortfall None = 300
-shortfall (Some left) = 160 - left
+shortfall None = most_writes
+shortfall (Some left) = reserve - left
 
 -- how many lines may be queued in a visit for a peer whose socket refuses more: what the panels lack, if input is held
 abbrev pub room_of : (holds : Bool) → (slack : Option ℕ) → ℕ
 room_of true slack = shortfall slack
-room_of false slack = 300
+room_of false slack = most_writes
 
 -- how long a turn stands still though there is something to do: as long as the clock takes to go on, if a panel is so
 -- far behind for the second turn
 abbrev pub backpressure_delay : Turn → ℕ
-backpressure_delay turn = cond (is_behind turn.previous_slack && is_behind turn.slack) 1 0
+backpressure_delay turn = cond (is_behind turn.previous_slack && is_behind turn.slack) tick 0
 
 -- the clock went on since it showed that, or the turn stands still until it does
 abbrev pub has_ticked : Turn → (flushed : ℕ) → Bool
@@ -186,6 +184,5 @@ flushing false held turn = cond (held || is_pending turn.slack turn.busy) Answer
 -- a read that handed out input, or reported its end
 abbrev pub hands_out : Result Got DoorFault → Bool
 hands_out (Ok (got.Bytes count)) = true
-hands_out (Ok got.Nothing) = false
 hands_out (Ok got.Ended) = true
-hands_out (Err fault) = false
+hands_out other = false

@@ -8,6 +8,12 @@ use srcp_door::MOST_WRITES;
 /// Says how far a peer is on the way to its end. The end is reported after three things: the input is over, a whole
 /// visit behind that had no more for the peer, and the socket took everything. Changes that go on coming delay the end
 /// no longer than this.
+///
+/// ```text
+/// Open --- the input is over ---> Settling --- a whole visit had no more ---> Settled --- all is taken ---> reported
+///                                  |    ^
+///                                  +----+  300 writes in a visit, or one was cut
+/// ```
 #[derive(Clone, Copy)]
 pub enum Ending {
     /// The input is not over.

@@ -14,15 +14,17 @@ mod peer;
 pub mod peers;
 mod queue;
 mod readiness;
+mod reading;
 mod stay;
 mod system;
 mod turn;
 
 pub use ending::Ending;
 pub use lingering::{MOST_LINGERING, count_lingering, first_gone, first_shut};
-pub use peer::{Peer, ReadOutcome};
+pub use peer::Peer;
 pub use queue::{MOST_INCOMING, MOST_OUTGOING, Outgoing, Queue, Queues};
 pub use readiness::{Flush, Input, Output};
+pub use reading::ReadOutcome;
 pub use stay::{LINGER, Stay};
 pub use system::{IoFailure, Ready, System, failure_of};
 pub use turn::{Listening, RETRY_DELAY, Turn, longest_wait};

@@ -4,12 +4,13 @@
 
 ghost use Rattle.std.specs.Prelude.{◌≡◌, ◌≢◌, ◌<◌, ℕ, [], true, false, IfSome, length, slice_index_or, filter, not};
 ghost use Rattle.std.specs.Prelude.{◌⊎◌};
-ghost use Rattle.std.specs.Prelude.{position};
+ghost use Rattle.std.specs.Prelude.{max, position};
 ghost use Rattle.srcp_peers.specs.declared.peer.Peer.{Peer};
-ghost use Rattle.srcp_peers.specs.Steps.{SaysNothing};
+ghost use Rattle.srcp_peers.specs.Steps.{GrowsBy, SaysNothing};
 ghost use Rattle.srcp_peers.specs.Times.{KeepsTimes};
 ghost use Rattle.srcp_peers.specs.Peers.{IsKept, OffersDue, Spares, is_closable, is_gone, is_here, is_lost, is_shut};
-ghost use Rattle.srcp_peers.specs.Peers.{Asks, IsDrained, Makes, is_read_of, may_have, reads_each, stay_after};
+ghost use Rattle.srcp_peers.specs.Peers.{Asks, IsDrained, Makes, calls_in, is_read_of, may_have, reads_each};
+ghost use Rattle.srcp_peers.specs.Peers.{stay_after};
 
 use crate::peer::Peer;
 use crate::readiness::Flush;
@@ -19,7 +20,7 @@ use crate::system::System;
 /// The most reads in a turn of all lingering sockets together. These reads drop the input as fast as more comes.
 const MOST_DRAINED: usize = 64;
 
-/// How many peers linger before one is closed for a pending connection.
+/// How many peers linger at most. With as many, one is closed before a connection is accepted.
 pub const MOST_LINGERING: usize = 64;
 
 impl Peer {
@@ -38,6 +39,7 @@ impl Peer {
         ensures others { (other : ℕ) → other ≢ self.old.number
             → Spares other (S.trace system.old) (S.trace system.new) }
         ensures calls { SaysNothing (S.trace system.old) (S.trace system.new) }
+        ensures most { GrowsBy (calls_in reads self.old) (S.trace system.old) (S.trace system.new) }
         ensures times { KeepsTimes (S.trace system.old) (S.trace system.new) }
         ensures number { self.new.number ≡ self.old.number }
         ensures offered { OffersDue what self.old (S.trace system.old) (S.trace system.new) }
@@ -60,6 +62,7 @@ impl Peer {
         ensures others { (other : ℕ) → other ≢ self.old.number
             → Spares other (S.trace system.old) (S.trace system.new) }
         ensures calls { SaysNothing (S.trace system.old) (S.trace system.new) }
+        ensures most { GrowsBy (max 2 reads) (S.trace system.old) (S.trace system.new) }
         ensures times { KeepsTimes (S.trace system.old) (S.trace system.new) }
         ensures number { self.new.number ≡ self.old.number }
         ensures offered { is_here self.old.stay ≡ false
@@ -83,6 +86,7 @@ impl Peer {
         ensures others { (other : ℕ) → other ≢ self.old.number
             → Spares other (S.trace system.old) (S.trace system.new) }
         ensures calls { SaysNothing (S.trace system.old) (S.trace system.new) }
+        ensures most { GrowsBy 2 (S.trace system.old) (S.trace system.new) }
         ensures times { KeepsTimes (S.trace system.old) (S.trace system.new) }
         ensures number { self.new.number ≡ self.old.number }
         ensures offered { OffersDue Flush.All self.old (S.trace system.old) (S.trace system.new) }
@@ -105,6 +109,7 @@ impl Peer {
         ensures others { (other : ℕ) → other ≢ self.old.number
             → Spares other (S.trace system.old) (S.trace system.new) }
         ensures calls { SaysNothing (S.trace system.old) (S.trace system.new) }
+        ensures most { GrowsBy 1 (S.trace system.old) (S.trace system.new) }
         ensures times { KeepsTimes (S.trace system.old) (S.trace system.new) }
         ensures number { self.new.number ≡ self.old.number }
         ensures same { self.new ≡ record self.old { stay = Stay.Shut since } }
@@ -121,6 +126,7 @@ impl Peer {
         ensures others { (other : ℕ) → other ≢ self.old.number
             → Spares other (S.trace system.old) (S.trace system.new) }
         ensures calls { SaysNothing (S.trace system.old) (S.trace system.new) }
+        ensures most { GrowsBy reads (S.trace system.old) (S.trace system.new) }
         ensures times { KeepsTimes (S.trace system.old) (S.trace system.new) }
         ensures number { self.new.number ≡ self.old.number }
         ensures stay { self.new.stay ≡ self.old.stay }
@@ -144,6 +150,7 @@ impl Peer {
         ensures others { (other : ℕ) → other ≢ self.old.number
             → Spares other (S.trace system.old) (S.trace system.new) }
         ensures calls { SaysNothing (S.trace system.old) (S.trace system.new) }
+        ensures most { GrowsBy 1 (S.trace system.old) (S.trace system.new) }
         ensures times { KeepsTimes (S.trace system.old) (S.trace system.new) }
         ensures number { self.new.number ≡ self.old.number }
         ensures stay { self.new.stay ≡ self.old.stay }

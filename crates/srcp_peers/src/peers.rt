@@ -1,8 +1,8 @@
 //! What a turn does with all peers.
 
-ghost use Rattle.std.specs.Prelude.{◌≡◌, ◌<◌, ℕ, All, IfNone, IfSome, length, fold, slice_index_or};
+ghost use Rattle.std.specs.Prelude.{◌≡◌, ◌<◌, ◌+◌, ◌*◌, ℕ, All, IfNone, IfSome, length, fold, slice_index_or};
 ghost use Rattle.srcp_peers.specs.declared.peer.Peer.{Peer};
-ghost use Rattle.srcp_peers.specs.Steps.{SaysNothing};
+ghost use Rattle.srcp_peers.specs.Steps.{GrowsBy, SaysNothing};
 ghost use Rattle.srcp_peers.specs.Times.{KeepsTimes};
 ghost use Rattle.srcp_peers.specs.Peers.{Spares, IsRead, after_wake};
 ghost use Rattle.srcp_peers.specs.AllPeers.{AreApart, AreBegun, AreKept, AreShared, AreOffered, AreShutDown, AreThose};
@@ -23,6 +23,7 @@ pub fn flush<S: System>(system: &mut S, peers: &mut [Peer], what: Flush)
     ensures those { AreThose peers.old peers.new }
     ensures others { (other : ℕ) → IsAbsent other peers.old → Spares other (S.trace system.old) (S.trace system.new) }
     ensures calls { SaysNothing (S.trace system.old) (S.trace system.new) }
+    ensures most { GrowsBy (2 * length peers.old + 64) (S.trace system.old) (S.trace system.new) }
     ensures times { KeepsTimes (S.trace system.old) (S.trace system.new) }
     ensures offered { AreOffered what peers.old (S.trace system.old) (S.trace system.new) }
     ensures shut { AreShutDown peers.old peers.new }
@@ -34,8 +35,8 @@ pub fn flush<S: System>(system: &mut S, peers: &mut [Peer], what: Flush)
     }
 }
 
-/// Begins the visit of each peer. With `anew` each share is a whole piece again, and else that of each peer that is
-/// silent when the clock shows `clock`. At most `room` lines may be queued for each peer whose socket refuses more.
+/// Begins the visit of each peer. The share is a whole piece again for each peer that is silent when the clock shows
+/// `clock`, and with `anew` for all peers. At most `room` lines may be queued for each peer whose socket refuses more.
 pub fn begin_visits<S: System>(
     system: &mut S,
     peers: &mut [Peer],
@@ -49,6 +50,7 @@ pub fn begin_visits<S: System>(
     ensures those { AreThose peers.old peers.new }
     ensures others { (other : ℕ) → IsAbsent other peers.old → Spares other (S.trace system.old) (S.trace system.new) }
     ensures calls { SaysNothing (S.trace system.old) (S.trace system.new) }
+    ensures most { GrowsBy (length peers.old) (S.trace system.old) (S.trace system.new) }
     ensures times { KeepsTimes (S.trace system.old) (S.trace system.new) }
     ensures read { (k : ℕ) (d : Peer) → k < length peers.new
         → IsRead (S.trace system.new) (slice_index_or peers.new k d).number }

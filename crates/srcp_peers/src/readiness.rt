@@ -8,7 +8,22 @@ ghost use Rattle.srcp_peers.specs.Peers.{woken_output};
 use crate::queue::{MOST_INCOMING, Outgoing, Queue};
 use crate::system::IoFailure;
 
-/// Says what a read of a socket may find.
+/// Says what a read of a socket may find. Events come at edges, so nothing but an event makes a quiet socket ready.
+///
+/// ```text
+///         a read left space, or found nothing
+/// Ready --------------------------------------> Quiet
+///   | \   <------------------------------------   |
+///   |  \             found readable               |
+///   |   +---> Draining <--------------------------+   found closed, or with urgent data
+///   |            |
+///   |            +---> Quiet      a read found nothing
+///   +------------+---> Ended      a read found the end
+///                +---> Failed     a read failed
+/// ```
+///
+/// A read ends at urgent data with space left, and no event reports the bytes behind. So a draining socket is read
+/// until a read finds nothing. An interrupted call changes no state.
 #[derive(Clone, Copy)]
 pub enum Input {
     /// A read may return data.
@@ -24,6 +39,15 @@ pub enum Input {
 }
 
 /// Says what a write to a socket may find.
+///
+/// ```text
+///         a write was cut, or refused for now
+/// Open ---------------------------------------> Full
+///      <---------------------------------------
+///       found writable, or a write was taken whole
+///   |                                            |
+///   +--------------------------------------------+---> Lost     a write failed
+/// ```
 #[derive(Clone, Copy)]
 pub enum Output {
     /// A write may be taken.

@@ -4,10 +4,17 @@ ghost use Rattle.std.specs.Prelude.{◌≡◌, true};
 ghost use Rattle.srcp_peers.specs.Accounts.{is_overdue};
 ghost use Rattle.srcp_peers.specs.Peers.{is_here};
 
-/// The longest time that a peer lingers, in milliseconds. At its end a door delivers taken bytes for as long at most.
+/// The longest time that a peer lingers, in milliseconds. A door that ends delivers taken bytes for the same time.
 pub const LINGER: u64 = 10_000;
 
 /// Says whether a peer is there, or lingers after the core closed it.
+///
+/// ```text
+/// Here --- the core closes it ---> Draining --- all is taken: it is shut down ---> Shut
+///                                     |                                             |   its input ended
+///                                     |   a write failed, or 10 s are over          |   or 10 s are over
+///                                     +---------------------------------------------+---> closed
+/// ```
 #[derive(Clone, Copy)]
 pub enum Stay {
     /// The core did not close the peer.

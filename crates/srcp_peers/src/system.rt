@@ -45,8 +45,8 @@ pub fn failure_of(fault: ErrorKind) -> IoFailure
     }
 }
 
-/// Makes the calls of the system, and notes the answers of a door between these, each at its end. What an
-/// implementation notes, its trace has.
+/// Makes the calls of the system. Between these calls a door notes each of its answers as its own call ends. The trace
+/// of an implementation has the calls, the answers of the system and the answers of the door.
 pub trait System {
     /// The calls and answers up to now, if the implementation keeps them.
     ghost trace: { Self → Option (List Step) } = { λ _. None };

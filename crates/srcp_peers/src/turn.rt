@@ -22,6 +22,9 @@ use crate::system::IoFailure;
 use srcp_door::{Allowed, DoorFault, Got, MOST_WRITES, Pace, RESERVE, Share, Timekeeper};
 use srcp_grammar::MOST_CHANGES;
 
+/// The monotonic clock goes on by at least so many milliseconds.
+const TICK: u64 = 1;
+
 /// A wait for a due moment ends early by this part of the wait. The system may end a wait late by a thousandth of the
 /// wait, or a two-hundredth for a process of low priority. The turns behind the wait spend the rest.
 const EARLIER: u64 = 128;
@@ -97,12 +100,16 @@ impl Turn {
         }
     }
 
-    /// Returns how many milliseconds the turn waits although there is work to do: 1 if in two turns running a panel
-    /// lacked room for a line, else 0.
+    /// Returns how many milliseconds the turn waits although there is work to do: `TICK` if a panel lacked room for a
+    /// line in two turns running, else 0.
     pub fn backpressure_delay(&self) -> u64
         ensures { result ≡ backpressure_delay self.now }
     {
-        u64::from(is_behind(self.previous_slack) && is_behind(self.slack))
+        if is_behind(self.previous_slack) && is_behind(self.slack) {
+            TICK
+        } else {
+            0
+        }
     }
 
     /// Returns how many changes the panels lack for a line to go before the clock goes on. Returns `MOST_WRITES`
@@ -167,8 +174,8 @@ impl Turn {
         Ok(moment)
     }
 
-    /// Returns by how many milliseconds the moment goes on at most if something falls due, counted from right before
-    /// that.
+    /// Returns by how many milliseconds the moment goes on at most if something falls due. The count begins one
+    /// millisecond before the due moment.
     fn step(&self, time: u64) -> u64
         ensures { result ≡ step_at self.now time }
     {
@@ -180,7 +187,7 @@ impl Turn {
     }
 
     /// Returns whether the clock went on, and now lets a line through. A line that the clock let through keeps the next
-    /// back for as many milliseconds as its weight.
+    /// line back for as many milliseconds as the first weighs.
     fn ticks(&self, time: u64) -> bool
         ensures { result ≡ ticks self.now time }
     {
@@ -344,6 +351,14 @@ pub const RETRY_DELAY: u64 = 8;
 const LONGEST_WAIT: u64 = 3_600_000;
 
 /// Says whether a pending connection may be accepted.
+///
+/// ```text
+///              found ready                  an accept failed, or there is no place
+/// Quiet ------------------------> Ready ------------------------------------------> BackingOff
+///   ^   <------------------------       <------------------------------------------     |
+///   |     nobody is pending               found ready, or an accept was interrupted     |
+///   +-----------------------------------------------------------------------------------+   nobody is pending
+/// ```
 #[derive(Clone, Copy)]
 pub enum Listening {
     /// A pending connection may be accepted.

@@ -13,6 +13,7 @@ use Rattle.srcp_peers.specs.declared.readiness.Input.TheVariants as input
 use Rattle.srcp_peers.specs.declared.readiness.Output.TheVariants as output
 use Rattle.srcp_peers.specs.declared.stay.Stay.TheVariants as stay
 use Rattle.srcp_peers.specs.declared.turn.Listening.{Listening}
+use Rattle.srcp_peers.specs.declared.turn.Listening.TheVariants as listening
 use Rattle.srcp_peers.specs.Steps.{Accepts, Step, Tells, failure_of}
 use Rattle.srcp_peers.specs.Accounts.{Account, accepted, account, account_step, heard, heard_refusal}
 use Rattle.srcp_peers.specs.Peers.{Agrees, IsKept, Spares}
@@ -21,7 +22,7 @@ use Rattle.srcp_peers.specs.declared.ending.Ending.TheVariants as ending
 use Rattle.srcp_door.specs.declared.pacing.LineBoundary.TheVariants as boundary
 use Rattle.srcp_peers.specs.Listeners.{refused_listening}
 use Rattle.srcp_peers.specs.AllPeers.{AreApart, AreKept, IsAbsent}
-use Rattle.srcp_sockets.specs.Doors.{Closed, Fresh, Hears, Sound, Stands}
+use Rattle.srcp_sockets.specs.Doors.{Closed, Fresh, Hears, Sound, Stands, is_quiet}
 use Rattle.srcp_peers.proofs.PeersStayKept.{account_more, alien, own, picks, skips, spares_after}
 use Rattle.srcp_peers.proofs.OnePeerChanges.{kept_spared, spared}
 use Rattle.srcp_sockets.proofs.SocketsStayStanding.{absent_above, all_sound, not_listener}
@@ -154,10 +155,28 @@ stands_come old new peers l clock last done tells stands = record {
     kept : AreKept new (peers ++ new_peer clock (last + 1) ∷ [])
     kept = at_push (IsKept new) peers (new_peer clock (last + 1)) old_kept one_kept
 
+-- one that is not quiet is heard otherwise, and still not as quiet
+hears_loud : (a : Account) (l other : Listening) → is_quiet l ≡ false → is_quiet other ≡ false → Hears a l → Hears a other
+hears_loud a l other was is h =
+    record { fresh = h.fresh; lost = h.lost; cut = h.cut; ended = h.ended; failed = h.failed; heard = h.heard ∙ was ∙ sym is }
+
+-- the system is asked again after a rest
+pub stands_later : (trace : Option (List Step)) (peers : List Peer) (l : Listening) (last : ℕ) → is_quiet l ≡ false
+    → Stands trace peers l last → Stands trace peers listening.BackingOff last
+stands_later trace peers l last loud stands = record {
+  kept = stands.kept;
+  apart = stands.apart;
+  within = stands.within;
+  sound = stands.sound;
+  fresh = stands.fresh;
+  closed = stands.closed;
+  heard = λ log is. hears_loud (account 0 log) l listening.BackingOff loud refl (stands.heard log is);
+}
+
 -- an accept that failed
-refused_hears : (a : Account) (l : Listening) (said : IoFailure) → Hears a l
+refused_hears : (a : Account) (l : Listening) (said : IoFailure) → is_quiet l ≡ false → Hears a l
     → Hears (record a { received = heard_refusal a.received said }) (refused_listening said)
-refused_hears a l WouldBlock h = record {
+refused_hears a l WouldBlock loud h = record {
   fresh = record { written = h.fresh.written; took = h.fresh.took; gave = h.fresh.gave; handed = h.fresh.handed };
   lost = h.lost;
   cut = h.cut;
@@ -165,8 +184,8 @@ refused_hears a l WouldBlock h = record {
   failed = h.failed;
   heard = refl;
 }
-refused_hears a l Interrupted h = record { fresh = h.fresh; lost = h.lost; cut = h.cut; ended = h.ended; failed = h.failed; heard = tt }
-refused_hears a l Fatal h = record { fresh = h.fresh; lost = h.lost; cut = h.cut; ended = h.ended; failed = h.failed; heard = tt }
+refused_hears a l Interrupted loud h = hears_loud a l listening.Ready loud refl h
+refused_hears a l Fatal loud h = hears_loud a l listening.BackingOff loud refl h
 
 refused_sound : (a : Account) (said : IoFailure) → Sound a → Sound (record a { received = heard_refusal a.received said })
 refused_sound a WouldBlock h = record {
@@ -199,9 +218,9 @@ spares_refused old new number fault other ne tells =
     (cases_eq other number))
 
 pub stands_refused : (old new : Option (List Step)) (peers : List Peer) (l : Listening) (last number : ℕ) (fault : ErrorKind)
-    → Tells old (Accepts number (Err fault)) new → Stands old peers l last
+    → is_quiet l ≡ false → Tells old (Accepts number (Err fault)) new → Stands old peers l last
     → Stands new peers (refused_listening (failure_of fault)) last
-stands_refused old new peers l last number fault tells stands = record {
+stands_refused old new peers l last number fault loud tells stands = record {
   kept = λ k d lt.
       let some : 0 < (slice_index_or peers k d).number = (stands.within k d lt).0 in
       kept_spared old new (slice_index_or peers k d)
@@ -227,7 +246,7 @@ stands_refused old new peers l last number fault tells stands = record {
       (λ lg e. stands.closed lg e socket absent) log is)
       (cases_eq socket 0);
   heard = λ log is. subst (λ (a : Account). Hears a (refused_listening (failure_of fault))) (sym (more log is))
-      (refused_hears (account 0 (tells log is).0) l (failure_of fault) (stands.heard (tells log is).0 (tells log is).1));
+      (refused_hears (account 0 (tells log is).0) l (failure_of fault) loud (stands.heard (tells log is).0 (tells log is).1));
 }
   where
     more : (log : List Step) (is : new ≡ Some log)

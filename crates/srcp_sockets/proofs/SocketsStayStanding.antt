@@ -1,5 +1,5 @@
 -- What holds of all sockets goes on from step to step.
-use Rattle.std.proofs.Common.{◌≡◌, ℕ, zero, suc, ◌<◌, ◌≤◌, true, false, List, [], ◌∷◌, length, refl, sym}
+use Rattle.std.proofs.Common.{◌≡◌, ℕ, zero, suc, ◌<◌, ◌≤◌, true, false, List, [], ◌∷◌, length, refl, sym, ap, ◌∙◌}
 use Rattle.std.proofs.Common.{subst, arith, ⊎_elim, inl, inr, ◌⊎◌, get_or, set, ◌==◌, Option, Some}
 use Rattle.std.specs.Prelude.{◌≢◌, slice_index_or}
 use Rattle.std.specs.Io.{StartsWith}
@@ -92,6 +92,9 @@ all_sound trace peers log is kept others socket = ⊎_elim
     (find socket peers)
 
 -- ---- a door after steps of its peers
+
+pub as_many : (before after old new : List Peer) → new ≡ after → length after ≡ length before → before ≡ old → length new ≡ length old
+as_many before after old new is same was = ap length is ∙ same ∙ ap length was
 
 pub absent_above : (last socket : ℕ) (peers : List Peer) → AreWithin last peers → last < socket → IsAbsent socket peers
 absent_above last socket peers within above k d lt e =

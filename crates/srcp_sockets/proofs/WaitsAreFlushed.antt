@@ -32,7 +32,7 @@ use Rattle.srcp_peers.proofs.PeersRestByAccount.{and_left, and_right, owed_is}
 use Rattle.srcp_sockets.specs.Doors.{IsThere, Stands}
 use Rattle.srcp_sockets.specs.Waits.{AreFlushed, IsFlushedOut, MayWait, closes, closes_after, has_to_close, is_written, written_after}
 use Rattle.srcp_sockets.specs.KeptTimes.{IsTimed}
-use Rattle.srcp_sockets.specs.Work.{AreClosedUp, is_accept, is_close}
+use Rattle.srcp_sockets.specs.Work.{AreClosedUp, is_close}
 use Rattle.srcp_sockets.proofs.AccountsReadTheClock.{clock_is}
 use Rattle.srcp_sockets.proofs.AcceptsAreAsked.{or_last}
 use Rattle.srcp_sockets.proofs.WorkIsDone.{free_came, is_free, no_call, no_calls, some_call}
@@ -211,6 +211,10 @@ heard_came t [] e h = h
 heard_came t (step ∷ came) e h =
     let none = no_calls step came e in
     heard_came (times_step t step) came none.1 (heard_one t step none.0 h)
+
+abbrev is_accept : Step → Bool
+is_accept (Accepts number answer) = true
+is_accept other = false
 
 unasked : (t : Times) (came : List Step) → calls came ≡ [] → is_some (fold times_step t came).heard ≡ false
     → list_all (λ s. not (is_accept s)) came ≡ true

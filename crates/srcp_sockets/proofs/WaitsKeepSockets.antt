@@ -13,7 +13,7 @@ use Rattle.srcp_peers.specs.Accounts.{waited, woken, woken_came, woken_sent, not
 use Rattle.srcp_peers.specs.Peers.{after_wake, is_resting}
 use Rattle.srcp_peers.specs.Listeners.{woken_listening}
 use Rattle.srcp_peers.specs.AllPeers.{AreKept, AreThose, IsAbsent}
-use Rattle.srcp_sockets.specs.Doors.{Closed, Fresh, HeardAs, Hears, Sound, Stands}
+use Rattle.srcp_sockets.specs.Doors.{Closed, Fresh, Hears, Sound, Stands}
 use Rattle.srcp_peers.proofs.PeersStayKept.{account_more, all_number, or_so, unless_long}
 use Rattle.srcp_peers.proofs.OnePeerChanges.{absent_before, apart_later, waited_all, within_later}
 use Rattle.srcp_sockets.proofs.SocketsStayStanding.{all_sound, not_listener}
@@ -53,10 +53,13 @@ woken_closed socket a (one ∷ more) h = woken_closed socket (woken socket a one
     by false = h
 
 -- the listener, when a socket was found ready
-still_heard : (quiet : Bool) (l : Listening) → HeardAs quiet l → HeardAs (quiet && true) l
-still_heard quiet listening.Ready h = tt
-still_heard quiet listening.BackingOff h = tt
-still_heard quiet listening.Quiet h = ap (λ b. b && true) h
+and_true : (b : Bool) → (b && true) ≡ b
+and_true true = refl
+and_true false = refl
+
+and_false : (b : Bool) → (b && false) ≡ false
+and_false true = refl
+and_false false = refl
 
 woken_hears : (a : Account) (l : Listening) (one : Ready) → Hears a l → Hears (woken 0 a one) (woken_listening l one)
 woken_hears a l one h = by (one.socket == 0) (one.readable || (one.closed || one.urgent))
@@ -71,7 +74,7 @@ woken_hears a l one h = by (one.socket == 0) (one.readable || (one.closed || one
       cut = h.cut;
       ended = h.ended;
       failed = h.failed;
-      heard = tt;
+      heard = and_false a.received.quiet;
     }
     by true false = record {
       fresh = record { written = h.fresh.written; took = h.fresh.took; gave = h.fresh.gave; handed = h.fresh.handed };
@@ -79,7 +82,7 @@ woken_hears a l one h = by (one.socket == 0) (one.readable || (one.closed || one
       cut = h.cut;
       ended = h.ended;
       failed = h.failed;
-      heard = still_heard a.received.quiet l h.heard;
+      heard = and_true a.received.quiet ∙ h.heard;
     }
     by false c = h
 

@@ -1,7 +1,8 @@
 -- What a door has done goes on from step to step.
 use Rattle.std.proofs.Common.{◌≡◌, ◌∙◌, ℕ, suc, ◌<◌, ◌≤◌, ◌+◌, Bool, true, false, not}
 use Rattle.std.proofs.Common.{List, [], ◌∷◌, ◌++◌, length, take, refl, ap, sym, subst}
-use Rattle.std.proofs.Common.{arith, ⊎_elim, ◌⊎◌, ◌==◌, ◌&&◌, ◌||◌, if◌then◌else◌, Option, Some, None, Ok, Err, true≢false, append-nil}
+use Rattle.std.proofs.Common.{arith, ⊎_elim, ◌⊎◌, ◌==◌, ◌&&◌, ◌||◌, if◌then◌else◌, Option, Some, None, Ok, Err, true≢false}
+use Rattle.std.proofs.Common.{append-nil, append_assoc}
 use Rattle.std.specs.Prelude.{Result, fold, nat_lt, slice_index_or}
 use Rattle.std.specs.List.{list_all, list_any}
 use Rattle.std.proofs.lemmas.Bool.{or_cases}
@@ -60,6 +61,14 @@ done_step wall start old new step tells may done before after x is =
     subst (λ (l : List Step). IsDone wall start l x) (sym same)
     (subst (λ (s : Step). IsDone wall start t.0 s) (sym one.1) (may t.0 t.1)))
     (splits t.0 (step ∷ []) before after x (sym t.2))
+
+-- two steps came
+pub tells_two : (old mid new : Option (List Step)) (one other : Step) → Tells old one mid → Tells mid other new → (later : List Step)
+    → new ≡ Some later → (log : List Step) × (old ≡ Some log) × (later ≡ log ++ (one ∷ other ∷ []))
+tells_two old mid new one other first second later is =
+    let s = second later is in
+    let f = first s.0 s.1 in
+    (f.0, f.1, s.2 ∙ ap (λ (l : List Step). l ++ other ∷ []) f.2 ∙ append_assoc f.0 (one ∷ []) (other ∷ []))
 
 -- ---- steps came that are no calls and no waits
 

@@ -1,8 +1,10 @@
 -- When a door ends: what its sockets took of what is queued.
 use Rattle.std.specs.Prelude.{◌≡◌, ◌⊎◌, ℕ, ◌+◌, ◌<◌, ◌∷◌, ◌++◌, nat_le, Bool, true, false, List, [], length}
 use Rattle.std.specs.Prelude.{min, slice_index_or, Option, Some, None}
+use Rattle.srcp_info.specs.Limits.{greatest_u64}
 use Rattle.srcp_peers.specs.declared.peer.Peer.{Peer}
 use Rattle.srcp_peers.specs.Accounts.{account, is_owed}
+use Rattle.srcp_peers.specs.Limits.{linger}
 use Rattle.srcp_peers.specs.Steps.{Clocks, Step}
 use Rattle.srcp_peers.specs.Times.{times}
 
@@ -16,9 +18,9 @@ abbrev pub IsAllDelivered : Option (List Step) → Type 0
 IsAllDelivered trace = (log : List Step) → trace ≡ Some log → (socket : ℕ) → (account socket log).lingering.kept ≡ true
     → (is_owed (account socket log).sent ≡ false) ⊎ ((account socket log).sent.lost ≡ true)
 
--- the time of the clock until which is delivered at most, if it showed this: 10 seconds later
+-- the time of the clock until which is delivered at most, if it showed this: as long as a peer lingers
 abbrev pub linger_end : (clock : ℕ) → ℕ
-linger_end clock = min (clock + 10000) 18446744073709551615
+linger_end clock = min (clock + linger) greatest_u64
 
 -- a clock that shows that time or a later one, or cannot be read
 abbrev pub is_over : (until : ℕ) → Option ℕ → Bool

@@ -1,5 +1,5 @@
 -- What holds of all sockets of a door.
-use Rattle.std.specs.Prelude.{⊤, ◌≡◌, ℕ, ◌<◌, ◌&&◌, Bool, true, false, not, List, [], length, slice_index_or}
+use Rattle.std.specs.Prelude.{◌≡◌, ℕ, ◌<◌, ◌&&◌, Bool, true, false, not, List, [], length, slice_index_or}
 use Rattle.std.specs.Prelude.{Option, Some}
 use Rattle.std.specs.Io.{StartsWith}
 use Rattle.std.specs.List.{list_any}
@@ -83,10 +83,11 @@ flushed_in turn flushed peers =
 
 -- ---- the listener
 
-abbrev pub HeardAs : Bool → Listening → Type 0
-HeardAs quiet listening.Ready = ⊤
-HeardAs quiet listening.BackingOff = ⊤
-HeardAs quiet listening.Quiet = quiet ≡ true
+-- no connection is pending, for all that is known
+abbrev pub is_quiet : Listening → Bool
+is_quiet listening.Ready = false
+is_quiet listening.BackingOff = false
+is_quiet listening.Quiet = true
 
 pub record Hears (a : Account) (listening : Listening) : Type 0 where
   pub fresh : Fresh a
@@ -94,7 +95,7 @@ pub record Hears (a : Account) (listening : Listening) : Type 0 where
   pub cut : a.sent.cut ≡ false
   pub ended : a.received.ended ≡ false
   pub failed : a.received.failed ≡ false
-  pub heard : HeardAs a.received.quiet listening
+  pub heard : a.received.quiet ≡ is_quiet listening
 
 abbrev pub IsHeard : Option (List Step) → Listening → Type 0
 IsHeard trace listening = (log : List Step) → trace ≡ Some log → Hears (account 0 log) listening

@@ -2,6 +2,7 @@
 use Rattle.std.specs.Prelude.{⊤, ◌≡◌, ℕ, ◌≤◌, ◌&&◌, ◌||◌, Bool, true, false, not, List, ◌∷◌, ◌++◌, fold, length}
 use Rattle.std.specs.Prelude.{drop, min, take, Option, Some, None, Result, Ok, Err}
 use Rattle.std.proofs.Props.{props}
+use Rattle.srcp_info.specs.Limits.{most_in_piece}
 use Rattle.srcp_door.specs.Calls.{ExpectCall, NowCall, AcceptCall, ReadCall, WriteCall, CloseCall}
 use Rattle.srcp_door.specs.Pacing.{lines, weight_of}
 use Rattle.srcp_door.specs.declared.door.DoorFault.{DoorFault}
@@ -55,7 +56,7 @@ pub record IsMomentDone (log : List Step) (answer : Result ℕ DoorFault) : Type
 
 -- the piece of what is held of it that a buffer of `room` bytes takes
 abbrev pub held_piece : Received → (room : ℕ) → List ℕ
-held_piece received room = take (min 256 room) (drop (length received.handed) received.gave)
+held_piece received room = take (min most_in_piece room) (drop (length received.handed) received.gave)
 
 -- it is not there; or a read or a write of it failed, and nothing is held of it
 abbrev pub is_failing : Account → Bool

@@ -9,11 +9,10 @@ use Rattle.srcp_peers.specs.declared.readiness.Output.TheVariants as output
 use Rattle.srcp_peers.specs.declared.stay.Stay.{Stay}
 use Rattle.srcp_peers.specs.declared.stay.Stay.TheVariants as stay
 use Rattle.srcp_peers.specs.declared.turn.Listening.{Listening}
-use Rattle.srcp_peers.specs.declared.turn.Listening.TheVariants as listening
 use Rattle.srcp_peers.specs.Steps.{Step}
 use Rattle.srcp_peers.specs.Accounts.{Lingering, Received, Sent}
 use Rattle.srcp_peers.specs.Peers.{ComesAs, ReadsAs, StaysAs, WritesAs}
-use Rattle.srcp_sockets.specs.Doors.{HeardAs, Stands}
+use Rattle.srcp_sockets.specs.Doors.{Stands}
 
 ReadsAs-prop : (received : Received) (incoming : List ℕ) (state : Input) → IsProp (ReadsAs received incoming state)
 ReadsAs-prop received incoming input.Ready = hlevel props
@@ -39,11 +38,6 @@ StaysAs-prop watched lingering outgoing stay.Here = hlevel props
 StaysAs-prop watched lingering outgoing (stay.Draining since) = hlevel props
 StaysAs-prop watched lingering outgoing (stay.Shut since) = hlevel props
 
-HeardAs-prop : (quiet : Bool) (state : Listening) → IsProp (HeardAs quiet state)
-HeardAs-prop quiet listening.Ready = hlevel props
-HeardAs-prop quiet listening.BackingOff = hlevel props
-HeardAs-prop quiet listening.Quiet = hlevel props
-
 pub Stands-prop : (trace : Option (List Step)) (peers : List Peer) (l : Listening) (last : ℕ) → IsProp
     (Stands trace peers l last)
-Stands-prop trace peers l last = hlevel (props, ComesAs-prop, StaysAs-prop, WritesAs-prop, HeardAs-prop)
+Stands-prop trace peers l last = hlevel (props, ComesAs-prop, StaysAs-prop, WritesAs-prop)

@@ -2,7 +2,8 @@
 use Rattle.std.specs.Prelude.{◌≡◌, ◌⊎◌, ℕ, ◌<◌, ◌∷◌, ◌++◌, Bool, true, false, ◌&&◌, ◌||◌, not, nat_le, List, []}
 use Rattle.std.specs.Prelude.{filter, fold, length, position, slice_index_or, take, Option, Some, None, Result, Ok, Err}
 use Rattle.std.specs.List.{list_any}
-use Rattle.srcp_door.specs.Calls.{NowCall}
+use Rattle.std.specs.declared.io.ErrorKind.{ErrorKind}
+use Rattle.srcp_door.specs.Calls.{AcceptCall, NowCall}
 use Rattle.srcp_door.specs.declared.door.DoorFault.{DoorFault}
 use Rattle.srcp_door.specs.declared.door.DoorFault.TheVariants as fault
 use Rattle.srcp_door.specs.declared.door.Got.{Got}
@@ -11,12 +12,13 @@ use Rattle.srcp_peers.specs.declared.system.Ready.{Ready}
 use Rattle.srcp_peers.specs.declared.turn.Listening.{Listening}
 use Rattle.srcp_peers.specs.declared.turn.Listening.TheVariants as listening
 use Rattle.srcp_peers.specs.declared.turn.Turn.{Turn}
-use Rattle.srcp_peers.specs.Listeners.{woken_listening}
+use Rattle.srcp_peers.specs.Listeners.{refused_listening, woken_listening}
 use Rattle.srcp_peers.specs.Peers.{Makes, goes_first, holds_input, is_gone, is_here, is_shut, is_silent}
 use Rattle.srcp_peers.specs.Reports.{IsAnswered}
-use Rattle.srcp_peers.specs.Steps.{Accepts, Answers, Clocks, Closes, Step, Tells, Waits}
+use Rattle.srcp_peers.specs.Steps.{Accepts, Answers, Clocks, Closes, Step, Tells, Waits, failure_of}
+use Rattle.srcp_peers.specs.Times.{accept_answer}
 use Rattle.srcp_peers.specs.Turns.{has_ticked, is_short_pace, moment_at}
-use Rattle.srcp_sockets.specs.Doors.{IsPresent}
+use Rattle.srcp_sockets.specs.Doors.{IsPresent, is_quiet}
 
 -- ---- who is closed
 
@@ -54,30 +56,35 @@ IsClocked turn answer old new = (shown : Option ℕ) × (answer ≡ moment_of tu
 
 -- ---- who is accepted
 
--- no connection is pending, for all that is known
-abbrev pub is_quiet : Listening → Bool
-is_quiet listening.Ready = false
-is_quiet listening.BackingOff = false
-is_quiet listening.Quiet = true
-
 -- one that lingers has to be closed first: there is no place for one more, or 64 linger
 abbrev pub is_crowded : (places : ℕ) → List Peer → Bool
 is_crowded places peers = nat_le places (length peers)
     || nat_le 64 (length (filter (λ peer. not (is_here peer.stay)) peers))
 
--- the system is asked to accept
-abbrev pub is_accept : Step → Bool
-is_accept (Accepts number answer) = true
-is_accept other = false
+-- how the listener is heard after an accept of the system that answered so
+abbrev pub after_accept : Listening → Result Unit ErrorKind → Listening
+after_accept heard (Ok done) = heard
+after_accept heard (Err fault) = refused_listening (failure_of fault)
+
+-- the steps that came are an accept of the system under that number, and the answer that follows of it; the listener is
+-- heard as the system answered
+abbrev pub IsAccepting : (number : ℕ) → Result (Option ℕ) DoorFault → (before after : Listening)
+    → Option (List Step) → Option (List Step) → Type 0
+IsAccepting number answer before after old new = (said : Result Unit ErrorKind)
+    × (answer ≡ accept_answer number said) × (after ≡ after_accept before said) × ((later : List Step)
+    → new ≡ Some later
+    → (log : List Step) × (old ≡ Some log)
+    × (later ≡ log ++ (Accepts number said ∷ Answers (AcceptCall answer) ∷ [])))
 
 -- the next pending connection may be accepted
 abbrev pub may_accept : Listening → (places : ℕ) → List Peer → Bool
 may_accept heard places peers = not (is_quiet heard) && not (is_crowded places peers)
 
 -- a place is made: the first peer that lingers and is owed nothing is closed. Without one nobody comes in for now
-pub record MakesRoom (peers : List Peer) (heard : Listening) (old new : Option (List Step)) : Type 0 where
-  pub none : position (λ peer. is_shut peer.stay) peers ≡ None → heard ≡ listening.BackingOff
-  pub one : (index : ℕ) → position (λ peer. is_shut peer.stay) peers ≡ Some index → Makes is_close 1 old new
+pub record MakesRoom (peers : List Peer) (before after : Listening) (old new : Option (List Step)) : Type 0 where
+  pub none : position (λ peer. is_shut peer.stay) peers ≡ None → after ≡ listening.BackingOff
+  pub one : (index : ℕ) → position (λ peer. is_shut peer.stay) peers ≡ Some index
+      → (after ≡ before) × Makes is_close 1 old new
 
 -- ---- who is read
 

@@ -1,7 +1,7 @@
 //! The system's sockets, with their peers.
 
 ghost use Rattle.std.specs.Prelude.{not, cond, vec_capacity, All, false, true, ◌≡◌, ◌<◌, ◌≤◌, ◌-◌, ◌&&◌, ℕ, ◌⊎◌, Some};
-ghost use Rattle.std.specs.Prelude.{Bool, None, Ok, Err};
+ghost use Rattle.std.specs.Prelude.{◌||◌, ◌+◌, ◌*◌, Bool, None, Ok, Err};
 ghost use Rattle.std.specs.Prelude.{IfErr, IfNone, IfOk, IfSome, [], length, slice_index_or};
 ghost use Rattle.srcp_peers.specs.declared.peer.Peer.{Peer};
 ghost use Rattle.srcp_sockets.specs.Asked.{AreAsked, AreAsked-prop};
@@ -23,11 +23,12 @@ ghost use Rattle.srcp_peers.specs.Turns.{after_wait, first_turn, got_bytes, flus
 ghost use Rattle.srcp_peers.specs.Turns.{time_left};
 ghost use Rattle.srcp_peers.specs.Waiting.{IsWithin, longest_wait};
 ghost use Rattle.srcp_door.specs.Calls.{ExpectCall, NowCall, ReadCall, WriteCall, CloseCall};
-ghost use Rattle.srcp_peers.specs.Steps.{Closes, SaysNothing, SaysOne, Tells};
+ghost use Rattle.srcp_peers.specs.Steps.{Answers, Closes, GrowsBy, SaysNothing, SaysOne, Tells};
 ghost use Rattle.srcp_peers.specs.AllPeers.{AreShared, AreOffered};
 ghost use Rattle.srcp_sockets.specs.Doors.{AreRead, IsMissing, IsPresent, Stands, flushed_in};
 
 mod accepting;
+mod reading;
 
 use crate::delivering::deliver;
 use srcp_door::{DoorFault, Got, MOST_WRITES};
@@ -70,6 +71,7 @@ impl<S: System + Drop> Sockets<S> {
     /// Notes what falls due next, and how many changes the panels can still take.
     pub(crate) fn expect(&mut self, due: Option<u64>, slack: Option<usize>)
         ensures trace { SaysOne (S.trace self.old.system) (ExpectCall due slack) (S.trace self.new.system) }
+        ensures one { Tells (S.trace self.old.system) (Answers (ExpectCall due slack)) (S.trace self.new.system) }
         ensures keeps { (self.new.flushed ≡ self.old.flushed) × (self.new.starved ≡ self.old.starved) }
     {
         self.system.note_expect(due, slack);
@@ -91,6 +93,8 @@ impl<S: System + Drop> Sockets<S> {
     pub(crate) fn begin_turn(&mut self, ready: &mut [Ready])
         requires ready { length ready.old ≡ 128 }
         ensures calls { SaysNothing (S.trace self.old.system) (S.trace self.new.system) }
+        ensures most { GrowsBy (3 * length self.old.peers.items + 129)
+            (S.trace self.old.system) (S.trace self.new.system) }
         ensures read { AreRead (S.trace self.new.system) }
         ensures may { MayTell (S.trace self.new.system) }
         ensures visited { AreVisited (S.trace self.new.system) self.new.peers.items }
@@ -165,6 +169,8 @@ impl<S: System + Drop> Sockets<S> {
         requires ready { length ready.old ≡ 128 }
         requires may { held ≡ false → MayWait self.old.turn (S.trace self.old.system) }
         ensures calls { SaysNothing (S.trace self.old.system) (S.trace self.new.system) }
+        ensures most { GrowsBy 1 (S.trace self.old.system) (S.trace self.new.system) }
+        ensures as_many { length self.new.peers.items ≡ length self.old.peers.items }
         ensures waits { HasWaited (cond held 0 1) (S.trace self.old.system) (S.trace self.new.system) }
         ensures looked { held ≡ false → HasLooked (S.trace self.new.system) }
         ensures rests { held ≡ true → self.new.listening ≡ self.old.listening }
@@ -184,6 +190,9 @@ impl<S: System + Drop> Sockets<S> {
     /// Flushes each peer that is there, and goes on with the lingering peers.
     fn flush(&mut self, what: Flush)
         ensures calls { SaysNothing (S.trace self.old.system) (S.trace self.new.system) }
+        ensures most { GrowsBy (2 * length self.old.peers.items + 64)
+            (S.trace self.old.system) (S.trace self.new.system) }
+        ensures as_many { length self.new.peers.items ≡ length self.old.peers.items }
         ensures offered { AreOffered what self.old.peers.items (S.trace self.old.system) (S.trace self.new.system) }
         ensures out { AreFlushed (flushes_all what) (S.trace self.new.system) }
         ensures times { KeepsTimes (S.trace self.old.system) (S.trace self.new.system) }
@@ -200,6 +209,8 @@ impl<S: System + Drop> Sockets<S> {
         requires ready { length ready.old ≡ 128 }
         requires may { MayWait self.old.turn (S.trace self.old.system) }
         ensures calls { SaysNothing (S.trace self.old.system) (S.trace self.new.system) }
+        ensures most { GrowsBy 1 (S.trace self.old.system) (S.trace self.new.system) }
+        ensures as_many { length self.new.peers.items ≡ length self.old.peers.items }
         ensures waits { IsWaiting (longest_wait self.old.peers.items self.old.listening self.old.turn self.old.most)
             self.old.listening self.new.listening (S.trace self.old.system) (S.trace self.new.system) }
         ensures looked { HasLooked (S.trace self.new.system) }
@@ -214,20 +225,29 @@ impl<S: System + Drop> Sockets<S> {
         self.turn.wait();
     }
 
-    /// Begins the visit of each peer; `holds` says whether input was held as the turn began. Each share is a whole
-    /// piece again if no line of a share was kept back in the turn before; that of a silent peer always is.
+    /// Returns whether each share is a whole piece again. Shares stay if a line of a share was kept back in the turn
+    /// before. Shares stay behind a late turn too, since a late turn hands out nothing.
+    fn renews_shares(&self) -> bool
+        ensures { result ≡ not (self.now.starved || self.now.turn.late) }
+    {
+        !(self.starved || self.turn.late)
+    }
+
+    /// Begins the visit of each peer; `holds` says whether input was held as the turn began. The share of a silent peer
+    /// always is a whole piece again.
     fn begin_visits(&mut self, holds: bool)
         ensures calls { SaysNothing (S.trace self.old.system) (S.trace self.new.system) }
+        ensures most { GrowsBy (length self.old.peers.items) (S.trace self.old.system) (S.trace self.new.system) }
         ensures read { AreRead (S.trace self.new.system) }
         ensures visited { AreVisited (S.trace self.new.system) self.new.peers.items }
-        ensures shares { AreShared (not self.old.starved) self.old.turn.clock
+        ensures shares { AreShared (not (self.old.starved || self.old.turn.late)) self.old.turn.clock
             self.old.peers.items self.new.peers.items }
         ensures rooms { All (λ peer. peer.room ≡ room_of holds self.old.turn.slack) self.new.peers.items }
         ensures times { KeepsTimes (S.trace self.old.system) (S.trace self.new.system) }
         ensures flushed { self.new.flushed ≡ self.old.flushed }
         ensures reset { self.new.starved ≡ false }
     {
-        let anew = !self.starved;
+        let anew = self.renews_shares();
         let room = self.room(holds);
         self.starved = false;
         let clock = self.turn.clock;
@@ -310,6 +330,7 @@ impl<S: System + Drop> Sockets<S> {
     /// queued bytes and its input ended, for 10 seconds at most.
     pub(crate) fn close(&mut self, number: u32) -> Result<(), DoorFault>
         ensures trace { SaysOne (S.trace self.old.system) (CloseCall number result) (S.trace self.new.system) }
+        ensures one { Tells (S.trace self.old.system) (Answers (CloseCall number result)) (S.trace self.new.system) }
         ensures keeps { (self.new.flushed ≡ self.old.flushed) × (self.new.starved ≡ self.old.starved) }
         ensures fault { IfErr result (λ fault. fault ≡ DoorFault.Close) }
     {
@@ -327,6 +348,8 @@ impl<S: System + Drop> Sockets<S> {
     /// Closes the sockets of the lingering peers with nothing left to do, `MOST_LINGERING` sockets at most.
     fn close_gone(&mut self)
         ensures calls { SaysNothing (S.trace self.old.system) (S.trace self.new.system) }
+        ensures most { GrowsBy 64 (S.trace self.old.system) (S.trace self.new.system) }
+        ensures as_few { length self.new.peers.items ≤ length self.old.peers.items }
         ensures last { self.new.last ≡ self.old.last }
         ensures times { KeepsTimes (S.trace self.old.system) (S.trace self.new.system) }
         ensures keeps { (self.new.turn ≡ self.old.turn) × (self.new.starved ≡ self.old.starved) }
@@ -350,9 +373,12 @@ impl<S: System + Drop> Sockets<S> {
         requires closable { (d : Peer) → is_closable self.old.turn.clock
             (slice_index_or self.old.peers.items index d) ≡ true }
         ensures calls { SaysNothing (S.trace self.old.system) (S.trace self.new.system) }
+        ensures most { GrowsBy 1 (S.trace self.old.system) (S.trace self.new.system) }
+        ensures as_few { length self.new.peers.items ≤ length self.old.peers.items }
         ensures last { self.new.last ≡ self.old.last }
         ensures times { KeepsTimes (S.trace self.old.system) (S.trace self.new.system) }
         ensures keeps { (self.new.turn ≡ self.old.turn) × (self.new.starved ≡ self.old.starved) }
+        ensures heard { self.new.listening ≡ self.old.listening }
         ensures flushed { self.new.flushed ≡ self.old.flushed }
         ensures closed { Makes is_close 1 (S.trace self.old.system) (S.trace self.new.system) }
         ensures out { (all : Bool) → AreFlushed all (S.trace self.old.system)
@@ -430,86 +456,11 @@ impl<S: System + Drop> Sockets<S> {
         None
     }
 
-    /// Returns whether the turn is late: what fell due comes first, and no input is handed out.
-    pub(crate) fn is_late(&self) -> bool
-        ensures { result ≡ self.now.turn.late }
-    {
-        self.turn.late
-    }
-
-    /// Hands out nothing of a peer, in a late turn.
-    pub(crate) fn hold_back(&mut self, number: u32, buffer: &[u8]) -> Result<Got, DoorFault>
-        requires { self.old.turn.late ≡ true }
-        ensures trace { SaysOne (S.trace self.old.system) (ReadCall number result buffer.now)
-            (S.trace self.new.system) }
-        ensures nothing { result ≡ Ok Got.Nothing }
-        ensures keeps { (self.new.flushed ≡ self.old.flushed) × (self.new.starved ≡ self.old.starved) }
-    {
-        let answer = Ok(Got::Nothing);
-        self.system.note_read(number, answer, buffer);
-        answer
-    }
-
-    /// Returns whether input is held of a silent peer.
-    fn has_silent(&self) -> bool
-        ensures { result ≡ list_any (goes_first self.now.turn.clock) self.now.peers.items }
-    {
-        let clock = self.turn.clock;
-        self.peers.iter().any(|peer| peer.goes_first(clock))
-    }
-
-    /// Returns whether the lines of a peer go behind those of others: not every line may go now, the peer is not
-    /// silent, and input is held of one that is.
-    fn goes_behind(&self, peer: &Peer) -> bool
-        ensures { result ≡ goes_behind self.now.turn self.now.peers.items peer.now }
-    {
-        self.turn.is_slow() && !peer.is_silent(self.turn.clock) && self.has_silent()
-    }
-
-    /// Reads the bytes that came from a peer. The lines of a silent peer go first.
-    ///
-    /// # Errors
-    /// Returns `Read` if the peer is lost or not there, unless the turn reported another end.
-    pub(crate) fn read(&mut self, number: u32, buffer: &mut [u8]) -> Result<Got, DoorFault>
-        requires { self.old.turn.late ≡ false }
-        ensures trace { SaysOne (S.trace self.old.system) (ReadCall number result buffer.new)
-            (S.trace self.new.system) }
-        ensures count { (n : ℕ) → result ≡ Ok (Got.Bytes n) → (0 < n) × (n ≤ length buffer.old) }
-        ensures fault { IfErr result (λ fault. fault ≡ DoorFault.Read) }
-        ensures answered { IsPeerRead self.old.turn self.old.peers.items number (length buffer.old) result
-            (got_bytes result buffer.new) self.old.starved self.new.starved }
-        ensures flushed { self.new.flushed ≡ self.old.flushed }
-        ensures stays { self.old.starved ≡ true → self.new.starved ≡ true }
-    {
-        let Some(index) = self.index_of(number) else {
-            return self.read_nobody(number, buffer);
-        };
-        let waits = self.goes_behind(&self.peers[index]);
-        self.recent = index;
-        let handed = self.peers[index].read(&mut self.system, &mut self.turn, waits, buffer);
-        self.starved |= handed.starved;
-        handed.got
-    }
-
-    /// Reports a peer that is not there as lost, unless the turn reported another end.
-    ///
-    /// # Errors
-    /// Returns `Read` unless the turn reported another end.
-    fn read_nobody(&mut self, number: u32, buffer: &[u8]) -> Result<Got, DoorFault>
-        requires { IsMissing number self.old.peers.items }
-        ensures trace { SaysOne (S.trace self.old.system) (ReadCall number result buffer.now)
-            (S.trace self.new.system) }
-        ensures nothing { (result ≡ Ok Got.Nothing) ⊎ (result ≡ Err DoorFault.Read) }
-        ensures keeps { (self.new.flushed ≡ self.old.flushed) × (self.new.starved ≡ self.old.starved) }
-    {
-        let answer = self.turn.report_fault();
-        self.system.note_read(number, answer, buffer);
-        answer
-    }
-
     /// Takes bytes for a peer, and returns how many, or `Write` if the peer is not there.
     pub(crate) fn write(&mut self, number: u32, bytes: &[u8]) -> Result<usize, DoorFault>
         ensures trace { SaysOne (S.trace self.old.system) (WriteCall number bytes.now result)
+            (S.trace self.new.system) }
+        ensures one { Tells (S.trace self.old.system) (Answers (WriteCall number bytes.now result))
             (S.trace self.new.system) }
         ensures count { IfOk result (λ n. n ≤ length bytes.now) }
         ensures fault { IfErr result (λ fault. fault ≡ DoorFault.Write) }

@@ -1,13 +1,13 @@
 //! How a pending connection is accepted.
 
 ghost use Rattle.std.specs.Prelude.{false, true, ◌≡◌, ◌<◌, ◌+◌, ◌⊎◌, None, Ok, Err, IfErr, length, vec_capacity};
-ghost use Rattle.std.specs.Prelude.{ℕ, OnErr, Some, position};
-ghost use Rattle.srcp_peers.specs.Peers.{Makes, is_shut};
+ghost use Rattle.std.specs.Prelude.{ℕ, OnErr};
 ghost use Rattle.srcp_sockets.specs.Asked.{MayRefuse};
-ghost use Rattle.srcp_sockets.specs.Work.{MakesRoom, is_accept, is_close, is_crowded, is_quiet, may_accept};
+ghost use Rattle.srcp_sockets.specs.Doors.{is_quiet};
+ghost use Rattle.srcp_sockets.specs.Work.{IsAccepting, MakesRoom, is_crowded, may_accept};
 ghost use Rattle.srcp_peers.specs.Times.{refused_accept};
 ghost use Rattle.srcp_door.specs.Calls.{AcceptCall};
-ghost use Rattle.srcp_peers.specs.Steps.{Closes, SaysNothing, SaysOne, Tells};
+ghost use Rattle.srcp_peers.specs.Steps.{Answers, Closes, SaysNothing, SaysOne, Tells};
 
 use super::Sockets;
 use srcp_door::DoorFault;
@@ -28,12 +28,15 @@ impl<S: System + Drop> Sockets<S> {
         ensures rests { OnErr result (self.new.listening ≡ Listening.BackingOff) }
         ensures asks { may_accept self.old.listening (vec_capacity self.old.peers) self.old.peers.items ≡ true
             → (result ≡ Err DoorFault.Accept)
-            ⊎ Makes is_accept 1 (S.trace self.old.system) (S.trace self.new.system) }
+            ⊎ IsAccepting (self.old.last + 1) result self.old.listening self.new.listening
+            (S.trace self.old.system) (S.trace self.new.system) }
         ensures keeps { (self.new.flushed ≡ self.old.flushed) × (self.new.starved ≡ self.old.starved) }
-        ensures full { is_quiet self.old.listening ≡ false
+        ensures quiet { is_quiet self.old.listening ≡ true → (self.new.listening ≡ self.old.listening)
+            × Tells (S.trace self.old.system) (Answers (AcceptCall (Ok None))) (S.trace self.new.system) }
+        ensures makes { is_quiet self.old.listening ≡ false
             → is_crowded (vec_capacity self.old.peers) self.old.peers.items ≡ true
-            → position (λ peer. is_shut peer.stay) self.old.peers.items ≡ None
-            → self.new.listening ≡ Listening.BackingOff }
+            → MakesRoom self.old.peers.items self.old.listening self.new.listening
+            (S.trace self.old.system) (S.trace self.new.system) }
     {
         if !self.may_accept() {
             return self.note_nobody(Ok(None));
@@ -53,12 +56,16 @@ impl<S: System + Drop> Sockets<S> {
         ensures calls { SaysNothing (S.trace self.old.system) (S.trace self.new.system) }
         ensures room { result ≡ true → length self.new.peers.items < vec_capacity self.new.peers }
         ensures is { result ≡ may_accept self.old.listening (vec_capacity self.old.peers) self.old.peers.items }
-        ensures same { result ≡ true → S.trace self.new.system ≡ S.trace self.old.system }
         ensures excused { result ≡ false → MayRefuse (S.trace self.new.system) }
         ensures keeps { (self.new.flushed ≡ self.old.flushed) × (self.new.starved ≡ self.old.starved) }
+        ensures same { result ≡ true → (self.new.listening ≡ self.old.listening) × (self.new.last ≡ self.old.last)
+            × (S.trace self.new.system ≡ S.trace self.old.system) }
+        ensures quiet { is_quiet self.old.listening ≡ true → (self.new.listening ≡ self.old.listening)
+            × (S.trace self.new.system ≡ S.trace self.old.system) }
         ensures makes { is_quiet self.old.listening ≡ false
             → is_crowded (vec_capacity self.old.peers) self.old.peers.items ≡ true
-            → MakesRoom self.old.peers.items self.new.listening (S.trace self.old.system) (S.trace self.new.system) }
+            → MakesRoom self.old.peers.items self.old.listening self.new.listening
+            (S.trace self.old.system) (S.trace self.new.system) }
     {
         if self.listening.is_quiet() {
             return false;
@@ -73,7 +80,8 @@ impl<S: System + Drop> Sockets<S> {
     /// Puts off a pending connection for which memory or the numbers ran out: it is accepted after a rest, if there is
     /// some by then.
     fn put_off(&mut self) -> Result<Option<u32>, DoorFault>
-        ensures trace { SaysOne (S.trace self.old.system) (AcceptCall result) (S.trace self.new.system) }
+        requires { is_quiet self.old.listening ≡ false }
+        ensures trace { Tells (S.trace self.old.system) (Answers (AcceptCall result)) (S.trace self.new.system) }
         ensures fault { result ≡ Err DoorFault.Accept }
         ensures keeps { (self.new.flushed ≡ self.old.flushed) × (self.new.starved ≡ self.old.starved) }
         ensures rests { self.new.listening ≡ Listening.BackingOff }
@@ -89,7 +97,7 @@ impl<S: System + Drop> Sockets<S> {
     ) -> Result<Option<u32>, DoorFault>
         requires nobody { (answer ≡ Ok None) ⊎ (answer ≡ Err DoorFault.Accept) }
         requires excused { answer ≡ Ok None → MayRefuse (S.trace self.old.system) }
-        ensures trace { SaysOne (S.trace self.old.system) (AcceptCall result) (S.trace self.new.system) }
+        ensures trace { Tells (S.trace self.old.system) (Answers (AcceptCall result)) (S.trace self.new.system) }
         ensures same { result ≡ answer }
         ensures listening { self.new.listening ≡ self.old.listening }
         ensures keeps { (self.new.flushed ≡ self.old.flushed) × (self.new.starved ≡ self.old.starved) }
@@ -103,10 +111,12 @@ impl<S: System + Drop> Sockets<S> {
     fn accept_next(&mut self, number: u32, queues: Queues) -> Result<Option<u32>, DoorFault>
         requires next { number ≡ self.old.last + 1 }
         requires room { length self.old.peers.items < vec_capacity self.old.peers }
+        requires loud { is_quiet self.old.listening ≡ false }
         ensures trace { SaysOne (S.trace self.old.system) (AcceptCall result) (S.trace self.new.system) }
         ensures fault { IfErr result (λ fault. fault ≡ DoorFault.Accept) }
         ensures rests { OnErr result (self.new.listening ≡ Listening.BackingOff) }
-        ensures asks { Makes is_accept 1 (S.trace self.old.system) (S.trace self.new.system) }
+        ensures exact { IsAccepting number result self.old.listening self.new.listening
+            (S.trace self.old.system) (S.trace self.new.system) }
         ensures keeps { (self.new.flushed ≡ self.old.flushed) × (self.new.starved ≡ self.old.starved) }
     {
         match self.system.accept(number) {
@@ -143,15 +153,14 @@ impl<S: System + Drop> Sockets<S> {
     /// Closes the first peer that lingers and is owed nothing. If there is none, no connection is accepted until one is
     /// closed.
     fn make_room(&mut self)
+        requires { is_quiet self.old.listening ≡ false }
         ensures calls { SaysNothing (S.trace self.old.system) (S.trace self.new.system) }
         ensures last { self.new.last ≡ self.old.last }
         ensures keeps { (self.new.flushed ≡ self.old.flushed) × (self.new.starved ≡ self.old.starved) }
         ensures closes { (S.trace self.new.system ≡ S.trace self.old.system)
             ⊎ ((who : ℕ) × Tells (S.trace self.old.system) (Closes who) (S.trace self.new.system)) }
-        ensures none { position (λ peer. is_shut peer.stay) self.old.peers.items ≡ None
-            → self.new.listening ≡ Listening.BackingOff }
-        ensures one { (index : ℕ) → position (λ peer. is_shut peer.stay) self.old.peers.items ≡ Some index
-            → Makes is_close 1 (S.trace self.old.system) (S.trace self.new.system) }
+        ensures makes { MakesRoom self.old.peers.items self.old.listening self.new.listening
+            (S.trace self.old.system) (S.trace self.new.system) }
     {
         match first_shut(self.peers.as_slice()) {
             Some(index) => self.close_at(index),

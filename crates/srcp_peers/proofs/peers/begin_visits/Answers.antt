@@ -1,4 +1,4 @@
-use Rattle.std.proofs.Common.{◌≡◌, ap, arith, refl}
+use Rattle.std.proofs.Common.{◌≡◌, ap, arith, length, refl}
 use Rattle.srcp_peers.specs.Ends.{begun}
 use Rattle.srcp_peers.specs.Peers.{is_over}
 use Rattle.srcp_door.specs.declared.pacing.Share.{Share}
@@ -7,6 +7,7 @@ use Rattle.srcp_peers.proofs.CallsAreOfTheDoor.{says_none, says_then, keeps_none
 use Rattle.srcp_peers.proofs.PeersStayKept.{spares_none, spares_then}
 use Rattle.srcp_peers.proofs.OnePeerChanges.{set_read, absent_there, set_apart, set_each, set_kept, set_shared, set_rest, set_rooms}
 use Rattle.srcp_peers.proofs.OnePeerChanges.{set_those}
+use Rattle.srcp_peers.proofs.StepsAreCounted.{grows_more, grows_none, grows_then}
 use Rattle.srcp_peers.proofs.peers.begin_visits.Goals as goal
 
 pub loop-peer-init : goal.loop-peer-init
@@ -16,6 +17,7 @@ loop-peer-init g c = record {
   those = λ k d lt. refl;
   others = λ other absent. spares_none other (g.S.System.trace c.args.system.now);
   calls = says_none (g.S.System.trace c.args.system.now);
+  most = grows_none (g.S.System.trace c.args.system.now);
   times = keeps_none (g.S.System.trace c.args.system.now);
   read = λ k d lt. absurd (omega (arith, lt));
   shared = λ k d lt. absurd (omega (arith, lt));
@@ -41,6 +43,8 @@ loop-peer-preserved g c = record {
       c.loop-peer.auto.peers c.loop-peer.invariant.those absent));
   calls = says_then (g.S.System.trace c.args.system.now) (g.S.System.trace c.loop-peer.system) (g.S.System.trace c.begin_visit.new.system)
       c.loop-peer.invariant.calls c.begin_visit.ensures.calls;
+  most = grows_then c.loop-peer.peer-index 1 (g.S.System.trace c.args.system.now) (g.S.System.trace c.loop-peer.system)
+      (g.S.System.trace c.begin_visit.new.system) c.loop-peer.invariant.most c.begin_visit.ensures.most;
   times = keeps_then (g.S.System.trace c.args.system.now) (g.S.System.trace c.loop-peer.system) (g.S.System.trace c.begin_visit.new.system)
       c.loop-peer.invariant.times c.begin_visit.ensures.times;
   read = set_read (g.S.System.trace c.loop-peer.system) (g.S.System.trace c.begin_visit.new.system) c.loop-peer.peers
@@ -56,3 +60,7 @@ loop-peer-preserved g c = record {
       (c.begin_visit.ensures.stay, c.begin_visit.ensures.ending) c.loop-peer.invariant.rest c.loop-peer.invariant.begun;
   rest = set_rest c.args.peers.now c.loop-peer.peers c.loop-peer.peer-index c.begin_visit.new.self c.loop-peer.invariant.rest;
 }
+
+pub returns-clause-most : goal.returns-clause-most
+returns-clause-most g c = grows_more c.loop-peer.peer-index (length c.args.peers.now) (g.S.System.trace c.args.system.now)
+    (g.S.System.trace c.loop-peer.system) (omega arith) c.loop-peer.invariant.most

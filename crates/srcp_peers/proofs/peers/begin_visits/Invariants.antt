@@ -1,6 +1,6 @@
 use Rattle.std.specs.Prelude.{◌≡◌, ℕ, ◌<◌, ◌≤◌, ◌||◌, cond, slice_index_or}
 use Rattle.srcp_peers.specs.declared.peer.Peer.{Peer}
-use Rattle.srcp_peers.specs.Steps.{SaysNothing}
+use Rattle.srcp_peers.specs.Steps.{GrowsBy, SaysNothing}
 use Rattle.srcp_peers.specs.Times.{KeepsTimes}
 use Rattle.srcp_peers.specs.Ends.{begun}
 use Rattle.srcp_peers.specs.Peers.{Spares, IsRead, is_over, is_silent}
@@ -14,6 +14,7 @@ invariant-loop-peer g l = record {
   those : AreThose l.fn.peers l.peers;
   others : (other : ℕ) → IsAbsent other l.fn.peers → Spares other (g.S.System.trace l.fn.system) (g.S.System.trace l.system);
   calls : SaysNothing (g.S.System.trace l.fn.system) (g.S.System.trace l.system);
+  most : GrowsBy l.peer-index (g.S.System.trace l.fn.system) (g.S.System.trace l.system);
   times : KeepsTimes (g.S.System.trace l.fn.system) (g.S.System.trace l.system);
   read : (k : ℕ) (d : Peer) → k < l.peer-index → IsRead (g.S.System.trace l.system) (slice_index_or l.peers k d).number;
   shared : (k : ℕ) (d : Peer) → k < l.peer-index

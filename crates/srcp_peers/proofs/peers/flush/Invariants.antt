@@ -1,8 +1,9 @@
-use Rattle.std.specs.Prelude.{◌≡◌, ℕ, ◌<◌, ◌≤◌, slice_index_or}
+use Rattle.std.specs.Prelude.{◌≡◌, ℕ, ◌<◌, ◌≤◌, slice_index_or, take}
+use Rattle.std.specs.List.{sum_by}
 use Rattle.srcp_peers.specs.declared.peer.Peer.{Peer}
-use Rattle.srcp_peers.specs.Steps.{SaysNothing}
+use Rattle.srcp_peers.specs.Steps.{GrowsBy, SaysNothing}
 use Rattle.srcp_peers.specs.Times.{KeepsTimes}
-use Rattle.srcp_peers.specs.Peers.{OffersDue, Spares, stay_after}
+use Rattle.srcp_peers.specs.Peers.{OffersDue, Spares, calls_in, stay_after}
 use Rattle.srcp_peers.specs.AllPeers.{AreApart, AreKept, AreThose, IsAbsent}
 use Rattle.srcp_peers.proofs.peers.flush.Given as goal
 
@@ -13,6 +14,7 @@ invariant-loop-peer g l = record {
   those : AreThose l.fn.peers l.peers;
   others : (other : ℕ) → IsAbsent other l.fn.peers → Spares other (g.S.System.trace l.fn.system) (g.S.System.trace l.system);
   calls : SaysNothing (g.S.System.trace l.fn.system) (g.S.System.trace l.system);
+  most : GrowsBy (sum_by (calls_in l.reads) (take l.peer-index l.fn.peers)) (g.S.System.trace l.fn.system) (g.S.System.trace l.system);
   times : KeepsTimes (g.S.System.trace l.fn.system) (g.S.System.trace l.system);
   offered : (k : ℕ) (d : Peer) → k < l.peer-index
       → OffersDue l.fn.what (slice_index_or l.fn.peers k d) (g.S.System.trace l.fn.system) (g.S.System.trace l.system);

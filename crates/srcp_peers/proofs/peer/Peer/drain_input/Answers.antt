@@ -2,7 +2,7 @@ use Rattle.std.proofs.Common.{◌≡◌, ◌∙◌, ◌+◌, ℕ, [], arith, ref
 use Rattle.srcp_peers.specs.Peers.{Makes, is_here, is_read_of}
 use Rattle.srcp_peers.proofs.CallsAreOfTheDoor.{says_none, says_then, keeps_none, keeps_then}
 use Rattle.srcp_peers.proofs.PeersStayKept.{spares_none, spares_then}
-use Rattle.srcp_peers.proofs.StepsAreCounted.{asked_more, makes_none}
+use Rattle.srcp_peers.proofs.StepsAreCounted.{asked_more, grows_none, grows_then, makes_none}
 use Rattle.srcp_peers.proofs.peer.Peer.drain_input.Goals as goal
 
 pub loop-init : goal.loop-init
@@ -11,6 +11,7 @@ loop-init g c = record {
   gone = c.requires.gone;
   others = λ other differ. spares_none other (g.S.System.trace c.args.system.now);
   calls = says_none (g.S.System.trace c.args.system.now);
+  most = grows_none (g.S.System.trace c.args.system.now);
   times = keeps_none (g.S.System.trace c.args.system.now);
   number = refl;
   made = makes_none (is_read_of c.args.self.now.number) (g.S.System.trace c.args.system.now);
@@ -30,6 +31,7 @@ loop-preserved g c =
       others = λ other differ. spares_then other first old new (was.others other differ)
           (c.skip.ensures.others other (λ e. differ (e ∙ was.number)));
       calls = says_then first old new was.calls c.skip.ensures.calls;
+      most = grows_then c.loop.counter 1 first old new was.most c.skip.ensures.most;
       times = keeps_then first old new was.times c.skip.ensures.times;
       number = c.skip.ensures.number ∙ was.number;
       made = subst (λ (n : ℕ). Makes (is_read_of n) (c.loop.counter + 1) first new) was.number

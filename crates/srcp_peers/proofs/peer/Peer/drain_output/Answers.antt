@@ -3,6 +3,7 @@ use Rattle.srcp_peers.specs.declared.readiness.Flush.TheVariants as flush
 use Rattle.srcp_peers.proofs.PeersStayKept.{spares_then}
 use Rattle.srcp_peers.proofs.QueuedIsOffered.{due_all, flushed_now, offered_then}
 use Rattle.srcp_peers.proofs.CallsAreOfTheDoor.{says_then}
+use Rattle.srcp_peers.proofs.StepsAreCounted.{grows_then}
 use Rattle.srcp_peers.proofs.peer.Peer.drain_output.Goals as goal
 
 pub returns-then-not-is_lost-clause-others : goal.returns-then-not-is_lost-clause-others
@@ -29,3 +30,7 @@ returns-else-is_empty-clause-offered g c =
     let old = g.S.System.trace c.args.system.now in
     let new = g.S.System.trace c.flush.new.system in
     due_all p old new (flushed_now flush.All p c.flush.new.self old new c.flush.ensures.offered)
+
+pub returns-then-not-is_lost-clause-most : goal.returns-then-not-is_lost-clause-most
+returns-then-not-is_lost-clause-most g c = grows_then 1 1 (g.S.System.trace c.args.system.now) (g.S.System.trace c.flush.new.system)
+    (g.S.System.trace c.shut_down.new.system) c.flush.ensures.most c.shut_down.ensures.most

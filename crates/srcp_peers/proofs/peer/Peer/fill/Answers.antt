@@ -2,6 +2,7 @@ use Rattle.std.proofs.Common.{◌∙◌, ◌-◌, ℕ, Ok, Err, ap, refl, sym}
 use Rattle.srcp_peers.specs.Peers.{given, missed}
 use Rattle.srcp_peers.specs.Steps.{Reads}
 use Rattle.srcp_peers.proofs.CallsAreOfTheDoor.{says_step, keeps_step}
+use Rattle.srcp_peers.proofs.StepsAreCounted.{grows_step}
 use Rattle.srcp_peers.proofs.peer.Peer.fill.Goals as goal
 
 pub returns-in-Ok-clause-calls : goal.returns-in-Ok-clause-calls
@@ -40,3 +41,11 @@ returns-in-Err-clause-asked g c ready few = (
   c.in-Err.ensures.3,
   c.missed-self.ensures ∙ ap (missed c.args.self.now.input) c.failure_of.ensures,
 )
+
+pub returns-in-Ok-clause-most : goal.returns-in-Ok-clause-most
+returns-in-Ok-clause-most g c = grows_step (g.S.System.trace c.args.system.now) (g.S.System.trace c.read_from.new.system)
+    (Reads c.args.self.now.number c.in-Ok.ensures.0 (Ok c.in-Ok.count)) c.in-Ok.ensures.2
+
+pub returns-in-Err-clause-most : goal.returns-in-Err-clause-most
+returns-in-Err-clause-most g c = grows_step (g.S.System.trace c.args.system.now) (g.S.System.trace c.read_from.new.system)
+    (Reads c.args.self.now.number c.in-Err.ensures.0 (Err c.in-Err.fault)) c.in-Err.ensures.2

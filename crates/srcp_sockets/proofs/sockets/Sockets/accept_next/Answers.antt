@@ -13,7 +13,7 @@ use Rattle.srcp_peers.specs.Turns.{after_call}
 use Rattle.srcp_peers.proofs.PeersStayKept.{own}
 use Rattle.srcp_peers.proofs.CallsAreOfTheDoor.{says_after, says_call, says_step}
 use Rattle.srcp_sockets.proofs.AcceptsAreAsked.{asked_accept, asked_step, was_asked}
-use Rattle.srcp_sockets.proofs.WorkIsDone.{done_step, done_turn}
+use Rattle.srcp_sockets.proofs.WorkIsDone.{done_step, done_turn, tells_two}
 use Rattle.srcp_sockets.proofs.NumbersDiffer.{named_call, named_come, named_silent, nobody_named}
 use Rattle.srcp_sockets.proofs.AcceptsKeepSockets.{stands_came, stands_refused}
 use Rattle.srcp_sockets.proofs.SocketsStayStanding.{stands_answered}
@@ -82,7 +82,8 @@ invariant_of-self-in-Err g c =
       stands = stands_answered mid new self.peers.items c.refused-self.result self.last call (λ s a. refl) c.note_accept-in-Err.ensures
           (subst (λ (l : Listening). Stands mid self.peers.items l self.last)
           (sym (c.refused-self.ensures ∙ ap refused_listening c.failure_of-said.ensures))
-          (stands_refused old mid self.peers.items self.listening self.last number c.in-Err.fault c.in-Err.ensures self.stands));
+          (stands_refused old mid self.peers.items self.listening self.last number c.in-Err.fault c.requires.loud
+          c.in-Err.ensures self.stands));
       named = named_call mid new self.last call (says_call mid new call c.note_accept-in-Err.ensures)
           (ap (λ a. filter_map peer_of (AcceptCall a ∷ [])) is ∙ nobody_named c.failure_of-said.result)
           (named_silent old mid self.last (says_step old mid (Accepts number said) c.in-Err.ensures refl) self.named);
@@ -110,3 +111,29 @@ returns-in-Err-clause-trace g c =
     let call = AcceptCall c.nobody-answer.result in
     says_after old mid new call (says_step old mid (Accepts c.args.number (Err c.in-Err.fault)) c.in-Err.ensures refl)
     (says_call mid new call c.note_accept-in-Err.ensures)
+
+pub returns-in-Ok-clause-exact : goal.returns-in-Ok-clause-exact
+returns-in-Ok-clause-exact g c =
+    let old = g.S.System.trace c.args.self.now.system in
+    let mid = g.S.System.trace c.accept.new.self in
+    let new = g.S.System.trace c.note_accept.new.self in
+    let said : Result Unit ErrorKind = Ok c.in-Ok.field-0 in (
+      said,
+      refl,
+      refl,
+      tells_two old mid new (Accepts c.args.number said) (Answers (AcceptCall (Ok (Some c.args.number)))) c.in-Ok.ensures
+          c.note_accept.ensures,
+    )
+
+pub returns-in-Err-clause-exact : goal.returns-in-Err-clause-exact
+returns-in-Err-clause-exact g c =
+    let old = g.S.System.trace c.args.self.now.system in
+    let mid = g.S.System.trace c.accept.new.self in
+    let new = g.S.System.trace c.note_accept-in-Err.new.self in
+    let said : Result Unit ErrorKind = Err c.in-Err.fault in (
+      said,
+      c.nobody-answer.ensures.answer ∙ ap refused_accept c.failure_of-said.ensures,
+      c.refused-self.ensures ∙ ap refused_listening c.failure_of-said.ensures,
+      tells_two old mid new (Accepts c.args.number said) (Answers (AcceptCall c.nobody-answer.result)) c.in-Err.ensures
+          c.note_accept-in-Err.ensures,
+    )

@@ -15,6 +15,8 @@ use Rattle.srcp_sockets.specs.Work.{AreClosedUp, goes_on}
 use Rattle.srcp_sockets.proofs.EndsAreDelivered.{waited_after, waited_keeps}
 use Rattle.srcp_sockets.proofs.WorkIsDone.{looked_silent, may_tell}
 use Rattle.srcp_sockets.proofs.WaitsAreFlushed.{all_closed, may_wait}
+use Rattle.srcp_peers.proofs.StepsAreCounted.{grows_more, grows_then}
+use Rattle.std.proofs.Common.{◌+◌, ◌*◌, arith, length}
 use Rattle.srcp_sockets.proofs.sockets.Sockets.begin_turn.Goals as goal
 
 pub returns-clause-calls : goal.returns-clause-calls
@@ -91,3 +93,20 @@ poll_unless_held-requires-clause-may g c none =
     (c.close_gone.ensures.out (flushes_all c.flushing-what.result) c.flush.ensures.out))
     (all_closed flushed gone at.turn at.peers.items at.listening at.last at.stands at.timed c.close_gone.ensures.calls
     (subst (λ (t : Turn). AreClosedUp t.clock at.peers.items flushed gone) (sym c.close_gone.ensures.keeps.0) c.close_gone.ensures.closed))
+
+pub returns-clause-most : goal.returns-clause-most
+returns-clause-most g c =
+    let old = g.S.System.trace c.args.self.now.system in
+    let flushed = g.S.System.trace c.flush.new.self.system in
+    let gone = g.S.System.trace c.close_gone.new.self.system in
+    let looked = g.S.System.trace c.poll_unless_held.new.self.system in
+    let new = g.S.System.trace c.begin_visits.new.self.system in
+    let many = length c.args.self.now.peers.items in
+    let left = length c.poll_unless_held.new.self.peers.items in
+    let a = c.flush.ensures.as_many in
+    let b = c.close_gone.ensures.as_few in
+    let d = c.poll_unless_held.ensures.as_many in
+    grows_more (2 * many + 64 + 64 + (1 + left)) (3 * many + 129) old new (omega (arith, a, b, d))
+    (grows_then (2 * many + 64 + 64) (1 + left) old gone new
+    (grows_then (2 * many + 64) 64 old flushed gone c.flush.ensures.most c.close_gone.ensures.most)
+    (grows_then 1 left gone looked new c.poll_unless_held.ensures.most c.begin_visits.ensures.most))

@@ -1,5 +1,5 @@
 use Rattle.std.proofs.Common.{◌≡◌, ◌∙◌, ℕ, not, List, rules, subst, sym}
-use Rattle.std.specs.Prelude.{All}
+use Rattle.std.specs.Prelude.{◌||◌, Bool, All}
 use Rattle.std.proofs.lemmas.List.{with_items_is}
 use Rattle.srcp_peers.specs.declared.peer.Peer.{Peer}
 use Rattle.srcp_peers.specs.AllPeers.{AreShared}
@@ -13,6 +13,8 @@ use Rattle.srcp_sockets.proofs.SocketsStayStanding.{stands_turned}
 use Rattle.srcp_sockets.proofs.TimesGoOn.{timed_kept}
 use Rattle.srcp_sockets.specs.Endings.{AreAsFar, AreVisited}
 use Rattle.srcp_sockets.proofs.EndsAreTold.{far_visited, visited_all}
+use Rattle.srcp_peers.specs.Steps.{GrowsBy}
+use Rattle.std.proofs.Common.{length}
 use Rattle.srcp_sockets.proofs.sockets.Sockets.begin_visits.Goals as goal
 
 pub invariant_of-self : goal.invariant_of-self
@@ -64,15 +66,21 @@ returns-clause-visited g c =
 
 pub returns-clause-shares : goal.returns-clause-shares
 returns-clause-shares g c =
-    let anew = not c.args.self.now.starved in
+    let anew = not (c.args.self.now.starved || c.args.self.now.turn.late) in
     let clock = c.args.self.now.turn.clock in
     subst (λ (ps : List Peer). AreShared anew clock c.args.self.now.peers.items ps)
     (sym (with_items_is c.args.self.now.peers c.begin_visits.new.peers (c.begin_visits.auto.peers ∙ search rules)))
     (subst (λ (ps : List Peer). AreShared anew clock ps c.begin_visits.new.peers) c.as_mut_slice.ensures.value
-    c.begin_visits.ensures.shares)
+    (subst (λ (b : Bool). AreShared b clock c.as_mut_slice.result.now c.begin_visits.new.peers) c.renews_shares-anew.ensures
+    c.begin_visits.ensures.shares))
 
 pub returns-clause-rooms : goal.returns-clause-rooms
 returns-clause-rooms g c =
     subst (λ (ps : List Peer). All (λ peer. peer.room ≡ room_of c.args.holds c.args.self.now.turn.slack) ps)
     (sym (with_items_is c.args.self.now.peers c.begin_visits.new.peers (c.begin_visits.auto.peers ∙ search rules)))
     (subst (λ (n : ℕ). All (λ (peer : Peer). peer.room ≡ n) c.begin_visits.new.peers) c.room-room.ensures c.begin_visits.ensures.rooms)
+
+pub returns-clause-most : goal.returns-clause-most
+returns-clause-most g c =
+    subst (λ (ps : List Peer). GrowsBy (length ps) (g.S.System.trace c.args.self.now.system) (g.S.System.trace c.begin_visits.new.system))
+    c.as_mut_slice.ensures.value c.begin_visits.ensures.most

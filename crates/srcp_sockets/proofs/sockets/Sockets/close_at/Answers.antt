@@ -15,6 +15,9 @@ use Rattle.srcp_sockets.proofs.TimesGoOn.{timed_kept}
 use Rattle.std.specs.List.{remove}
 use Rattle.srcp_sockets.specs.Endings.{AreAsFar}
 use Rattle.srcp_sockets.proofs.EndsAreTold.{far_goes, removed_of, slackens_step}
+use Rattle.srcp_peers.proofs.StepsAreCounted.{grows_step}
+use Rattle.std.proofs.lemmas.List.Edits.{length-remove}
+use Rattle.std.proofs.Common.{◌≤◌, ap, arith, length}
 use Rattle.srcp_sockets.proofs.sockets.Sockets.close_at.Goals as goal
 
 pub invariant_of-self : goal.invariant_of-self
@@ -65,3 +68,12 @@ pub returns-clause-out : goal.returns-clause-out
 returns-clause-out g c all flushed =
     flushed_close all (g.S.System.trace c.args.self.now.system) (g.S.System.trace c.close.new.self) c.index.result.now.number
     c.close.ensures flushed
+
+pub returns-clause-most : goal.returns-clause-most
+returns-clause-most g c = grows_step (g.S.System.trace c.args.self.now.system) (g.S.System.trace c.close.new.self)
+    (Closes c.index.result.now.number) c.close.ensures
+
+pub returns-clause-as_few : goal.returns-clause-as_few
+returns-clause-as_few g c =
+    let items = c.args.self.now.peers.items in
+    omega (arith, length-remove items c.args.index c.requires.within, ap length c.remove.ensures.items)

@@ -1,8 +1,9 @@
-use Rattle.std.proofs.Common.{◌≡◌, ◌∙◌, ℕ, arith, inr, refl, subst}
+use Rattle.std.proofs.Common.{◌≡◌, ◌∙◌, ◌+◌, ℕ, arith, inr, refl, subst}
 use Rattle.srcp_peers.specs.Peers.{Makes}
 use Rattle.srcp_peers.proofs.StepsAreCounted.{makes_none, makes_then}
 use Rattle.srcp_peers.proofs.CallsAreOfTheDoor.{keeps_none, keeps_then, says_none, says_then}
 use Rattle.srcp_sockets.specs.Work.{is_close}
+use Rattle.srcp_peers.proofs.StepsAreCounted.{grows_more, grows_none, grows_then}
 use Rattle.srcp_sockets.proofs.sockets.Sockets.close_gone.Goals as goal
 
 pub loop-init : goal.loop-init
@@ -16,6 +17,8 @@ loop-init g c =
       starved = refl;
       flushed = refl;
       made = makes_none is_close old;
+      most = λ n le. grows_more 0 n old old le (grows_none old);
+      as_few = omega arith;
       out = λ all flushed. flushed;
     }
 
@@ -34,6 +37,9 @@ loop-preserved g c =
       starved = now.keeps.1 ∙ was.starved;
       flushed = now.flushed ∙ was.flushed;
       made = makes_then is_close c.loop.counter 1 first old new was.made now.closed;
+      most = λ n le. grows_more (c.loop.counter + 1) n first new le
+          (grows_then c.loop.counter 1 first old new (was.most c.loop.counter (omega arith)) now.most);
+      as_few = (let a = now.as_few in let b = was.as_few in omega (arith, a, b));
       out = λ all flushed. now.out all (was.out all flushed);
     }
 

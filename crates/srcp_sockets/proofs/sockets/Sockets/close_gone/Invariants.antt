@@ -1,6 +1,6 @@
-use Rattle.std.proofs.Common.{◌≡◌, Bool}
+use Rattle.std.proofs.Common.{◌≡◌, ◌≤◌, ℕ, Bool, length}
 use Rattle.srcp_peers.specs.Peers.{Makes}
-use Rattle.srcp_peers.specs.Steps.{SaysNothing}
+use Rattle.srcp_peers.specs.Steps.{GrowsBy, SaysNothing}
 use Rattle.srcp_peers.specs.Times.{KeepsTimes}
 use Rattle.srcp_sockets.specs.Waits.{AreFlushed}
 use Rattle.srcp_sockets.specs.Work.{is_close}
@@ -15,5 +15,7 @@ invariant-loop g l = record {
   starved : l.self.starved ≡ l.fn.self.starved;
   flushed : l.self.flushed ≡ l.fn.self.flushed;
   made : Makes is_close l.counter (g.S.System.trace l.fn.self.system) (g.S.System.trace l.self.system);
+  most : (n : ℕ) → l.counter ≤ n → GrowsBy n (g.S.System.trace l.fn.self.system) (g.S.System.trace l.self.system);
+  as_few : length l.self.peers.items ≤ length l.fn.self.peers.items;
   out : (all : Bool) → AreFlushed all (g.S.System.trace l.fn.self.system) → AreFlushed all (g.S.System.trace l.self.system);
 }

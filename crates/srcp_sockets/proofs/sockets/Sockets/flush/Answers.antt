@@ -11,6 +11,10 @@ use Rattle.srcp_sockets.proofs.SocketsStayStanding.{stands_turned}
 use Rattle.srcp_sockets.proofs.TimesGoOn.{timed_kept}
 use Rattle.srcp_sockets.specs.Endings.{AreAsFar}
 use Rattle.srcp_sockets.proofs.EndsAreTold.{far_goes, flushed_of, slackens_silent}
+use Rattle.srcp_peers.proofs.StepsAreCounted.{grows_more}
+use Rattle.std.proofs.Common.{◌+◌, ◌*◌, ap, arith, length}
+use Rattle.srcp_peers.specs.Steps.{GrowsBy}
+use Rattle.srcp_sockets.proofs.SocketsStayStanding.{as_many}
 use Rattle.srcp_sockets.proofs.sockets.Sockets.flush.Goals as goal
 
 pub invariant_of-self : goal.invariant_of-self
@@ -58,3 +62,13 @@ returns-clause-out g c =
     all_flushed c.args.what old new before after self.listening self.last self.turn.timekeeper.wall self.turn.timekeeper.start stood
     (stands_turned old new before after self.listening self.last c.flush.auto.peers now.kept now.those now.others stood)
     c.flush.auto.peers now.offered now.shut now.others now.calls now.times (λ log is. (self.timed log is).heard)
+
+pub returns-clause-most : goal.returns-clause-most
+returns-clause-most g c =
+    subst (λ (ps : List Peer). GrowsBy (2 * length ps + 64) (g.S.System.trace c.args.self.now.system) (g.S.System.trace c.flush.new.system))
+    c.as_mut_slice.ensures.value c.flush.ensures.most
+
+pub returns-clause-as_many : goal.returns-clause-as_many
+returns-clause-as_many g c = as_many c.as_mut_slice.result.now c.flush.new.peers c.args.self.now.peers.items _
+    (with_items_is c.args.self.now.peers c.flush.new.peers (c.flush.auto.peers ∙ search rules)) c.flush.auto.peers
+    c.as_mut_slice.ensures.value

@@ -2,6 +2,7 @@ use Rattle.std.proofs.Common.{◌≡◌, ◌<◌, List, length, subst, true}
 use Rattle.std.specs.Prelude.{slice_index_or}
 use Rattle.srcp_peers.specs.declared.peer.Peer.{Peer}
 use Rattle.srcp_peers.specs.Peers.{is_closable}
+use Rattle.srcp_sockets.proofs.AcceptsKeepSockets.{stands_later}
 use Rattle.srcp_sockets.proofs.sockets.Sockets.make_room.Goals as goal
 
 pub close_at-requires : goal.close_at-requires
@@ -13,3 +14,8 @@ close_at-requires g c =
       closable = λ d. subst (λ (ps : List Peer). is_closable clock (slice_index_or ps index d) ≡ true) c.as_slice.ensures.value
           (c.in-Some.ensures.closable.1 clock d);
     }
+
+pub invariant_of-self-clause-stands : goal.invariant_of-self-clause-stands
+invariant_of-self-clause-stands g c =
+    let self = c.args.self.now in
+    stands_later (g.S.System.trace self.system) self.peers.items self.listening self.last c.requires self.stands

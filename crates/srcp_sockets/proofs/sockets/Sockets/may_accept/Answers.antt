@@ -18,6 +18,3 @@ returns-then-is_crowded-clause-excused g c refused =
     (λ (one : (who : ℕ) × Tells old (Closes who) new).
     may_closed old new self.peers.items self.listening self.last one.0 self.stands crowded one.1)
     c.make_room.ensures.closes
-
-pub returns-then-is_crowded-clause-makes : goal.returns-then-is_crowded-clause-makes
-returns-then-is_crowded-clause-makes g c quiet crowded = record { none = c.make_room.ensures.none; one = c.make_room.ensures.one }

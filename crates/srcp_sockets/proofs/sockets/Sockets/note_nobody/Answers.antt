@@ -38,7 +38,3 @@ invariant_of-self g c =
       ending = far_same old new self.peers.items (Answers (AcceptCall answer)) c.note_accept.ensures (λ s x. refl) self.ending;
       places = self.places;
     }
-
-pub returns-clause-trace : goal.returns-clause-trace
-returns-clause-trace g c = says_call (g.S.System.trace c.args.self.now.system) (g.S.System.trace c.note_accept.new.self)
-    (AcceptCall c.args.answer) c.note_accept.ensures

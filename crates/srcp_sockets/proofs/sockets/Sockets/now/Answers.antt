@@ -1,4 +1,4 @@
-use Rattle.std.proofs.Common.{◌≡◌, ◌∙◌, ◌++◌, ◌∷◌, [], ℕ, List, Err, None, Ok, Option, Some, true, false, ap, append_assoc, refl}
+use Rattle.std.proofs.Common.{◌≡◌, ◌∙◌, ℕ, List, Err, None, Ok, Option, Some, true, false, ap, refl}
 use Rattle.std.specs.Prelude.{Result}
 use Rattle.srcp_door.specs.declared.door.DoorFault.{DoorFault}
 use Rattle.srcp_door.specs.declared.door.DoorFault.TheVariants.{Now}
@@ -10,7 +10,7 @@ use Rattle.srcp_door.specs.Calls.{NowCall}
 use Rattle.srcp_peers.specs.Steps.{Answers, Clocks, Step}
 use Rattle.srcp_peers.proofs.CallsAreOfTheDoor.{says_after, says_call, says_step}
 use Rattle.srcp_sockets.proofs.AcceptsAreAsked.{asked_step}
-use Rattle.srcp_sockets.proofs.WorkIsDone.{done_step, done_turn, moment_done}
+use Rattle.srcp_sockets.proofs.WorkIsDone.{done_step, done_turn, moment_done, tells_two}
 use Rattle.srcp_sockets.proofs.NumbersDiffer.{named_call, named_silent}
 use Rattle.srcp_sockets.proofs.SocketsLingerAndClose.{stands_clocked}
 use Rattle.srcp_sockets.proofs.NoMomentWhileUnread.{read_clocked, stands_now}
@@ -93,12 +93,5 @@ returns-clause-clock g c =
       shown,
       moment_is c.args.self.now.turn answer shown (λ e. (c.report_moment-answer.ensures.none e).0)
           (λ time e. (c.report_moment-answer.ensures.some time e).0),
-      λ later is.
-          let n = c.note_now.ensures later is in
-          let s = c.clock-shown.ensures n.0 n.1 in (
-            s.0,
-            s.1,
-            n.2 ∙ ap (λ (l : List Step). l ++ Answers (NowCall answer) ∷ []) s.2
-                ∙ append_assoc s.0 (Clocks shown ∷ []) (Answers (NowCall answer) ∷ []),
-          ),
+      tells_two old mid new (Clocks shown) (Answers (NowCall answer)) c.clock-shown.ensures c.note_now.ensures,
     )

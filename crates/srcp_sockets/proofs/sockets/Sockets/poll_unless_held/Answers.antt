@@ -4,6 +4,8 @@ use Rattle.srcp_peers.specs.Waiting.{longest_wait}
 use Rattle.srcp_peers.proofs.CallsAreOfTheDoor.{says_none}
 use Rattle.srcp_sockets.specs.Delivery.{HasWaited}
 use Rattle.srcp_sockets.proofs.EndsAreDelivered.{waited_more, waited_none}
+use Rattle.srcp_peers.proofs.StepsAreCounted.{grows_more, grows_none}
+use Rattle.std.proofs.Common.{arith}
 use Rattle.srcp_sockets.proofs.sockets.Sockets.poll_unless_held.Goals as goal
 
 pub returns-then-held-clause-calls : goal.returns-then-held-clause-calls
@@ -34,3 +36,8 @@ returns-clause-heard g c none = c.wait.ensures.waits
 
 pub returns-clause-rests : goal.returns-clause-rests
 returns-clause-rests g c held = absurd (true≢false (sym held ∙ c.if-held.false))
+
+pub returns-then-held-clause-most : goal.returns-then-held-clause-most
+returns-then-held-clause-most g c =
+    let old = g.S.System.trace c.args.self.now.system in
+    grows_more 0 1 old old (omega arith) (grows_none old)

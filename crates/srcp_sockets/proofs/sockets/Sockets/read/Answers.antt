@@ -8,7 +8,7 @@ use Rattle.srcp_peers.specs.Turns.{after_read, got_bytes}
 use Rattle.srcp_peers.specs.declared.peer.Peer.{Peer}
 use Rattle.srcp_door.specs.Calls.{ReadCall}
 use Rattle.srcp_peers.specs.Peers.{IsKept}
-use Rattle.srcp_peers.specs.Steps.{Answers, SaysOne}
+use Rattle.srcp_peers.specs.Steps.{Answers, SaysOne, Tells}
 use Rattle.srcp_peers.proofs.CallsAreOfTheDoor.{says_call}
 use Rattle.srcp_sockets.proofs.AcceptsAreAsked.{asked_step}
 use Rattle.srcp_sockets.proofs.WorkIsDone.{done_step, done_turn}
@@ -112,3 +112,11 @@ returns-clause-answered g c k d lt there =
           is handed.ensures.answered),
       search rules,
     )
+
+pub returns-clause-one : goal.returns-clause-one
+returns-clause-one g c =
+    let x = c.index_mut.result.now in
+    let e = ap (λ (p : Peer). p.number) c.index_mut.ensures.value ∙ (c.in-Some.ensures.found.1 x).0 in
+    subst (λ (n : ℕ). Tells (g.S.System.trace c.args.self.now.system)
+    (Answers (ReadCall n c.read-handed.result.got c.read-handed.new.buffer))
+    (g.S.System.trace c.read-handed.new.system)) e c.read-handed.ensures.trace

@@ -19,6 +19,8 @@ use Rattle.srcp_sockets.proofs.TimesGoOn.{timed_wait}
 use Rattle.std.specs.Prelude.{take}
 use Rattle.srcp_sockets.specs.Endings.{AreAsFar}
 use Rattle.srcp_sockets.proofs.EndsAreTold.{far_goes, slackens_step, woken_of}
+use Rattle.srcp_peers.proofs.StepsAreCounted.{grows_step}
+use Rattle.srcp_sockets.proofs.SocketsStayStanding.{as_many}
 use Rattle.srcp_sockets.proofs.sockets.Sockets.wait.Goals as goal
 
 pub invariant_of-self : goal.invariant_of-self
@@ -74,3 +76,12 @@ returns-clause-waits g c = (
 pub returns-clause-looked : goal.returns-clause-looked
 returns-clause-looked g c = looked_wait (g.S.System.trace c.args.self.now.system) (g.S.System.trace c.wait-count.new.self)
     c.longest_wait-most.result c.wait-count.result c.wait-count.new.ready c.wait-count.ensures.trace
+
+pub returns-clause-most : goal.returns-clause-most
+returns-clause-most g c = grows_step (g.S.System.trace c.args.self.now.system) (g.S.System.trace c.wait-count.new.self)
+    (Waits c.longest_wait-most.result c.wait-count.result c.wait-count.new.ready) c.wait-count.ensures.trace
+
+pub returns-clause-as_many : goal.returns-clause-as_many
+returns-clause-as_many g c = as_many c.as_mut_slice.result.now c.wake.new.peers c.args.self.now.peers.items _
+    (with_items_is c.args.self.now.peers c.wake.new.peers (c.wake.auto.peers ∙ search rules)) c.wake.auto.peers
+    c.as_mut_slice.ensures.value

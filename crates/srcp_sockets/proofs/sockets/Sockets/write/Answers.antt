@@ -2,7 +2,7 @@ use Rattle.std.proofs.Common.{◌∙◌, ℕ, ap, refl, subst, Ok, Err}
 use Rattle.srcp_peers.specs.declared.peer.Peer.{Peer}
 use Rattle.srcp_door.specs.declared.door.DoorFault.TheVariants.{Write}
 use Rattle.srcp_door.specs.Calls.{WriteCall}
-use Rattle.srcp_peers.specs.Steps.{Answers, SaysOne}
+use Rattle.srcp_peers.specs.Steps.{Answers, SaysOne, Tells}
 use Rattle.srcp_peers.specs.Turns.{after_call}
 use Rattle.srcp_peers.proofs.CallsAreOfTheDoor.{says_call}
 use Rattle.srcp_sockets.proofs.AcceptsAreAsked.{asked_step}
@@ -94,3 +94,10 @@ invariant_of-self-clause-done g c =
     (c.note_write-in_default.ensures c.args.number c.args.bytes.now) refl refl
     (done_step turn.timekeeper.wall turn.timekeeper.start (g.S.System.trace c.args.self.now.system)
     (g.S.System.trace c.note_write.new.self) (Answers call) c.note_write.ensures (λ log is. tt) c.args.self.now.done)
+
+pub returns-clause-one : goal.returns-clause-one
+returns-clause-one g c =
+    let x = c.index_mut.result.now in
+    let e = ap (λ (p : Peer). p.number) c.index_mut.ensures.value ∙ (c.in-Some.ensures.found.1 x).0 in
+    subst (λ (n : ℕ). Tells (g.S.System.trace c.args.self.now.system) (Answers (WriteCall n c.args.bytes.now (Ok c.write-count.result)))
+    (g.S.System.trace c.write-count.new.system)) e c.write-count.ensures.trace

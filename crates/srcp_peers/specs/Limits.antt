@@ -1,0 +1,26 @@
+-- The limits of a door's peers, each a number here and a name elsewhere.
+use Rattle.std.specs.Prelude.{ℕ}
+
+-- the milliseconds by which the monotonic clock goes on at least
+abbrev pub tick : ℕ
+tick = 1
+
+-- the milliseconds after which a call of the system is made again, at most
+abbrev pub retry_delay : ℕ
+retry_delay = 8
+
+-- the milliseconds for which a peer lingers, at most
+abbrev pub linger : ℕ
+linger = 10000
+
+-- the milliseconds after which a peer is silent if nothing of it was handed out
+abbrev pub silence : ℕ
+silence = 50
+
+-- the bytes that are queued for a peer, at most
+abbrev pub most_outgoing : ℕ
+most_outgoing = 40960
+
+-- the reads of all sockets that linger in a turn, at most, if they are no more
+abbrev pub most_drained : ℕ
+most_drained = 64

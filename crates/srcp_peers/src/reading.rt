@@ -1,0 +1,194 @@
+//! How a read of a peer is answered: with held input, with the end of the peer, or with a fault.
+
+ghost use Rattle.std.specs.Prelude.{◌≡◌, ◌≢◌, ◌<◌, ◌≤◌, ◌++◌, ◌==◌, true, false, cond, ℕ, List, []};
+ghost use Rattle.std.specs.Prelude.{Ok, IfErr, OnErr, length};
+ghost use Rattle.srcp_peers.specs.Steps.{Tells, Answers};
+ghost use Rattle.srcp_door.specs.Calls.{ReadCall};
+ghost use Rattle.srcp_peers.specs.Peers.{IsKept, MayEnd, MayFail, Spares};
+ghost use Rattle.srcp_peers.specs.Turns.{after_read, got_bytes, own_pace, reports_end};
+ghost use Rattle.srcp_peers.specs.Reports.{IsAnswered, end_in, is_ended, is_failed, piece_of};
+ghost use Rattle.srcp_door.specs.Pacing.{Allows, IsShort, fits, keeps_back, line_after, share_after, weight_of};
+ghost use Rattle.srcp_door.specs.declared.pacing.LineBoundary.{LineBoundary};
+ghost use Rattle.srcp_peers.specs.declared.stay.Stay.{Stay};
+
+use crate::peer::Peer;
+use crate::readiness::Input;
+use crate::system::System;
+use crate::turn::Turn;
+use srcp_door::{DoorFault, Got};
+use srcp_info::MOST_IN_PIECE;
+
+/// Says what a read of a peer answered, and whether the pace kept a line back.
+#[derive(Clone, Copy)]
+pub struct ReadOutcome {
+    /// The answer of the read.
+    pub got: Result<Got, DoorFault>,
+    /// True if a line of the peer's share was kept back.
+    pub starved: bool,
+}
+
+/// Says what is to be reported of a peer while none of its input is held.
+#[derive(Clone, Copy)]
+enum Due {
+    /// Nothing now.
+    Nothing,
+    /// The end of the peer.
+    End,
+    /// The loss of the peer.
+    Fault,
+}
+
+impl Peer {
+    /// Moves held input to the start of a buffer, as far as the turn's lines go; with `waits` no line goes that weighs
+    /// something, if the pace is short. If no input is held, reports the end or the fault of the peer, unless the turn
+    /// reported another.
+    pub fn read<S: System>(
+        &mut self,
+        system: &mut S,
+        turn: &mut Turn,
+        waits: bool,
+        buffer: &mut [u8],
+    ) -> ReadOutcome
+        requires kept { IsKept (S.trace system.old) self.old }
+        requires here { self.old.stay ≡ Stay.Here }
+        ensures kept { IsKept (S.trace system.new) self.new }
+        ensures trace { Tells (S.trace system.old) (Answers (ReadCall self.old.number result.got buffer.new))
+            (S.trace system.new) }
+        ensures count { (n : ℕ) → result.got ≡ Ok (Got.Bytes n) → (0 < n) × (n ≤ length buffer.new) }
+        ensures fault { IfErr result.got (λ fault. fault ≡ DoorFault.Read) }
+        ensures others { (other : ℕ) → other ≢ self.old.number
+            → Spares other (S.trace system.old) (S.trace system.new) }
+        ensures number { self.new.number ≡ self.old.number }
+        ensures turn { turn.new ≡ after_read turn.old self.old.share.line result.got buffer.new }
+        ensures fits { fits turn.old.pace (weight_of self.old.share.line (got_bytes result.got buffer.new)) ≡ true }
+        ensures ends { reports_end result.got ≡ true → turn.old.may_report_end ≡ true }
+        ensures answered { IsAnswered turn.old waits self.old (length buffer.old) result.got
+            (got_bytes result.got buffer.new) result.starved }
+        ensures share { self.new.share ≡ share_after self.old.share (got_bytes result.got buffer.new)
+            result.starved }
+        ensures starved { result.starved ≡ true → IsShort turn.new.pace }
+        ensures heard { self.new.heard
+            ≡ cond (length (got_bytes result.got buffer.new) == 0) self.old.heard turn.old.clock }
+        ensures same { self.new ≡ record self.old {
+          incoming = self.new.incoming;
+          share = self.new.share;
+          awaits_reply = self.new.awaits_reply;
+          heard = self.new.heard;
+        } }
+    {
+        let outcome = self.read_into(turn, waits, buffer);
+        system.note_read(self.number, outcome.got, buffer);
+        outcome
+    }
+
+    /// Answers a read, as `read` does, but notes nothing.
+    fn read_into(&mut self, turn: &mut Turn, waits: bool, buffer: &mut [u8]) -> ReadOutcome
+        ensures bytes { self.old.incoming ≡ got_bytes result.got buffer.new ++ self.new.incoming }
+        ensures ended { result.got ≡ Ok Got.Ended → MayEnd self.old }
+        ensures failed { OnErr result.got (MayFail self.old) }
+        ensures count { (n : ℕ) → result.got ≡ Ok (Got.Bytes n) → (0 < n) × (n ≤ length buffer.new) }
+        ensures fault { IfErr result.got (λ fault. fault ≡ DoorFault.Read) }
+        ensures line { self.new.share.line ≡ line_after self.old.share.line (got_bytes result.got buffer.new) }
+        ensures turn { turn.new ≡ after_read turn.old self.old.share.line result.got buffer.new }
+        ensures fits { fits turn.old.pace (weight_of self.old.share.line (got_bytes result.got buffer.new)) ≡ true }
+        ensures ends { reports_end result.got ≡ true → turn.old.may_report_end ≡ true }
+        ensures answered { IsAnswered turn.old waits self.old (length buffer.old) result.got
+            (got_bytes result.got buffer.new) result.starved }
+        ensures share { self.new.share ≡ share_after self.old.share (got_bytes result.got buffer.new)
+            result.starved }
+        ensures starved { result.starved ≡ true → IsShort turn.new.pace }
+        ensures heard { self.new.heard
+            ≡ cond (length (got_bytes result.got buffer.new) == 0) self.old.heard turn.old.clock }
+        ensures same { self.new ≡ record self.old {
+          incoming = self.new.incoming;
+          share = self.new.share;
+          awaits_reply = self.new.awaits_reply;
+          heard = self.new.heard;
+        } }
+    {
+        if self.incoming.is_empty() {
+            return ReadOutcome {
+                got: self.reported_end(turn),
+                starved: false,
+            };
+        }
+        self.deliver_input(turn, waits, buffer)
+    }
+
+    /// Moves held input to the start of a buffer, as far as the turn's lines go.
+    fn deliver_input(&mut self, turn: &mut Turn, waits: bool, buffer: &mut [u8]) -> ReadOutcome
+        ensures bytes { self.old.incoming ≡ got_bytes result.got buffer.new ++ self.new.incoming }
+        ensures ended { reports_end result.got ≡ false }
+        ensures count { (n : ℕ) → result.got ≡ Ok (Got.Bytes n) → (0 < n) × (n ≤ length buffer.new) }
+        ensures line { self.new.share.line ≡ line_after self.old.share.line (got_bytes result.got buffer.new) }
+        ensures turn { turn.new ≡ after_read turn.old self.old.share.line result.got buffer.new }
+        ensures fits { fits turn.old.pace (weight_of self.old.share.line (got_bytes result.got buffer.new)) ≡ true }
+        ensures allows { Allows (own_pace waits turn.old.pace) self.old.share (piece_of self.old (length buffer.old))
+            (length (got_bytes result.got buffer.new)) }
+        ensures share { self.new.share ≡ share_after self.old.share (got_bytes result.got buffer.new)
+            result.starved }
+        ensures back { result.starved ≡ keeps_back (own_pace waits turn.old.pace) self.old.share
+            (piece_of self.old (length buffer.old)) (got_bytes result.got buffer.new) }
+        ensures starved { result.starved ≡ true → IsShort turn.new.pace }
+        ensures heard { self.new.heard
+            ≡ cond (length (got_bytes result.got buffer.new) == 0) self.old.heard turn.old.clock }
+        ensures same { self.new ≡ record self.old {
+          incoming = self.new.incoming;
+          share = self.new.share;
+          awaits_reply = self.new.awaits_reply;
+          heard = self.new.heard;
+        } }
+    {
+        let within = MOST_IN_PIECE.min(buffer.len()).min(self.incoming.len());
+        let allowed = turn.allow(waits, &mut self.share, &self.incoming.front()[..within]);
+        let count = allowed.count;
+        if count == 0 {
+            return ReadOutcome {
+                got: Ok(Got::Nothing),
+                starved: allowed.starved,
+            };
+        }
+        buffer[..count].copy_from_slice(&self.incoming.front()[..count]);
+        self.incoming.drop_front(count);
+        self.awaits_reply = true;
+        self.heard = turn.clock;
+        ReadOutcome {
+            got: Ok(Got::Bytes(count)),
+            starved: allowed.starved,
+        }
+    }
+
+    /// Returns the report for a peer with no input held: the end or a fault, unless the turn reported another.
+    fn reported_end(&self, turn: &mut Turn) -> Result<Got, DoorFault>
+        ensures none { (n : ℕ) → result ≢ Ok (Got.Bytes n) }
+        ensures bytes { (buffer : List ℕ) → got_bytes result buffer ≡ [] }
+        ensures ended { result ≡ Ok Got.Ended → self.now.incoming ≡ [] → MayEnd self.now }
+        ensures failed { OnErr result (MayFail self.now) }
+        ensures exact { result ≡ end_in turn.old self.now }
+        ensures fault { IfErr result (λ fault. fault ≡ DoorFault.Read) }
+        ensures turn { (line : LineBoundary) (buffer : List ℕ) → turn.new ≡ after_read turn.old line result buffer }
+        ensures ends { reports_end result ≡ true → turn.old.may_report_end ≡ true }
+    {
+        match self.due_end() {
+            Due::Nothing => Ok(Got::Nothing),
+            Due::End => turn.report_end(),
+            Due::Fault => turn.report_fault(),
+        }
+    }
+
+    /// Returns what is to be reported of a peer with no input held.
+    fn due_end(&self) -> Due
+        ensures end { result ≡ Due.End → self.now.incoming ≡ [] → MayEnd self.now }
+        ensures fault { result ≡ Due.Fault → MayFail self.now }
+        ensures exact { result ≡ cond (is_failed self.now) Due.Fault (cond (is_ended self.now) Due.End Due.Nothing) }
+    {
+        if self.output.is_lost() {
+            return Due::Fault;
+        }
+        match self.input {
+            Input::Failed => Due::Fault,
+            Input::Ended if self.ending.is_settled() && self.outgoing.is_empty() => Due::End,
+            _ => Due::Nothing,
+        }
+    }
+}

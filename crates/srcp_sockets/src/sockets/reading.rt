@@ -1,0 +1,99 @@
+//! How a peer is read.
+
+ghost use Rattle.std.specs.Prelude.{◌≡◌, ◌<◌, ◌≤◌, ◌⊎◌, ℕ, false, true, Ok, Err, IfErr, length};
+ghost use Rattle.std.specs.List.{list_any};
+ghost use Rattle.srcp_door.specs.Calls.{ReadCall};
+ghost use Rattle.srcp_peers.specs.Peers.{goes_first};
+ghost use Rattle.srcp_peers.specs.Steps.{Answers, SaysOne, Tells};
+ghost use Rattle.srcp_peers.specs.Turns.{got_bytes};
+ghost use Rattle.srcp_sockets.specs.Doors.{IsMissing};
+ghost use Rattle.srcp_sockets.specs.Work.{IsPeerRead, goes_behind};
+
+use super::Sockets;
+use srcp_door::{DoorFault, Got};
+use srcp_peers::{Peer, System};
+
+impl<S: System + Drop> Sockets<S> {
+    /// Returns whether the turn is late: what fell due comes first, and no input is handed out.
+    pub(crate) fn is_late(&self) -> bool
+        ensures { result ≡ self.now.turn.late }
+    {
+        self.turn.late
+    }
+
+    /// Hands out nothing of a peer, in a late turn.
+    pub(crate) fn hold_back(&mut self, number: u32, buffer: &[u8]) -> Result<Got, DoorFault>
+        requires { self.old.turn.late ≡ true }
+        ensures trace { SaysOne (S.trace self.old.system) (ReadCall number result buffer.now)
+            (S.trace self.new.system) }
+        ensures one { Tells (S.trace self.old.system) (Answers (ReadCall number result buffer.now))
+            (S.trace self.new.system) }
+        ensures nothing { result ≡ Ok Got.Nothing }
+        ensures keeps { (self.new.flushed ≡ self.old.flushed) × (self.new.starved ≡ self.old.starved) }
+    {
+        let answer = Ok(Got::Nothing);
+        self.system.note_read(number, answer, buffer);
+        answer
+    }
+
+    /// Returns whether input is held of a silent peer.
+    fn has_silent(&self) -> bool
+        ensures { result ≡ list_any (goes_first self.now.turn.clock) self.now.peers.items }
+    {
+        let clock = self.turn.clock;
+        self.peers.iter().any(|peer| peer.goes_first(clock))
+    }
+
+    /// Returns whether the lines of a peer go behind those of others: not every line may go now, the peer is not
+    /// silent, and input is held of one that is.
+    fn goes_behind(&self, peer: &Peer) -> bool
+        ensures { result ≡ goes_behind self.now.turn self.now.peers.items peer.now }
+    {
+        self.turn.is_slow() && !peer.is_silent(self.turn.clock) && self.has_silent()
+    }
+
+    /// Reads the bytes that came from a peer. The lines of a silent peer go first.
+    ///
+    /// # Errors
+    /// Returns `Read` if the peer is lost or not there, unless the turn reported another end.
+    pub(crate) fn read(&mut self, number: u32, buffer: &mut [u8]) -> Result<Got, DoorFault>
+        requires { self.old.turn.late ≡ false }
+        ensures trace { SaysOne (S.trace self.old.system) (ReadCall number result buffer.new)
+            (S.trace self.new.system) }
+        ensures one { Tells (S.trace self.old.system) (Answers (ReadCall number result buffer.new))
+            (S.trace self.new.system) }
+        ensures count { (n : ℕ) → result ≡ Ok (Got.Bytes n) → (0 < n) × (n ≤ length buffer.old) }
+        ensures fault { IfErr result (λ fault. fault ≡ DoorFault.Read) }
+        ensures answered { IsPeerRead self.old.turn self.old.peers.items number (length buffer.old) result
+            (got_bytes result buffer.new) self.old.starved self.new.starved }
+        ensures flushed { self.new.flushed ≡ self.old.flushed }
+        ensures stays { self.old.starved ≡ true → self.new.starved ≡ true }
+    {
+        let Some(index) = self.index_of(number) else {
+            return self.read_nobody(number, buffer);
+        };
+        let waits = self.goes_behind(&self.peers[index]);
+        self.recent = index;
+        let handed = self.peers[index].read(&mut self.system, &mut self.turn, waits, buffer);
+        self.starved |= handed.starved;
+        handed.got
+    }
+
+    /// Reports a peer that is not there as lost, unless the turn reported another end.
+    ///
+    /// # Errors
+    /// Returns `Read` unless the turn reported another end.
+    fn read_nobody(&mut self, number: u32, buffer: &[u8]) -> Result<Got, DoorFault>
+        requires { IsMissing number self.old.peers.items }
+        ensures trace { SaysOne (S.trace self.old.system) (ReadCall number result buffer.now)
+            (S.trace self.new.system) }
+        ensures one { Tells (S.trace self.old.system) (Answers (ReadCall number result buffer.now))
+            (S.trace self.new.system) }
+        ensures nothing { (result ≡ Ok Got.Nothing) ⊎ (result ≡ Err DoorFault.Read) }
+        ensures keeps { (self.new.flushed ≡ self.old.flushed) × (self.new.starved ≡ self.old.starved) }
+    {
+        let answer = self.turn.report_fault();
+        self.system.note_read(number, answer, buffer);
+        answer
+    }
+}
