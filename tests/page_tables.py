@@ -8,6 +8,10 @@ CRATES = TOP / "crates"
 KEYS = {"port": (1, "GREATEST_PORT", "DEFAULT_PORT"), "number": (1, "GREATEST_BUS"), "gl_max": (1, "GREATEST_GL"),
         "ga_max": (1, "GREATEST_GA"), "ga_ports": ("FEWEST_PORTS", "MOST_PORTS", "FEWEST_PORTS"),
         "fb_ports": (1, "GREATEST_FB")}
+# The milliseconds of a second, which are as many as the most steps of a decoder.
+OTHER_NUMBERS = (1000,)
+# Numbers in definitions that are as great as a limit and are none: a byte, and the milliseconds of a pulse.
+NO_LIMITS = (("srcp_info/specs/WellFormed.antt", 256), ("srcp_interlock/specs/Orders.antt", 250))
 
 
 def rows_under(page, heading):
@@ -142,6 +146,23 @@ def definitions_named_as_constants(_):
     return None if len(pins) > 25 else f"{len(pins)} definitions"
 
 
+def limits_that_stand_once(_):
+    """Asserts that no limit has two definitions, and that its number stands nowhere else in definitions."""
+    pins = pins_of_the_definitions()
+    names = [name for _, name, _ in pins]
+    if twice := sorted({name for name in names if names.count(name) > 1}):
+        return f"defined twice: {twice}"
+    numbers = {number for _, _, number in pins if number > 99 and number not in OTHER_NUMBERS}
+    for file in CRATES.glob("*/specs/**/*.antt"):
+        place = file.relative_to(CRATES)
+        for line in file.read_text().splitlines():
+            said = re.sub(r'--.*|codes "[^"]*"|^\w+ = \d+$', "", line)
+            for number in numbers & {int(word) for word in re.findall(r"(?<![\w.])\d+", said)}:
+                if (str(place), number) not in NO_LIMITS:
+                    return f"{place}: {number} has a name: {[name for _, name, value in pins if value == number]}"
+    return None if len(numbers) > 15 else f"{len(numbers)} limits"
+
+
 def clauses_of_the_core_page(_):
     """Each call of the table has the clauses that it lists, and no others."""
     files = [CRATES / "srcp_core/src/server_core.rt", *(CRATES / "srcp_core/src/server_core").glob("*.rt")]
@@ -161,4 +182,4 @@ def clauses_of_the_core_page(_):
 
 PAGE_TABLE_CASES = (walk_of_the_architecture_page, limits_of_the_architecture_page, refusals_of_the_architecture_page,
                     limits_of_the_protocol_page, limits_of_the_configuration_page, definitions_named_as_constants,
-                    clauses_of_the_core_page)
+                    limits_that_stand_once, clauses_of_the_core_page)
