@@ -20,5 +20,6 @@ pub mod ServingFollows
 mod CarriageReturns
 pub mod PiecesWeighEnough
 pub mod PacedTurnsSparePanels
+pub mod TurnsWeighEnough
 pub mod Settling
 mod OneCallFollows

@@ -170,7 +170,7 @@ module _ (buses : List Bus) (stream : Stream buses) (before : ℕ → List ℕ) 
       begins peers more (one_accept _ _ calls (refused ++ visits) asked of_peers) asked new
 
 -- nothing was carried for a peer that has no connection
-abbrev IsFresh : (ℕ → List ℕ) → List ℕ → Type 0
+abbrev pub IsFresh : (ℕ → List ℕ) → List ℕ → Type 0
 IsFresh before connected = (peer : ℕ) → IsNew peer connected → before peer ≡ []
 
 module _ (buses : List Bus) (stream : Stream buses) where
@@ -223,10 +223,10 @@ module _ (buses : List Bus) (stream : Stream buses) (before : ℕ → List ℕ) 
   new_now : AreNew now.connected (peers_in peers ++ more)
   new_now = rw same_connected new
 
-  new_turned : AreNew (turned buses stand calls).connected more
+  pub new_turned : AreNew (turned buses stand calls).connected more
   new_turned = new_begun buses stream peers more now new_now
 
-  fresh_turned : map question calls ≡ turn_asks buses stand calls
+  pub fresh_turned : map question calls ≡ turn_asks buses stand calls
       → IsFresh (λ peer. before peer ++ carried buses stream peer calls) (turned buses stand calls).connected
   fresh_turned asked peer none =
       let first = expects buses stand.events ∷ Moments ∷ Accepts ∷ flat_map (refuses buses now.events) peers in
@@ -252,7 +252,7 @@ peers_trace (other ∷ calls) = peers_trace calls
 -- ---- after all turns
 
 -- the calls of these turns, one after another
-abbrev joined : List (List Call) → List Call
+abbrev pub joined : List (List Call) → List Call
 joined all = flat_map (λ calls. calls) all
 
 module _ (buses : List Bus) where
@@ -296,7 +296,7 @@ module _ (buses : List Bus) where
 
   module _ (count : ℕ) (trace : List Call) (served : IsServed buses count trace) (differ : PeersDiffer buses trace)
       (fair : AllByRecursion IsFair trace) where
-    whole : joined (turns trace) ≡ trace
+    pub whole : joined (turns trace) ≡ trace
     whole = cc (no_calls (in_turn buses trace) (turns_parted buses empty_stand trace [] tt served.asked).0, turns_joined trace)
 
     all_turns : (stream : Stream buses)

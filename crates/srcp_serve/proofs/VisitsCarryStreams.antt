@@ -4,7 +4,7 @@ use Rattle.srcp_serve.proofs.Names.{Some, None, refl, ap, sym, subst, append-nil
 use Rattle.srcp_serve.proofs.Names.{flat_map, list_any, AllByRecursion, Event, Open, all_filter, filter-map, Bus, course, start}
 use Rattle.srcp_serve.proofs.Names.{happens, fault, fresh, Call, Accepted, Client, IsFair, is_about, visit, visit_events}
 use Rattle.srcp_serve.proofs.Names.{Stand, clients, with_client, kept, is_close, with_moment, with_accept, Slots, Question}
-use Rattle.srcp_serve.proofs.Names.{question, visited, visits_ask, asks_of, map-append, fold-append, CoreFault}
+use Rattle.srcp_serve.proofs.Names.{question, visited, visit_asks, visits_ask, asks_of, map-append, fold-append, CoreFault}
 use Rattle.srcp_serve.proofs.Names.{filter-append, cond_both, add-one, all_weaker}
 use Rattle.srcp_serve.proofs.Stream.{Stream, AreWithoutBytes, asks_bytes, put}
 use Rattle.srcp_serve.proofs.CallsByTurnAndPeer.{IsNoneOf, PeersApart, AreAsked, IsOfNone, any_not, none_asked, not_any, same_peer}
@@ -72,24 +72,32 @@ module _ (buses : List Bus) (stream : Stream buses) where
   Has texts events = map stream.bytes (course buses events).connections ≡ texts
 
   module _ (connected : List ℕ) (before : ℕ → List ℕ) (calls : List Call) (fair : AllByRecursion IsFair calls) where
+    -- a visit adds what its calls carried
+    pub carried_by_visit : (events : List Event) (client : Client) (all : List Client) → IsPeerOf client.conn client.peer connected
+        → IsNoneOf client.peer all → map question (visit calls client) ≡ visit_asks buses events (visit calls client) client
+        → Has (map (so_far before calls (client ∷ all)) connected) events
+        → Has (map (so_far before calls all) connected) (events ++ visit_events calls client)
+    carried_by_visit events client all known apart asked a =
+        let more = carried client.peer (visit calls client) in
+        let one = stream.visits client events (visit calls client) (map (so_far before calls (client ∷ all)) connected) asked
+        (all_filter IsFair (is_about client.peer) calls fair) a in
+        let self = same_peer client.peer in
+        let own : so_far before calls (client ∷ all) client.peer ++ more ≡ so_far before calls all client.peer =
+        own_now client.peer calls before client all self (any_not (λ x. x.peer == client.peer) all apart) in
+        let others : (other : ℕ) → (other == client.peer) ≡ false
+        → so_far before calls (client ∷ all) other ≡ so_far before calls all other =
+        λ other e. ap (λ b. before other ++ (if b || list_any (λ x. x.peer == other) all then [] else carried other calls))
+        (turned_round other client.peer e) in
+        one ∙ put_peer (so_far before calls (client ∷ all)) (so_far before calls all) more client.conn client.peer connected known others
+        own
+
     pub carried_by_visits : (events : List Event) (all : List Client) → ArePeersOf connected all → PeersApart all
         → AreAsked buses events calls all → Has (map (so_far before calls all) connected) events
         → Has (map (so_far before calls []) connected) (events ++ flat_map (visit_events calls) all)
     carried_by_visits events [] known apart asked a = rw append-nil a
     carried_by_visits events (client ∷ all) known apart asked a =
-        let more = carried client.peer (visit calls client) in
-        let one = stream.visits client events (visit calls client) (map (so_far before calls (client ∷ all)) connected) asked.0
-        (all_filter IsFair (is_about client.peer) calls fair) a in
-        let self = same_peer client.peer in
-        let own : so_far before calls (client ∷ all) client.peer ++ more ≡ so_far before calls all client.peer =
-        own_now client.peer calls before client all self (any_not (λ x. x.peer == client.peer) all apart.0) in
-        let others : (other : ℕ) → (other == client.peer) ≡ false
-        → so_far before calls (client ∷ all) other ≡ so_far before calls all other =
-        λ other e. ap (λ b. before other ++ (if b || list_any (λ x. x.peer == other) all then [] else carried other calls))
-        (turned_round other client.peer e) in
-        let now = put_peer (so_far before calls (client ∷ all)) (so_far before calls all) more client.conn client.peer connected known.0
-        others own in
-        rw append_assoc at (carried_by_visits (events ++ visit_events calls client) all known.1 apart.1 asked.1 (one ∙ now))
+        let now = carried_by_visit events client all known.0 apart.0 asked.0 a in
+        rw append_assoc at (carried_by_visits (events ++ visit_events calls client) all known.1 apart.1 asked.1 now)
 
 -- ---- slots
 
@@ -224,7 +232,7 @@ module _ (buses : List Bus) (stream : Stream buses) (before : ℕ → List ℕ) 
       ∙ carried_none buses stream peer (filter (is_about peer) calls)
       (rw are (all_filter (λ q. asks_bytes q ≡ false) (asks_of peer) first still))
 
-  at_first : (peer : ℕ) → before peer ≡ so_far buses stream before calls (clients stand.slots) peer
+  pub at_first : (peer : ℕ) → before peer ≡ so_far buses stream before calls (clients stand.slots) peer
   at_first peer =
       cond_both (list_any (λ client. client.peer == peer) (clients stand.slots)) [] (carried buses stream peer calls)
       (λ (more : List ℕ). before peer ≡ before peer ++ more) (λ e. sym (append-nil _))

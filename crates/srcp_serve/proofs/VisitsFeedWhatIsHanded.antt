@@ -86,11 +86,11 @@ feeding_bytes buses n texts piece w fits ready a = by (open_connection (counted 
 
 -- ---- the calls of a visit
 
-abbrev asks_read : Question → Bool
+abbrev pub asks_read : Question → Bool
 asks_read (Reads peer most) = true
 asks_read other = false
 
-abbrev AreNoReads : List Question → Type 0
+abbrev pub AreNoReads : List Question → Type 0
 AreNoReads questions = AllByRecursion (λ q. asks_read q ≡ false) questions
 
 written_no_reads : (peer : ℕ) (texts : List (List ℕ)) → AreNoReads (map (Writes peer) texts)
@@ -98,7 +98,7 @@ written_no_reads peer [] = tt
 written_no_reads peer (text ∷ texts) = (refl, written_no_reads peer texts)
 
 -- calls that are no reads hand out nothing
-none_handed : (peer : ℕ) (calls : List Call) → AreNoReads (map question calls)
+pub none_handed : (peer : ℕ) (calls : List Call) → AreNoReads (map question calls)
     → (filter_map piece_of calls ≡ []) × (handed_out peer calls ≡ [])
 none_handed peer [] h = (refl, refl)
 none_handed peer (ReadCall who answer buffer grants ∷ calls) h = let no = h.0 in cc
@@ -158,7 +158,7 @@ module _ (buses : List Bus) (client : Client) where
   feeding_close texts events false a = rw append-nil a
 
   -- after the read a visit reads no more
-  no_reads_after : (events : List Event) (calls : List Call)
+  pub no_reads_after : (events : List Event) (calls : List Call)
       → AreNoReads (writes_of buses events calls client ++ closes_of buses events calls client)
   no_reads_after events calls =
       let No : Question → Type 0 = λ q. asks_read q ≡ false in

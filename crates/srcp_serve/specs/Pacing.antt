@@ -1,5 +1,5 @@
 -- To be believed: which turns make no panel overrun, by how many changes they bring and what the door was told.
-use Rattle.std.specs.Prelude.{◌≡◌, ℕ, ◌+◌, ◌≤◌, List, [], ◌∷◌, ◌++◌, drop, length}
+use Rattle.std.specs.Prelude.{⊤, ◌≡◌, ℕ, ◌+◌, ◌≤◌, List, [], ◌∷◌, ◌++◌, drop, length}
 use Rattle.std.specs.List.{sum_by}
 use Rattle.srcp_info.specs.Limits.{most_waiting}
 use Rattle.srcp_grammar.specs.declared.layout.Bus.{Bus}
@@ -9,8 +9,9 @@ use Rattle.srcp_core.specs.Waits.{IsOverrun, brought_besides, changes_since, cha
 use Rattle.srcp_door.specs.Pacing.{line_after, weight_of}
 use Rattle.srcp_door.specs.declared.pacing.LineBoundary.{LineBoundary}
 use Rattle.srcp_door.specs.declared.pacing.LineBoundary.TheVariants.{At}
-use Rattle.srcp_serve.specs.Given.{Call, ExpectCall}
-use Rattle.srcp_serve.specs.Serving.{Stand, IsServed, OfEachTurn, empty_stand, events_of, turned, turns}
+use Rattle.srcp_serve.specs.Given.{Call, ExpectCall, ReadCall}
+use Rattle.srcp_serve.specs.Serving.{Stand, IsServed, OfEachServed, OfEachTurn, empty_stand, events_of, handed_out}
+use Rattle.srcp_serve.specs.Serving.{handed_out_in, turned, turns}
 
 -- how many changes the turn may bring, by the slack that the door was told: as many as may wait for a panel if there
 -- was none, since one may begin
@@ -24,12 +25,40 @@ abbrev pub LinesGoOn : Type 0
 LinesGoOn = (line : LineBoundary) (first second : List ℕ)
     → line_after (line_after line first) second ≡ line_after line (first ++ second)
 
+-- how much the door weighs what it handed out in the call; of what it handed out of the peer in the calls before, it
+-- knows only whether a line began in that
+abbrev pub weighed_in : (past : List Call) → Call → ℕ
+weighed_in past (ReadCall peer answer buffer grants) =
+    weight_of (line_after At (handed_out peer past)) (handed_out_in peer (ReadCall peer answer buffer grants))
+weighed_in past other = 0
+
+-- and what it handed out in all these calls in turn
+abbrev pub weighed : (past calls : List Call) → ℕ
+weighed past [] = 0
+weighed past (call ∷ calls) = weighed_in past call + weighed (past ++ call ∷ []) calls
+
 module _ (buses : List Bus) where
   -- the lines that end in a piece weigh no more than the door weighs the piece; of the bytes that were fed before, the
   -- door knows only whether they end within a line
   abbrev pub PiecesWeighEnough : Type 0
   PiecesWeighEnough = (fed piece : List ℕ)
       → sum_by weight_of_mark (new_marks buses fed piece) ≤ weight_of (line_after At fed) piece
+
+  -- the law holds of each turn, by the calls before it too
+  abbrev pub OfEachTurnAfter : (List Call → Stand → List Call → Type 0) → List Call → Stand → List (List Call) → Type 0
+  OfEachTurnAfter Law past stand [] = ⊤
+  OfEachTurnAfter Law past stand (calls ∷ more) =
+      Law past stand calls × OfEachTurnAfter Law (past ++ calls) (turned buses stand calls) more
+
+  -- how much the lines weigh that end in the bytes of the turn
+  abbrev pub weight_of_turn : Stand → List Call → ℕ
+  weight_of_turn stand calls =
+      weighs buses (course buses stand.events) (drop (length stand.events) (turned buses stand calls).events)
+
+  -- they weigh no more than the door weighs what it handed out in the turn
+  abbrev pub TurnsWeighEnough : Type 0
+  TurnsWeighEnough = OfEachServed buses (λ trace. OfEachTurnAfter
+      (λ past stand calls. weight_of_turn stand calls ≤ weighed past calls) [] empty_stand (turns trace))
 
   -- how many changes the turn brought
   abbrev pub brought_in : Stand → List Call → ℕ

@@ -7,6 +7,7 @@ ghost use Rattle.srcp_serve.specs.Given.{GivesUnlessCounted};
 ghost use Rattle.srcp_serve.specs.Serving.{FedIsHanded, SentIsTaken};
 ghost use Rattle.srcp_serve.specs.Settling.{SettlesSoon, WaitsAreGoneAfterAVisit};
 ghost use Rattle.srcp_serve.specs.Pacing.{IsLight, IsPaced, LinesGoOn, PiecesWeighEnough, ServingSparesAll, TurnsSpare};
+ghost use Rattle.srcp_serve.specs.Pacing.{TurnsWeighEnough};
 
 /// States that each peer took, to the byte, what the course of the calls sends the peer's connection. The calls are
 /// those of some turns, no peer was accepted twice, and each answer is allowed to a door.
@@ -49,6 +50,13 @@ pub fn light_turns()
 pub fn pieces_weigh_enough()
     ensures weigh { (buses : List Bus) → PiecesWeighEnough buses }
     ensures line { LinesGoOn }
+{}
+
+/// States that the lines that end in the bytes of a turn weigh no more than the door weighs what it handed out in the
+/// turn. The calls are those of `sent_is_taken`. Of the bytes that the door handed out of a peer before, it knows only
+/// whether a line began in them.
+pub fn turns_weigh_enough()
+    ensures { (buses : List Bus) → TurnsWeighEnough buses }
 {}
 
 /// States that an information session is settled after enough turns that bring no change. In each of these turns the
