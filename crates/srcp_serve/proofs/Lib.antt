@@ -21,5 +21,6 @@ mod CarriageReturns
 pub mod PiecesWeighEnough
 pub mod PacedTurnsSparePanels
 pub mod TurnsWeighEnough
+pub mod ReadsSparePanels
 pub mod Settling
 mod OneCallFollows

@@ -68,7 +68,7 @@ module _ (buses : List Bus) where
       let same = turned_events buses stand calls in
       few_close_none buses stand.events _ (rw (room_trace stand calls asked, same) at paced) number later (rw same at over)
 
-  light_spares : IsLayout buses → (stand : Stand) (calls : List Call) → map question calls ≡ turn_asks buses stand calls
+  pub light_spares : IsLayout buses → (stand : Stand) (calls : List Call) → map question calls ≡ turn_asks buses stand calls
       → IsLight buses stand calls → SparesPanels buses stand calls
   light_spares layout stand calls asked light number later over =
       let more = turn_events buses stand calls in

@@ -1,11 +1,13 @@
 -- To be believed: which turns make no panel overrun, by how many changes they bring and what the door was told.
-use Rattle.std.specs.Prelude.{⊤, ◌≡◌, ℕ, ◌+◌, ◌≤◌, List, [], ◌∷◌, ◌++◌, drop, length}
+use Rattle.std.specs.Prelude.{⊤, ◌≡◌, ℕ, ◌+◌, ◌-◌, ◌≤◌, max, min, List, [], ◌∷◌, ◌++◌, drop, length}
 use Rattle.std.specs.List.{sum_by}
 use Rattle.srcp_info.specs.Limits.{most_waiting}
 use Rattle.srcp_grammar.specs.declared.layout.Bus.{Bus}
 use Rattle.srcp_core.specs.Connection.{Connection}
 use Rattle.srcp_core.specs.Course.{course, new_marks}
 use Rattle.srcp_core.specs.Waits.{IsOverrun, brought_besides, changes_since, changes_left, weighs, weight_of_mark}
+use Rattle.srcp_grammar.specs.Weight.{most_changes}
+use Rattle.srcp_door.specs.Limits.{reserve}
 use Rattle.srcp_door.specs.Pacing.{line_after, weight_of}
 use Rattle.srcp_door.specs.declared.pacing.LineBoundary.{LineBoundary}
 use Rattle.srcp_door.specs.declared.pacing.LineBoundary.TheVariants.{At}
@@ -36,6 +38,10 @@ weighed_in past other = 0
 abbrev pub weighed : (past calls : List Call) → ℕ
 weighed past [] = 0
 weighed past (call ∷ calls) = weighed_in past call + weighed (past ++ call ∷ []) calls
+
+-- what the door handed out in the turn weighs no more than the slack leaves beside the reserve, or no more than a line
+abbrev pub LeavesReserve : (past : List Call) → Stand → (calls : List Call) → Type 0
+LeavesReserve past stand calls = weighed past calls ≤ max (trace_room calls - reserve) most_changes
 
 module _ (buses : List Bus) where
   -- the lines that end in a piece weigh no more than the door weighs the piece; of the bytes that were fed before, the
@@ -94,3 +100,25 @@ module _ (buses : List Bus) where
       let later = (turned buses stand calls).events in
       weighs buses w (drop (length stand.events) later) + brought_besides buses w (course buses later)
       ≤ trace_room calls
+
+  -- how many changes the moment of the turn and the ends of sessions brought
+  abbrev pub brought_by_time : Stand → List Call → ℕ
+  brought_by_time stand calls =
+      brought_besides buses (course buses stand.events) (course buses (turned buses stand calls).events)
+
+  -- these are within the reserve; and within the slack, with what the door handed out, of which a line's weight counts
+  pub record FitsReserve (past : List Call) (stand : Stand) (calls : List Call) : Type 0 where
+    pub few : brought_by_time stand calls ≤ reserve
+    pub fit : brought_by_time stand calls + min (weighed past calls) most_changes ≤ trace_room calls
+
+  -- a turn makes no panel overrun if what is handed out leaves the reserve, and moments and ends fit it
+  abbrev pub PacedReadsSpare : Type 0
+  PacedReadsSpare = OfEachServed buses (λ trace. OfEachTurnAfter
+      (λ past stand calls. LeavesReserve past stand calls → FitsReserve past stand calls → SparesPanels stand calls)
+      [] empty_stand (turns trace))
+
+  -- if each turn is so, no panel ever overran
+  abbrev pub PacedReadsSpareAll : Type 0
+  PacedReadsSpareAll = OfEachServed buses (λ trace. OfEachTurnAfter LeavesReserve [] empty_stand (turns trace)
+      → OfEachTurnAfter FitsReserve [] empty_stand (turns trace)
+      → (number : ℕ) (later : Connection) → IsOverrun buses (course buses (events_of buses trace)) number later → ⊥)

@@ -7,7 +7,7 @@ ghost use Rattle.srcp_serve.specs.Given.{GivesUnlessCounted};
 ghost use Rattle.srcp_serve.specs.Serving.{FedIsHanded, SentIsTaken};
 ghost use Rattle.srcp_serve.specs.Settling.{SettlesSoon, WaitsAreGoneAfterAVisit};
 ghost use Rattle.srcp_serve.specs.Pacing.{IsLight, IsPaced, LinesGoOn, PiecesWeighEnough, ServingSparesAll, TurnsSpare};
-ghost use Rattle.srcp_serve.specs.Pacing.{TurnsWeighEnough};
+ghost use Rattle.srcp_serve.specs.Pacing.{PacedReadsSpare, PacedReadsSpareAll, TurnsWeighEnough};
 
 /// States that each peer took, to the byte, what the course of the calls sends the peer's connection. The calls are
 /// those of some turns, no peer was accepted twice, and each answer is allowed to a door.
@@ -57,6 +57,16 @@ pub fn pieces_weigh_enough()
 /// whether a line began in them.
 pub fn turns_weigh_enough()
     ensures { (buses : List Bus) → TurnsWeighEnough buses }
+{}
+
+/// States that a turn makes no panel overrun if two bounds hold (`each`). First, what the door hands out in the turn
+/// weighs, as the door weighs it, at most the slack less 160, or at most 11, as much as one line can. Second, the
+/// turn's moment and the ends of sessions bring at most 160 changes. With what is handed out, of which at most 11
+/// count, these are within the slack. If each turn is so, no panel ever overran (`all`). The calls are those of
+/// `sent_is_taken`.
+pub fn paced_reads()
+    ensures each { (buses : List Bus) → IsLayout buses → PacedReadsSpare buses }
+    ensures all { (buses : List Bus) → IsLayout buses → PacedReadsSpareAll buses }
 {}
 
 /// States that an information session is settled after enough turns that bring no change. In each of these turns the
