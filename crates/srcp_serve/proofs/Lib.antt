@@ -22,5 +22,6 @@ pub mod PiecesWeighEnough
 pub mod PacedTurnsSparePanels
 pub mod TurnsWeighEnough
 pub mod ReadsSparePanels
+pub mod PacesLeaveReserve
 pub mod Settling
 mod OneCallFollows

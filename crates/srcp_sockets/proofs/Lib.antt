@@ -8,6 +8,7 @@ pub mod NoMomentWhileUnread
 pub mod EachStepWasMadeSo
 pub mod SocketsFollowTheCourse
 pub mod TimesGoOn
+pub mod PacedLogsKeepPanels
 pub mod AccountsReadTheClock
 pub mod EndsAreDelivered
 pub mod WorkIsDone

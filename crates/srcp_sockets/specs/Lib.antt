@@ -9,5 +9,6 @@ pub mod Follows
 pub mod KeptTimes
 pub mod Names
 pub mod Notes
+pub mod Panels
 pub mod Waits
 pub mod Work

@@ -18,6 +18,7 @@ ghost use Rattle.srcp_sockets.specs.Duties.{is_leaving, is_shown, last_shown, ta
 ghost use Rattle.srcp_sockets.specs.Doors.{IsThere};
 ghost use Rattle.srcp_sockets.specs.Waits.{closes, has_to_close, is_calm, is_written};
 ghost use Rattle.srcp_sockets.specs.KeptTimes.{AreKeptTimes, ArePaced};
+ghost use Rattle.srcp_sockets.specs.Panels.{PanelsAreKept};
 ghost use Rattle.srcp_peers.specs.Times.{times};
 ghost use Rattle.srcp_peers.specs.Turns.{got_bytes, reports_end};
 ghost use Rattle.srcp_peers.specs.Streams.{gave, handed, taken, took};
@@ -235,6 +236,16 @@ pub fn ends_are_told<S: System + Drop>(door: &SocketDoor<S>)
 pub fn turns_are_paced<S: System + Drop>(door: &SocketDoor<S>)
     ensures { (log : List Step) → S.trace door.now.sockets.system ≡ Some log
         → ArePaced (times door.now.sockets.turn.timekeeper.wall door.now.sockets.turn.timekeeper.start log) }
+{
+    let _sockets = &door.sockets;
+}
+
+/// States that no panel ever overran if two bounds hold in each turn. First, the turn's moment and the ends of sessions
+/// bring at most 160 changes. Second, with the lines that were handed out, of whose weight at most 11 count, these are
+/// within the slack that the door was given. The slack is 256 if there was no panel. The door's calls are those that
+/// some turns ask, no peer was accepted twice, and each answer is allowed to a door.
+pub fn panels_are_kept<S: System + Drop>(door: &SocketDoor<S>)
+    ensures { (log : List Step) → S.trace door.now.sockets.system ≡ Some log → PanelsAreKept log }
 {
     let _sockets = &door.sockets;
 }
