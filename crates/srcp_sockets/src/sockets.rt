@@ -62,7 +62,7 @@ pub(crate) struct Sockets<S: System + Drop> {
     ghost named: { IsNamed (S.trace system) last } by { IsNamed-prop (S.trace system) last },
     ghost timed: { IsTimed (S.trace system) turn } by { IsTimed-prop (S.trace system) turn },
     ghost asked: { AreAsked (S.trace system) } by { AreAsked-prop (S.trace system) },
-    ghost done: { AreDone turn.timekeeper.wall turn.timekeeper.start (S.trace system) } by { AreDone-prop turn.timekeeper.wall turn.timekeeper.start (S.trace system) },
+    ghost done: { AreDone turn.timekeeper.wall turn.timekeeper.start (S.trace system) } by { AreDone-prop _ _ _ },
     ghost ending: { AreAsFar (S.trace system) peers.items } by { AreAsFar-prop (S.trace system) peers.items },
     ghost places: { 129 ≤ vec_capacity peers },
 }
