@@ -59,15 +59,15 @@ named_in table word = option_map (λ entry. entry.1) (find (λ entry. is_keyword
 -- the words that may come first
 abbrev pub operations : List (List ℕ × Operation)
 operations =
-    (codes "GET", Get) ∷ (codes "SET", Set) ∷ (codes "CHECK", Check) ∷ (codes "INIT", Init) ∷ (codes "TERM", Term)
+    (codes "SET", Set) ∷ (codes "GET", Get) ∷ (codes "CHECK", Check) ∷ (codes "INIT", Init) ∷ (codes "TERM", Term)
     ∷ (codes "WAIT", Wait) ∷ (codes "VERIFY", Verify)
     ∷ (codes "RESET", Reset) ∷ []
 
 -- the words that may come third
 abbrev pub groups : List (List ℕ × CommandGroup)
 groups =
-    (codes "SESSION", Session) ∷ (codes "POWER", Power) ∷ (codes "GL", Gl) ∷ (codes "GA", Ga) ∷ (codes "FB", Fb)
-    ∷ (codes "LOCK", Lock) ∷ []
+    (codes "GL", Gl) ∷ (codes "GA", Ga) ∷ (codes "FB", Fb) ∷ (codes "LOCK", Lock) ∷ (codes "POWER", Power)
+    ∷ (codes "SESSION", Session) ∷ []
 
 -- the groups that a LOCK command may name
 abbrev pub device_groups : List (List ℕ × DeviceGroup)

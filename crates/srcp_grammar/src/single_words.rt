@@ -99,15 +99,16 @@ pub(crate) fn parse_time(word: &[u8]) -> Result<Option<u32>, Code>
     Ok(Some(parse_number(0, MOST_MILLISECONDS, word)?))
 }
 
-/// Reads the operation, the first word of a command. Any other word is 410.
+/// Reads the operation, the first word of a command. Any other word is 410. SET, the first word of most lines, is
+/// compared first.
 pub(crate) fn parse_operation(word: &[u8]) -> Result<Operation, Code>
     ensures { result ≡ ok_or (named_in operations word.now) UnknownCommand }
 {
-    if is_keyword(b"GET", word) {
-        return Ok(Operation::Get);
-    }
     if is_keyword(b"SET", word) {
         return Ok(Operation::Set);
+    }
+    if is_keyword(b"GET", word) {
+        return Ok(Operation::Get);
     }
     if is_keyword(b"CHECK", word) {
         return Ok(Operation::Check);
@@ -134,12 +135,6 @@ pub(crate) fn parse_operation(word: &[u8]) -> Result<Operation, Code>
 pub(crate) fn parse_group(word: &[u8]) -> Result<CommandGroup, Code>
     ensures { result ≡ ok_or (named_in groups word.now) UnsupportedDevice }
 {
-    if is_keyword(b"SESSION", word) {
-        return Ok(CommandGroup::Session);
-    }
-    if is_keyword(b"POWER", word) {
-        return Ok(CommandGroup::Power);
-    }
     if is_keyword(b"GL", word) {
         return Ok(CommandGroup::Gl);
     }
@@ -151,6 +146,12 @@ pub(crate) fn parse_group(word: &[u8]) -> Result<CommandGroup, Code>
     }
     if is_keyword(b"LOCK", word) {
         return Ok(CommandGroup::Lock);
+    }
+    if is_keyword(b"POWER", word) {
+        return Ok(CommandGroup::Power);
+    }
+    if is_keyword(b"SESSION", word) {
+        return Ok(CommandGroup::Session);
     }
     Err(Code::UNSUPPORTED_DEVICE)
 }
