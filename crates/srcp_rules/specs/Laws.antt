@@ -1,6 +1,6 @@
 -- What holds of every command, every moment, and every session's beginning and end.
 use Rattle.std.specs.Prelude.{◌≡◌, ◌≢◌, ℕ, ◌+◌, ◌*◌, ◌≤◌, ◌<◌, true, false, nat_le, if◌then◌else◌, List, []}
-use Rattle.std.specs.Prelude.{take, drop, length, IsTrue, Option, Some, None, IfSome}
+use Rattle.std.specs.Prelude.{take, drop, length, IsTrue, Option, Some, None, IfSome, ⊤, ◌∷◌}
 use Rattle.std.specs.List.{AllByRecursion}
 use Rattle.std.specs.Option.{option_map_or, ForSome}
 use Rattle.srcp_info.specs.declared.key.Key.{Key}
@@ -10,7 +10,8 @@ use Rattle.srcp_info.specs.declared.change.Row.{Row}
 use Rattle.srcp_info.specs.Key.{first_key}
 use Rattle.srcp_info.specs.declared.change.Code.{Code}
 use Rattle.srcp_info.specs.declared.change.Reply.TheVariants.{Accepted, Refused}
-use Rattle.srcp_info.specs.Limits.{greatest_u64}
+use Rattle.srcp_info.specs.declared.value.Mode.{Mode}
+use Rattle.srcp_info.specs.Limits.{greatest_id, greatest_u64}
 use Rattle.srcp_info.specs.WellFormed.{IsMoment, IsWellFormed, IsWellFormedReply}
 use Rattle.srcp_grammar.specs.declared.layout.Bus.{Bus}
 use Rattle.srcp_grammar.specs.declared.command.DeviceGroup.{DeviceGroup}
@@ -27,7 +28,7 @@ use Rattle.srcp_grammar.specs.Command.{IsCommandOf}
 use Rattle.srcp_grammar.specs.Weight.{most_changes}
 use Rattle.srcp_rules.specs.Effect.{effect, refused, is_locked, port_key, row_of_port, row_of_lock, moment_after}
 use Rattle.srcp_rules.specs.Obeyed.{MayObey}
-use Rattle.srcp_rules.specs.Due.{due, freed, is_due, is_held_by}
+use Rattle.srcp_rules.specs.Due.{due, freed, began, is_due, is_held_by}
 use Rattle.srcp_rules.specs.Steps.{Order, Step, IsStepOf, IsTimely, effect as effect_under, stepped, updates_of}
 
 -- ---- whole registries
@@ -92,6 +93,40 @@ abbrev pub RepliesCanBeTold : Type 0
 RepliesCanBeTold = (buses : List Bus) (state : State) (session moment : ℕ) (command : Command)
     → MayObey buses state session command → IsMoment moment
     → IsWellFormedReply (effect state session moment command).reply
+
+-- ---- what the laws of a step say of each kind
+
+-- these changes leave a whole registry whole, give a device that has rows no new one, and can be told
+pub record AreOfStep (buses : List Bus) (state : State) (updates : List Update) (of timely : Type 0) : Type 0 where
+  pub whole : IsWhole buses state → of → timely → IsWhole buses (updated_all updates state)
+  pub adds : IsWhole buses state → of → AllByRecursion (λ update. AddsNoRow state update.change) updates
+  pub told : IsWhole buses state → of → timely → CanBeTold updates
+
+-- those of a command are such
+abbrev pub CommandsAreSteps : Type 0
+CommandsAreSteps = (buses : List Bus) (state : State) (session moment : ℕ) (command : Command)
+    → AreOfStep buses state (effect state session moment command).updates (IsCommandOf buses command)
+    (IsTrue (is_there (session_device session) state) × IsMoment moment)
+
+-- those of a moment
+abbrev pub MomentsAreSteps : Type 0
+MomentsAreSteps =
+    (buses : List Bus) (state : State) (moment : ℕ) → AreOfStep buses state (due state moment) ⊤ (IsMoment moment)
+
+-- those of a session's end
+abbrev pub EndsAreSteps : Type 0
+EndsAreSteps = (buses : List Bus) (state : State) (session moment : ℕ)
+    → AreOfStep buses state (freed state session moment) ⊤ (IsMoment moment)
+
+-- and that of a session's beginning
+abbrev pub BeginningsAreSteps : Type 0
+BeginningsAreSteps = (buses : List Bus) (state : State) (session moment : ℕ) (mode : Mode)
+    → AreOfStep buses state (began session moment mode ∷ []) ((1 ≤ session) × (session ≤ greatest_id)) (IsMoment moment)
+
+-- which can be told, whatever the layout and the registry
+abbrev pub BeginningsCanBeTold : Type 0
+BeginningsCanBeTold = (session moment : ℕ) (mode : Mode) → IsMoment moment → 1 ≤ session → session ≤ greatest_id
+    → IsWellFormed (began session moment mode).change
 
 -- ---- what a command does not do
 

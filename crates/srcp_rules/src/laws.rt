@@ -3,7 +3,8 @@
 
 ghost use Rattle.srcp_rules.specs.Laws.{OpeningsAreWhole, UpdatesKeepRising, StepsKeepWhole, MomentsKeepWhole};
 ghost use Rattle.srcp_rules.specs.Laws.{EndsKeepWhole, StepsAddNoRow, EndsAddNoRow, StepsCanBeTold, RepliesCanBeTold};
-ghost use Rattle.srcp_rules.specs.Laws.{CommandsChangeLittle};
+ghost use Rattle.srcp_rules.specs.Laws.{CommandsAreSteps, MomentsAreSteps, EndsAreSteps, BeginningsAreSteps};
+ghost use Rattle.srcp_rules.specs.Laws.{BeginningsCanBeTold, CommandsChangeLittle};
 ghost use Rattle.srcp_rules.specs.Laws.{RefusalsChangeNothing, RefusalsNeedNoMemory, ChecksAnswerAsSets, LocksHold};
 ghost use Rattle.srcp_rules.specs.Laws.{CommandsKeepSessions, MomentsKeepSessions, EndsFreeAll};
 ghost use Rattle.srcp_rules.specs.Weight.{LinesWeighEnough, WeightsAreSmall, GoesWeighOne};
@@ -53,6 +54,16 @@ pub fn lines_weigh_enough()
 pub fn steps_can_be_told()
     ensures changes { StepsCanBeTold }
     ensures replies { RepliesCanBeTold }
+{}
+
+/// States: what the three laws above say of a step holds of the changes of a command, of a moment, and of a session's
+/// end and beginning. The change of a beginning can be written as a line in any registry (`told`).
+pub fn steps_by_kind()
+    ensures commands { CommandsAreSteps }
+    ensures moments { MomentsAreSteps }
+    ensures ends { EndsAreSteps }
+    ensures beginnings { BeginningsAreSteps }
+    ensures told { BeginningsCanBeTold }
 {}
 
 /// States: a refused command changes nothing and ends nothing (`nothing`). A command refused by another rule has this
