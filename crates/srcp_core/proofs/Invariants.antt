@@ -13,6 +13,6 @@ pub mod LinesAsk
 pub mod RepliesStayUnsent
 pub mod RefusalsChangeNothing
 pub mod LinesAreFound
-pub mod AnswersHaveRoom
+pub mod AnswersGainBytes
 pub mod RowLists
 pub mod OpeningRowsAreStamped

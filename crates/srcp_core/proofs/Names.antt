@@ -12,7 +12,7 @@ pub use Rattle.srcp_core.specs.Course.{state_after, wants_as, with_numbered}
 pub use Rattle.srcp_core.specs.Handshake.{Chooses, Goes, Greeting, Refuses, Speaks}
 pub use Rattle.srcp_core.specs.Held.{AreSessions, Held, IsLive, IsSessionAt, IsSound, Place, at, open_count, place_at}
 pub use Rattle.srcp_core.specs.Laws.{AddsUp, AllMoments, HasMoment, IsRecordOf, IsSession, has_key, last_line, listed, listed_row, rows_at}
-pub use Rattle.srcp_core.specs.Machine.{CountsEach, HasRoom, IsAdmitted, IsNotAdmitted, advanced, asked_of, bytes_fault, bytes_fault_from}
+pub use Rattle.srcp_core.specs.Machine.{CountsEach, AnswersFit, IsAdmitted, IsNotAdmitted, advanced, request_of, bytes_fault, bytes_fault_from}
 pub use Rattle.srcp_core.specs.Machine.{carried, changed_at, changed_in, changed_places, denied_line, entered_place, feed_in, filled}
 pub use Rattle.srcp_core.specs.Machine.{finish_at, freed_of, freed_place, has_overrun, heard_at, heard_from, hung_up, hung_up_from}
 pub use Rattle.srcp_core.specs.Machine.{is_panel, item_at, item_from, item_of, let_out, line_answered, lines_answered, live_session}
@@ -22,15 +22,15 @@ pub use Rattle.srcp_core.specs.Machine.{unsent_at, unsent_of, with_unsent, witho
 pub use Rattle.srcp_core.specs.Promised.{IsPromised}
 pub use Rattle.srcp_core.specs.Recording.{Keeps, Recording, changed_record, finished, finished_by, gave, kept, key_of, noted}
 pub use Rattle.srcp_core.specs.Recording.{nothing_recorded, record_of, shut, stepped, without_key}
-pub use Rattle.srcp_core.specs.Run.{Happened, HasPlainMoment, PlainMoments, Runs, Tells, count_at, taken_at, taking}
+pub use Rattle.srcp_core.specs.Run.{Happened, HasPlainMoment, PlainMoments, Runs, Records, count_at, taken_at, taking}
 pub use Rattle.srcp_core.specs.Stands.{IsAt, IsOwned, StandsBy, StandsFor, panel_at, place_of}
 pub use Rattle.srcp_core.specs.Under.{At, Bytes, Event, Heard, Open, Piece, Room, Shut}
 pub use Rattle.srcp_core.specs.Under.{all_under, denied_by, giving, greeting_under, greets, lines_under, recorded_step, under}
 pub use Rattle.srcp_core.specs.Waits.{IsOverrun, brought, least, lesser, changes_left, room, slack_of}
 pub use Rattle.srcp_core.specs.declared.connection.Panel.{Panel}
 pub use Rattle.srcp_core.specs.declared.connection.Panel.TheVariants.{Absent, Listening, Overran}
-pub use Rattle.srcp_core.specs.declared.line.Asked.{Asked}
-pub use Rattle.srcp_core.specs.declared.line.Asked.TheVariants.{Commands, Dropped, Greets}
+pub use Rattle.srcp_core.specs.declared.line.Request.{Request}
+pub use Rattle.srcp_core.specs.declared.line.Request.TheVariants.{Commands, Dropped, Greets}
 pub use Rattle.srcp_core.specs.declared.line.LineRecord.{LineRecord}
 pub use Rattle.srcp_core.specs.declared.record.ConnRecord.{ConnRecord}
 pub use Rattle.srcp_core.specs.declared.record.CoreFault.{CoreFault}

@@ -36,8 +36,8 @@ use Rattle.srcp_core.specs.Held.{Place, Held, place_at, at, open_count}
 use Rattle.srcp_core.specs.Under.{denied_by}
 use Rattle.srcp_core.specs.declared.connection.Panel.{Panel}
 use Rattle.srcp_core.specs.declared.connection.Panel.TheVariants.{Absent, Listening, Overran}
-use Rattle.srcp_core.specs.declared.line.Asked.{Asked}
-use Rattle.srcp_core.specs.declared.line.Asked.TheVariants.{Dropped, Greets, Commands}
+use Rattle.srcp_core.specs.declared.line.Request.{Request}
+use Rattle.srcp_core.specs.declared.line.Request.TheVariants.{Dropped, Greets, Commands}
 use Rattle.srcp_core.specs.declared.line.LineRecord.{LineRecord}
 use Rattle.srcp_core.specs.declared.record.Step.{Step}
 use Rattle.srcp_core.specs.declared.record.Step.TheVariants.{Obeyed, Began, Ended}
@@ -147,20 +147,20 @@ queue_of _ = []
 -- ---- lines
 
 -- what a line asks for, by how its connection stands; what comes to an information session or after the end is dropped
-abbrev pub asked_of : List Bus → Place → Mark → Asked
-asked_of buses p mark =
+abbrev pub request_of : List Bus → Place → Mark → Request
+request_of buses p mark =
     if is_panel p.panel || p.ended then Dropped
     else (if p.session == 0 then Greets p.mode (greets mark) else Commands p.session (command_of buses mark))
 
 -- what the reader found: the offset after the line and what it asks for, or nothing
-abbrev pub heard_from : List Bus → Place → Fed × Reading → Option (ℕ × Asked) × Place
+abbrev pub heard_from : List Bus → Place → Fed × Reading → Option (ℕ × Request) × Place
 heard_from _ p (More, reading) = (None, record p { reader = reading })
 heard_from buses p (FoundLine stop, reading) =
-    (Some (stop, asked_of buses p (Line reading.line)), record p { reader = reading })
-heard_from buses p (FoundTooLong stop, reading) = (Some (stop, asked_of buses p TooLong), record p { reader = reading })
+    (Some (stop, request_of buses p (Line reading.line)), record p { reader = reading })
+heard_from buses p (FoundTooLong stop, reading) = (Some (stop, request_of buses p TooLong), record p { reader = reading })
 
 -- the piece is read on from there by the reader of the connection
-abbrev pub heard : List Bus → List ℕ → ℕ → Place → Option (ℕ × Asked) × Place
+abbrev pub heard : List Bus → List ℕ → ℕ → Place → Option (ℕ × Request) × Place
 heard buses piece start p = heard_from buses p (feed_of p.reader piece start)
 
 -- what is known of the line that has begun on the connection of that key
@@ -268,7 +268,7 @@ commanded granted key session (Ok command) held =
     then obeyed key session (effect held.rows session held.moment command) held else denied_line key held
 
 -- a line is answered, by whether memory was given to it
-abbrev pub answered : Bool → ℕ → Asked → Held → Held
+abbrev pub answered : Bool → ℕ → Request → Held → Held
 answered _ _ Dropped held = held
 answered granted key (Greets mode greeting) held = greeted granted key mode greeting held
 answered granted key (Commands session command) held = commanded granted key session command held
@@ -298,7 +298,7 @@ steps_commanded granted session (Ok command) held =
     then Ended session held.moment ∷ [] else [])
 
 -- the steps of a line
-abbrev pub steps_answered : Bool → Asked → Held → List Step
+abbrev pub steps_answered : Bool → Request → Held → List Step
 steps_answered _ Dropped _ = []
 steps_answered granted (Greets mode greeting) held = steps_greeted granted mode greeting held
 steps_answered granted (Commands session command) held = steps_commanded granted session command held
@@ -309,7 +309,7 @@ longest (Shows _) = longest_line
 longest _ = longest_short_reply
 
 -- how many bytes the answer to a line has at most
-abbrev pub longest_answer : Asked → ℕ
+abbrev pub longest_answer : Request → ℕ
 longest_answer (Commands _ (Ok _)) = longest_line
 longest_answer _ = longest_short_reply
 
@@ -320,9 +320,9 @@ abbrev pub opening_held : List Bus → (moment last_id : ℕ) → Held
 opening_held buses moment last_id =
     record { buses = buses; rows = opening buses moment; moment = moment; last_id = last_id; places = []; denied = 0 }
 
--- there was room for one more, and it has the key
+-- fewer than 64 connections were open, and the new one has the key
 pub record IsAdmitted (key : ℕ) (old new : Held) : Type 0 where
-  pub room : open_count old < most_connections
+  pub few : open_count old < most_connections
   pub was_free : at old key ≡ None
   pub fresh : at new key ≡ Some fresh_place
   pub others : (other : ℕ) → other ≢ key → at new other ≡ at old other
@@ -348,15 +348,15 @@ abbrev pub bytes_fault : ℕ → List ℕ → Held → Option CoreFault
 bytes_fault key piece held = bytes_fault_from piece (at held key)
 
 -- the line was found on the connection of that key
-pub record IsAsked (key : ℕ) (asked : Asked) (held : Held) : Type 0 where
+pub record IsRequest (key : ℕ) (request : Request) (held : Held) : Type 0 where
   pub place : Place
   pub mark : Mark
   pub here : at held key ≡ Some place
-  pub is : asked ≡ asked_of held.buses place mark
+  pub is : request ≡ request_of held.buses place mark
 
 -- a piece is read on from that offset by the connection of that key: the offset after the next line with what that
 -- asks for, or none if no line ends
-abbrev pub heard_at : ℕ → List ℕ → ℕ → Held → Option (ℕ × Asked) × Held
+abbrev pub heard_at : ℕ → List ℕ → ℕ → Held → Option (ℕ × Request) × Held
 heard_at key piece start held =
     option_map_or
     (λ p. (
@@ -367,14 +367,14 @@ heard_at key piece start held =
 
 -- the next line is answered, by whether memory was given to it, and the next one begins
 -- at the offset after it; none if no line ends
-abbrev pub line_answered : ℕ → Bool → ℕ × Held → Option (ℕ × Asked) × Held → ℕ × Held
+abbrev pub line_answered : ℕ → Bool → ℕ × Held → Option (ℕ × Request) × Held → ℕ × Held
 line_answered _ _ before (None, _) = before
-line_answered key granted _ (Some (stop, asked), held) = (stop, answered granted key asked held)
+line_answered key granted _ (Some (stop, request), held) = (stop, answered granted key request held)
 
 -- the steps that the answer is
-abbrev pub steps_of_line : Bool → Option (ℕ × Asked) × Held → List Step
+abbrev pub steps_of_line : Bool → Option (ℕ × Request) × Held → List Step
 steps_of_line _ (None, _) = []
-steps_of_line granted (Some (_, asked), held) = steps_answered granted asked held
+steps_of_line granted (Some (_, request), held) = steps_answered granted request held
 
 -- lines of the piece are answered in turn, each by whether memory was given to it
 abbrev pub lines_answered : ℕ → List ℕ → List Bool → Held → ℕ × Held
@@ -383,16 +383,16 @@ lines_answered key piece grants held =
 
 -- the lines up to an offset in the piece are answered. Then a short reply at most is unsent for each byte of the piece
 -- so far, and what a reply that shows a row has more; and no line has begun
-pub record HasRoom (key : ℕ) (piece : List ℕ) (start : ℕ) (held : Held) : Type 0 where
+pub record AnswersFit (key : ℕ) (piece : List ℕ) (start : ℕ) (held : Held) : Type 0 where
   pub far : start ≤ length piece
   pub idle : start ≡ 0 → length (unsent_at key held) ≡ 0
-  pub room : length (unsent_at key held) ≤ longest_line - longest_short_reply + longest_short_reply * start
+  pub fits : length (unsent_at key held) ≤ longest_line - longest_short_reply + longest_short_reply * start
   pub begun : 0 < start → line_begun_at key held ≡ Some []
 
 -- the next line of the piece is answered
 pub record IsLineAnswered (key : ℕ) (piece : List ℕ) (start stop : ℕ) (did : LineRecord) (old new : Held) : Type 0 where
   pub onward : start < stop
-  pub room : HasRoom key piece stop new
+  pub fits : AnswersFit key piece stop new
   pub is : (stop, new) ≡ line_answered key did.granted (start, old) (heard_at key piece start old)
   pub steps : steps_in did ≡ steps_of_line did.granted (heard_at key piece start old)
   pub counted : new.denied ≡ denied_by old.denied (did.granted ∷ [])

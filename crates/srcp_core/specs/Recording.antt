@@ -89,8 +89,8 @@ gave _ (Some Settled) r = r
 gave n (Some what) r = changed n (with_item (length r.steps) what) r
 
 -- these bytes were taken
-abbrev pub took : ℕ → List ℕ → Recording → Recording
-took n bytes r = changed n (λ one. record one { sent = one.sent ++ bytes }) r
+abbrev pub with_sent : ℕ → List ℕ → Recording → Recording
+with_sent n bytes r = changed n (λ one. record one { sent = one.sent ++ bytes }) r
 
 -- how each open connection stands in the end
 abbrev pub finished_by : Held → Option ℕ → ConnRecord → ConnRecord

@@ -9,7 +9,7 @@ use Rattle.srcp_core.specs.Held.{Held}
 use Rattle.srcp_core.specs.Machine.{let_out, item_at, unsent_at, changed_at, without_sent}
 use Rattle.srcp_core.specs.Agrees.{OfCourse, AtKey}
 use Rattle.srcp_core.specs.Promised.{RunsRecord, outline}
-use Rattle.srcp_core.specs.Recording.{Recording, record_of, gave, took, Keeps}
+use Rattle.srcp_core.specs.Recording.{Recording, record_of, gave, with_sent, Keeps}
 use Rattle.srcp_core.specs.Laws.{HasMoment}
 use Rattle.srcp_core.specs.Stands.{StandsFor}
 use Rattle.srcp_core.specs.declared.record.Record.{Record}
@@ -28,19 +28,19 @@ taken_at key most held = changed_at key (without_sent (count_at key most held)) 
 -- and what is recorded of them
 abbrev pub taking : ℕ → ℕ → ℕ → Held → Recording → Recording
 taking n key most held r =
-    took n (take (count_at key most held) (unsent_at key (let_out key held))) (gave n (item_at key held) r)
+    with_sent n (take (count_at key most held) (unsent_at key (let_out key held))) (gave n (item_at key held) r)
 
--- the recording tells of that course
-pub record Tells (r : Recording) (w : World) : Type 0 where
+-- the recording has what was done in that course
+pub record Records (r : Recording) (w : World) : Type 0 where
   pub steps : r.steps ≡ map recorded_step w.steps
   pub refused : r.refused ≡ w.refused
   pub connections : r.connections ≡ map record_of w.connections
 
 module _ (buses : List Bus) where
-  -- the core stands for the course, under the keys that the recording has, and the recording tells of it
+  -- the core stands for the course, under the keys that the recording has, and the recording has what was done in it
   pub record Runs (r : Recording) (held : Held) (w : World) : Type 0 where
     pub stands : StandsFor buses r.keys held w
-    pub tells : Tells r w
+    pub tells : Records r w
 
   -- what came of the event: it was carried out, or it was refused and nothing changed
   abbrev pub Happened : Event → Option CoreFault → Recording → Held → World → Type 0

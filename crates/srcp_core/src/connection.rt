@@ -10,12 +10,12 @@ ghost use Rattle.srcp_text.specs.Marks.{Line, TooLong};
 ghost use Rattle.srcp_core.specs.Connection.{is_nil, line_of};
 ghost use Rattle.srcp_core.specs.Machine.{queue_of, fresh_place, with_unsent, without_sent, entered_place, panel_for};
 ghost use Rattle.srcp_core.specs.Machine.{feed_in, has_overrun, is_panel, told_place, filled, item_from};
-ghost use Rattle.srcp_core.specs.Machine.{asked_of, heard, live_session_of, longest, slack_in};
+ghost use Rattle.srcp_core.specs.Machine.{request_of, heard, live_session_of, longest, slack_in};
 
 use crate::accepted::Accepted;
 use crate::handshake::{Greeting, greet};
 use crate::limits::MOST_UNSENT;
-use crate::line::Asked;
+use crate::line::Request;
 use srcp_feed::{ChangeLine, InfoFeed, Next, Told, WrittenLine};
 use srcp_info::{Code, InfoLine, LONGEST_LINE, MOST_WAITING, Mode, Reply, write_reply};
 use srcp_rules::{Layout, Memory, Rows, parse_command};
@@ -173,7 +173,7 @@ impl Connection {
     /// Appends a reply to the unsent bytes, stamped with the moment. `accepted` keeps the line of `200 OK`.
     pub(crate) fn reply(&mut self, moment: u64, reply: &Reply, accepted: &mut Accepted)
         requires well_formed { IsWellFormedReply reply.now }
-        requires room { length self.old.unsent + longest reply.now ≤ MOST_UNSENT }
+        requires fits { length self.old.unsent + longest reply.now ≤ MOST_UNSENT }
         ensures { self.new ≡ with_unsent (reply_line moment reply.now) self.old }
     {
         if let Reply::Accepted = reply {
@@ -189,14 +189,14 @@ impl Connection {
     }
 
     /// Drops the first `count` unsent bytes, since the peer took them.
-    pub(crate) fn took(&mut self, count: usize)
+    pub(crate) fn consume(&mut self, count: usize)
         requires { count ≤ length self.old.unsent }
         ensures { self.new ≡ without_sent count self.old }
     {
         self.left -= count;
     }
 
-    /// Tells an information session a change. With a full queue the session overruns: the waiting changes, the listing
+    /// Queues a change for an information session. With a full queue the session overruns: the waiting changes, the listing
     /// and the unsent bytes are dropped.
     pub(crate) fn tell(&mut self, change: &ChangeLine<'_>)
         requires { IsWellFormed change.now }
@@ -213,49 +213,49 @@ impl Connection {
         }
     }
 
-    /// Reads a piece on from `start`. Returns the offset after the next line, and writes to `asked` what the line asks
+    /// Reads a piece on from `start`. Returns the offset after the next line, and writes to `request` what the line asks
     /// for. A command is large: a result would copy the command.
     #[inline(always)]
-    pub(crate) fn hear(
+    pub(crate) fn next_line(
         &mut self,
         piece: &[u8],
         start: usize,
         layout: &Layout,
-        asked: &mut Asked,
+        request: &mut Request,
     ) -> Option<usize>
         requires { start ≤ length piece.now }
-        ensures { (option_map (λ stop. (stop, asked.new)) result, self.new)
+        ensures { (option_map (λ stop. (stop, request.new)) result, self.new)
             ≡ heard layout.now piece.now start self.old }
     {
         match self.reader.feed(piece, start) {
             Fed::More => None,
             Fed::Line { stop } => {
-                self.ask(layout, asked);
+                self.interpret(layout, request);
                 Some(stop)
             }
             Fed::TooLong { stop } => {
-                *asked = self.asked_too_long();
+                *request = self.request_too_long();
                 Some(stop)
             }
         }
     }
 
     /// Writes what the found line asks for.
-    fn ask(&self, layout: &Layout, asked: &mut Asked)
-        ensures { asked.new ≡ asked_of layout.now self.now (Line self.now.reader.line) }
+    fn interpret(&self, layout: &Layout, request: &mut Request)
+        ensures { request.new ≡ request_of layout.now self.now (Line self.now.reader.line) }
     {
         if self.is_panel() || self.ended {
-            *asked = Asked::Dropped;
+            *request = Request::Dropped;
             return;
         }
         let line = self.reader.line();
         if self.session == 0 {
-            *asked = Asked::Greets {
+            *request = Request::Greets {
                 mode: self.mode,
                 greeting: greet(line),
             };
         } else {
-            *asked = Asked::Commands {
+            *request = Request::Commands {
                 session: self.session,
                 command: parse_command(line, layout),
             };
@@ -263,19 +263,19 @@ impl Connection {
     }
 
     /// Returns what a line of more than 1,000 bytes asks for: a refusal.
-    fn asked_too_long(&self) -> Asked
-        ensures { result ≡ asked_of [] self.now TooLong }
+    fn request_too_long(&self) -> Request
+        ensures { result ≡ request_of [] self.now TooLong }
     {
         if self.is_panel() || self.ended {
-            return Asked::Dropped;
+            return Request::Dropped;
         }
         if self.session == 0 {
-            Asked::Greets {
+            Request::Greets {
                 mode: self.mode,
                 greeting: Greeting::Refuses(Code::TOO_LONG),
             }
         } else {
-            Asked::Commands {
+            Request::Commands {
                 session: self.session,
                 command: Err(Code::TOO_LONG),
             }
@@ -302,14 +302,14 @@ impl Connection {
     }
 
     /// Sets the mode of the session to come.
-    pub(crate) fn choose(&mut self, mode: Mode)
+    pub(crate) fn set_mode(&mut self, mode: Mode)
         ensures { self.new ≡ record self.old { mode = mode } }
     {
         self.mode = mode;
     }
 
     /// Begins the session under the id.
-    pub(crate) fn enter(&mut self, id: u32, panel: Panel)
+    pub(crate) fn begin_session(&mut self, id: u32, panel: Panel)
         requires { queue_of panel ≡ [] }
         ensures { self.new ≡ entered_place id panel self.old }
     {
@@ -380,7 +380,7 @@ fn give<R: Rows>(feed: &mut InfoFeed, rows: &R, line: &mut WrittenLine)
 fn compact(line: &mut WrittenLine, reply: &mut Vec<u8>, start: usize)
     requires one { (line.old ≡ []) ⊎ (reply.old.items ≡ []) }
     requires within { start ≤ length (line.old ++ reply.old.items) }
-    requires room { MOST_UNSENT ≤ vec_capacity reply.old }
+    requires capacity { MOST_UNSENT ≤ vec_capacity reply.old }
     ensures line { line.new ≡ [] }
     ensures items { reply.new.items ≡ drop start (line.old ++ reply.old.items) }
     ensures capacity { MOST_UNSENT ≤ vec_capacity reply.new }

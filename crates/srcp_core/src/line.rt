@@ -8,7 +8,7 @@ use srcp_rules::Command;
 
 /// Says what a line asks for, by the state of its connection.
 #[derive(Clone, Copy)]
-pub(crate) enum Asked {
+pub(crate) enum Request {
     /// Nothing: there is an information session, or the session ended.
     Dropped,
     /// A line before the session, with the mode chosen last.

@@ -4,7 +4,7 @@ ghost use Rattle.std.specs.List.{AllByRecursion};
 ghost use Rattle.srcp_info.specs.WellFormed.{IsWellFormedShown};
 ghost use Rattle.srcp_core.specs.Course.{is_info};
 ghost use Rattle.srcp_core.specs.Machine.{item_at, steps_in};
-ghost use Rattle.srcp_core.specs.Recording.{key_of, nothing_recorded, opened, shut, began, noted, stepped, gave, took};
+ghost use Rattle.srcp_core.specs.Recording.{key_of, nothing_recorded, opened, shut, began, noted, stepped, gave, with_sent};
 ghost use Rattle.srcp_core.specs.Recording.{with_item, with_refusal, without_key, changed_record, finished, Becomes};
 
 use crate::entries::Entries;
@@ -119,7 +119,7 @@ impl<D: Detail> Recorder<D> {
         ensures { Becomes D.IN_FULL (shut conn) self.old self.new }
     {
         free(&mut self.keys, conn);
-        finish(&mut self.connections, conn, Finish::Shut);
+        set_finish(&mut self.connections, conn, Finish::Shut);
     }
 
     /// Records the refusal of the event of this number.
@@ -193,8 +193,8 @@ impl<D: Detail> Recorder<D> {
     }
 
     /// Records the sending of these bytes of a connection.
-    pub(crate) fn took(&mut self, conn: usize, bytes: &[u8]) -> Result<(), Memory>
-        ensures { OnOk result (Becomes D.IN_FULL (took conn bytes.now) self.old self.new) }
+    pub(crate) fn sent(&mut self, conn: usize, bytes: &[u8]) -> Result<(), Memory>
+        ensures { OnOk result (Becomes D.IN_FULL (with_sent conn bytes.now) self.old self.new) }
     {
         take(&mut self.connections, conn, bytes)
     }
@@ -229,7 +229,7 @@ fn finish_all<R: Rows>(
 {
     for index in 0..keys.len() {
         if let Some(key) = keys[index] {
-            finish(connections, index + 1, core.finish(key));
+            set_finish(connections, index + 1, core.finish_of(key));
         }
     }
 }
@@ -296,7 +296,7 @@ fn take(connections: &mut Vec<ConnRecord>, conn: usize, bytes: &[u8]) -> Result<
 }
 
 /// Records how the connection of the number is.
-fn finish(connections: &mut Vec<ConnRecord>, conn: usize, finish: Finish)
+fn set_finish(connections: &mut Vec<ConnRecord>, conn: usize, finish: Finish)
     ensures { connections.new.items
         ≡ changed_record conn (λ one. record one { finish = finish }) connections.old.items }
 {

@@ -211,7 +211,7 @@ fn take<R: Rows, D: Detail>(
     let count = match core.outgoing(key) {
         Ok(bytes) => {
             let count = bytes.len().min(most);
-            recorder.took(conn, &bytes[..count])?;
+            recorder.sent(conn, &bytes[..count])?;
             count
         }
         Err(_) => return Ok(0),

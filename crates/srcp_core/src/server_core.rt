@@ -225,7 +225,7 @@ impl<'a, R: Rows> Core<'a, R> {
     pub fn closing(&self, conn: usize) -> bool
         ensures { result ≡ is_last (finish_at conn self.now) }
     {
-        matches!(self.finish(conn), Finish::Overrun | Finish::Closing)
+        matches!(self.finish_of(conn), Finish::Overrun | Finish::Closing)
     }
 
     /// Returns how many allocations were refused since `new`. The count stops at the greatest u64.
@@ -263,7 +263,7 @@ impl<'a, R: Rows> Core<'a, R> {
     }
 
     /// Returns the state of a connection, or `Shut` if no connection has this key.
-    pub(crate) fn finish(&self, conn: usize) -> Finish
+    pub(crate) fn finish_of(&self, conn: usize) -> Finish
         ensures { result ≡ finish_at conn self.now }
     {
         match self.connections.get(conn) {

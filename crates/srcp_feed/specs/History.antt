@@ -138,7 +138,7 @@ ToldOverAnyHistory = (first : List Shown) (happenings : List Happening) → IsRi
 abbrev pub bytes : List Given → List ℕ
 bytes given = flat_map line (tells given)
 
--- the first so many bytes are the lines of the first of these changes, and then a line that has begun
+-- the bytes are the lines of the first of these changes, and then a line that has begun
 pub record HoldsFirst (bytes : List ℕ) (changes : List Change) : Type 0 where
   pub prefix : List Change
   pub later : List Change

@@ -23,7 +23,7 @@ use Rattle.srcp_core.proofs.Agreement.RunsAnEvent.{fine_course}
 
 pub accepts_agrees : (key : ℕ) (old new : Held) → IsAdmitted key old new
     → OfCourse old (λ buses events _. fault buses (course buses events) (Open true) ≡ None)
-accepts_agrees key old new a buses events keys layout s = free_fault buses keys old _ s a.room true
+accepts_agrees key old new a buses events keys layout s = free_fault buses keys old _ s a.few true
 
 pub refuses_agrees : (cause : CoreFault) (old new : Held) → IsNotAdmitted cause old new
     → OfCourse old (λ buses events _. fault buses (course buses events) (Open false) ≡ Some cause)

@@ -72,7 +72,7 @@ module _ (buses : List Bus) where
   full_fault keys held w s e granted =
       let c = s.count in let many : nat_lt (length (filter is_open w.connections)) 64 ≡ false = le-ltb _ 64 (omega arith) in cc
 
-  -- where fewer than 64 connections are open in the core, so many are in the course
+  -- if fewer than 64 connections are open in the core, fewer than 64 are in the course
   pub free_room : (keys : List (Option ℕ)) (held : Held) (w : World) → StandsFor buses keys held w → open_count held < 64
       → nat_lt (length (filter is_open w.connections)) 64 ≡ true
   free_room keys held w s e = let c = s.count in grind (arith, nat_tests)

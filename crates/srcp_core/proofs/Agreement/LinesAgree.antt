@@ -6,7 +6,7 @@ use Rattle.srcp_core.proofs.Names.{shown_rows, key_at, IsRisingBy, Obeyed, Began
 use Rattle.srcp_core.proofs.Names.{is_open, given, untold, World, numbered, at_connection, did, is_info, state, history, command_of}
 use Rattle.srcp_core.proofs.Names.{ordered, entered, open_connection, Greeting, Speaks, Chooses, Goes, Refuses, Place, Held, at}
 use Rattle.srcp_core.proofs.Names.{with_unsent, entered_place, carried, changed_at, session_begun, freed_of, one_denied, denied_line}
-use Rattle.srcp_core.proofs.Names.{asked_of, panel_for, key_of, StandsBy, place_of, Asked, Dropped, Greets, Commands, if_two}
+use Rattle.srcp_core.proofs.Names.{request_of, panel_for, key_of, StandsBy, place_of, Request, Dropped, Greets, Commands, if_two}
 use Rattle.srcp_info.specs.declared.change.Reply.TheVariants.{Mode as ModeReply}
 use Rattle.srcp_rules.specs.Effect.{effect as effect_of}
 use Rattle.srcp_rules.specs.Steps.{effect}
@@ -24,8 +24,8 @@ abbrev pub IsFine : (buses : List Bus) → IsRisingBy key_at (shown_rows (openin
 IsFine buses order w = IsSound buses order Anything _ w
 
 -- what a line asks for, by how its connection stands
-abbrev pub asked_as : List Bus → Connection → Mark → Asked
-asked_as buses conn mark =
+abbrev pub request_as : List Bus → Connection → Mark → Request
+request_as buses conn mark =
     if conn.info || conn.ended then Dropped
     else (if conn.session == 0 then Greets conn.mode (greets_of mark) else Commands conn.session (command_of buses mark))
 
@@ -35,7 +35,7 @@ pub record AsksOf (buses held_buses : List Bus) (w : World) (n : ℕ) (p : Place
   pub there : numbered n w.connections ≡ Some conn
   pub shut : conn.shut ≡ None
   pub opened : open_connection w n ≡ Some conn
-  pub asks : asked_of held_buses p mark ≡ asked_as buses conn mark
+  pub asks : request_of held_buses p mark ≡ request_as buses conn mark
 
 pub asks_of : (buses : List Bus) (read : ℕ → List ℕ → List ℕ) (keys : List (Option ℕ)) (held : Held) (w : World) (n key : ℕ) (mark : Mark)
     (p : Place)
@@ -259,7 +259,7 @@ module _ (buses : List Bus) (order : IsRisingBy key_at (shown_rows (opening buse
   -- what a line asks for is answered as in the course
   pub stands_answered : (held : Held) (w : World) (granted : Bool) (mark : Mark) (p : Place) → IsFine buses order w
       → StandsBy buses read keys held w → at held key ≡ Some p
-      → StandsBy buses read keys (answered granted key (asked_of held.buses p mark) held)
+      → StandsBy buses read keys (answered granted key (request_of held.buses p mark) held)
       (course_answered buses n w (record { mark = mark; granted = granted }))
   stands_answered held w granted mark p a s here =
       let h = asks_of buses read keys held w n key mark p s named here in

@@ -5,7 +5,7 @@ use Rattle.srcp_core.proofs.Names.{Result, Ok, Err, if◌then◌else◌, reply_l
 use Rattle.srcp_core.proofs.Names.{opening, shown_rows, key_at, IsRisingBy, Mark, Command, refused, Step, Obeyed, Began, Ended, Order}
 use Rattle.srcp_core.proofs.Names.{greeting_under, recorded_step, Connection, given, World, numbered, with_numbered}
 use Rattle.srcp_core.proofs.Names.{at_connection, did, is_info, state, history, command_of, ordered, replied, entered, goes, greeted, ended}
-use Rattle.srcp_core.proofs.Names.{obeyed, commanded, answered, Greeting, Speaks, Chooses, Goes, Refuses, Place, Held, at, asked_of}
+use Rattle.srcp_core.proofs.Names.{obeyed, commanded, answered, Greeting, Speaks, Chooses, Goes, Refuses, Place, Held, at, request_of}
 use Rattle.srcp_core.proofs.Names.{steps_answered, Recording, key_of, record_of, changed_record, noted, stepped, StandsBy, Dropped, Greets}
 use Rattle.srcp_core.proofs.Names.{Commands, ConnRecord, option_map_or, slice_set, and-false}
 use Rattle.srcp_info.specs.declared.change.Reply.TheVariants.{Mode as ModeReply}
@@ -18,7 +18,7 @@ use Rattle.srcp_core.proofs.CourseLaws.SessionsOfACourse.{at_number}
 use Rattle.srcp_core.proofs.Agreement.NumbersAndKeys.{numbered_with}
 use Rattle.srcp_core.proofs.Agreement.StandsAfterAChange.{Fine}
 use Rattle.srcp_core.specs.declared.record.Step.TheVariants as recorded
-pub use Rattle.srcp_core.specs.Run.{Tells}
+pub use Rattle.srcp_core.specs.Run.{Records}
 
 -- ---- the records of connections
 
@@ -52,11 +52,11 @@ told_same (suc (suc n)) f (x ∷ xs) h = cc (told_same (suc n) f xs h)
 -- ---- what a run has told of a course
 
 pub tells_same : (r : Recording) (w : World) (n : ℕ) (f : Connection → Connection)
-    → ((conn : Connection) → numbered n w.connections ≡ Some conn → record_of (f conn) ≡ record_of conn) → Tells r w
-    → Tells r (at_connection n f w)
+    → ((conn : Connection) → numbered n w.connections ≡ Some conn → record_of (f conn) ≡ record_of conn) → Records r w
+    → Records r (at_connection n f w)
 tells_same r w n f h t = record { steps = t.steps; refused = t.refused; connections = t.connections ∙ sym (told_same n f _ h) }
 
-pub tells_did : (r : Recording) (w : World) (step : Step) → Tells r w → Tells (stepped (recorded_step step ∷ []) r) (did step w)
+pub tells_did : (r : Recording) (w : World) (step : Step) → Records r w → Records (stepped (recorded_step step ∷ []) r) (did step w)
 tells_did r w step t = record {
   steps = cc (t.steps, map-append _ w.steps _);
   refused = t.refused;
@@ -64,8 +64,8 @@ tells_did r w step t = record {
 }
 
 pub tells_changed : (r : Recording) (w : World) (n : ℕ) (conn : Connection) (f : Connection → Connection) (g : ConnRecord → ConnRecord)
-    → numbered n w.connections ≡ Some conn → record_of (f conn) ≡ g (record_of conn) → Tells r w
-    → Tells (record r { connections = changed_record n g r.connections }) (at_connection n f w)
+    → numbered n w.connections ≡ Some conn → record_of (f conn) ≡ g (record_of conn) → Records r w
+    → Records (record r { connections = changed_record n g r.connections }) (at_connection n f w)
 tells_changed r w n conn f g e h t = record {
   steps = t.steps;
   refused = t.refused;
@@ -79,7 +79,7 @@ module _ (buses : List Bus) (n : ℕ) (r : Recording) where
   abbrev IsPlain : World → Connection → Type 0
   IsPlain w conn = (numbered n w.connections ≡ Some conn) × ((conn.items ≡ []) × (conn.taken ≤ length (given conn)))
 
-  tells_replied : (r : Recording) (w : World) (conn : Connection) (reply : Reply) → IsPlain w conn → Tells r w → Tells r (replied n reply w)
+  tells_replied : (r : Recording) (w : World) (conn : Connection) (reply : Reply) → IsPlain w conn → Records r w → Records r (replied n reply w)
   tells_replied r w conn reply p t =
       tells_same r w n (λ conn. record conn { out = conn.out ++ reply_line w.moment reply })
       (λ other e.
@@ -87,8 +87,8 @@ module _ (buses : List Bus) (n : ℕ) (r : Recording) where
       let line = reply_line w.moment reply in
       rw (← same) (cc (given_reply conn line p.1.0, take-append-le _ (given conn) line p.1.1))) t
 
-  tells_begun : (w : World) (conn : Connection) (id moment : ℕ) → IsPlain w conn → Tells r w
-      → Tells (noted n (recorded.Began id moment conn.mode ∷ []) r)
+  tells_begun : (w : World) (conn : Connection) (id moment : ℕ) → IsPlain w conn → Records r w
+      → Records (noted n (recorded.Began id moment conn.mode ∷ []) r)
       (replied n (Go id) (entered buses n id (did (Began id moment conn.mode) w)))
   tells_begun w conn id moment p t =
       let step = Began id moment _ in
@@ -103,13 +103,13 @@ module _ (buses : List Bus) (n : ℕ) (r : Recording) where
       d)
 
   module _ (w : World) (conn : Connection) (held : Held) (m : held.moment ≡ w.moment) (l : held.last_id ≡ w.last_id)
-      (s : held.rows ≡ state buses w) (p : IsPlain w conn) (t : Tells r w) where
-    tells_goes : Tells (noted n (steps_gone true conn.mode held) r) (goes buses n conn.mode w)
+      (s : held.rows ≡ state buses w) (p : IsPlain w conn) (t : Records r w) where
+    tells_goes : Records (noted n (steps_gone true conn.mode held) r) (goes buses n conn.mode w)
     tells_goes =
         rw l
         (rw m
         (elim (nat_lt _ _)
-        as (λ b. Tells (noted n (if b && true then recorded.Began (w.last_id + 1) w.moment conn.mode ∷ [] else []) r)
+        as (λ b. Records (noted n (if b && true then recorded.Began (w.last_id + 1) w.moment conn.mode ∷ [] else []) r)
         (if b
         then replied n (Go (w.last_id + 1))
         (entered buses n (w.last_id + 1) (did (Began (w.last_id + 1) w.moment conn.mode) (record w { last_id = w.last_id + 1 })))
@@ -121,7 +121,7 @@ module _ (buses : List Bus) (n : ℕ) (r : Recording) where
         ]))
 
     tells_greeted : (greeting : Greeting)
-        → Tells (noted n (steps_greeted true conn.mode greeting held) r) (greeted buses n conn.mode greeting w)
+        → Records (noted n (steps_greeted true conn.mode greeting held) r) (greeted buses n conn.mode greeting w)
     tells_greeted Speaks = tells_replied r w conn Protocol p t
     tells_greeted (Chooses chosen) =
         let f : Connection → Connection = λ c. record c { mode = chosen } in
@@ -131,7 +131,7 @@ module _ (buses : List Bus) (n : ℕ) (r : Recording) where
     tells_greeted (Refuses code) = tells_replied r w conn (Refused code) p t
 
     tells_greeted_under : (granted : Bool) (greeting : Greeting)
-        → Tells (noted n (steps_greeted granted conn.mode greeting held) r) (greeted buses n conn.mode (greeting_under granted greeting) w)
+        → Records (noted n (steps_greeted granted conn.mode greeting held) r) (greeted buses n conn.mode (greeting_under granted greeting) w)
     tells_greeted_under true greeting = tells_greeted greeting
     tells_greeted_under false Speaks = tells_greeted Speaks
     tells_greeted_under false (Chooses chosen) = tells_greeted (Chooses chosen)
@@ -140,7 +140,7 @@ module _ (buses : List Bus) (n : ℕ) (r : Recording) where
         rw (and-false (nat_lt held.last_id 4294967295)) (tells_replied r w conn (Refused C500) p t)
 
     tells_commanded : (granted : Bool) (session : ℕ) (command : Result Command Code)
-        → Tells (noted n (steps_commanded granted session command held) r) (commanded buses n session (ordered buses granted command) w)
+        → Records (noted n (steps_commanded granted session command held) r) (commanded buses n session (ordered buses granted command) w)
     tells_commanded granted session (Err code) = tells_replied r w conn (Refused code) p t
     tells_commanded granted session (Ok command) =
         rw s (rw m (split _))
@@ -149,14 +149,14 @@ module _ (buses : List Bus) (n : ℕ) (r : Recording) where
         ordering = record { command = command; granted = granted }
 
         one : (result : Effect)
-            → Tells (stepped (recorded.Obeyed session w.moment command ∷ []) r)
+            → Records (stepped (recorded.Obeyed session w.moment command ∷ []) r)
             (replied n result.reply (did (Obeyed session w.moment ordering) w))
         one result =
             tells_replied (stepped (recorded.Obeyed session w.moment command ∷ []) r) (did (Obeyed session w.moment ordering) w) conn
             result.reply p (tells_did r w (Obeyed session w.moment ordering) t)
 
         by : (result : Effect) (b : Bool)
-            → Tells (noted n (recorded.Obeyed session w.moment command ∷ (if b then recorded.Ended session w.moment ∷ [] else [])) r)
+            → Records (noted n (recorded.Obeyed session w.moment command ∷ (if b then recorded.Ended session w.moment ∷ [] else [])) r)
             (if b then ended buses n session (replied n result.reply (did (Obeyed session w.moment ordering) w))
             else replied n result.reply (did (Obeyed session w.moment ordering) w))
         by result false = one result
@@ -169,7 +169,7 @@ module _ (buses : List Bus) (n : ℕ) (r : Recording) where
             (one result))
 
         split : (g : Bool)
-            → Tells (noted n
+            → Records (noted n
             (recorded.Obeyed session w.moment command
             ∷ (if g && (effect_of (state buses w) session w.moment command).ends then recorded.Ended session w.moment ∷ [] else []))
             r)
@@ -178,8 +178,8 @@ module _ (buses : List Bus) (n : ℕ) (r : Recording) where
         split false = by (refused C500) false
 
   tells_asked : (w : World) (conn : Connection) (held : Held) (granted : Bool) (mark : Mark) (info over first : Bool)
-      → held.moment ≡ w.moment → held.last_id ≡ w.last_id → held.rows ≡ state buses w → (info ≡ false → IsPlain w conn) → Tells r w
-      → Tells (noted n
+      → held.moment ≡ w.moment → held.last_id ≡ w.last_id → held.rows ≡ state buses w → (info ≡ false → IsPlain w conn) → Records r w
+      → Records (noted n
       (steps_answered granted
       (if info || over then Dropped
       else (if first then Greets conn.mode (greets_of mark) else Commands conn.session (command_of buses mark)))
@@ -198,8 +198,8 @@ module _ (buses : List Bus) (n : ℕ) (r : Recording) where
 -- what is noted of the answer to a line
 pub tells_answered : (buses : List Bus) (order : IsRisingBy key_at (shown_rows (opening buses 0))) (read : ℕ → List ℕ → List ℕ)
     (keys : List (Option ℕ)) (n key : ℕ) (r : Recording) (held : Held) (w : World) (granted : Bool) (mark : Mark) (p : Place)
-    → IsFine buses order w → StandsBy buses read keys held w → key_of n keys ≡ Some key → at held key ≡ Some p → Tells r w
-    → Tells (noted n (steps_answered granted (asked_of held.buses p mark) held) r)
+    → IsFine buses order w → StandsBy buses read keys held w → key_of n keys ≡ Some key → at held key ≡ Some p → Records r w
+    → Records (noted n (steps_answered granted (request_of held.buses p mark) held) r)
     (answered buses n w (record { mark = mark; granted = granted }))
 tells_answered buses order read keys n key r held w granted mark p a s named here t =
     let h = asks_of buses read keys held w n key mark p s named here in

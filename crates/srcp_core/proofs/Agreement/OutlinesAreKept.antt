@@ -5,7 +5,7 @@ use Rattle.srcp_core.proofs.Names.{Held, IsPromised, Recording, Keeps, kept, cha
 use Rattle.srcp_core.proofs.Names.{nothing_recorded, PlainMoments, ConnRecord, Record}
 use Rattle.std.proofs.lemmas.Option.{slice_get-map, get_or_from_slice_get}
 use Rattle.srcp_core.specs.Promised.{connection_outline, IsPromisedOutline}
-use Rattle.srcp_core.specs.Recording.{Becomes, recording_outline, began, took}
+use Rattle.srcp_core.specs.Recording.{Becomes, recording_outline, began, with_sent}
 use Rattle.srcp_core.proofs.Agreement.LinesAreNoted.{changed_in}
 use Rattle.srcp_core.specs.Run.{RunsTold, recorded_in}
 use Rattle.srcp_core.specs.declared.event.Event.{Event as PlainEvent}
@@ -106,7 +106,7 @@ shut_kept n true r = refl
 shut_kept n false r = cc (changed_kept n (λ one. record one { finish = ShutFinish }) (λ one. refl) _)
 
 pub took_kept : (n : ℕ) (bytes : List ℕ) (in_full : Bool) (r : Recording)
-    → took n bytes (kept in_full r) ≡ kept in_full (took n bytes r)
+    → with_sent n bytes (kept in_full r) ≡ kept in_full (with_sent n bytes r)
 took_kept n bytes true r = refl
 took_kept n bytes false r = cc (changed_kept n (λ one. record one { sent = one.sent ++ bytes }) (λ one. refl) _)
 

@@ -4,8 +4,8 @@ use Rattle.srcp_core.proofs.Names.{ap, sym, ◌∙◌, subst, arith, append-nil,
 use Rattle.srcp_core.proofs.Names.{le_refl, fold, option_map, Option, Some, None, ◌==◌, slice_set, if◌then◌else◌, Mark, Line, TooLong}
 use Rattle.srcp_core.proofs.Names.{Reading, StandsAt, Bus, opening, shown_rows, key_at, IsRisingBy, Heard, lines_under, Connection, World}
 use Rattle.srcp_core.proofs.Names.{numbered, at_connection, history, entered, open_connection, new_marks, wants_as, denied_lines, Place}
-use Rattle.srcp_core.proofs.Names.{Held, at, place_at, asked_of, heard_from, heard_at, line_answered, steps_of_line, steps_answered}
-use Rattle.srcp_core.proofs.Names.{Recording, key_of, noted, StandsBy, StandsFor, place_of, Asked, IsAt, is_open, ne_eqb}
+use Rattle.srcp_core.proofs.Names.{Held, at, place_at, request_of, heard_from, heard_at, line_answered, steps_of_line, steps_answered}
+use Rattle.srcp_core.proofs.Names.{Recording, key_of, noted, StandsBy, StandsFor, place_of, Request, IsAt, is_open, ne_eqb}
 use Rattle.std.proofs.lemmas.Bool.{eq-eqb}
 use Rattle.std.specs.Prelude.{slice_range}
 use Rattle.srcp_text.specs.Marks.{marks}
@@ -19,7 +19,7 @@ use Rattle.srcp_core.proofs.Agreement.LinesAgree.{IsFine, stands_answered}
 use Rattle.srcp_core.proofs.Agreement.RefusalsAreCounted.{after, denied_answered, denied_push, denied_none}
 use Rattle.srcp_core.proofs.Invariants.PlacesCover.{Where, Here, Away, where_is, place_set_here}
 use Rattle.srcp_core.proofs.Agreement.MemoryAnswers.{lines_push}
-use Rattle.srcp_core.proofs.Agreement.LinesAreNoted.{Tells, tells_answered}
+use Rattle.srcp_core.proofs.Agreement.LinesAreNoted.{Records, tells_answered}
 use Rattle.srcp_core.proofs.CourseLaws.SessionsOfACourse.{anything}
 use Rattle.srcp_core.proofs.Agreement.NumbersAndKeys.{numbered_with, with_itself}
 use Rattle.srcp_core.proofs.Agreement.StandsAfterAChange.{Anything, found_at, stands_changed}
@@ -107,12 +107,12 @@ module _ (buses : List Bus) (order : IsRisingBy key_at (shown_rows (opening buse
       → start < stop → at held key ≡ Some p
       → ((bytes : List ℕ) → StandsAt bytes p.reader → marks (bytes ++ slice_range piece start stop) ≡ marks bytes ++ mark ∷ [])
       → ((bytes : List ℕ) → StandsAt bytes p.reader → StandsAt (bytes ++ slice_range piece start stop) reader)
-      → IsUpTo grants start held → Tells r (world_upto grants start)
+      → IsUpTo grants start held → Records r (world_upto grants start)
       → IsUpTo (grants ++ granted ∷ []) stop
-      (answered granted key (asked_of held.buses p mark)
+      (answered granted key (request_of held.buses p mark)
       (record held { places = slice_set held.places key (Some (record p { reader = reader })) }))
-      × Tells (noted n
-      (steps_answered granted (asked_of held.buses p mark)
+      × Records (noted n
+      (steps_answered granted (request_of held.buses p mark)
       (record held { places = slice_set held.places key (Some (record p { reader = reader })) }))
       r)
       (world_upto (grants ++ granted ∷ []) stop)
@@ -153,7 +153,7 @@ module _ (buses : List Bus) (order : IsRisingBy key_at (shown_rows (opening buse
               ∙ kept_answered buses n _ (fed_kept buses n (Some (fed ++ piece))) line (world_upto grants start) u.fed_is;
           stands =
               subst (λ (v : World).
-              StandsBy buses (partly n (fed ++ take stop piece)) keys (answered granted key (asked_of held.buses p mark) mid) v)
+              StandsBy buses (partly n (fed ++ take stop piece)) keys (answered granted key (request_of held.buses p mark) mid) v)
               (sym next)
               (stands_answered buses order (partly n (fed ++ take stop piece)) keys n key named mid (world_upto grants start) granted mark
               (record p { reader = reader }) u.fine reads here_now);
@@ -164,7 +164,7 @@ module _ (buses : List Bus) (order : IsRisingBy key_at (shown_rows (opening buse
               u.counts
               ∙ sym (ap (denied_lines buses n w before) lines ∙ denied_push buses n w before (lines_under grants (marks_upto start)) line);
         },
-        subst (λ (v : World). Tells (noted n (steps_answered granted (asked_of held.buses p mark) mid) r) v) (sym next)
+        subst (λ (v : World). Records (noted n (steps_answered granted (request_of held.buses p mark) mid) r) v) (sym next)
             (tells_answered buses order (partly n (fed ++ take stop piece)) keys n key r mid (world_upto grants start) granted mark
             (record p { reader = reader }) u.fine reads named here_now t),
       )
@@ -172,10 +172,10 @@ module _ (buses : List Bus) (order : IsRisingBy key_at (shown_rows (opening buse
   -- after one more line of the piece
   pub record IsLined (grants : List Bool) (start stop : ℕ) (granted : Bool) (held new : Held) (r : Recording) : Type 0 where
     pub upto : IsUpTo (grants ++ granted ∷ []) stop new
-    pub tells : Tells (noted n (steps_of_line granted (heard_at key piece start held)) r) (world_upto (grants ++ granted ∷ []) stop)
+    pub tells : Records (noted n (steps_of_line granted (heard_at key piece start held)) r) (world_upto (grants ++ granted ∷ []) stop)
 
   -- what the reader finds
-  abbrev finds : Held → Place → Fed → Reading → Option (ℕ × Asked) × Held
+  abbrev finds : Held → Place → Fed → Reading → Option (ℕ × Request) × Held
   finds held p result reading = (
     (heard_from held.buses p (result, reading)).0,
     record held { places = slice_set held.places key (Some (heard_from held.buses p (result, reading)).1) },
@@ -188,12 +188,12 @@ module _ (buses : List Bus) (order : IsRisingBy key_at (shown_rows (opening buse
       → ((bytes : List ℕ) → StandsAt bytes p.reader → StandsAt (bytes ++ slice_range piece start s) reading)
       → ◌≡◌ {A = ℕ × Held} (stop, new) (
         s,
-        answered granted key (asked_of held.buses p mark)
+        answered granted key (request_of held.buses p mark)
             (record held { places = slice_set held.places key (Some (record p { reader = reading })) }),
       )
-      → ◌≡◌ {A = Option (ℕ × Asked) × Held} (heard_at key piece start held)
-      (Some (s, asked_of held.buses p mark), record held { places = slice_set held.places key (Some (record p { reader = reading })) })
-      → IsUpTo grants start held → Tells r (world_upto grants start) → IsLined grants start stop granted held new r
+      → ◌≡◌ {A = Option (ℕ × Request) × Held} (heard_at key piece start held)
+      (Some (s, request_of held.buses p mark), record held { places = slice_set held.places key (Some (record p { reader = reading })) })
+      → IsUpTo grants start held → Records r (world_upto grants start) → IsLined grants start stop granted held new r
   lined_at grants start stop granted held new r p mark s reading onward here adds moves is finding u t =
       let both =
       line_is_answered grants granted start s mark held p reading r (subst (λ k. start < k) stop_is onward) here adds moves u t in
@@ -207,7 +207,7 @@ module _ (buses : List Bus) (order : IsRisingBy key_at (shown_rows (opening buse
 
   pub lined : (grants : List Bool) (start stop : ℕ) (granted : Bool) (held new : Held) (r : Recording) → start < stop
       → ◌≡◌ {A = ℕ × Held} (stop, new) (line_answered key granted (start, held) (heard_at key piece start held))
-      → IsUpTo grants start held → Tells r (world_upto grants start) → IsLined grants start stop granted held new r
+      → IsUpTo grants start held → Records r (world_upto grants start) → IsLined grants start stop granted held new r
   lined grants start stop granted held new r onward is u t =
       let h = found_at buses _ keys held _ n key u.stands named in
       from (place_of h.reader (history buses (world_upto grants start)) h.conn) h.place
@@ -220,7 +220,7 @@ module _ (buses : List Bus) (order : IsRisingBy key_at (shown_rows (opening buse
           (cc)
         where
           by : (result : Fed) (reading : Reading) → ◌≡◌ {A = Fed × Reading} (feed_of p.reader piece start) (result, reading)
-              → ◌≡◌ {A = Option (ℕ × Asked) × Held} (heard_at key piece start held) (finds held p result reading)
+              → ◌≡◌ {A = Option (ℕ × Request) × Held} (heard_at key piece start held) (finds held p result reading)
               → IsLined grants start stop granted held new r
           by More reading e finding =
               let both : ◌≡◌ {A = ℕ × Held} (stop, new) (start, held) = cc in
@@ -263,7 +263,7 @@ module _ (buses : List Bus) (order : IsRisingBy key_at (shown_rows (opening buse
     pub counts : new.denied ≡ denied_lines buses n w before (lines_under grants (new_marks buses fed piece))
 
   pub lines_ended : (grants : List Bool) (start : ℕ) (held new : Held)
-      → ◌≡◌ {A = Option (ℕ × Asked) × Held} (None, new) (heard_at key piece start held) → IsUpTo grants start held
+      → ◌≡◌ {A = Option (ℕ × Request) × Held} (None, new) (heard_at key piece start held) → IsUpTo grants start held
       → IsEnded grants new (world_upto grants start)
   lines_ended grants start held new is u =
       let h = found_at buses _ keys held _ n key u.stands named in
@@ -278,14 +278,14 @@ module _ (buses : List Bus) (order : IsRisingBy key_at (shown_rows (opening buse
           (cc)
         where
           by : (result : Fed) (reading : Reading) → ◌≡◌ {A = Fed × Reading} (feed_of p.reader piece start) (result, reading)
-              → ◌≡◌ {A = Option (ℕ × Asked) × Held} (None, new) (finds held p result reading) → IsEnded grants new (world_upto grants start)
+              → ◌≡◌ {A = Option (ℕ × Request) × Held} (None, new) (finds held p result reading) → IsEnded grants new (world_upto grants start)
           by (FoundLine s) reading e finding =
-              absurd (none-some (s, asked_of held.buses p (Line reading.line)) (ap (λ (x : Option (ℕ × Asked) × Held). x.0) finding))
+              absurd (none-some (s, request_of held.buses p (Line reading.line)) (ap (λ (x : Option (ℕ × Request) × Held). x.0) finding))
           by (FoundTooLong s) reading e finding =
-              absurd (none-some (s, asked_of held.buses p TooLong) (ap (λ (x : Option (ℕ × Asked) × Held). x.0) finding))
+              absurd (none-some (s, request_of held.buses p TooLong) (ap (λ (x : Option (ℕ × Request) × Held). x.0) finding))
           by More reading e finding =
               let new_is : new ≡ record held { places = slice_set held.places key (Some (record p { reader = reading })) } =
-              ap (λ (x : Option (ℕ × Asked) × Held). x.1) finding in
+              ap (λ (x : Option (ℕ × Request) × Held). x.1) finding in
               let both =
               fed_to_end fed piece start [] p.reader reading
               (λ bytes stood. marks-fed bytes p.reader reading piece start More (sym e) stood)

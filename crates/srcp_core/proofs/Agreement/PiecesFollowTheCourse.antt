@@ -1,7 +1,7 @@
 -- A piece leads from the course of any events to that with its bytes.
 use Rattle.srcp_core.proofs.Names.{◌≡◌, ℕ, ◌+◌, Bool, List, [], ◌∷◌, ◌++◌, length, refl, ap, sym, ◌∙◌, fold, Option, Some, None, Bytes}
 use Rattle.srcp_core.proofs.Names.{Piece, giving, denied_by, counted, course, Held, at, CountsEach, bytes_fault, heard_at, line_answered}
-use Rattle.srcp_core.proofs.Names.{lines_answered, steps_of_line, Recording, key_of, noted, Asked, CoreFault}
+use Rattle.srcp_core.proofs.Names.{lines_answered, steps_of_line, Recording, key_of, noted, Request, CoreFault}
 use Rattle.srcp_core.specs.declared.event.Event.TheVariants as plain
 use Rattle.srcp_core.specs.Machine.{IsReceived, answered}
 use Rattle.srcp_core.specs.Run.{LeadsOn}
@@ -36,13 +36,13 @@ line_read : (key : ℕ) (piece : List ℕ) (first : Held) (before : ℕ × Held)
 line_read key piece first before granted counted a =
     by (heard_at key piece before.0 before.1).0 (heard_at key piece before.0 before.1).1 refl
   where
-    by : (found : Option (ℕ × Asked)) (mid : Held) → ◌≡◌ {A = Option (ℕ × Asked) × Held} (heard_at key piece before.0 before.1) (found, mid)
+    by : (found : Option (ℕ × Request)) (mid : Held) → ◌≡◌ {A = Option (ℕ × Request) × Held} (heard_at key piece before.0 before.1) (found, mid)
         → AreRead key piece first (line_on key piece before granted)
     by None mid e =
         let same : ◌≡◌ {A = ℕ × Held} (line_on key piece before granted) before = cc in
         rw same a
-    by (Some (stop, asked)) mid e =
-        let new : Held = answered granted key asked mid in
+    by (Some (stop, request)) mid e =
+        let new : Held = answered granted key request mid in
         let is : ◌≡◌ {A = ℕ × Held} (stop, new) (line_on key piece before granted) = cc in
         let steps = steps_of_line granted (heard_at key piece before.0 before.1) in
         rw (← is)
@@ -58,7 +58,7 @@ line_read key piece first before granted counted a =
                 keys = noted_keys n steps i.told ∙ i.keys;
                 reads =
                     reads_with_more a.grants n key piece first_r first before.0 stop granted steps i.told before.1 new
-                    (line_found key piece before.0 stop asked before.1 mid (sym e)).onward is refl i.reads;
+                    (line_found key piece before.0 stop request before.1 mid (sym e)).onward is refl i.reads;
               };
         })
 
@@ -84,7 +84,7 @@ accepted_leads key piece old new free received =
           record { told = first_r; keys = refl; reads = reads_with_none n key piece first_r old named free };
     }) in
     let counted : new.denied ≡ denied_by old.denied a.grants =
-    ap (λ (x : Option (ℕ × Asked) × Held). x.1.denied) received.rest ∙ heard_denied key piece reached.0 reached.1 (at reached.1 key)
+    ap (λ (x : Option (ℕ × Request) × Held). x.1.denied) received.rest ∙ heard_denied key piece reached.0 reached.1 (at reached.1 key)
     ∙ a.counted in
     record {
       grants = a.grants;

@@ -3,7 +3,7 @@ use Rattle.srcp_core.proofs.Names.{cond_both, ◌≡◌, ℕ, ◌+◌, Bool, tru
 use Rattle.srcp_core.proofs.Names.{◌==◌, nat_lt, Result, Ok, Err, not, if◌then◌else◌, Code, C500, Go, Refused, Mode, Mark, Command, Bus}
 use Rattle.srcp_core.proofs.Names.{Effect, Connection, World, open_connection, command_of, counted, fault, happens, new_marks}
 use Rattle.srcp_core.proofs.Names.{at_connection, wants_as, denied_lines, denied_fed, denied_in, denied_over, Greeting, Speaks, Chooses}
-use Rattle.srcp_core.proofs.Names.{Goes, Refuses, Place, Held, at, session_begun, denied_line, asked_of, key_of, StandsBy, Event, Heard}
+use Rattle.srcp_core.proofs.Names.{Goes, Refuses, Place, Held, at, session_begun, denied_line, request_of, key_of, StandsBy, Event, Heard}
 use Rattle.srcp_core.proofs.Names.{lines_under, under, denied_by, Dropped, Greets, Commands, CoreFault}
 use Rattle.srcp_rules.specs.Effect.{effect as effect_of}
 use Rattle.srcp_core.specs.Course.{answered as course_answered}
@@ -75,7 +75,7 @@ denied_asked buses granted key mark held conn false false = denied_commanded gra
 pub denied_answered : (buses : List Bus) (read : ℕ → List ℕ → List ℕ) (keys : List (Option ℕ)) (n key : ℕ)
     (named : key_of n keys ≡ Some key) (held : Held) (w : World) (granted : Bool) (mark : Mark) (p : Place)
     → StandsBy buses read keys held w → at held key ≡ Some p
-    → (answered granted key (asked_of held.buses p mark) held).denied
+    → (answered granted key (request_of held.buses p mark) held).denied
     ≡ after held.denied granted (wants_as buses w (open_connection w n) mark)
 denied_answered buses read keys n key named held w granted mark p s here =
     let h = asks_of buses read keys held w n key mark p s named here in

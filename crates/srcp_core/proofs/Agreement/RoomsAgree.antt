@@ -7,15 +7,15 @@ use Rattle.srcp_core.proofs.Names.{History, unsent, sent, given, line_of, is_nil
 use Rattle.srcp_core.proofs.Names.{overran, World, numbered, at_connection, history, rows, Place, Held, AddsUp, item_from, item_of, item_at}
 use Rattle.srcp_core.proofs.Names.{let_out, without_sent, changed_at, changed_in, unsent_at, feed_in, Recording, key_of, record_of, gave}
 use Rattle.srcp_core.proofs.Names.{StandsFor, place_of, and-false, cases_Bool, ⊎_elim, nil_from_length}
-use Rattle.srcp_core.specs.Connection.{took as took_room}
-use Rattle.srcp_core.specs.Recording.{took}
+use Rattle.srcp_core.specs.Connection.{took}
+use Rattle.srcp_core.specs.Recording.{with_sent}
 use Rattle.srcp_core.proofs.CourseLaws.RoomInTwoParts.{parts_same}
 use Rattle.srcp_core.proofs.CourseLaws.RoomsAddUp.{adds_none, adds_up, shut_after}
 use Rattle.srcp_core.proofs.Agreement.LinesAgree.{IsFine, stands_of}
 use Rattle.srcp_core.proofs.Agreement.EventsAgree.{over_is}
 use Rattle.srcp_core.proofs.Agreement.OutgoingLinesAgree.{IsFilled, fills, with_given}
 use Rattle.srcp_core.proofs.CourseLaws.Histories.{rows_after}
-use Rattle.srcp_core.proofs.Agreement.LinesAreNoted.{Tells, tells_same, tells_changed}
+use Rattle.srcp_core.proofs.Agreement.LinesAreNoted.{Records, tells_same, tells_changed}
 use Rattle.srcp_core.proofs.Agreement.PiecesAgree.{set_same}
 use Rattle.srcp_core.proofs.Agreement.PlacesChange.{is_over_place, place_unsent, place_given_up}
 use Rattle.srcp_core.proofs.CourseLaws.ShownRegistry.{shown_after, length_history}
@@ -35,7 +35,7 @@ take_plus (suc a) b [] = cc (take-nil (suc a + b), take-nil b)
 take_plus (suc a) b (x ∷ xs) =
     let plus : suc a + b ≡ suc (a + b) = omega arith in ap (λ m. take m (x ∷ xs)) plus ∙ ap (λ ys. x ∷ ys) (take_plus a b xs)
 
--- so many of the unsent bytes were taken
+-- the next `count` of the unsent bytes were taken
 abbrev pub with_taken : ℕ → Connection → Connection
 with_taken count conn = record conn { taken = conn.taken + count }
 
@@ -47,7 +47,7 @@ room_unsent count history rows conn still some few =
     let none_left : count - length (unsent conn) ≡ 0 = omega (arith, few) in
     let enough : nat_lt (length (available (unsent conn) (owed conn history rows))) count ≡ false =
     le-ltb _ count (omega (arith, size, few)) in
-    ap (λ t. if t then conn else took_room count (length history) (owed conn history rows) conn) still
+    ap (λ t. if t then conn else took count (length history) (owed conn history rows) conn) still
     ∙ parts_same conn
     (ap (λ t. conn.items
     ++ items_of (length history)
@@ -85,7 +85,7 @@ module _ (buses : List Bus) (layout : IsLayout buses) (order : IsRisingBy key_at
   pub record Kept (r : Recording) (held : Held) (w : World) : Type 0 where
     pub fine : IsFine buses order w
     pub stands : StandsFor buses keys held w
-    pub tells : Tells r w
+    pub tells : Records r w
 
   abbrev pub roomed : ℕ → World → World
   roomed bytes w = at_connection n (given_room bytes (history buses w) (rows buses w)) w
@@ -152,7 +152,7 @@ module _ (buses : List Bus) (layout : IsLayout buses) (order : IsRisingBy key_at
       }
     where
       nothing_noted : (conn : Connection) → numbered n w.connections ≡ Some conn
-          → record_of (given_room 0 (history buses w) (rows buses w) conn) ≡ record_of conn → Tells r w → Tells r (roomed 0 w)
+          → record_of (given_room 0 (history buses w) (rows buses w) conn) ≡ record_of conn → Records r w → Records r (roomed 0 w)
       nothing_noted conn e t all =
           tells_same r w n _
           (λ other o. let is : conn ≡ other = let both : Some conn ≡ Some other = sym e ∙ o in cc in
@@ -160,8 +160,8 @@ module _ (buses : List Bus) (layout : IsLayout buses) (order : IsRisingBy key_at
           all
 
       noted_item : (item : Option Next) (conn : Connection) → numbered n w.connections ≡ Some conn
-          → record_of (given_room 0 (history buses w) (rows buses w) conn) ≡ with_given (length r.steps) item (record_of conn) → Tells r w
-          → Tells (gave n item r) (roomed 0 w)
+          → record_of (given_room 0 (history buses w) (rows buses w) conn) ≡ with_given (length r.steps) item (record_of conn) → Records r w
+          → Records (gave n item r) (roomed 0 w)
       noted_item None conn e t all = nothing_noted conn e t all
       noted_item (Some (Told change)) conn e t all = tells_changed r w n conn _ _ e t all
       noted_item (Some (Listed row)) conn e t all = tells_changed r w n conn _ _ e t all
@@ -169,7 +169,7 @@ module _ (buses : List Bus) (layout : IsLayout buses) (order : IsRisingBy key_at
 
   -- bytes are taken
   pub taken_kept : (r : Recording) (held : Held) (w : World) (count : ℕ) → 0 < count → count ≤ length (unsent_at key held) → Kept r held w
-      → Kept (took n (take count (unsent_at key held)) r) (changed_at key (without_sent count) held) (roomed count w)
+      → Kept (with_sent n (take count (unsent_at key held)) r) (changed_at key (without_sent count) held) (roomed count w)
   taken_kept r held w count some few k =
       let s = k.stands in
       let h = found_at buses (λ n fed. fed) keys held w n key s named in
@@ -197,7 +197,7 @@ module _ (buses : List Bus) (layout : IsLayout buses) (order : IsRisingBy key_at
       }
 
   -- no byte is taken
-  pub none_kept : (r : Recording) (held : Held) (w : World) → Kept r held w → Kept (took n [] r) (changed_at key (without_sent 0) held) w
+  pub none_kept : (r : Recording) (held : Held) (w : World) → Kept r held w → Kept (with_sent n [] r) (changed_at key (without_sent 0) held) w
   none_kept r held w k =
       let h = found_at buses (λ n fed. fed) keys held w n key k.stands named in
       let p = place_of h.reader _ h.conn in
@@ -210,7 +210,7 @@ module _ (buses : List Bus) (layout : IsLayout buses) (order : IsRisingBy key_at
       record {
         fine = k.fine;
         stands = rw same k.stands;
-        tells = subst (λ (conns : List Connection). Tells (took n [] r) (record w { connections = conns })) (with_itself n _) t;
+        tells = subst (λ (conns : List Connection). Records (with_sent n [] r) (record w { connections = conns })) (with_itself n _) t;
       }
 
   -- ---- rooms one after another
@@ -279,7 +279,7 @@ module _ (buses : List Bus) (layout : IsLayout buses) (order : IsRisingBy key_at
   count_of left held = min (length (unsent_at key (let_out key held))) left
 
   abbrev pub recording_after : ℕ → Recording → Held → Recording
-  recording_after left r held = took n (take (count_of left held) (unsent_at key (let_out key held))) (gave n (item_at key held) r)
+  recording_after left r held = with_sent n (take (count_of left held) (unsent_at key (let_out key held))) (gave n (item_at key held) r)
 
   abbrev pub held_after : ℕ → Held → Held
   held_after left held = changed_at key (without_sent (count_of left held)) (let_out key held)

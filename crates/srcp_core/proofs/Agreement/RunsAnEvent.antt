@@ -6,7 +6,7 @@ use Rattle.srcp_core.proofs.Names.{shown_rows, Next, Told, Listed, Settled, Even
 use Rattle.srcp_core.proofs.Names.{numbered, at_connection, open_connection, did, history, counted, fault, accepted, shut_as, course, Place}
 use Rattle.srcp_core.proofs.Names.{Held, at, open_count, IsAdmitted, IsNotAdmitted, one_denied, hung_up, hung_up_from, advanced}
 use Rattle.srcp_core.proofs.Names.{live_session, let_out, without_sent, changed_at, unsent_at, item_of, item_at, Recording, key_of, shut}
-use Rattle.srcp_core.proofs.Names.{stepped, gave, without_key, changed_record, Tells, Runs, Happened, count_at, denied_by, denied_in}
+use Rattle.srcp_core.proofs.Names.{stepped, gave, without_key, changed_record, Records, Runs, Happened, count_at, denied_by, denied_in}
 use Rattle.srcp_core.proofs.Names.{taken_at, taking, StandsFor, ConnRecord, CoreFault, Full, NoSuch, if_two, cases_lt, ⊎_elim}
 use Rattle.std.proofs.Math.Nat.{zero-min}
 use Rattle.srcp_core.specs.declared.event.Event.{Event as PlainEvent}
@@ -14,7 +14,7 @@ use Rattle.srcp_core.specs.declared.event.Event.TheVariants as plain
 use Rattle.srcp_core.specs.declared.record.Step.TheVariants as recorded
 use Rattle.srcp_core.specs.Machine.{changed_in as changed_places_in}
 use Rattle.srcp_core.specs.Run.{Answers}
-use Rattle.srcp_core.specs.Recording.{opened, took}
+use Rattle.srcp_core.specs.Recording.{opened, with_sent}
 use Rattle.srcp_core.specs.declared.record.CoreFault.TheVariants.{Memory as MemoryFault}
 use Rattle.srcp_core.specs.declared.record.Finish.TheVariants.{Shut as ShutFinish}
 use Rattle.srcp_core.proofs.Agreement.LinesAgree.{IsFine}
@@ -84,7 +84,7 @@ pub open_with : (key : ℕ) (r : Recording) (old new : Held) → IsAdmitted key 
 open_with key r old new a buses events layout s =
     let w = counted _ in
     let c = runs_counted buses r old _ s in (
-      free_fault buses r.keys old w c.stands a.room true,
+      free_fault buses r.keys old w c.stands a.few true,
       record {
         stands = stands_opened buses r.keys key old new w a c.stands;
         tells = record {
@@ -222,7 +222,7 @@ shut_happens n key r old new now named is now_is =
     (stands_hung_up buses order r.keys old w n key (fine_course buses layout events) c.stands named) in
     let told = shut_told buses w h.conn h.there (cc ((hung_up_keeps key old (at old key)).0, c.stands.moment)) c.tells in
     let live : live_session key old ≡ (if (h.conn.session == 0) || h.conn.ended then None else Some h.conn.session) = cc h.place in
-    let tells : Tells (with_end (live_session key old) now (shut n r)) (accepted buses (Shut n) w) =
+    let tells : Records (with_end (live_session key old) now (shut n r)) (accepted buses (Shut n) w) =
     rw live
     (rw h.opened told) in (
       cc h.opened,
@@ -232,17 +232,17 @@ shut_happens n key r old new now named is now_is =
       },
     ))
   where
-    shut_told : (buses : List Bus) (w : World) (conn : Connection) → numbered n w.connections ≡ Some conn → now ≡ w.moment → Tells r w
-        → Tells (with_end (if (conn.session == 0) || conn.ended then None else Some conn.session) now (shut n r))
+    shut_told : (buses : List Bus) (w : World) (conn : Connection) → numbered n w.connections ≡ Some conn → now ≡ w.moment → Records r w
+        → Records (with_end (if (conn.session == 0) || conn.ended then None else Some conn.session) now (shut n r))
         (shut_as buses n (Some conn) w)
     shut_told buses w conn there m t =
-        if_two (λ o v. Tells (with_end o now (shut n r)) v) ((conn.session == 0) || conn.ended) None (Some conn.session) closed
+        if_two (λ o v. Records (with_end o now (shut n r)) v) ((conn.session == 0) || conn.ended) None (Some conn.session) closed
         (did (Ended conn.session w.moment) closed) all (rw m (tells_did _ closed _ all))
       where
         closed : World
         closed = at_connection n (λ c. record c { shut = Some (length w.steps) }) w
 
-        all : Tells (shut n r) closed
+        all : Records (shut n r) closed
         all =
             tells_changed _ w n conn (λ c. record c { shut = Some (length w.steps) })
             (λ told. record told { finish = ShutFinish }) there refl
@@ -360,8 +360,8 @@ taking_none n key most held r e =
     let gone : let_out key held ≡ held = cc in
     let bytes : unsent_at key (let_out key held) ≡ [] = cc in
     let none : count_at key most held ≡ 0 = cc (zero-min most) in (
-      ap (λ k. took n (take k (unsent_at key (let_out key held))) (gave n (item_at key held) r)) none
-          ∙ ap (λ (o : Option Place). took n [] (gave n (item_of (shown_rows held.rows) o) r)) e
+      ap (λ k. with_sent n (take k (unsent_at key (let_out key held))) (gave n (item_at key held) r)) none
+          ∙ ap (λ (o : Option Place). with_sent n [] (gave n (item_of (shown_rows held.rows) o) r)) e
           ∙ ap (λ tolds. record r { connections = tolds })
           (changed_same n (λ told. record told { sent = told.sent ++ [] })
           (λ told. ap (λ bytes. record told { sent = bytes }) (append-nil _)) _),

@@ -2,8 +2,8 @@
 use Rattle.srcp_core.proofs.Names.{◌≡◌, ℕ, ◌<◌, ◌≤◌, Bool, true, false, List, [], ◌∷◌, ◌++◌, length, refl, ap, sym, ◌∙◌, subst, ltb-false}
 use Rattle.srcp_core.proofs.Names.{fold, Option, Some, None, not, nat_lt, if◌then◌else◌, Bus, IsLayout, Event, Bytes, Piece, lines_under}
 use Rattle.srcp_core.proofs.Names.{denied_by, Connection, is_nil, World, open_connection, counted, accepted, fed_to, new_marks, course}
-use Rattle.srcp_core.proofs.Names.{denied_fed, Place, Held, at, HasRoom, bytes_fault, bytes_fault_from, heard_at, line_answered}
-use Rattle.srcp_core.proofs.Names.{steps_of_line, Recording, key_of, noted, Tells, Runs, Happened, Asked, CoreFault, Busy, PieceTooLong}
+use Rattle.srcp_core.proofs.Names.{denied_fed, Place, Held, at, AnswersFit, bytes_fault, bytes_fault_from, heard_at, line_answered}
+use Rattle.srcp_core.proofs.Names.{steps_of_line, Recording, key_of, noted, Records, Runs, Happened, Request, CoreFault, Busy, PieceTooLong}
 use Rattle.srcp_core.proofs.Names.{Closing}
 use Rattle.srcp_core.specs.declared.record.Step.{Step as PlainStep}
 use Rattle.srcp_core.specs.Course.{bytes_fault as course_fault, answered as course_answered}
@@ -27,20 +27,20 @@ bytes_refused n key piece r held cause named e = refused_happens _ cause r held
     (fine_course buses layout events) s named)
     ∙ e)
 
--- where bytes are not refused there is room for their answers
-pub bytes_room : (key : ℕ) (piece : List ℕ) (held : Held) → bytes_fault key piece held ≡ None
-    → (length piece ≤ 256) × HasRoom key piece 0 held
-bytes_room key piece held e = by _ refl e
+-- if bytes are not refused, their answers fit
+pub bytes_fit : (key : ℕ) (piece : List ℕ) (held : Held) → bytes_fault key piece held ≡ None
+    → (length piece ≤ 256) × AnswersFit key piece 0 held
+bytes_fit key piece held e = by _ refl e
   where
     with : (p : Place) (over idle long : Bool) → at held key ≡ Some p → is_nil p.unsent ≡ idle → nat_lt 256 (length piece) ≡ long
         → (if over then Some Closing else (if not idle then Some Busy else (if long then Some PieceTooLong else None))) ≡ None
-        → (length piece ≤ 256) × HasRoom key piece 0 held
+        → (length piece ≤ 256) × AnswersFit key piece 0 held
     with p true idle long h i l e = cc
     with p false false long h i l e = cc
     with p false true true h i l e = cc
     with p false true false h i l e = (ltb-false 256 _ l, nothing_begun key piece held (cc (nil_is p.unsent i)))
 
-    by : (o : Option Place) → at held key ≡ o → bytes_fault_from piece o ≡ None → (length piece ≤ 256) × HasRoom key piece 0 held
+    by : (o : Option Place) → at held key ≡ o → bytes_fault_from piece o ≡ None → (length piece ≤ 256) × AnswersFit key piece 0 held
     by None h e = cc
     by (Some p) h e = with p _ _ _ h refl refl e
 
@@ -54,7 +54,7 @@ pub record IsReading (n key : ℕ) (piece : List ℕ) (grants : List Bool) (firs
   pub keys : r.keys ≡ first_r.keys
   pub upto : IsUpTo buses (opening_in_order buses layout) first_r.keys n key named conn.fed piece
       (accepting n piece w) first.denied grants start held
-  pub tells : Tells r
+  pub tells : Records r
       (world_upto buses (opening_in_order buses layout) first_r.keys n key named conn.fed piece
       (accepting n piece w) first.denied grants start)
 
@@ -122,7 +122,7 @@ reads_with_more grants n key piece first_r first start stop granted steps r held
       upto = l.upto;
       tells =
           subst (λ (steps : List PlainStep).
-          Tells (noted n steps r)
+          Records (noted n steps r)
           (world_upto buses order first_r.keys n key i.named i.conn.fed piece (accepting n piece w) first.denied
           (grants ++ granted ∷ []) stop))
           (sym steps_are) l.tells;
@@ -143,7 +143,7 @@ reads_more n key piece first_r first start stop granted steps r held new onward 
 
 pub bytes_with : (grants : List Bool) (n key : ℕ) (piece : List ℕ) (first_r : Recording) (first : Held) (start : ℕ) (r : Recording)
     (held new : Held)
-    → ◌≡◌ {A = Option (ℕ × Asked) × Held} (None, new) (heard_at key piece start held)
+    → ◌≡◌ {A = Option (ℕ × Request) × Held} (None, new) (heard_at key piece start held)
     → ReadsWith grants n key piece first_r first start r held
     → (buses : List Bus) (events : List Event) → IsLayout buses → Runs buses first_r first (course buses events)
     → Happened buses (Bytes n (record { bytes = piece; grants = grants })) None r new (counted (course buses events))
@@ -166,7 +166,7 @@ bytes_with grants n key piece first_r first start r held new is reads buses even
 -- what was refused to its lines was asked for
 pub bytes_asked : (grants : List Bool) (n key : ℕ) (piece : List ℕ) (first_r : Recording) (first : Held) (start : ℕ) (r : Recording)
     (held new : Held)
-    → ◌≡◌ {A = Option (ℕ × Asked) × Held} (None, new) (heard_at key piece start held)
+    → ◌≡◌ {A = Option (ℕ × Request) × Held} (None, new) (heard_at key piece start held)
     → ReadsWith grants n key piece first_r first start r held
     → CountsAsked first_r first new (Bytes n (record { bytes = piece; grants = grants }))
 bytes_asked grants n key piece first_r first start r held new is reads buses events layout s =
@@ -178,10 +178,10 @@ bytes_asked grants n key piece first_r first start r held new is reads buses eve
     ∙ ap (denied_fed buses n p w first.denied None) i.opened)
 
 pub bytes_happens : (n key : ℕ) (piece : List ℕ) (first_r : Recording) (first : Held) (start : ℕ) (r : Recording) (held new : Held)
-    → ◌≡◌ {A = Option (ℕ × Asked) × Held} (None, new) (heard_at key piece start held) → ReadsOn n key piece first_r first start r held
+    → ◌≡◌ {A = Option (ℕ × Request) × Held} (None, new) (heard_at key piece start held) → ReadsOn n key piece first_r first start r held
     → HappensAs (plain.Bytes n piece) None first_r first r new
 bytes_happens n key piece first_r first start r held new is reads =
     happens_by (plain.Bytes n piece) None first_r first r new reads.grants
-    (ap (λ (x : Option (ℕ × Asked) × Held). x.1.denied) is ∙ heard_denied key piece start held (at held key) ∙ reads.counted)
+    (ap (λ (x : Option (ℕ × Request) × Held). x.1.denied) is ∙ heard_denied key piece start held (at held key) ∙ reads.counted)
     (bytes_asked reads.grants n key piece first_r first start r held new is reads.reads)
     (bytes_with reads.grants n key piece first_r first start r held new is reads.reads)

@@ -9,7 +9,7 @@ use Rattle.srcp_core.proofs.CourseLaws.ShownRegistry.{length_history}
 use Rattle.srcp_core.proofs.CourseLaws.SessionsOfACourse.{stands, anything, fits_open, open_shut, untold_open, overran_open}
 use Rattle.srcp_core.proofs.CourseLaws.ClientHoldsPassedRows.{untold_by, tolds}
 
--- where more than so many wait in the end, some change found as many waiting
+-- if more than `most` wait in the end, some change found `most` waiting
 pub finds_full : (most : ℕ) (p : Change → Bool) (n : ℕ) (changes : List Change) → n ≤ most → most < n + length (filter p changes)
     → FindsFull most p n changes
 finds_full most p n [] low h = absurd (omega arith)

@@ -159,7 +159,7 @@ prefix_short (suc bytes) (what ∷ nexts) h =
     let k : length (flat_map line_of (prefix left nexts)) < left = omega arith in
     cc (prefix_short left nexts k)
 
--- room gives at least so many bytes, or all
+-- room for `bytes` bytes gives at least that many, or all
 pub fitting_enough : (bytes : ℕ) (left : List ℕ) (nexts : List Next)
     → (bytes ≤ length left + length (flat_map line_of (fitting bytes left nexts))) ⊎ (fitting bytes left nexts ≡ nexts)
 fitting_enough zero left nexts = inl (omega arith)

@@ -137,7 +137,7 @@ owes_after buses layout w bytes conn shut info fits =
       fully = r.fully;
     }
 
--- an open information session given room for so many bytes
+-- an open information session given room for `bytes` bytes
 gives_owed : (buses : List Bus) (layout : IsLayout buses) (w : World) (bytes : ℕ) (conn : Connection) → conn.shut ≡ None → conn.info ≡ true
     → Fits (shown_rows (opening buses 0)) (history buses w) conn.go_step conn.items conn.done
     → GivesOwed buses w bytes conn (took bytes (length (history buses w)) (owed conn (history buses w) (rows buses w)) conn)

@@ -25,11 +25,11 @@ filter_few p (change ∷ changes) =
 
 -- ---- one session
 
--- how many wait of a session by so many steps
+-- how many changes wait of a session, by the history of that length
 abbrev left_at : Connection → History → ℕ
 left_at conn history = length (untold_by conn.go_step conn.items conn.done history)
 
--- at most so many wait of a session that goes on, and if that is within 256, one that was shut had not overrun by then
+-- at most `most` wait of a session that goes on; if that is within 256, one that was shut had not overrun by then
 pub record Within (most : ℕ) (history : History) (conn : Connection) : Type 0 where
   pub began : conn.go_step ≤ length history
   pub few : conn.info ≡ true → conn.shut ≡ None → left_at conn history ≤ most

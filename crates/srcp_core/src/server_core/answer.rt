@@ -14,14 +14,14 @@ ghost use Rattle.srcp_core.specs.Under.{denied_by};
 ghost use Rattle.srcp_core.specs.Machine.{changed_at, unsent_at, one_denied, replied, denied_line, session_begun, goes};
 ghost use Rattle.srcp_core.specs.Machine.{greeted, carried, freed_of, answered, commanded, longest, longest_answer};
 ghost use Rattle.srcp_core.specs.Machine.{steps_answered, steps_gone, steps_greeted, steps_commanded, steps_in};
-ghost use Rattle.srcp_core.specs.Machine.{IsAsked};
+ghost use Rattle.srcp_core.specs.Machine.{IsRequest};
 
 use super::Core;
 use super::walk::{free_all, panel_keys, tell_all, tell_each};
 use crate::connection::Panel;
 use crate::handshake::Greeting;
 use crate::limits::MOST_UNSENT;
-use crate::line::{Asked, LineRecord};
+use crate::line::{LineRecord, Request};
 use crate::record::Step;
 use srcp_info::{Code, GREATEST_ID, LONGEST_LINE, LONGEST_SHORT_REPLY, Mode, Reply};
 use srcp_rules::{Command, Memory, Rows, begin_session, obey_into};
@@ -29,19 +29,19 @@ use srcp_rules::{Command, Memory, Rows, begin_session, obey_into};
 impl<'a, R: Rows> Core<'a, R> {
     /// Answers a line. Returns the record of the line.
     #[inline(always)]
-    pub(super) fn answer(&mut self, conn: usize, asked: &Asked) -> LineRecord
-        requires asked { IsAsked conn asked.now self.old }
-        requires room { length (unsent_at conn self.old) + longest_answer asked.now ≤ MOST_UNSENT }
-        ensures core { self.new ≡ answered result.granted conn asked.now self.old }
-        ensures steps { steps_in result ≡ steps_answered result.granted asked.now self.old }
+    pub(super) fn answer(&mut self, conn: usize, request: &Request) -> LineRecord
+        requires request { IsRequest conn request.now self.old }
+        requires fits { length (unsent_at conn self.old) + longest_answer request.now ≤ MOST_UNSENT }
+        ensures core { self.new ≡ answered result.granted conn request.now self.old }
+        ensures steps { steps_in result ≡ steps_answered result.granted request.now self.old }
         ensures counted { self.new.denied ≡ denied_by self.old.denied (result.granted ∷ []) }
     {
         // Read for the invariant of the type: the core is sound.
         let _ = &self.layout;
-        match asked {
-            Asked::Dropped => LineRecord::nothing(),
-            Asked::Greets { mode, greeting } => self.greet(conn, *mode, *greeting),
-            Asked::Commands { session, command } => self.command(conn, *session, command),
+        match request {
+            Request::Dropped => LineRecord::nothing(),
+            Request::Greets { mode, greeting } => self.greet(conn, *mode, *greeting),
+            Request::Commands { session, command } => self.command(conn, *session, command),
         }
     }
 
@@ -55,7 +55,7 @@ impl<'a, R: Rows> Core<'a, R> {
         match greeting {
             Greeting::Speaks => self.reply(conn, &Reply::Protocol),
             Greeting::Chooses(chosen) => {
-                self.choose(conn, chosen);
+                self.set_mode(conn, chosen);
                 self.reply(conn, &Reply::Mode);
             }
             Greeting::Goes => return self.go(conn, mode),
@@ -65,13 +65,13 @@ impl<'a, R: Rows> Core<'a, R> {
     }
 
     /// Sets the mode of the session to come.
-    fn choose(&mut self, conn: usize, mode: Mode)
+    fn set_mode(&mut self, conn: usize, mode: Mode)
         ensures { self.new ≡ changed_at conn (λ p. record p { mode = mode }) self.old }
     {
         let Some(connection) = self.connections.get_mut(conn) else {
             return;
         };
-        connection.choose(mode);
+        connection.set_mode(mode);
     }
 
     /// Answers `GO`.
@@ -117,7 +117,7 @@ impl<'a, R: Rows> Core<'a, R> {
         let Some(connection) = self.connections.get_mut(conn) else {
             return Ok(());
         };
-        connection.enter(id, panel);
+        connection.begin_session(id, panel);
         self.panels = panel_keys(&self.connections);
         Ok(())
     }
@@ -128,7 +128,7 @@ impl<'a, R: Rows> Core<'a, R> {
         requires session { IsSessionAt session conn self.old }
         requires row { is_there (session_device session) self.old.rows ≡ true }
         requires command { IfOk command.now (IsCommandOf self.old.buses) }
-        requires room { length (unsent_at conn self.old) + longest_answer (Asked.Commands session command.now)
+        requires fits { length (unsent_at conn self.old) + longest_answer (Request.Commands session command.now)
             ≤ MOST_UNSENT }
         ensures core { self.new ≡ commanded result.granted conn session command.now self.old }
         ensures steps { steps_in result ≡ steps_commanded result.granted session command.now self.old }
@@ -149,7 +149,7 @@ impl<'a, R: Rows> Core<'a, R> {
         requires session { IsSessionAt session conn self.old }
         requires row { is_there (session_device session) self.old.rows ≡ true }
         requires command { IsCommandOf self.old.buses command.now }
-        requires room { length (unsent_at conn self.old) + LONGEST_LINE ≤ MOST_UNSENT }
+        requires fits { length (unsent_at conn self.old) + LONGEST_LINE ≤ MOST_UNSENT }
         ensures core { self.new ≡ commanded result.granted conn session (Ok command.now) self.old }
         ensures steps { steps_in result ≡ steps_commanded result.granted session (Ok command.now) self.old }
         ensures counted { self.new.denied ≡ denied_by self.old.denied (result.granted ∷ []) }
@@ -182,7 +182,7 @@ impl<'a, R: Rows> Core<'a, R> {
     fn carry_out(&mut self, conn: usize, session: u32, command: &Command) -> Option<bool>
         requires row { is_there (session_device session) self.old.rows ≡ true }
         requires command { IsCommandOf self.old.buses command.now }
-        requires room { length (unsent_at conn self.old) + LONGEST_LINE ≤ MOST_UNSENT }
+        requires fits { length (unsent_at conn self.old) + LONGEST_LINE ≤ MOST_UNSENT }
         ensures refused { IfNone result (self.new ≡ self.old) }
         ensures wants { IfNone result (wants_memory self.old.rows session self.old.moment command.now ≡ true) }
         ensures carried { OnSome result
@@ -233,7 +233,7 @@ impl<'a, R: Rows> Core<'a, R> {
     /// Appends a reply to the unsent bytes.
     fn reply(&mut self, conn: usize, reply: &Reply)
         requires well_formed { IsWellFormedReply reply.now }
-        requires room { length (unsent_at conn self.old) + longest reply.now ≤ MOST_UNSENT }
+        requires fits { length (unsent_at conn self.old) + longest reply.now ≤ MOST_UNSENT }
         ensures { self.new ≡ replied conn reply.now self.old }
     {
         let Some(connection) = self.connections.get_mut(conn) else {

@@ -61,6 +61,6 @@ impl<'a, R: Rows> Core<'a, R> {
         requires unsent { count ≤ length (unsent_at conn self.old) }
         ensures { self.new ≡ changed_at conn (without_sent count) self.old }
     {
-        self.connections[conn].took(count);
+        self.connections[conn].consume(count);
     }
 }

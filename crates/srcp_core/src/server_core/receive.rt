@@ -2,10 +2,10 @@
 ghost use Rattle.std.specs.Prelude.{◌≡◌, ◌≤◌, [], length, Some, None, IfNone, IfSome, OnOk, OnErr, MatchResult};
 ghost use Rattle.std.specs.Prelude.{option_map};
 ghost use Rattle.srcp_core.specs.Held.{IsSound};
-ghost use Rattle.srcp_core.specs.Machine.{unsent_at, bytes_fault, heard_at, IsReceived, HasRoom, IsLineAnswered};
+ghost use Rattle.srcp_core.specs.Machine.{unsent_at, bytes_fault, heard_at, IsReceived, AnswersFit, IsLineAnswered};
 
 use super::Core;
-use crate::line::{Asked, LineRecord};
+use crate::line::{LineRecord, Request};
 use crate::record::CoreFault;
 use srcp_info::MOST_IN_PIECE;
 use srcp_rules::Rows;
@@ -73,24 +73,30 @@ impl<'a, R: Rows> Core<'a, R> {
         start: usize,
     ) -> Option<(usize, LineRecord)>
         requires few { length piece.now ≤ MOST_IN_PIECE }
-        requires room { HasRoom conn piece.now start self.old }
+        requires fits { AnswersFit conn piece.now start self.old }
         ensures none { IfNone result ((None, self.new) ≡ heard_at conn piece.now start self.old) }
         ensures line { IfSome result (λ r. IsLineAnswered conn piece.now start r.0 r.1 self.old self.new) }
     {
-        let mut asked = Asked::Dropped;
-        let stop = self.hear(conn, piece, start, &mut asked)?;
-        Some((stop, self.answer(conn, &asked)))
+        let mut request = Request::Dropped;
+        let stop = self.next_line(conn, piece, start, &mut request)?;
+        Some((stop, self.answer(conn, &request)))
     }
 
     /// Reads the piece on from `start`. Returns the offset after the next line, and writes what the line asks for.
     #[inline(always)]
-    fn hear(&mut self, conn: usize, piece: &[u8], start: usize, asked: &mut Asked) -> Option<usize>
+    fn next_line(
+        &mut self,
+        conn: usize,
+        piece: &[u8],
+        start: usize,
+        request: &mut Request,
+    ) -> Option<usize>
         requires { start ≤ length piece.now }
-        ensures heard { (option_map (λ stop. (stop, asked.new)) result, self.new)
+        ensures heard { (option_map (λ stop. (stop, request.new)) result, self.new)
             ≡ heard_at conn piece.now start self.old }
         ensures sound { IsSound self.new }
     {
         let connection = self.connections.get_mut(conn)?;
-        connection.hear(piece, start, self.layout, asked)
+        connection.next_line(piece, start, self.layout, request)
     }
 }

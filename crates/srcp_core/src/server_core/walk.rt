@@ -46,7 +46,7 @@ pub(crate) fn least_slack(connections: &Slab<Connection>) -> usize
     least
 }
 
-/// Tells every connection the change. `panels` are the keys of the connections with an information session.
+/// Queues the change for every information session. `panels` are the keys of the connections with an information session.
 #[tactic(auto, using(crate::proofs::Invariants::EveryPlaceIsTold::told_panels))]
 pub(crate) fn tell_all(connections: &mut Slab<Connection>, panels: &[usize], change: &Change)
     requires panels { panels.now ≡ panel_keys connections.old.slots }
@@ -65,7 +65,7 @@ pub(crate) fn tell_all(connections: &mut Slab<Connection>, panels: &[usize], cha
     }
 }
 
-/// Tells every connection each change in turn.
+/// Queues each change in turn for every information session.
 #[tactic(auto, using(crate::proofs::Invariants::PanelsStay::panels_told_each))]
 pub(crate) fn tell_each(connections: &mut Slab<Connection>, panels: &[usize], changes: &[Change])
     requires panels { panels.now ≡ panel_keys connections.old.slots }

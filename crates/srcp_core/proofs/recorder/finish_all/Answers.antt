@@ -8,8 +8,8 @@ loop-index-preserved g c = elim c.match-keys-index.branch [
   | in-Some w ↦ cc (
     w.connections-is,
     finish_noted c.args.core.now c.loop-index.index w.in-Some.key c.args.keys.now c.args.connections.now.items
-        c.loop-index.connections.items _ w.finish.result w.in-Some.is w.finish.ensures
-        c.loop-index.invariant w.finish-in-Some.ensures,
+        c.loop-index.connections.items _ w.finish_of.result w.in-Some.is w.finish_of.ensures
+        c.loop-index.invariant w.set_finish.ensures,
   )
   | in_default w ↦ cc (
     w.connections-is,

@@ -1,6 +1,6 @@
 use Rattle.srcp_core.proofs.Names.{sym, ◌∙◌, steps_in}
 use Rattle.srcp_core.proofs.Agreement.OutlinesAreKept.{keeps_as, keeps_same, keeps_then}
-use Rattle.srcp_core.proofs.Agreement.RunsBytes.{bytes_refused, bytes_room, reads_first, reads_more, bytes_happens}
+use Rattle.srcp_core.proofs.Agreement.RunsBytes.{bytes_refused, bytes_fit, reads_first, reads_more, bytes_happens}
 use Rattle.srcp_core.proofs.runner.bytes.Goals as goal
 use Rattle.srcp_core.proofs.Agreement.RunsAnEvent.{absent_happens}
 use Rattle.srcp_core.specs.declared.event.Event.TheVariants.{Bytes}
@@ -21,10 +21,10 @@ returns-in-Some-bytes_fault g c =
 pub loop-stop-init : goal.loop-stop-init
 loop-stop-init g c =
     let free = sym c.bytes_fault.ensures ∙ c.in_default-bytes_fault.is in
-    let room = bytes_room _ _ _ free in
+    let fit = bytes_fit _ _ _ free in
     record {
-      few = room.0;
-      room = room.1;
+      few = fit.0;
+      fits = fit.1;
       reads = keeps_same _
           (λ r e.
           reads_first _ _ _ r _
@@ -36,7 +36,7 @@ loop-stop-preserved g c =
     let line = c.in-Some-answer_line.ensures.line in
     record {
       few = c.loop-stop.invariant.few;
-      room = line.room;
+      fits = line.fits;
       reads = keeps_then c.args.recorder.now c.loop-stop.recorder c.answered.new.self
           (λ r s t e reads is.
           rw is

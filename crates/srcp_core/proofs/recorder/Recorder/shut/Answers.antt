@@ -6,5 +6,5 @@ pub returns : goal.returns
 returns g c = becomes _ _ _ (shut_kept c.args.conn) (cc (
   ap (shut c.args.conn) c.self.view_is,
   c.free.ensures,
-  c.finish.ensures,
+  c.set_finish.ensures,
 ))

@@ -5,7 +5,7 @@ use Rattle.srcp_core.proofs.server_core.Core.answer.Goals as goal
 
 pub command-requires-clause-session : goal.command-requires-clause-session
 command-requires-clause-session g c =
-    let a = c.requires.asked in
+    let a = c.requires.request in
     let sound = subst IsSound c.self.view_is c.self.invariant.0 in
     let by =
     asked_by _ sound.whole.laid_out a.place a.mark _ _
@@ -19,7 +19,7 @@ command-requires-clause-row g c =
 
 pub command-requires-clause-command : goal.command-requires-clause-command
 command-requires-clause-command g c =
-    let a = c.requires.asked in
+    let a = c.requires.request in
     let sound = subst IsSound c.self.view_is c.self.invariant.0 in
     (asked_by _ sound.whole.laid_out a.place a.mark _ _
     (sym c.in-Commands.is ∙ a.is)).of

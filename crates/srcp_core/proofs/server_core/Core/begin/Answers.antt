@@ -10,7 +10,7 @@ panel_keys-self-inside-requires g c =
     let there = sym c.get_mut.ensures.value ∙ ap option_copied_mut c.in-Some.is in
     let before = c.self.inside.connections.slots in
     let told = ap (count_by is_some) c.tell_all.ensures.slots ∙ told_all_count c.in_ok-change.change before in
-    let set = set_count c.tell_all.new.connections.slots c.args.conn c.in-Some.connection.now c.enter.new.self there in
+    let set = set_count c.tell_all.new.connections.slots c.args.conn c.in-Some.connection.now c.begin_session-2.new.self there in
     omega (arith, c.self.invariant.0.few, told, set)
 
 pub returns-clause-ok : goal.returns-clause-ok
@@ -19,7 +19,7 @@ returns-clause-ok g c =
     let there = sym c.get_mut.ensures.value ∙ ap option_copied_mut c.in-Some.is in
     begun_is held _ _ _ _ _ _ _ _ c.in_ok-panel.ensures c.in_ok-change.ensures.rows
     c.in_ok-change.ensures.change c.tell_all.ensures.slots
-    (set_as _ _ _ _ _ there c.enter.ensures)
+    (set_as _ _ _ _ _ there c.begin_session-2.ensures)
     ∙ ap (session_begun c.args.conn c.args.id c.args.mode) c.self.view_is
 
 pub returns-in_default-clause-ok : goal.returns-in_default-clause-ok
@@ -41,7 +41,7 @@ invariant_of-self-2 g c =
           (sym
           (begun_is held c.args.conn c.args.id c.args.mode _ _ _ _ _ c.in_ok-panel.ensures c.in_ok-change.ensures.rows
           c.in_ok-change.ensures.change c.tell_all.ensures.slots
-          (set_as _ _ _ _ _ there c.enter.ensures)))
+          (set_as _ _ _ _ _ there c.begin_session-2.ensures)))
           (sound_begun c.args.conn c.args.id c.args.mode held c.self.invariant.0.moment next (omega arith) c.self.invariant.0),
       c.in_ok-change.ensures.layout ∙ c.self.invariant.1,
       rw c.tell_all.ensures.capacity c.self.invariant.2,

@@ -7,14 +7,14 @@ use Rattle.srcp_core.proofs.Invariants.PanelsStay.{panels_told_each}
 use Rattle.srcp_core.proofs.Invariants.RepliesStayUnsent.{longest_most, told_each_shorter}
 use Rattle.srcp_core.proofs.server_core.Core.carry_out.Goals as goal
 
-pub reply-requires-clause-room : goal.reply-requires-clause-room
-reply-requires-clause-room g c =
+pub reply-requires-clause-fits : goal.reply-requires-clause-fits
+reply-requires-clause-fits g c =
     let places = c.self.inside.connections.slots in
     let is = ap (λ (ps : List (Option Place)). length (unsent_of (place_at ps c.args.conn))) c.tell_each.ensures.slots in
     let shorter = told_each_shorter c.as_slice-2.result.now places c.args.conn in
     let most = longest_most c.obey_into.new.obeyed.reply in
-    let room = ap (λ (h : Held). length (unsent_at c.args.conn h)) c.self.view_is in
-    omega (arith, is, shorter, most, room, c.requires.room)
+    let unsent = ap (λ (h : Held). length (unsent_at c.args.conn h)) c.self.view_is in
+    omega (arith, is, shorter, most, unsent, c.requires.fits)
 
 pub invariant_of-self-2 : goal.invariant_of-self-2
 invariant_of-self-2 g c =

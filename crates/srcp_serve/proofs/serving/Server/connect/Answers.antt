@@ -14,7 +14,7 @@ returns-in_default-first_free-clause-course g c =
     rw c.disconnect.ensures.slots
     (connects_without_slot c.args.peer false c.args.core.now c.disconnect.new.core
     (g.D.Door.trace c.args.self.now.door.now) (g.D.Door.trace c.disconnect.new.self.door.now) c.args.self.now.slots
-    c.in-Ok.ensures.admitted.room c.first_free.ensures.all (sym c.first_free.ensures.first ∙ c.in_default-first_free.is))
+    c.in-Ok.ensures.admitted.few c.first_free.ensures.all (sym c.first_free.ensures.first ∙ c.in_default-first_free.is))
 
 pub returns-clause-course : goal.returns-clause-course
 returns-clause-course g c =

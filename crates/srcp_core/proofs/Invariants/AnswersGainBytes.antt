@@ -4,8 +4,8 @@ use Rattle.srcp_core.proofs.Names.{◌∙◌, subst, arith, option_map, nat_lt, 
 use Rattle.srcp_core.proofs.Names.{Change, C500, Reply, Accepted, Protocol, Go, Refused, Shows, Mode, began, freed, Effect, effect}
 use Rattle.srcp_core.proofs.Names.{session_device, is_there, Mark, Greeting, Speaks, Chooses, Goes, Refuses, Place, Held, place_at, at}
 use Rattle.srcp_core.proofs.Names.{IsSound, told_place, told_all, told_each, carried, unsent_of, changed_in, changed_places, changed_at}
-use Rattle.srcp_core.proofs.Names.{with_unsent, longest, longest_answer, entered_place, session_begun, denied_line, one_denied, asked_of}
-use Rattle.srcp_core.proofs.Names.{panel_for, Asked, Dropped, Greets, Commands, option_map_or, ltb-true, ap}
+use Rattle.srcp_core.proofs.Names.{with_unsent, longest, longest_answer, entered_place, session_begun, denied_line, one_denied, request_of}
+use Rattle.srcp_core.proofs.Names.{panel_for, Request, Dropped, Greets, Commands, option_map_or, ltb-true, ap}
 use Rattle.srcp_info.specs.WellFormed.{IsWellFormedReply}
 use Rattle.srcp_info.specs.declared.change.Reply.TheVariants.{Mode as ModeReply}
 use Rattle.srcp_info.proofs.LineLaws.{length-reply_line-le, length-reply_line-most}
@@ -21,7 +21,7 @@ use Rattle.srcp_core.proofs.Invariants.LinesAsk.{asked_by}
 abbrev line_begun_of : Option Place → Option (List ℕ)
 line_begun_of place = option_map_or (λ p. p.reader.begun) place (Some [])
 
--- at most so many bytes come to the unsent, and the line that has begun stays
+-- at most `n` bytes come to the unsent, and the line that has begun stays
 pub record Gains (n : ℕ) (old new : Option Place) : Type 0 where
   pub few : length (unsent_of new) ≤ length (unsent_of old) + n
   pub begun : line_begun_of new ≡ line_begun_of old
@@ -137,13 +137,13 @@ obeyed_gains key session did held now h =
     (finished_gains did.ends key session end)))
 
 -- an answer adds no more than its longest, and leaves what is begun
-pub answered_gains : (granted : Bool) (key : ℕ) (asked : Asked) (held : Held) (p : Place) (mark : Mark) → at held key ≡ Some p
-    → asked ≡ asked_of held.buses p mark → IsSound held
-    → Gains (longest_answer asked) (at held key) (at (answered granted key asked held) key)
-answered_gains granted key asked held p mark there is s = by asked is
+pub answered_gains : (granted : Bool) (key : ℕ) (request : Request) (held : Held) (p : Place) (mark : Mark) → at held key ≡ Some p
+    → request ≡ request_of held.buses p mark → IsSound held
+    → Gains (longest_answer request) (at held key) (at (answered granted key request held) key)
+answered_gains granted key request held p mark there is s = by request is
   where
-    by : (asked : Asked) → asked ≡ asked_of held.buses p mark
-        → Gains (longest_answer asked) (at held key) (at (answered granted key asked held) key)
+    by : (request : Request) → request ≡ request_of held.buses p mark
+        → Gains (longest_answer request) (at held key) (at (answered granted key request held) key)
     by Dropped is = most 0 64 _ _ (omega arith) (nothing (at held key))
     by (Greets mode greeting) is = greeted_gains granted key mode greeting held s.moment
     by (Commands session (Err code)) is = replied_gains key (Refused code) held s.moment tt
