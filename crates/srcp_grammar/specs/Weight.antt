@@ -11,7 +11,7 @@ most_changes = 11
 
 -- by the first word: GET and CHECK change nothing, SET changes one row, and GO adds the row of a session
 abbrev pub weights : List (List ℕ × ℕ)
-weights = (codes "GET", 0) ∷ (codes "SET", 1) ∷ (codes "CHECK", 0) ∷ (codes "GO", 1) ∷ []
+weights = (codes "SET", 1) ∷ (codes "GET", 0) ∷ (codes "CHECK", 0) ∷ (codes "GO", 1) ∷ []
 
 -- they begin with 0 SESSION
 abbrev pub names_session : List (List ℕ) → Bool

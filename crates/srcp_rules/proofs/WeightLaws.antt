@@ -46,6 +46,28 @@ module _ (P : Command → Type 0) where
       then_ok P (has_group bus g) C422 (asked bus operation g ws) (λ on. h g bus ws)))
   directed_all buses operation other h = tt
 
+-- ---- keywords
+
+-- a word is as long as the keyword that it is
+keyword_length : (keyword word : List ℕ) → is_keyword keyword word ≡ true → length keyword ≡ length word
+keyword_length keyword word e =
+    let same = (bytes_eq-Decides (str_to_ascii_lowercase keyword) (str_to_ascii_lowercase word)).0 e in
+    sym (length-map keyword to_ascii_lowercase) ∙ ap length same ∙ length-map word to_ascii_lowercase
+
+-- a word that is one keyword is none of another length
+no_other : (this other word : List ℕ) → is_keyword this word ≡ true → (length other == length this) ≡ false
+    → is_keyword other word ≡ false
+no_other this other word e apart =
+    false_from_ne_true (is_keyword other word) (λ f.
+    true≢false (sym (eq-eqb _ _ (keyword_length other word f ∙ sym (keyword_length this word e))) ∙ apart))
+
+-- SESSION is that group
+session_third : (word : List ℕ) → is_keyword (codes "SESSION") word ≡ true → named_in groups word ≡ Some Session
+session_third word h =
+    let no : (other : List ℕ) → (length other == 7) ≡ false → is_keyword other word ≡ false =
+    λ other apart. no_other (codes "SESSION") other word h apart in
+    rw (no (codes "GL") refl, no (codes "GA") refl, no (codes "FB") refl, no (codes "LOCK") refl, no (codes "POWER") refl, h) refl
+
 -- ---- how many changes the commands of an operation make
 
 module _ (state : State) (session moment : ℕ) where
@@ -76,38 +98,24 @@ module _ (state : State) (session moment : ℕ) where
     session_named operation (n ∷ []) h = tt
     session_named operation (n ∷ w ∷ ws) h =
         read_any (Brings 0) (bus_named buses n) (λ bus. ok_or (named_in groups w) C421 >>= on_group operation ws bus) (λ bus.
-        rw (second_so (bytes_eq n (codes "0")) (is_keyword (codes "SESSION") w) h)
+        rw (session_third w (second_so (bytes_eq n (codes "0")) (is_keyword (codes "SESSION") w) h))
         (then_ok (Brings 0) (has_group bus Session) C422 (asked bus operation Session ws) (λ on. of_session operation bus ws)))
 
--- ---- keywords
-
--- a word is as long as the keyword that it is
-keyword_length : (keyword word : List ℕ) → is_keyword keyword word ≡ true → length keyword ≡ length word
-keyword_length keyword word e =
-    let same = (bytes_eq-Decides (str_to_ascii_lowercase keyword) (str_to_ascii_lowercase word)).0 e in
-    sym (length-map keyword to_ascii_lowercase) ∙ ap length same ∙ length-map word to_ascii_lowercase
-
--- a word that is GO is no keyword of another length
-not_go : (other word : List ℕ) → is_keyword (codes "GO") word ≡ true → (length other == 2) ≡ false → is_keyword other word ≡ false
-not_go other word e apart =
-    false_from_ne_true (is_keyword other word) (λ f.
-    true≢false (sym (eq-eqb _ _ (keyword_length other word f ∙ sym (keyword_length (codes "GO") word e))) ∙ apart))
-
--- the operations after GET, SET and CHECK
+-- the operations after SET, GET and CHECK
 abbrev rarer : List (List ℕ × Operation)
 rarer = (codes "INIT", Init) ∷ (codes "TERM", Term) ∷ (codes "WAIT", Wait) ∷ (codes "VERIFY", Verify) ∷ (codes "RESET", Reset) ∷ []
 
 -- GO is none of them
 go_is_none : (word : List ℕ) → is_keyword (codes "GO") word ≡ true → find (λ e. is_keyword e.0 word) rarer ≡ None
-go_is_none word h = grind (arith, not_go)
+go_is_none word h = grind (arith, no_other (codes "GO"))
 
 -- ---- the whole line
 
 -- the weight, by which keywords the first word is
-abbrev weight_by : (ends get put check go : Bool) → ℕ
-weight_by ends get put check go =
+abbrev weight_by : (ends put get check go : Bool) → ℕ
+weight_by ends put get check go =
     cond ends 0 (unwrap_or (option_map {T = List ℕ × ℕ} (λ e. e.1)
-    (cond get (Some (codes "GET", 0)) (cond put (Some (codes "SET", 1)) (cond check (Some (codes "CHECK", 0))
+    (cond put (Some (codes "SET", 1)) (cond get (Some (codes "GET", 0)) (cond check (Some (codes "CHECK", 0))
     (cond go (Some (codes "GO", 1)) None))))) 11)
 
 module _ (state : State) (session moment : ℕ) (buses : List Bus) where
@@ -125,21 +133,21 @@ module _ (state : State) (session moment : ℕ) (buses : List Bus) where
   any_ok r h = grind arith
 
   -- the operation by the first word, and the weight of the line
-  abbrev operation_by : (get put check : Bool) → Option (List ℕ × Operation) → Result Operation Code
-  operation_by get put check found =
+  abbrev operation_by : (put get check : Bool) → Option (List ℕ × Operation) → Result Operation Code
+  operation_by put get check found =
       ok_or (option_map {T = List ℕ × Operation} (λ e. e.1)
-      (cond get (Some (codes "GET", Get)) (cond put (Some (codes "SET", Set)) (cond check (Some (codes "CHECK", Check)) found)))) C410
+      (cond put (Some (codes "SET", Set)) (cond get (Some (codes "GET", Get)) (cond check (Some (codes "CHECK", Check)) found)))) C410
 
-  word_weighs : (words : List (List ℕ)) (ends get put check go : Bool) (found : Option (List ℕ × Operation))
+  word_weighs : (words : List (List ℕ)) (ends put get check go : Bool) (found : Option (List ℕ × Operation))
       → (ends ≡ true → names_session words ≡ true) → (go ≡ true → found ≡ None)
-      → IfOk (operation_by get put check found >>= (λ operation. directed buses operation words)) (Weighs (weight_by ends get put check go))
-  word_weighs words true get put check go found h absent =
-      read_any (Weighs 0) (operation_by get put check found) (λ operation. directed buses operation words)
+      → IfOk (operation_by put get check found >>= (λ operation. directed buses operation words)) (Weighs (weight_by ends put get check go))
+  word_weighs words true put get check go found h absent =
+      read_any (Weighs 0) (operation_by put get check found) (λ operation. directed buses operation words)
       (λ operation. in_layout 0 (directed buses operation words) (session_named state session moment buses operation words (h refl)))
-  word_weighs words false true put check go found h absent =
-      in_layout 0 (directed buses Get words) (directed_all (Brings state session moment 0) buses Get words (gets_none state session moment))
-  word_weighs words false false true check go found h absent =
+  word_weighs words false true get check go found h absent =
       in_layout 1 (directed buses Set words) (directed_all (Brings state session moment 1) buses Set words (sets_one state session moment))
+  word_weighs words false false true check go found h absent =
+      in_layout 0 (directed buses Get words) (directed_all (Brings state session moment 0) buses Get words (gets_none state session moment))
   word_weighs words false false false true go found h absent =
       in_layout 0 (directed buses Check words)
       (directed_all (Brings state session moment 0) buses Check words (checks_none state session moment))
@@ -152,8 +160,8 @@ module _ (state : State) (session moment : ℕ) (buses : List Bus) where
   words_weigh : (words : List (List ℕ)) → IfOk (parsed buses words) (Weighs (weight_of words))
   words_weigh [] = tt
   words_weigh (word ∷ words) =
-      word_weighs words (is_keyword (codes "TERM") word && names_session words) (is_keyword (codes "GET") word)
-      (is_keyword (codes "SET") word) (is_keyword (codes "CHECK") word) (is_keyword (codes "GO") word)
+      word_weighs words (is_keyword (codes "TERM") word && names_session words) (is_keyword (codes "SET") word)
+      (is_keyword (codes "GET") word) (is_keyword (codes "CHECK") word) (is_keyword (codes "GO") word)
       (find (λ e. is_keyword e.0 word) rarer) (second_so (is_keyword (codes "TERM") word) (names_session words)) (go_is_none word)
 
 -- a line that is a command brings at most its weight
@@ -164,20 +172,20 @@ line_weighs buses state session moment line command layout e =
 
 -- ---- the weights themselves
 
-small_by : (ends get put check go : Bool) → weight_by ends get put check go ≤ 11
-small_by ends get put check go = grind arith
+small_by : (ends put get check go : Bool) → weight_by ends put get check go ≤ 11
+small_by ends put get check go = grind arith
 
 small_words : (words : List (List ℕ)) → weight_of words ≤ 11
 small_words [] = omega arith
 small_words (word ∷ words) =
-    small_by (is_keyword (codes "TERM") word && names_session words) (is_keyword (codes "GET") word) (is_keyword (codes "SET") word)
+    small_by (is_keyword (codes "TERM") word && names_session words) (is_keyword (codes "SET") word) (is_keyword (codes "GET") word)
     (is_keyword (codes "CHECK") word) (is_keyword (codes "GO") word)
 
 pub weights_small : WeightsAreSmall
 weights_small line = small_words (words_of line)
 
 go_words : (word : List ℕ) (words : List (List ℕ)) → is_keyword (codes "GO") word ≡ true → weight_of (word ∷ words) ≡ 1
-go_words word words h = grind (arith, not_go)
+go_words word words h = grind (arith, no_other (codes "GO"))
 
 pub go_weighs_one : GoesWeighOne
 go_weighs_one line word words e h = ap weight_of e ∙ go_words word words h
