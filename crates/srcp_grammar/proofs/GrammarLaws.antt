@@ -11,7 +11,7 @@ use Rattle.srcp_info.specs.declared.key.Group.TheVariants as group
 use Rattle.srcp_info.specs.declared.value.Letter.{Letter}
 use Rattle.srcp_info.specs.declared.change.Code.{Code}
 use Rattle.srcp_info.specs.declared.change.Code.TheVariants.{C412, C418}
-use Rattle.srcp_info.specs.Limits.{greatest_bus, greatest_speed, greatest_id, fewest_ports, most_ports}
+use Rattle.srcp_info.specs.Limits.{emergency_stop, greatest_bus, greatest_speed, greatest_id, fewest_ports, most_ports}
 use Rattle.srcp_info.specs.Limits.{most_functions, most_milliseconds}
 use Rattle.srcp_info.specs.WellFormed.{is_text, IsSpeed}
 use Rattle.srcp_text.specs.Words.{number_of, is_numeral, words_of}
@@ -143,8 +143,8 @@ module _ (buses : List Bus) (layout : IsLayout buses) (bus : Bus) (found : bus_a
   powered_fits words on_bus = grind arith
 
   -- V in mode 2 is kept as 0
-  kept_within : (mode v vmax : ℕ) → mode ≤ 2 → v ≤ greatest_speed → vmax ≤ greatest_speed
-      → (nat_le v vmax || vmax == 0) ≡ true → (b : Bool) → (mode == 2) ≡ b
+  kept_within : (mode v vmax : ℕ) → mode ≤ emergency_stop → v ≤ greatest_speed → vmax ≤ greatest_speed
+      → (nat_le v vmax || vmax == 0) ≡ true → (b : Bool) → (mode == emergency_stop) ≡ b
       → IsSpeed mode (cond b 0 v) vmax
   kept_within mode v vmax m x y e b t = grind arith
 
@@ -157,7 +157,7 @@ module _ (buses : List Bus) (layout : IsLayout buses) (bus : Bus) (found : bus_a
       cond (nat_le v vmax || vmax == 0) (bits_of fs >>= (λ functions. Ok (drive address mode v vmax functions))) (Err C412)
 
   drive_fits : (fs : List (List ℕ)) → nat_lt most_functions (length fs) ≡ false → (address : ℕ) → 1 ≤ address → address ≤ bus.gl_max
-      → (mode : ℕ) → mode ≤ 2 → (v : ℕ) → v ≤ greatest_speed → (vmax : ℕ) → vmax ≤ greatest_speed
+      → (mode : ℕ) → mode ≤ emergency_stop → (v : ℕ) → v ≤ greatest_speed → (vmax : ℕ) → vmax ≤ greatest_speed
       → IfOk (with_top fs address mode v vmax) (IsDrive buses)
   drive_fits fs few address low high mode m v s vmax x =
       let short = ltb-false most_functions (length fs) few in
@@ -166,7 +166,7 @@ module _ (buses : List Bus) (layout : IsLayout buses) (bus : Bus) (found : bus_a
       (bits_of fs >>= (λ functions. Ok (drive address mode v vmax functions))) (λ e.
       read (IsDrive buses) (λ bits. length bits ≡ length fs) (bits_of fs) (λ functions. Ok (drive address mode v vmax functions))
       (bits_length fs) (λ functions n.
-      (omega (arith, two), (refl, refl, kept_within mode v vmax m s x e (mode == 2) refl, omega (arith, n, short)))))
+      (omega (arith, two), (refl, refl, kept_within mode v vmax m s x e (mode == emergency_stop) refl, omega (arith, n, short)))))
 
   number_read : (least most : ℕ) (word : List ℕ) (f : ℕ → Result Drive Code)
       → ((n : ℕ) → least ≤ n → n ≤ most → IfOk (f n) (IsDrive buses)) → IfOk (number_in least most word >>= f) (IsDrive buses)

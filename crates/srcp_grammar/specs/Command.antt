@@ -1,9 +1,9 @@
 -- Which commands a layout has: their devices are on it and their words in range.
-use Rattle.std.specs.Prelude.{◌≡◌, ℕ, ◌+◌, ◌≤◌, ◌<◌, ◌^◌, ◌==◌, ⊤, List, IfSome, if◌then◌else◌}
+use Rattle.std.specs.Prelude.{◌≡◌, ℕ, ◌+◌, ◌≤◌, ◌<◌, ◌==◌, ⊤, List, IfSome, if◌then◌else◌}
 use Rattle.srcp_info.specs.declared.key.Device.{Device}
 use Rattle.srcp_info.specs.declared.value.Value.{Value}
 use Rattle.srcp_info.specs.declared.value.Value.TheVariants.{Power, GlInit, GlState, GaPort}
-use Rattle.srcp_info.specs.Limits.{most_milliseconds, most_ports, most_seconds}
+use Rattle.srcp_info.specs.Limits.{emergency_stop, greatest_id, most_milliseconds, most_ports, most_seconds}
 use Rattle.srcp_info.specs.WellFormed.{IsValueAt}
 use Rattle.srcp_grammar.specs.declared.layout.Bus.{Bus}
 use Rattle.srcp_grammar.specs.declared.command.DeviceGroup.TheVariants.{Gl, Ga}
@@ -22,9 +22,9 @@ use Rattle.srcp_grammar.specs.declared.command.Command.TheVariants.{SetLock, Che
 use Rattle.srcp_grammar.specs.Layout.{row_count}
 use Rattle.srcp_grammar.specs.Devices.{power_device, fb_device, device_in, lock_at}
 
--- V as it is kept: in mode 2, the emergency stop, it is 0
+-- V as it is kept: in an emergency stop it is 0
 abbrev pub kept_speed : (mode v : ℕ) → ℕ
-kept_speed mode v = if mode == 2 then 0 else v
+kept_speed mode v = if mode == emergency_stop then 0 else v
 
 module _ (buses : List Bus) where
   -- the layout has the row at the device's port, and the value is one that this row may have
@@ -62,8 +62,8 @@ module _ (buses : List Bus) where
   -- a command of the layout, and all that the grammar reads is one: the device is one of the layout, the words are in
   -- range; a new accessory has the ports that its bus gives it; INIT of sensors asks for nothing
   abbrev pub IsCommandOf : Command → Type 0
-  IsCommandOf (GetSession session) = session < 2 ^ 32
-  IsCommandOf (TermSession session) = IfSome session (λ n. n < 2 ^ 32)
+  IsCommandOf (GetSession session) = session ≤ greatest_id
+  IsCommandOf (TermSession session) = IfSome session (λ n. n ≤ greatest_id)
   IsCommandOf (GetPower bus) = 0 < row_count buses (power_device bus)
   IsCommandOf (SetPower power) = IsPowerSwitch power
   IsCommandOf (CheckPower power) = IsPowerSwitch power

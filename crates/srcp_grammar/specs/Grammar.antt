@@ -9,7 +9,7 @@ use Rattle.srcp_info.specs.declared.change.Code.TheVariants.{C410, C412, C418, C
 use Rattle.srcp_info.specs.declared.value.Letter.{Letter}
 use Rattle.srcp_info.specs.declared.value.Letter.TheVariants.{N, M, S, P}
 use Rattle.srcp_info.specs.Limits.{greatest_bus, greatest_version, greatest_speed, greatest_id, most_steps}
-use Rattle.srcp_info.specs.Limits.{most_functions, most_milliseconds, most_seconds}
+use Rattle.srcp_info.specs.Limits.{emergency_stop, most_functions, most_milliseconds, most_seconds}
 use Rattle.srcp_info.specs.WellFormed.{is_text}
 use Rattle.srcp_text.specs.Words.{words_of, number_of, is_keyword}
 use Rattle.srcp_grammar.specs.declared.layout.Bus.{Bus}
@@ -155,7 +155,7 @@ module _ (bus : Bus) where
   driven (a ∷ m ∷ v ∷ x ∷ fs) =
       if nat_lt most_functions (length fs) then Err C418 else do
         address ← number_in 1 bus.gl_max a
-        mode ← number_in 0 2 m
+        mode ← number_in 0 emergency_stop m
         speed ← number_in 0 greatest_speed v
         top ← number_in 0 greatest_speed x
         if nat_le speed top || top == 0 then (do

@@ -37,6 +37,10 @@ most_steps = 1000
 abbrev pub most_functions : ℕ
 most_functions = 29
 
+-- the mode of an emergency stop, the greatest mode of a locomotive
+abbrev pub emergency_stop : ℕ
+emergency_stop = 2
+
 -- the greatest speed, and the greatest limit of speed that a client may give
 abbrev pub greatest_speed : ℕ
 greatest_speed = 65535

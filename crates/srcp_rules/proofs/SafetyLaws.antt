@@ -12,6 +12,7 @@ use Names.devices
 use Rattle.std.specs.Prelude.{◌≢◌}
 use Rattle.std.proofs.lemmas.Bool.Decides.{nat_tests}
 use Rattle.std.proofs.Common.{eq-eqb}
+use Rattle.srcp_info.specs.Limits.{emergency_stop}
 use Rattle.srcp_info.specs.declared.key.Group.TheVariants.{Session}
 use Rattle.srcp_grammar.specs.declared.command.Drive.{Drive}
 use Rattle.srcp_grammar.specs.declared.command.TimedLock.{TimedLock}
@@ -79,9 +80,9 @@ stop_accepted state session moment drive none there free =
     rw (there, few, free)
 
 -- an emergency stop without functions
-stopped : (drive : Drive) (has : List Bool) → drive.mode ≡ 2 → drive.functions ≡ []
+stopped : (drive : Drive) (has : List Bool) → drive.mode ≡ emergency_stop → drive.functions ≡ []
     → value.GlState drive.mode (kept_speed drive.mode drive.v) drive.vmax (functions_after drive.functions has)
-    ≡ value.GlState 2 0 drive.vmax has
+    ≡ value.GlState emergency_stop 0 drive.vmax has
 stopped drive has mode none = rw (mode, none)
 
 pub stops_stop : StopsStop

@@ -11,6 +11,7 @@ use Rattle.srcp_info.specs.declared.change.Row.{Row}
 use Rattle.srcp_info.specs.declared.change.Reply.TheVariants.{Accepted, Shows}
 use Rattle.srcp_info.specs.Key.{first_key}
 use Rattle.srcp_info.specs.WellFormed.{is_lock}
+use Rattle.srcp_info.specs.Limits.{emergency_stop}
 use Rattle.srcp_grammar.specs.declared.layout.Bus.{Bus}
 use Rattle.srcp_grammar.specs.declared.command.DeviceGroup.{DeviceGroup}
 use Rattle.srcp_grammar.specs.declared.command.DeviceGroup.TheVariants.{Gl, Ga}
@@ -73,14 +74,14 @@ DrivesAreSet = (state : State) (session moment : ℕ) (drive : Drive)
 -- an emergency stop that gives no function is accepted if the locomotive is there and no other session has its lock;
 -- the locomotive stands then, with the functions that it had
 abbrev pub StopsStop : Type 0
-StopsStop = (state : State) (session moment : ℕ) (drive : Drive) → drive.mode ≡ 2 → drive.functions ≡ []
+StopsStop = (state : State) (session moment : ℕ) (drive : Drive) → drive.mode ≡ emergency_stop → drive.functions ≡ []
     → IsTrue (is_there (device_in Gl drive.bus drive.address) state)
     → is_locked state session Gl drive.bus drive.address ≡ false
     → let did = effect state session moment (SetGl drive) in
     (did.reply ≡ Accepted)
     × SetsAlone (GetGl drive.bus drive.address)
     (driving moment drive.bus drive.address
-    (GlState 2 0 drive.vmax (functions_of drive.bus drive.address state)))
+    (GlState emergency_stop 0 drive.vmax (functions_of drive.bus drive.address state)))
     state (updated_all did.updates state)
 
 -- an INIT that is accepted leaves a locomotive that has these parameters as it is; any other stands still, forward,
