@@ -2,6 +2,7 @@
 use Rattle.std.proofs.Common.{◌≡◌, ℕ, ◌<◌, ◌≤◌, ◌+◌, ◌-◌, ◌^◌, Bool, true, false, List, [], ◌∷◌, Option, Some, None, Ok}
 use Rattle.std.proofs.Common.{refl, arith, eqb-true}
 use Rattle.std.specs.Prelude.{codes, decimal, nat_lt, ◌==◌}
+use Rattle.std.specs.Fmt.{digits}
 use Rattle.std.specs.List.{join_with_byte, AllByRecursion}
 use Rattle.std.specs.Option.{option_map_or}
 use Rattle.std.proofs.lemmas.Bool.{le-leb, lt-ltb}
@@ -14,6 +15,7 @@ use Rattle.srcp_text.proofs.StampLaws.{decimal_word}
 use Rattle.srcp_text.proofs.WordLaws.{words_again}
 use Rattle.srcp_info.specs.declared.key.Group.{Group}
 use Rattle.srcp_info.specs.declared.key.Group.TheVariants as group
+use Rattle.srcp_info.specs.Limits.{greatest_bus}
 use Rattle.srcp_info.specs.Line.{bit_word}
 use Rattle.srcp_info.specs.WellFormed.{IsAddress}
 use Rattle.srcp_info.proofs.ListingLaws.{find_passes}
@@ -26,7 +28,7 @@ use Rattle.srcp_routes.specs.declared.route.Order.{Order}
 use Rattle.srcp_routes.specs.declared.route.Order.TheVariants as order
 use Rattle.srcp_routes.specs.declared.route.Setting.{Setting}
 use Rattle.srcp_interlock.specs.Laws.{IsOrderLine, OrdersAreRead}
-use Rattle.srcp_interlock.specs.Orders.{command_of, order_words, set_command, set_words}
+use Rattle.srcp_interlock.specs.Orders.{command_of, order_words, pulse, set_command, set_words}
 
 -- ---- numbers
 
@@ -40,6 +42,10 @@ bit_read : (on : Bool) → bit_of (bit_word on) ≡ Ok on
 bit_read true = refl
 bit_read false = refl
 
+pub pulse_said : decimal pulse ≡ codes "250"
+unfolding digits
+pulse_said = refl
+
 -- ---- the bus of a device
 
 -- a row of the layout is on a bus of it, and its numbers are small
@@ -48,18 +54,18 @@ record IsOn (buses : List Bus) (number : ℕ) (g : Group) (address port : ℕ) :
   at : bus_at buses number ≡ Some bus
   same : bus.number ≡ number
   rows : port < rows_on bus g address
-  few : number ≤ 250
+  few : number ≤ greatest_bus
   small : address < 2 ^ 32
 
 at_bus : (buses : List Bus) (number : ℕ) (g : Group) (address port : ℕ) (o : Option Bus) → bus_at buses number ≡ o
-    → port < option_map_or (λ bus. rows_on bus g address) o 0 → number ≤ 250 → address < 2 ^ 32 → IsOn buses number g address port
+    → port < option_map_or (λ bus. rows_on bus g address) o 0 → number ≤ greatest_bus → address < 2 ^ 32 → IsOn buses number g address port
 at_bus buses number g address port None e h few small = absurd (omega (arith, h))
 at_bus buses number g address port (Some bus) e h few small =
     let same = eqb-true _ _ (find_passes (λ (x : Bus). x.number == number) (server ∷ buses) bus e) in
     record { bus = bus; at = e; same = same; rows = h; few = few; small = small }
 
 on_layout : (buses : List Bus) → IsLayout buses → (number : ℕ) (g : Group) (address port : ℕ)
-    → port < row_count buses (record { bus = number; group = g; address = address }) → number ≤ 250 → address < 2 ^ 32
+    → port < row_count buses (record { bus = number; group = g; address = address }) → number ≤ greatest_bus → address < 2 ^ 32
     → IsOn buses number g address port
 on_layout buses layout number g address port h few small =
     at_bus buses number g address port (bus_at buses number) refl h few small
@@ -73,7 +79,7 @@ locks_read buses device on =
     let low : 1 ≤ device.address = grind (arith, on.rows) in
     let high : device.address ≤ on.bus.ga_max = grind (arith, on.rows) in
     rw (
-      number_read 250 device.bus on.few (omega (arith, on.few)),
+      number_read greatest_bus device.bus on.few (omega (arith, on.few)),
       on.at,
       lt-ltb 0 on.bus.ga_max (omega (arith, low, high)),
       or-true (nat_lt 0 on.bus.gl_max),
@@ -89,11 +95,12 @@ set_read buses setting on small =
     let high : setting.device.address ≤ on.bus.ga_max = grind (arith, on.rows) in
     let port : setting.port ≤ on.bus.ga_ports - 1 = grind (arith, on.rows) in
     rw (
-      number_read 250 setting.device.bus on.few (omega (arith, on.few)),
+      number_read greatest_bus setting.device.bus on.few (omega (arith, on.few)),
       on.at,
       lt-ltb 0 on.bus.ga_max (omega (arith, low, high)),
       in_range 1 on.bus.ga_max setting.device.address low high (omega (arith, on.small)),
       in_range 0 (on.bus.ga_ports - 1) setting.port (omega arith) port (omega (arith, small)),
+      pulse_said,
       on.same,
     )
     refl
@@ -104,7 +111,7 @@ report_read buses own number is_set on =
     let low : 1 ≤ number = grind (arith, on.rows) in
     let high : number ≤ on.bus.fb_ports = grind (arith, on.rows) in
     rw (
-      number_read 250 own on.few (omega (arith, on.few)),
+      number_read greatest_bus own on.few (omega (arith, on.few)),
       on.at,
       lt-ltb 0 on.bus.fb_ports (omega (arith, low, high)),
       in_range 1 on.bus.fb_ports number low high (omega (arith, on.small)),
@@ -122,10 +129,11 @@ spoken buses own sent text words e read =
     let same : join_with_byte 32 (order_words own sent) ≡ text = (same_from_push _ _ _ _ e).0 in
     rw (← same, words_again (order_words own sent) words) read
 
-set_are_words : (setting : Setting) → setting.device.bus ≤ 250 → setting.device.address < 2 ^ 32 → setting.port < 2 ^ 32
+set_are_words : (setting : Setting) → setting.device.bus ≤ greatest_bus → setting.device.address < 2 ^ 32 → setting.port < 2 ^ 32
     → AllByRecursion IsWord (set_words setting)
+unfolding digits
 set_are_words setting few small port =
-    let numbers : AllByRecursion IsWord (decimal setting.device.address ∷ decimal setting.port ∷ codes "1" ∷ codes "250" ∷ []) = (
+    let numbers : AllByRecursion IsWord (decimal setting.device.address ∷ decimal setting.port ∷ codes "1" ∷ decimal pulse ∷ []) = (
       decimal_word setting.device.address (omega (arith, small)),
       (decimal_word setting.port (omega (arith, port)), ((refl, refl), ((refl, refl), tt))),
     ) in
@@ -154,7 +162,7 @@ set_spoken : (buses : List Bus) → IsLayout buses → (setting : Setting)
     → (parsed buses (set_words setting) ≡ Ok (set_command setting)) × AllByRecursion IsWord (set_words setting)
 set_spoken buses layout setting h =
     let at = numbered buses layout setting.device.bus group.Ga setting.device.address (1 + setting.port) h in
-    let few : setting.device.bus ≤ 250 = omega (arith, at) in
+    let few : setting.device.bus ≤ greatest_bus = omega (arith, at) in
     let small : setting.device.address < 2 ^ 32 = omega (arith, at) in
     let port : setting.port < 2 ^ 32 = omega (arith, h, ga_few buses layout setting.device.bus setting.device.address) in (
       set_read buses setting (on_layout buses layout _ group.Ga _ (1 + setting.port) h few small) port,
@@ -179,7 +187,7 @@ orders_are_read buses own (order.Stop setting) text layout h e =
     spoken buses own (order.Stop setting) text read.1 e read.0
 orders_are_read buses own (order.Report number is_set) text layout h e =
     let at = numbered buses layout own group.Fb number 0 h in
-    let few : own ≤ 250 = omega (arith, at) in
+    let few : own ≤ greatest_bus = omega (arith, at) in
     let small : number < 2 ^ 32 = omega (arith, at) in
     spoken buses own (order.Report number is_set) text (
       (refl, refl),

@@ -1,5 +1,5 @@
 -- The words of the server's replies, and what they tell.
-use Rattle.std.proofs.Common.{◌≡◌, ◌∙◌, ℕ, ◌<◌, ◌^◌, true, false, List, [], ◌∷◌, ◌++◌, Some, refl, ap, sym}
+use Rattle.std.proofs.Common.{◌≡◌, ◌∙◌, ℕ, ◌≤◌, true, false, List, [], ◌∷◌, ◌++◌, Some, refl, ap, arith, sym}
 use Rattle.std.specs.Prelude.{codes, flat_map, decimal}
 use Rattle.std.specs.List.{join_with_byte}
 use Rattle.std.proofs.lemmas.List.{same_from_push}
@@ -7,6 +7,8 @@ use Rattle.srcp_text.specs.Stamp.{stamp}
 use Rattle.srcp_text.specs.Words.{words_of}
 use Rattle.srcp_text.proofs.StampLaws.{decimal_word, stamp_word}
 use Rattle.srcp_text.proofs.WordLaws.{words_of_joined, words_of_word}
+use Rattle.srcp_info.specs.Limits.{greatest_u64}
+use Rattle.srcp_info.specs.WellFormed.{IsMoment}
 use Rattle.srcp_info.specs.Line.{code_text, reply_line, spaced}
 use Rattle.srcp_info.specs.declared.change.Code.{Code}
 use Rattle.srcp_info.specs.declared.change.Code.TheVariants.{C400, C401, C402, C410, C412, C414, C415, C416, C418, C419}
@@ -17,21 +19,21 @@ use Rattle.srcp_interlock.specs.Hearing.{reply_event}
 use Rattle.srcp_interlock.specs.Laws.{RepliesAreHeard}
 
 -- the words of a line that begins with a stamp are the stamp, and those of the texts behind it
-stamped : (moment : ℕ) (texts : List (List ℕ)) (text : List ℕ) → moment < 2 ^ 64 → spaced (stamp moment ∷ texts) ≡ text ++ codes "\n"
+stamped : (moment : ℕ) (texts : List (List ℕ)) (text : List ℕ) → IsMoment moment → spaced (stamp moment ∷ texts) ≡ text ++ codes "\n"
     → words_of text ≡ stamp moment ∷ flat_map words_of texts
 stamped moment texts text h e =
     let same : join_with_byte 32 (stamp moment ∷ texts) ≡ text = (same_from_push _ _ _ _ e).0 in
     ap words_of (sym same) ∙ words_of_joined (stamp moment ∷ texts)
     ∙ ap (λ first. first ++ flat_map words_of texts) (words_of_word (stamp moment) (stamp_word moment h))
 
-accepted_heard : (moment : ℕ) (text : List ℕ) → moment < 2 ^ 64 → reply_line moment reply.Accepted ≡ text ++ codes "\n"
+accepted_heard : (moment : ℕ) (text : List ℕ) → IsMoment moment → reply_line moment reply.Accepted ≡ text ++ codes "\n"
     → reply_event (words_of text) ≡ Some (Reply true)
 accepted_heard moment text h e = rw (stamped moment (codes "200 OK" ∷ []) text h e) refl
 
-go_heard : (moment id : ℕ) (text : List ℕ) → moment < 2 ^ 64 → id < 2 ^ 64 → reply_line moment (reply.Go id) ≡ text ++ codes "\n"
+go_heard : (moment id : ℕ) (text : List ℕ) → IsMoment moment → id ≤ greatest_u64 → reply_line moment (reply.Go id) ≡ text ++ codes "\n"
     → reply_event (words_of text) ≡ Some Lost
 go_heard moment id text h i e =
-    rw (stamped moment (codes "200 OK GO" ∷ decimal id ∷ []) text h e, words_of_word (decimal id) (decimal_word id i)) refl
+    rw (stamped moment (codes "200 OK GO" ∷ decimal id ∷ []) text h e, words_of_word (decimal id) (decimal_word id (omega (arith, i)))) refl
 
 -- the words of a refusal behind any stamp
 refusal : (first : List ℕ) (code : Code) → reply_event (first ∷ flat_map words_of (code_text code ∷ [])) ≡ Some (Reply false)
@@ -51,7 +53,7 @@ refusal first C422 = refl
 refusal first C423 = refl
 refusal first C500 = refl
 
-refused_heard : (moment : ℕ) (code : Code) (text : List ℕ) → moment < 2 ^ 64 → reply_line moment (reply.Refused code) ≡ text ++ codes "\n"
+refused_heard : (moment : ℕ) (code : Code) (text : List ℕ) → IsMoment moment → reply_line moment (reply.Refused code) ≡ text ++ codes "\n"
     → reply_event (words_of text) ≡ Some (Reply false)
 refused_heard moment code text h e = rw (stamped moment (code_text code ∷ []) text h e) (refusal (stamp moment) code)
 

@@ -1,7 +1,9 @@
 -- How the lines of a box and those of the server fit together.
-use Rattle.std.specs.Prelude.{◌≡◌, ℕ, ◌<◌, ◌^◌, ◌++◌, true, false, List, Ok, Some, codes}
+use Rattle.std.specs.Prelude.{◌≡◌, ℕ, ◌≤◌, ◌++◌, true, false, List, Ok, Some, codes}
 use Rattle.srcp_text.specs.Words.{words_of}
+use Rattle.srcp_info.specs.Limits.{greatest_u64}
 use Rattle.srcp_info.specs.Line.{reply_line}
+use Rattle.srcp_info.specs.WellFormed.{IsMoment}
 use Rattle.srcp_info.specs.declared.change.Code.{Code}
 use Rattle.srcp_info.specs.declared.change.Reply.TheVariants as reply
 use Rattle.srcp_grammar.specs.Command.{IsCommandOf}
@@ -24,9 +26,9 @@ OrdersAreRead = (buses : List Bus) (own : ℕ) (sent : Order) (text : List ℕ) 
 
 -- each reply that a command has is heard as what it says of the order before it, and GO as a session that begins
 pub record RepliesAreHeard : Type 0 where
-  pub accepted : (moment : ℕ) (text : List ℕ) → moment < 2 ^ 64 → reply_line moment reply.Accepted ≡ text ++ codes "\n"
+  pub accepted : (moment : ℕ) (text : List ℕ) → IsMoment moment → reply_line moment reply.Accepted ≡ text ++ codes "\n"
       → reply_event (words_of text) ≡ Some (Reply true)
-  pub go : (moment id : ℕ) (text : List ℕ) → moment < 2 ^ 64 → id < 2 ^ 64
+  pub go : (moment id : ℕ) (text : List ℕ) → IsMoment moment → id ≤ greatest_u64
       → reply_line moment (reply.Go id) ≡ text ++ codes "\n" → reply_event (words_of text) ≡ Some Lost
-  pub refused : (moment : ℕ) (code : Code) (text : List ℕ) → moment < 2 ^ 64
+  pub refused : (moment : ℕ) (code : Code) (text : List ℕ) → IsMoment moment
       → reply_line moment (reply.Refused code) ≡ text ++ codes "\n" → reply_event (words_of text) ≡ Some (Reply false)

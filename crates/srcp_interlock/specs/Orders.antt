@@ -10,11 +10,15 @@ use Rattle.srcp_routes.specs.declared.route.Order.{Order}
 use Rattle.srcp_routes.specs.declared.route.Order.TheVariants as order
 use Rattle.srcp_routes.specs.declared.route.Setting.{Setting}
 
--- a port of an accessory is set to 1, and falls back to 0 after 250 ms
+-- the milliseconds after which a port that a box sets falls back
+abbrev pub pulse : ℕ
+pulse = 250
+
+-- a port of an accessory is set to 1, and falls back to 0
 abbrev pub set_words : Setting → List (List ℕ)
 set_words setting =
     codes "SET" ∷ decimal setting.device.bus ∷ codes "GA" ∷ decimal setting.device.address ∷ decimal setting.port
-    ∷ codes "1" ∷ codes "250" ∷ []
+    ∷ codes "1" ∷ decimal pulse ∷ []
 
 abbrev pub set_line : Setting → List ℕ
 set_line setting = spaced (set_words setting)
@@ -44,7 +48,7 @@ set_command setting = SetGa (record {
   address = setting.device.address;
   port = setting.port;
   on = true;
-  time = Some 250;
+  time = Some pulse;
 })
 
 -- the command that an order means
