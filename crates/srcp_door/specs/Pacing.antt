@@ -108,7 +108,7 @@ keeps_back OneLine share piece handed = false
 -- lines that weigh so much may be let through
 abbrev pub fits : Pace → (weight : ℕ) → Bool
 fits (Paced left) weight = nat_le weight left
-fits OneLine weight = nat_le weight 11
+fits OneLine weight = nat_le weight most_changes
 
 -- how much may be let through after lines that weigh so much
 abbrev pub spent : Pace → (weight : ℕ) → Pace
@@ -125,5 +125,5 @@ share_after share handed kept = record {
 
 -- less may be let through than any line can weigh
 abbrev pub IsShort : Pace → Type 0
-IsShort (Paced left) = left < 11
+IsShort (Paced left) = left < most_changes
 IsShort OneLine = ⊤
