@@ -1,7 +1,8 @@
 -- What `interlock` writes.
-use Rattle.std.specs.Prelude.{◌≡◌, ℕ, ◌-◌, ◌^◌, ◌≤◌, List, [], ◌∷◌, ◌++◌, Option, None, Result, Ok, Err, IfSome}
+use Rattle.std.specs.Prelude.{◌≡◌, ℕ, ◌≤◌, List, [], ◌∷◌, ◌++◌, Option, None, Result, Ok, Err, IfSome}
 use Rattle.std.specs.Prelude.{length, unwrap_or, ⊤}
 use Rattle.std.specs.Io.KnownBytes.{Appends}
+use Rattle.srcp_info.specs.Limits.{greatest_u64}
 use Rattle.srcp_text.specs.Marks.{Mark, Line, TooLong, marks}
 use Rattle.srcp_routes.specs.declared.interlocking.Event.{Event}
 use Rattle.srcp_routes.specs.declared.route.Route.{Route}
@@ -75,6 +76,6 @@ Interlocks own routes (Err fault.Input) input old new = AnswersFront own routes 
 Interlocks own routes (Err fault.Output) input old new =
     AnswersFront own routes 0 (λ text. AppendsFront old new text) input
 Interlocks own routes (Err fault.TooLarge) input old new =
-    AnswersFront own routes (2 ^ 64 - 1) (λ text. Appends old new text) input
+    AnswersFront own routes greatest_u64 (λ text. Appends old new text) input
 Interlocks own routes (Err fault.Memory) input old new = new ≡ old
 Interlocks own routes (Err other) input old new = ⊥
