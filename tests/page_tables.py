@@ -10,8 +10,8 @@ KEYS = {"port": (1, "GREATEST_PORT", "DEFAULT_PORT"), "number": (1, "GREATEST_BU
         "fb_ports": (1, "GREATEST_FB")}
 # The milliseconds of a second, which are as many as the most steps of a decoder.
 OTHER_NUMBERS = (1000,)
-# Numbers in definitions that are as great as a limit and are none: a byte, and the milliseconds of a pulse.
-NO_LIMITS = (("srcp_info/specs/WellFormed.antt", 256), ("srcp_interlock/specs/Orders.antt", 250))
+# A number in definitions that is as great as a limit and is none: what a byte is less than.
+NO_LIMITS = (("srcp_info/specs/WellFormed.antt", 256),)
 
 
 def rows_under(page, heading):
