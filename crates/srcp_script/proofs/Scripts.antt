@@ -1,11 +1,9 @@
 -- A script line by line.
-use Rattle.std.proofs.Common.{◌≡◌, ℕ, ◌+◌, true, false, List, [], ◌∷◌, ◌++◌, refl, sym, ap, append_assoc}
+use Rattle.std.proofs.Common.{◌≡◌, ℕ, ◌+◌, false, List, [], ◌∷◌, ◌++◌, refl, sym, ap, append_assoc}
 use Rattle.std.specs.Prelude.{Result, Ok, Err, filter, not}
-use Rattle.std.specs.List.{enumerate_from, slice_split}
-use Rattle.srcp_text.specs.Marks.{is_lf}
+use Rattle.std.specs.List.{enumerate_from}
 use Rattle.srcp_core.specs.declared.event.Event.{Event}
-use Rattle.srcp_script.specs.Script.{◌>>=◌, script, is_skipped, event_of, events_in}
-use Rattle.srcp_script.specs.declared.script.Cause.{Cause}
+use Rattle.srcp_script.specs.Script.{◌>>=◌, is_skipped, event_of, events_in}
 use Rattle.srcp_script.specs.declared.script.ScriptFault.{ScriptFault}
 
 -- these events, and then those
