@@ -12,7 +12,8 @@ pub use Rattle.srcp_core.specs.Course.{state_after, wants_as, with_numbered}
 pub use Rattle.srcp_core.specs.Handshake.{Chooses, Goes, Greeting, Refuses, Speaks}
 pub use Rattle.srcp_core.specs.Held.{AreSessions, Held, IsLive, IsSessionAt, IsSound, Place, at, open_count, place_at}
 pub use Rattle.srcp_core.specs.Laws.{AddsUp, AllMoments, HasMoment, IsRecordOf, IsSession, has_key, last_line, listed, listed_row, rows_at}
-pub use Rattle.srcp_core.specs.Machine.{CountsEach, AnswersFit, IsAdmitted, IsNotAdmitted, advanced, request_of, bytes_fault, bytes_fault_from}
+pub use Rattle.srcp_core.specs.Machine.{CountsEach, AnswersFit, IsAdmitted, IsNotAdmitted, advanced, request_of, bytes_fault}
+pub use Rattle.srcp_core.specs.Machine.{bytes_fault_from}
 pub use Rattle.srcp_core.specs.Machine.{carried, changed_at, changed_in, changed_places, denied_line, entered_place, feed_in, filled}
 pub use Rattle.srcp_core.specs.Machine.{finish_at, freed_of, freed_place, has_overrun, heard_at, heard_from, hung_up, hung_up_from}
 pub use Rattle.srcp_core.specs.Machine.{is_panel, item_at, item_from, item_of, let_out, line_answered, lines_answered, live_session}

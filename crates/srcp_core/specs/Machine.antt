@@ -157,7 +157,8 @@ abbrev pub heard_from : List Bus → Place → Fed × Reading → Option (ℕ ×
 heard_from _ p (More, reading) = (None, record p { reader = reading })
 heard_from buses p (FoundLine stop, reading) =
     (Some (stop, request_of buses p (Line reading.line)), record p { reader = reading })
-heard_from buses p (FoundTooLong stop, reading) = (Some (stop, request_of buses p TooLong), record p { reader = reading })
+heard_from buses p (FoundTooLong stop, reading) =
+    (Some (stop, request_of buses p TooLong), record p { reader = reading })
 
 -- the piece is read on from there by the reader of the connection
 abbrev pub heard : List Bus → List ℕ → ℕ → Place → Option (ℕ × Request) × Place
@@ -381,8 +382,8 @@ abbrev pub lines_answered : ℕ → List ℕ → List Bool → Held → ℕ × H
 lines_answered key piece grants held =
     fold (λ before granted. line_answered key granted before (heard_at key piece before.0 before.1)) (0, held) grants
 
--- the lines up to an offset in the piece are answered. Then a short reply at most is unsent for each byte of the piece
--- so far, and what a reply that shows a row has more; and no line has begun
+-- the lines up to an offset in the piece are answered. Then a short reply at most is unsent for each byte before
+-- the offset, and what a reply that shows a row has more; and no line has begun
 pub record AnswersFit (key : ℕ) (piece : List ℕ) (start : ℕ) (held : Held) : Type 0 where
   pub far : start ≤ length piece
   pub idle : start ≡ 0 → length (unsent_at key held) ≡ 0

@@ -1,4 +1,4 @@
--- The model of the code: what a run has recorded so far.
+-- The model of the code: what a run has recorded.
 use Rattle.std.specs.Prelude.{◌≡◌, ℕ, zero, suc, Bool, true, false, if◌then◌else◌, List, [], ◌∷◌, ◌++◌, map, length}
 use Rattle.std.specs.Prelude.{Option, Some, None, fold}
 use Rattle.std.specs.Option.{option_map_or}
@@ -17,7 +17,7 @@ use Rattle.srcp_core.specs.declared.record.Refusal.{Refusal}
 use Rattle.srcp_core.specs.declared.record.Step.{Step}
 use Rattle.srcp_core.specs.declared.record.Step.TheVariants.{Began}
 
--- what was recorded so far
+-- what was recorded
 pub record Recording : Type 0 where
   pub keys : List (Option ℕ)  -- the key of each connection, while it is open
   pub steps : List Step

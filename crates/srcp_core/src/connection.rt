@@ -16,8 +16,10 @@ use crate::accepted::Accepted;
 use crate::handshake::{Greeting, greet};
 use crate::limits::MOST_UNSENT;
 use crate::line::Request;
-use srcp_feed::{ChangeLine, InfoFeed, Next, Told, WrittenLine};
-use srcp_info::{Code, InfoLine, LONGEST_LINE, MOST_WAITING, Mode, Reply, write_reply};
+use srcp_feed::{ChangeLine, InfoFeed, Next, Told};
+use srcp_info::{
+    Code, InfoLine, LONGEST_LINE, MOST_WAITING, Mode, Reply, write_reply, write_shown,
+};
 use srcp_rules::{Layout, Memory, Rows, parse_command};
 use srcp_text::{Fed, LineReader};
 use std::alloc::Global;
@@ -58,7 +60,7 @@ pub struct Connection {
     ended: bool,
     // The line of an information session, or else the replies: `line` or `reply` is empty. The last `left` bytes are
     // unsent.
-    line: WrittenLine,
+    line: InfoLine,
     reply: Vec<u8>,
     left: usize,
     panel: Panel,
@@ -101,7 +103,7 @@ impl Connection {
             mode: Mode::Command,
             session: 0,
             ended: false,
-            line: WrittenLine::new(),
+            line: InfoLine::new(),
             reply,
             left: WELCOME.len(),
             panel: Panel::Absent,
@@ -196,8 +198,8 @@ impl Connection {
         self.left -= count;
     }
 
-    /// Queues a change for an information session. With a full queue the session overruns: the waiting changes, the listing
-    /// and the unsent bytes are dropped.
+    /// Queues a change for an information session. With a full queue the session overruns: the waiting changes, the
+    /// listing and the unsent bytes are dropped.
     pub(crate) fn tell(&mut self, change: &ChangeLine<'_>)
         requires { IsWellFormed change.now }
         ensures { self.new ≡ told_place change.now self.old }
@@ -213,8 +215,8 @@ impl Connection {
         }
     }
 
-    /// Reads a piece on from `start`. Returns the offset after the next line, and writes to `request` what the line asks
-    /// for. A command is large: a result would copy the command.
+    /// Reads a piece on from `start`. Returns the offset after the next line, and writes to `request` what the line
+    /// asks for. A command is large: a result would copy the command.
     #[inline(always)]
     pub(crate) fn next_line(
         &mut self,
@@ -358,7 +360,7 @@ impl Connection {
 
 /// Writes the next line of the session, or no bytes if nothing is left.
 #[inline(always)]
-fn give<R: Rows>(feed: &mut InfoFeed, rows: &R, line: &mut WrittenLine)
+fn give<R: Rows>(feed: &mut InfoFeed, rows: &R, line: &mut InfoLine)
     requires well_formed { AllByRecursion IsWellFormed feed.old.queue }
     requires shown { AllByRecursion IsWellFormedShown (shown_rows (R.state rows.now)) }
     ensures feed { feed.new ≡ after_next (shown_rows (R.state rows.now)) feed.old }
@@ -370,14 +372,14 @@ fn give<R: Rows>(feed: &mut InfoFeed, rows: &R, line: &mut WrittenLine)
         feed.drop_first();
         return;
     }
-    match feed.list(rows) {
-        Some(row) => line.put_row(&row.shown),
-        None => line.clear(),
+    line.clear();
+    if let Some(row) = feed.list(rows) {
+        write_shown(&row.shown, line);
     }
 }
 
 /// Moves the unsent bytes, from `start` on, to the beginning of the reply buffer.
-fn compact(line: &mut WrittenLine, reply: &mut Vec<u8>, start: usize)
+fn compact(line: &mut InfoLine, reply: &mut Vec<u8>, start: usize)
     requires one { (line.old ≡ []) ⊎ (reply.old.items ≡ []) }
     requires within { start ≤ length (line.old ++ reply.old.items) }
     requires capacity { MOST_UNSENT ≤ vec_capacity reply.old }

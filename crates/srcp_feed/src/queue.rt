@@ -6,8 +6,8 @@ ghost use Rattle.srcp_info.specs.Line.{line};
 ghost use Rattle.srcp_info.specs.WellFormed.{IsWellFormed};
 ghost use Rattle.srcp_feed.specs.Feed.{IsLineOrNone};
 
-use crate::{ChangeLine, WrittenLine};
-use srcp_info::{Change, LONGEST_LINE, MOST_WAITING, read_change};
+use crate::ChangeLine;
+use srcp_info::{Change, InfoLine, LONGEST_LINE, MOST_WAITING, read_change, write_change};
 use srcp_rules::Memory;
 use std::alloc::Global;
 use std::marker::Model;
@@ -135,7 +135,7 @@ fn move_to_front(slots: &mut Vec<Waiting>, first: usize)
 /// Holds a waiting change: the line if written, else the change itself. Contracts see the change alone.
 #[derive(Drop)]
 pub struct Waiting {
-    line: WrittenLine,
+    line: InfoLine,
     // Without meaning if the line was written.
     change: Change,
 }
@@ -189,19 +189,19 @@ impl Waiting {
     }
 
     /// Puts the change's line into `to`: a copy, or written there if no line was written.
-    pub fn put_into(&self, to: &mut WrittenLine)
+    pub fn put_into(&self, to: &mut InfoLine)
         requires { IsWellFormed self.now }
         ensures line { to.new ≡ line self.now }
         ensures most { length to.new ≤ LONGEST_LINE }
     {
         to.copy_from(self.line());
         if to.is_empty() {
-            to.put_change(&self.change());
+            write_change(&self.change(), to);
         }
     }
 
     /// Lends the line, which has no bytes if no line was written.
-    fn line(&self) -> &WrittenLine
+    fn line(&self) -> &InfoLine
         ensures { IsLineOrNone result.now self.now }
     {
         &self.line

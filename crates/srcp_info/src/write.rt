@@ -1,7 +1,6 @@
 //! Changes and replies, written as lines.
 
 ghost use Rattle.std.specs.Prelude.{◌≡◌, ◌+◌, ◌≤◌, [], ◌∷◌, ◌++◌, length, map, decimal};
-ghost use Rattle.arrayvec.specs.ArrayVec.{array_vec_len};
 ghost use Rattle.std.specs.List.{join_with_byte};
 ghost use Rattle.srcp_text.specs.Stamp.{stamp as stamp_of};
 ghost use Rattle.srcp_info.specs.Line.{after_spaces, bit_word, switch_word, group_words, value_words, info_words};
@@ -13,18 +12,16 @@ use crate::key::{Device, Group, Key};
 use crate::limits::{LONGEST_LINE, LONGEST_SHORT_REPLY};
 use crate::value::{Bits, Text, Value};
 use crate::words::{code_text, letter_word, mode_word, switch_word, value_code};
-use arrayvec::ArrayVec;
-use srcp_text::{put_bytes, put_number, put_stamp};
+use srcp_text::{WrittenLine, put_bytes, put_number, put_stamp};
 
-/// Holds a line while its bytes are written, with room for the longest line. The bytes stand in the value itself: no
-/// memory is allocated.
-pub type InfoLine = ArrayVec<u8, LONGEST_LINE>;
+/// Holds a line of at most `LONGEST_LINE` bytes.
+pub type InfoLine = WrittenLine<LONGEST_LINE>;
 
 /// Appends a fixed number of bytes by a push of each, which costs less than a copy.
 #[inline(always)]
-fn put_fixed<const M: usize, const N: usize>(bytes: &[u8; M], buffer: &mut ArrayVec<u8, N>)
-    requires { array_vec_len buffer.old + length bytes.now ≤ N }
-    ensures { buffer.new.items ≡ buffer.old.items ++ bytes.now }
+fn put_fixed<const M: usize, const N: usize>(bytes: &[u8; M], buffer: &mut WrittenLine<N>)
+    requires { length buffer.old + length bytes.now ≤ N }
+    ensures { buffer.new ≡ buffer.old ++ bytes.now }
 {
     for byte in bytes {
         buffer.push(*byte);
@@ -32,18 +29,18 @@ fn put_fixed<const M: usize, const N: usize>(bytes: &[u8; M], buffer: &mut Array
 }
 
 /// Appends a space and a word.
-fn put_word<const N: usize>(word: &[u8], buffer: &mut ArrayVec<u8, N>)
-    requires { array_vec_len buffer.old + 1 + length word.now ≤ N }
-    ensures { buffer.new.items ≡ buffer.old.items ++ 32 ∷ word.now }
+fn put_word<const N: usize>(word: &[u8], buffer: &mut WrittenLine<N>)
+    requires { length buffer.old + 1 + length word.now ≤ N }
+    ensures { buffer.new ≡ buffer.old ++ 32 ∷ word.now }
 {
     buffer.push(b' ');
     put_bytes(word, buffer);
 }
 
 /// Appends a space and a bit: 1 for on, 0 for off.
-fn put_bit<const N: usize>(on: bool, buffer: &mut ArrayVec<u8, N>)
-    requires { array_vec_len buffer.old + 1 + length (bit_word on) ≤ N }
-    ensures { buffer.new.items ≡ buffer.old.items ++ 32 ∷ bit_word on }
+fn put_bit<const N: usize>(on: bool, buffer: &mut WrittenLine<N>)
+    requires { length buffer.old + 1 + length (bit_word on) ≤ N }
+    ensures { buffer.new ≡ buffer.old ++ 32 ∷ bit_word on }
 {
     buffer.push(b' ');
     if on {
@@ -54,18 +51,18 @@ fn put_bit<const N: usize>(on: bool, buffer: &mut ArrayVec<u8, N>)
 }
 
 /// Appends a space and a number.
-fn put_numeral<const N: usize>(number: u32, buffer: &mut ArrayVec<u8, N>)
-    requires { array_vec_len buffer.old + 1 + length (decimal number) ≤ N }
-    ensures { buffer.new.items ≡ buffer.old.items ++ 32 ∷ decimal number }
+fn put_numeral<const N: usize>(number: u32, buffer: &mut WrittenLine<N>)
+    requires { length buffer.old + 1 + length (decimal number) ≤ N }
+    ensures { buffer.new ≡ buffer.old ++ 32 ∷ decimal number }
 {
     buffer.push(b' ');
     put_number(u64::from(number), buffer);
 }
 
 /// Appends each number behind a space.
-fn put_numerals<const N: usize>(numbers: &[u32], buffer: &mut ArrayVec<u8, N>)
-    requires { array_vec_len buffer.old + length (after_spaces (map decimal numbers.now)) ≤ N }
-    ensures { buffer.new.items ≡ buffer.old.items ++ after_spaces (map decimal numbers.now) }
+fn put_numerals<const N: usize>(numbers: &[u32], buffer: &mut WrittenLine<N>)
+    requires { length buffer.old + length (after_spaces (map decimal numbers.now)) ≤ N }
+    ensures { buffer.new ≡ buffer.old ++ after_spaces (map decimal numbers.now) }
 {
     for number in numbers {
         put_numeral(*number, buffer);
@@ -73,9 +70,9 @@ fn put_numerals<const N: usize>(numbers: &[u32], buffer: &mut ArrayVec<u8, N>)
 }
 
 /// Appends the words of a group.
-fn put_group<const N: usize>(group: Group, buffer: &mut ArrayVec<u8, N>)
-    requires { array_vec_len buffer.old + length (after_spaces (group_words group)) ≤ N }
-    ensures { buffer.new.items ≡ buffer.old.items ++ after_spaces (group_words group) }
+fn put_group<const N: usize>(group: Group, buffer: &mut WrittenLine<N>)
+    requires { length buffer.old + length (after_spaces (group_words group)) ≤ N }
+    ensures { buffer.new ≡ buffer.old ++ after_spaces (group_words group) }
 {
     match group {
         Group::Session => put_fixed(b" SESSION", buffer),
@@ -89,11 +86,11 @@ fn put_group<const N: usize>(group: Group, buffer: &mut ArrayVec<u8, N>)
 }
 
 /// Appends what a POWER line says: ON or OFF, and the text if there is one.
-fn put_power<const N: usize>(on: bool, text: &Text, buffer: &mut ArrayVec<u8, N>)
-    requires { array_vec_len buffer.old
+fn put_power<const N: usize>(on: bool, text: &Text, buffer: &mut WrittenLine<N>)
+    requires { length buffer.old
         + length (after_spaces (value_words 0 0 (Value.Power on text.now))) ≤ N }
-    ensures { buffer.new.items
-        ≡ buffer.old.items ++ after_spaces (value_words 0 0 (Value.Power on text.now)) }
+    ensures { buffer.new
+        ≡ buffer.old ++ after_spaces (value_words 0 0 (Value.Power on text.now)) }
 {
     put_word(switch_word(on), buffer);
     if !text.is_empty() {
@@ -102,10 +99,10 @@ fn put_power<const N: usize>(on: bool, text: &Text, buffer: &mut ArrayVec<u8, N>
 }
 
 /// Appends each function as 1 or 0.
-fn put_functions<const N: usize>(functions: &Bits, buffer: &mut ArrayVec<u8, N>)
-    requires { array_vec_len buffer.old
+fn put_functions<const N: usize>(functions: &Bits, buffer: &mut WrittenLine<N>)
+    requires { length buffer.old
         + length (after_spaces (map bit_word functions.now)) ≤ N }
-    ensures { buffer.new.items ≡ buffer.old.items ++ after_spaces (map bit_word functions.now) }
+    ensures { buffer.new ≡ buffer.old ++ after_spaces (map bit_word functions.now) }
 {
     let count = functions.len();
     let bits = functions.as_slice();
@@ -118,12 +115,12 @@ fn put_functions<const N: usize>(functions: &Bits, buffer: &mut ArrayVec<u8, N>)
 }
 
 /// Appends what the line of a row says after the words of its group.
-fn put_value<const N: usize>(key: &Key, value: &Value, buffer: &mut ArrayVec<u8, N>)
+fn put_value<const N: usize>(key: &Key, value: &Value, buffer: &mut WrittenLine<N>)
     requires fits_key { IsValueAt key.now.group key.now.port value.now }
-    requires room { array_vec_len buffer.old
+    requires fits { length buffer.old
         + length (after_spaces (value_words key.now.address key.now.port value.now)) ≤ N }
-    ensures { buffer.new.items
-        ≡ buffer.old.items ++ after_spaces (value_words key.now.address key.now.port value.now) }
+    ensures { buffer.new
+        ≡ buffer.old ++ after_spaces (value_words key.now.address key.now.port value.now) }
 {
     let address = key.address;
     match value {
@@ -174,12 +171,12 @@ fn put_info<const N: usize>(
     code: &[u8; 3],
     bus: u8,
     group: Group,
-    buffer: &mut ArrayVec<u8, N>,
+    buffer: &mut WrittenLine<N>,
 )
-    requires { array_vec_len buffer.old
+    requires { length buffer.old
         + length (join_with_byte 32 (info_words moment code.now bus group [])) ≤ N }
-    ensures { buffer.new.items
-        ≡ buffer.old.items ++ join_with_byte 32 (info_words moment code.now bus group []) }
+    ensures { buffer.new
+        ≡ buffer.old ++ join_with_byte 32 (info_words moment code.now bus group []) }
 {
     put_stamp(moment, buffer);
     buffer.push(b' ');
@@ -189,14 +186,14 @@ fn put_info<const N: usize>(
     put_group(group, buffer);
 }
 
-/// Writes the line of a row, LF included, into an empty buffer with room for the longest line. The line has at most 126
-/// bytes, and is the line by `write_change` of a change to this row. Allocates no memory.
-pub fn write_shown<const N: usize>(shown: &Shown, buffer: &mut ArrayVec<u8, N>)
+/// Writes the line of a row, LF included, into an empty buffer with capacity for the longest line. The line has at most
+/// 126 bytes, and is the line by `write_change` of a change to this row. Allocates no memory.
+pub fn write_shown<const N: usize>(shown: &Shown, buffer: &mut WrittenLine<N>)
     requires well_formed { IsWellFormedShown shown.now }
     requires fits { LONGEST_LINE ≤ N }
-    requires empty { buffer.old.items ≡ [] }
-    ensures line { buffer.new.items ≡ line (Change.Put shown.now) }
-    ensures most { array_vec_len buffer.new ≤ LONGEST_LINE }
+    requires empty { buffer.old ≡ [] }
+    ensures line { buffer.new ≡ line (Change.Put shown.now) }
+    ensures most { length buffer.new ≤ LONGEST_LINE }
 {
     let key = &shown.key;
     put_info(
@@ -211,27 +208,27 @@ pub fn write_shown<const N: usize>(shown: &Shown, buffer: &mut ArrayVec<u8, N>)
 }
 
 /// Writes the line of a removed device.
-fn write_gone<const N: usize>(stamp: u64, device: &Device, buffer: &mut ArrayVec<u8, N>)
+fn write_gone<const N: usize>(stamp: u64, device: &Device, buffer: &mut WrittenLine<N>)
     requires well_formed { IsWellFormed (Change.Gone stamp device.now) }
     requires fits { LONGEST_LINE ≤ N }
-    requires empty { buffer.old.items ≡ [] }
-    ensures line { buffer.new.items ≡ line (Change.Gone stamp device.now) }
-    ensures most { array_vec_len buffer.new ≤ LONGEST_LINE }
+    requires empty { buffer.old ≡ [] }
+    ensures line { buffer.new ≡ line (Change.Gone stamp device.now) }
+    ensures most { length buffer.new ≤ LONGEST_LINE }
 {
     put_info(stamp, b"102", device.bus, device.group, buffer);
     put_numeral(device.address, buffer);
     buffer.push(b'\n');
 }
 
-/// Writes the line of a change, LF included, into an empty buffer with room for the longest line. The line has at most
-/// 126 bytes. The form is from SRCP 0.8, with a single space between two words, numbers without leading zeros, and
+/// Writes the line of a change, LF included, into an empty buffer with capacity for the longest line. The line has at
+/// most 126 bytes. The form is from SRCP 0.8, with a single space between two words, numbers without leading zeros, and
 /// capital letters alone. Allocates no memory.
-pub fn write_change<const N: usize>(change: &Change, buffer: &mut ArrayVec<u8, N>)
+pub fn write_change<const N: usize>(change: &Change, buffer: &mut WrittenLine<N>)
     requires well_formed { IsWellFormed change.now }
     requires fits { LONGEST_LINE ≤ N }
-    requires empty { buffer.old.items ≡ [] }
-    ensures line { buffer.new.items ≡ line change.now }
-    ensures most { array_vec_len buffer.new ≤ LONGEST_LINE }
+    requires empty { buffer.old ≡ [] }
+    ensures line { buffer.new ≡ line change.now }
+    ensures most { length buffer.new ≤ LONGEST_LINE }
 {
     match change {
         Change::Put(shown) => write_shown(shown, buffer),
@@ -240,12 +237,12 @@ pub fn write_change<const N: usize>(change: &Change, buffer: &mut ArrayVec<u8, N
 }
 
 /// Writes a moment and a text as a line.
-fn write_text<const N: usize>(stamp: u64, text: &[u8], buffer: &mut ArrayVec<u8, N>)
+fn write_text<const N: usize>(stamp: u64, text: &[u8], buffer: &mut WrittenLine<N>)
     requires short { length text.now ≤ 40 }
     requires fits { LONGEST_LINE ≤ N }
-    requires empty { buffer.old.items ≡ [] }
-    ensures line { buffer.new.items ≡ spaced (stamp_of stamp ∷ text.now ∷ []) }
-    ensures most { array_vec_len buffer.new ≤ LONGEST_SHORT_REPLY }
+    requires empty { buffer.old ≡ [] }
+    ensures line { buffer.new ≡ spaced (stamp_of stamp ∷ text.now ∷ []) }
+    ensures most { length buffer.new ≤ LONGEST_SHORT_REPLY }
 {
     put_stamp(stamp, buffer);
     put_word(text, buffer);
@@ -253,11 +250,11 @@ fn write_text<const N: usize>(stamp: u64, text: &[u8], buffer: &mut ArrayVec<u8,
 }
 
 /// Writes the reply to GO: the moment, and the id of the new session.
-fn write_go<const N: usize>(stamp: u64, id: u32, buffer: &mut ArrayVec<u8, N>)
+fn write_go<const N: usize>(stamp: u64, id: u32, buffer: &mut WrittenLine<N>)
     requires fits { LONGEST_LINE ≤ N }
-    requires empty { buffer.old.items ≡ [] }
-    ensures line { buffer.new.items ≡ reply_line stamp (Reply.Go id) }
-    ensures most { array_vec_len buffer.new ≤ LONGEST_SHORT_REPLY }
+    requires empty { buffer.old ≡ [] }
+    ensures line { buffer.new ≡ reply_line stamp (Reply.Go id) }
+    ensures most { length buffer.new ≤ LONGEST_SHORT_REPLY }
 {
     put_stamp(stamp, buffer);
     put_word(b"200 OK GO", buffer);
@@ -265,16 +262,16 @@ fn write_go<const N: usize>(stamp: u64, id: u32, buffer: &mut ArrayVec<u8, N>)
     buffer.push(b'\n');
 }
 
-/// Writes the line of a reply at a moment of `stamp` milliseconds, LF included, into an empty buffer with room for the
-/// longest line. A row in a reply keeps its own stamp. The line has at most 126 bytes, and at most 64 without a row.
+/// Writes the line of a reply at a moment of `stamp` milliseconds, LF included, into an empty buffer with capacity for
+/// the longest line. A row in a reply keeps its own stamp. The line has at most 126 bytes, and at most 64 without a row.
 /// Allocates no memory.
-pub fn write_reply<const N: usize>(stamp: u64, reply: &Reply, buffer: &mut ArrayVec<u8, N>)
+pub fn write_reply<const N: usize>(stamp: u64, reply: &Reply, buffer: &mut WrittenLine<N>)
     requires well_formed { IsWellFormedReply reply.now }
     requires fits { LONGEST_LINE ≤ N }
-    requires empty { buffer.old.items ≡ [] }
-    ensures line { buffer.new.items ≡ reply_line stamp reply.now }
-    ensures most { array_vec_len buffer.new ≤ LONGEST_LINE }
-    ensures short { ShowsNoRow reply.now → array_vec_len buffer.new ≤ LONGEST_SHORT_REPLY }
+    requires empty { buffer.old ≡ [] }
+    ensures line { buffer.new ≡ reply_line stamp reply.now }
+    ensures most { length buffer.new ≤ LONGEST_LINE }
+    ensures short { ShowsNoRow reply.now → length buffer.new ≤ LONGEST_SHORT_REPLY }
 {
     match reply {
         Reply::Accepted => write_text(stamp, b"200 OK", buffer),

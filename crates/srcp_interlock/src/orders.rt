@@ -12,7 +12,7 @@ use srcp_text::{LineBuf, put_bytes, put_number};
 /// A turnout is thrown and a signal is shown by a port that falls back to 0 by itself. No port of these accessories
 /// stays at 1, and the last port that was set to 1 tells where the accessory lies.
 pub fn order_line(own: u8, order: Order) -> LineBuf
-    ensures { result.items ≡ order_line own order }
+    ensures { result ≡ order_line own order }
 {
     match order {
         Order::Lock(device) => lock_line(device),
@@ -25,8 +25,8 @@ pub fn order_line(own: u8, order: Order) -> LineBuf
 /// Begins a line: a command word, a bus, group words, and an address.
 fn begun(command: &[u8], bus: u8, group: &[u8], address: u32) -> LineBuf
     requires { length command.now + length group.now ≤ 64 }
-    ensures text { result.items ≡ command.now ++ decimal bus ++ group.now ++ decimal address }
-    ensures few { length result.items ≤ 80 }
+    ensures text { result ≡ command.now ++ decimal bus ++ group.now ++ decimal address }
+    ensures few { length result ≤ 80 }
 {
     let mut line = LineBuf::new();
     put_bytes(command, &mut line);
@@ -37,7 +37,7 @@ fn begun(command: &[u8], bus: u8, group: &[u8], address: u32) -> LineBuf
 }
 
 fn lock_line(device: Device) -> LineBuf
-    ensures { result.items ≡ order_line 0 (Order.Lock device) }
+    ensures { result ≡ order_line 0 (Order.Lock device) }
 {
     let mut line = begun(b"SET ", device.bus, b" LOCK GA ", device.address);
     put_bytes(b" 0\n", &mut line);
@@ -45,7 +45,7 @@ fn lock_line(device: Device) -> LineBuf
 }
 
 fn unlock_line(device: Device) -> LineBuf
-    ensures { result.items ≡ order_line 0 (Order.Unlock device) }
+    ensures { result ≡ order_line 0 (Order.Unlock device) }
 {
     let mut line = begun(b"TERM ", device.bus, b" LOCK GA ", device.address);
     put_bytes(b"\n", &mut line);
@@ -53,7 +53,7 @@ fn unlock_line(device: Device) -> LineBuf
 }
 
 fn set_line(setting: Setting) -> LineBuf
-    ensures { result.items ≡ set_line setting }
+    ensures { result ≡ set_line setting }
 {
     let mut line = begun(b"SET ", setting.device.bus, b" GA ", setting.device.address);
     put_bytes(b" ", &mut line);
@@ -63,7 +63,7 @@ fn set_line(setting: Setting) -> LineBuf
 }
 
 fn report_line(own: u8, number: u32, is_set: bool) -> LineBuf
-    ensures { result.items ≡ order_line own (Order.Report number is_set) }
+    ensures { result ≡ order_line own (Order.Report number is_set) }
 {
     let mut line = begun(b"SET ", own, b" FB ", number);
     put_bytes(if is_set { b" 1\n" } else { b" 0\n" }, &mut line);

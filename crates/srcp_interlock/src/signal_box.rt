@@ -65,7 +65,7 @@ impl SignalBox {
     /// Takes in a line, without its LF, and returns the line to send then, with its LF, if any. A line that tells of no
     /// event changes nothing.
     pub fn step(&mut self, line: &[u8]) -> Option<LineBuf>
-        ensures { TakesIn self.old line.now self.new (option_map (λ sent. sent.items) result) }
+        ensures { TakesIn self.old line.now self.new result }
     {
         let event = hear(self.own, &self.numbers, line)?;
         let order = self.interlocking.step(event)?;

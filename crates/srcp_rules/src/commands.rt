@@ -139,7 +139,7 @@ pub fn obey<R: Rows>(rows: &mut R, session: u32, moment: u64, command: &Command)
 }
 
 /// Executes a command as `obey` does, and writes the outcome over what `obeyed` holds. A caller with a single `Obeyed`
-/// for all commands does not clear the room for changes at each.
+/// for all commands does not clear the buffer of changes at each.
 pub fn obey_into<R: Rows>(
     rows: &mut R,
     session: u32,

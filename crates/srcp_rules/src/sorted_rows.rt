@@ -49,10 +49,10 @@ pub(crate) fn first_in(rows: &[Row], cursor: Cursor, filter: RowFilter) -> Optio
     rows.iter().find(|row| !cursor.has_reached(&row.shown.key) && filter.passes(row))
 }
 
-/// Sets the row at its key. There has to be room for another row.
+/// Sets the row at its key. There has to be capacity for another row.
 fn put(rows: &mut Vec<Row>, row: Row)
     requires rising { IsRising rows.old.items }
-    requires room { vec_len rows.old < vec_capacity rows.old }
+    requires capacity { vec_len rows.old < vec_capacity rows.old }
     ensures rows { rows.new.items ≡ put_row row rows.old.items }
     ensures len { vec_len rows.new ≤ vec_len rows.old + 1 }
     ensures capacity { vec_capacity rows.old ≤ vec_capacity rows.new }

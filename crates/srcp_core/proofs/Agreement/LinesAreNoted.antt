@@ -79,7 +79,8 @@ module _ (buses : List Bus) (n : ℕ) (r : Recording) where
   abbrev IsPlain : World → Connection → Type 0
   IsPlain w conn = (numbered n w.connections ≡ Some conn) × ((conn.items ≡ []) × (conn.taken ≤ length (given conn)))
 
-  tells_replied : (r : Recording) (w : World) (conn : Connection) (reply : Reply) → IsPlain w conn → Records r w → Records r (replied n reply w)
+  tells_replied : (r : Recording) (w : World) (conn : Connection) (reply : Reply) → IsPlain w conn → Records r w
+      → Records r (replied n reply w)
   tells_replied r w conn reply p t =
       tells_same r w n (λ conn. record conn { out = conn.out ++ reply_line w.moment reply })
       (λ other e.
@@ -131,7 +132,8 @@ module _ (buses : List Bus) (n : ℕ) (r : Recording) where
     tells_greeted (Refuses code) = tells_replied r w conn (Refused code) p t
 
     tells_greeted_under : (granted : Bool) (greeting : Greeting)
-        → Records (noted n (steps_greeted granted conn.mode greeting held) r) (greeted buses n conn.mode (greeting_under granted greeting) w)
+        → Records (noted n (steps_greeted granted conn.mode greeting held) r)
+        (greeted buses n conn.mode (greeting_under granted greeting) w)
     tells_greeted_under true greeting = tells_greeted greeting
     tells_greeted_under false Speaks = tells_greeted Speaks
     tells_greeted_under false (Chooses chosen) = tells_greeted (Chooses chosen)

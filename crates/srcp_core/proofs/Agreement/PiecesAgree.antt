@@ -278,7 +278,8 @@ module _ (buses : List Bus) (order : IsRisingBy key_at (shown_rows (opening buse
           (cc)
         where
           by : (result : Fed) (reading : Reading) → ◌≡◌ {A = Fed × Reading} (feed_of p.reader piece start) (result, reading)
-              → ◌≡◌ {A = Option (ℕ × Request) × Held} (None, new) (finds held p result reading) → IsEnded grants new (world_upto grants start)
+              → ◌≡◌ {A = Option (ℕ × Request) × Held} (None, new) (finds held p result reading)
+              → IsEnded grants new (world_upto grants start)
           by (FoundLine s) reading e finding =
               absurd (none-some (s, request_of held.buses p (Line reading.line)) (ap (λ (x : Option (ℕ × Request) × Held). x.0) finding))
           by (FoundTooLong s) reading e finding =

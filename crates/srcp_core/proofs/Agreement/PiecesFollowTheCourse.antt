@@ -36,7 +36,8 @@ line_read : (key : ℕ) (piece : List ℕ) (first : Held) (before : ℕ × Held)
 line_read key piece first before granted counted a =
     by (heard_at key piece before.0 before.1).0 (heard_at key piece before.0 before.1).1 refl
   where
-    by : (found : Option (ℕ × Request)) (mid : Held) → ◌≡◌ {A = Option (ℕ × Request) × Held} (heard_at key piece before.0 before.1) (found, mid)
+    by : (found : Option (ℕ × Request)) (mid : Held)
+        → ◌≡◌ {A = Option (ℕ × Request) × Held} (heard_at key piece before.0 before.1) (found, mid)
         → AreRead key piece first (line_on key piece before granted)
     by None mid e =
         let same : ◌≡◌ {A = ℕ × Held} (line_on key piece before granted) before = cc in

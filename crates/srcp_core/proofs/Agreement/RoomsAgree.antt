@@ -197,7 +197,8 @@ module _ (buses : List Bus) (layout : IsLayout buses) (order : IsRisingBy key_at
       }
 
   -- no byte is taken
-  pub none_kept : (r : Recording) (held : Held) (w : World) → Kept r held w → Kept (with_sent n [] r) (changed_at key (without_sent 0) held) w
+  pub none_kept : (r : Recording) (held : Held) (w : World) → Kept r held w
+      → Kept (with_sent n [] r) (changed_at key (without_sent 0) held) w
   none_kept r held w k =
       let h = found_at buses (λ n fed. fed) keys held w n key k.stands named in
       let p = place_of h.reader _ h.conn in

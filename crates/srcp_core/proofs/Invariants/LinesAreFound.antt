@@ -50,7 +50,8 @@ record AreSame (stop s : ℕ) (request a : Request) (new n : Place) : Type 0 whe
   asks : request ≡ a
   place : new ≡ n
 
-are_same : (stop s : ℕ) (request a : Request) (new n : Place) → ◌≡◌ {A = Option (ℕ × Request) × Place} (Some (stop, request), new) (Some (s, a), n)
+are_same : (stop s : ℕ) (request a : Request) (new n : Place)
+    → ◌≡◌ {A = Option (ℕ × Request) × Place} (Some (stop, request), new) (Some (s, a), n)
     → AreSame stop s request a new n
 are_same stop s request a new n e =
     let both : ◌≡◌ {A = Option (ℕ × Request)} (Some (stop, request)) (Some (s, a)) = ap (λ (r : Option (ℕ × Request) × Place). r.0) e in
@@ -223,7 +224,8 @@ module _ (key : ℕ) (piece : List ℕ) (start stop : ℕ) (request : Request) (
       let r = t.fits in
       omega (arith, same, m, r, o, w, few)
 
-  fits_after : (granted : Bool) → IsSound mid → AnswersFit key piece start held → AnswersFit key piece stop (answered granted key request mid)
+  fits_after : (granted : Bool) → IsSound mid → AnswersFit key piece start held
+      → AnswersFit key piece stop (answered granted key request mid)
   fits_after granted s t =
       let f = line_found key piece start stop request held mid e in
       let g = answered_gains granted key request mid f.place f.mark f.here f.asks s in

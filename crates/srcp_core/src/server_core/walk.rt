@@ -46,7 +46,7 @@ pub(crate) fn least_slack(connections: &Slab<Connection>) -> usize
     least
 }
 
-/// Queues the change for every information session. `panels` are the keys of the connections with an information session.
+/// Queues the change for every information session. `panels` are the keys of the connections with such a session.
 #[tactic(auto, using(crate::proofs::Invariants::EveryPlaceIsTold::told_panels))]
 pub(crate) fn tell_all(connections: &mut Slab<Connection>, panels: &[usize], change: &Change)
     requires panels { panels.now ≡ panel_keys connections.old.slots }

@@ -27,7 +27,9 @@ impl BegunLine {
     pub(super) fn add(&mut self, text: &[u8])
         ensures { (before : List ℕ) → IsBegun self.old before → IsBegun self.new (before ++ text.now) }
     {
-        if self.bytes.try_extend_from_slice(text).is_err() {
+        if text.len() <= LONGEST_LINE - self.bytes.len() {
+            self.bytes.extend(text);
+        } else {
             self.too_long = true;
         }
     }

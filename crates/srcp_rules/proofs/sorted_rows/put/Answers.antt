@@ -10,5 +10,5 @@ pub returns-in-Err-clause-rows : goal.returns-in-Err-clause-rows
 returns-in-Err-clause-rows c =
     let items = c.args.rows.now.items in
     let index = c.in-Err.index in
-    c.insert.ensures.items ∙ ap (λ b. cond b (insert items index c.args.row) items) (c.insert.ensures.succeeds c.requires.room)
+    c.insert.ensures.items ∙ ap (λ b. cond b (insert items index c.args.row) items) (c.insert.ensures.succeeds c.requires.capacity)
     ∙ insert-put_row items c.args.row index (rw c.deref.ensures.value at c.in-Err.ensures.gap)

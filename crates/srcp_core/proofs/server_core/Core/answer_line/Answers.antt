@@ -13,7 +13,7 @@ answer-requires-clause-fits g c =
 
 pub returns-clause-line : goal.returns-clause-line
 returns-clause-line g c =
-    line_is_answered c.args.conn c.args.piece.now c.args.start c.in_ok-stop.stop c.next_line.new.request c.args.self.now c.next_line.new.self
-    c.in_ok-stop.ensures.heard
+    line_is_answered c.args.conn c.args.piece.now c.args.start c.in_ok-stop.stop c.next_line.new.request c.args.self.now
+    c.next_line.new.self c.in_ok-stop.ensures.heard
     c.answer.result c.answer.new.self c.answer.ensures.core c.answer.ensures.steps c.answer.ensures.counted c.in_ok-stop.ensures.sound
     c.requires.fits
