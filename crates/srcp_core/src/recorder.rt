@@ -5,7 +5,8 @@ ghost use Rattle.srcp_info.specs.WellFormed.{IsWellFormedShown};
 ghost use Rattle.srcp_core.specs.Course.{is_info};
 ghost use Rattle.srcp_core.specs.Machine.{item_at, steps_in};
 ghost use Rattle.srcp_core.specs.Recording.{key_of, nothing_recorded, opened, shut, began, noted, stepped, gave};
-ghost use Rattle.srcp_core.specs.Recording.{with_sent, with_item, with_refusal, without_key, changed_record, finished, Becomes};
+ghost use Rattle.srcp_core.specs.Recording.{with_sent, with_item, with_refusal, without_key};
+ghost use Rattle.srcp_core.specs.Recording.{changed_record, finished, Becomes};
 
 use crate::entries::Entries;
 use crate::line::LineRecord;

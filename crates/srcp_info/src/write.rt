@@ -263,8 +263,8 @@ fn write_go<const N: usize>(stamp: u64, id: u32, buffer: &mut WrittenLine<N>)
 }
 
 /// Writes the line of a reply at a moment of `stamp` milliseconds, LF included, into an empty buffer with capacity for
-/// the longest line. A row in a reply keeps its own stamp. The line has at most 126 bytes, and at most 64 without a row.
-/// Allocates no memory.
+/// the longest line. A row in a reply keeps its own stamp. The line has at most 126 bytes, and at most 64 without a
+/// row. Allocates no memory.
 pub fn write_reply<const N: usize>(stamp: u64, reply: &Reply, buffer: &mut WrittenLine<N>)
     requires well_formed { IsWellFormedReply reply.now }
     requires fits { LONGEST_LINE ≤ N }
