@@ -15,7 +15,8 @@ of_step keep add tell buses state step =
 -- the layout without buses has no rows, and each session may begin on it
 of_none : StepsCanBeTold → OpeningsAreWhole → BeginningsCanBeTold
 of_none tell opens session moment mode now low high =
-    (tell [] [] (Began session moment mode) (opens [] moment (record { each = tt; rising = λ k h. omega (arith, h) }) now) (low, high) now).0
+    let whole = opens [] moment (record { each = tt; rising = λ k h. omega (arith, h) }) now in
+    (tell [] [] (Began session moment mode) whole (low, high) now).0
 
 pub returns : goal.returns
 returns c = let by = of_step step_whole step_adds step_told in record {
