@@ -60,8 +60,8 @@ pub fn turns_weigh_enough()
 {}
 
 /// States that a turn makes no panel overrun if two bounds hold (`each`). First, what the door hands out in the turn
-/// weighs, as the door weighs it, at most the slack less 160, or at most 11, as much as one line can. Second, the
-/// turn's moment and the ends of sessions bring at most 160 changes. With what is handed out, of which at most 11
+/// weighs at most the slack less 160, or at most 11. The weight is the door's, and 11 is the most of one line. Second,
+/// the turn's moment and the ends of sessions bring at most 160 changes. With what is handed out, of which at most 11
 /// count, these are within the slack. If each turn is so, no panel ever overran (`all`). The calls are those of
 /// `sent_is_taken`.
 pub fn paced_reads()
