@@ -5,7 +5,7 @@ pub mod SessionsArePanels
 pub mod ShownRegistry
 pub mod RoomGivesWhatIsOwed
 pub mod SessionsOfACourse
-pub mod ClientHoldsPassedRows
+pub mod ItemsFitHistory
 pub mod SessionsAreKept
 pub mod TwinConnections
 pub mod TwinWorlds

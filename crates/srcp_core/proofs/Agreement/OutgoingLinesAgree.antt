@@ -14,8 +14,8 @@ use Rattle.srcp_core.proofs.CourseLaws.RoomsAddUp.{owed_plain}
 use Rattle.srcp_core.proofs.CourseLaws.Histories.{rows_after, cursor_by}
 use Rattle.srcp_core.proofs.Agreement.PlacesChange.{plain_place, plain_is, is_over_place, untold_shut}
 use Rattle.srcp_core.proofs.CourseLaws.RoomGivesWhatIsOwed.{text_items, done_owes, nothing_owed, fitting_none}
-use Rattle.srcp_core.proofs.CourseLaws.ClientHoldsPassedRows.{Fits, untold_by, owed_by, cursor_told, cursor_item, fits_told, fits_listed}
-use Rattle.srcp_core.proofs.CourseLaws.ClientHoldsPassedRows.{not_done}
+use Rattle.srcp_core.proofs.CourseLaws.ItemsFitHistory.{Fits, untold_by, owed_by, cursor_told, cursor_item, fits_told, fits_listed}
+use Rattle.srcp_core.proofs.CourseLaws.ItemsFitHistory.{not_done}
 
 -- ---- an information session that did not overrun
 

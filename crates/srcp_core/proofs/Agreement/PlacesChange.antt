@@ -7,7 +7,7 @@ use Rattle.srcp_core.proofs.Names.{told_all, told_each, with_unsent, entered_pla
 use Rattle.srcp_core.proofs.Names.{place_of, panel_at, cond_both, Overran, Listening}
 use Rattle.srcp_info.specs.declared.value.Mode.TheVariants.{Command as CommandMode}
 use Rattle.srcp_core.proofs.CourseLaws.Histories.{concerning_push, cursor_by, cursor_later}
-use Rattle.srcp_core.proofs.CourseLaws.ClientHoldsPassedRows.{Fits, tolds, untold_by}
+use Rattle.srcp_core.proofs.CourseLaws.ItemsFitHistory.{Fits, tolds, untold_by}
 use Rattle.srcp_core.proofs.Invariants.EveryPlaceIsTold.{told_all_at}
 use Rattle.srcp_core.proofs.CourseLaws.SessionsAreKept.{concerning_start}
 

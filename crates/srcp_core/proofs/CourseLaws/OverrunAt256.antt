@@ -7,7 +7,7 @@ use Rattle.srcp_core.specs.Laws.{FindsFull, OverrunsIfFull}
 use Rattle.srcp_core.proofs.CourseLaws.Histories.{concerning_push, cursor_by}
 use Rattle.srcp_core.proofs.CourseLaws.ShownRegistry.{length_history}
 use Rattle.srcp_core.proofs.CourseLaws.SessionsOfACourse.{stands, anything, fits_open, open_shut, untold_open, overran_open}
-use Rattle.srcp_core.proofs.CourseLaws.ClientHoldsPassedRows.{untold_by, tolds}
+use Rattle.srcp_core.proofs.CourseLaws.ItemsFitHistory.{untold_by, tolds}
 
 -- if more than `most` wait in the end, some change found `most` waiting
 pub finds_full : (most : ℕ) (p : Change → Bool) (n : ℕ) (changes : List Change) → n ≤ most → most < n + length (filter p changes)

@@ -7,7 +7,7 @@ use Rattle.srcp_core.proofs.Names.{beyond_done, Connection, History, heard, is_n
 use Rattle.srcp_core.proofs.Names.{available, exhausts, text, given, unsent, took, items_of, Item, cases_lt, le_refl}
 use Rattle.std.proofs.Math.Nat.{ne_of_gt}
 use Rattle.srcp_core.proofs.CourseLaws.Histories.{rows_after, concerning_by, concerning_same, cursor_by, cursor_done}
-use Rattle.srcp_core.proofs.CourseLaws.ClientHoldsPassedRows.{Fits, Law, Gives, owed_by, untold_by}
+use Rattle.srcp_core.proofs.CourseLaws.ItemsFitHistory.{Fits, Law, Gives, owed_by, untold_by}
 
 -- ---- prefixes
 

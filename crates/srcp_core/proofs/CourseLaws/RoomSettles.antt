@@ -13,7 +13,7 @@ use Rattle.srcp_core.proofs.CourseLaws.Histories.{rows_after}
 use Rattle.srcp_core.proofs.CourseLaws.ShownRegistry.{shown_after, length_history}
 use Rattle.srcp_core.proofs.CourseLaws.RoomGivesWhatIsOwed.{text_items, fitting_prefix, exhausted, done_owes}
 use Rattle.srcp_core.proofs.CourseLaws.SessionsOfACourse.{stands, at_number, anything, opening_in_order, open_shut, fits_open, untold_open}
-use Rattle.srcp_core.proofs.CourseLaws.ClientHoldsPassedRows.{Fits, gives, owed_by}
+use Rattle.srcp_core.proofs.CourseLaws.ItemsFitHistory.{Fits, gives, owed_by}
 use Rattle.srcp_core.proofs.Agreement.NumbersAndKeys.{numbered_with}
 use Rattle.srcp_core.proofs.CourseLaws.SessionsAreKept.{sound, owed_open, in_order_after}
 use Rattle.srcp_core.proofs.CourseLaws.SessionsOfACourse.{owed_is}

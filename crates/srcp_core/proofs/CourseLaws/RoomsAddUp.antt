@@ -13,7 +13,7 @@ use Rattle.srcp_core.proofs.CourseLaws.LinesHaveBytes.{first_empty, owed_full}
 use Rattle.srcp_core.proofs.CourseLaws.Histories.{concerning_by, concerning_same, cursor_by, cursor_before}
 use Rattle.srcp_core.proofs.CourseLaws.RoomGivesWhatIsOwed.{no_lists, fitting_none}
 use Rattle.srcp_core.proofs.CourseLaws.SessionsOfACourse.{anything, at_number, fits_open, open_shut, opening_in_order, overran_open}
-use Rattle.srcp_core.proofs.CourseLaws.ClientHoldsPassedRows.{Fits, tolds, untold_by}
+use Rattle.srcp_core.proofs.CourseLaws.ItemsFitHistory.{Fits, tolds, untold_by}
 use Rattle.srcp_core.proofs.CourseLaws.RoomSettles.{after_room, owes_after, OwesAfter}
 use Rattle.srcp_core.proofs.Agreement.NumbersAndKeys.{numbered_with, with_twice}
 use Rattle.srcp_core.proofs.CourseLaws.SessionsAreKept.{sound, concerning_start}

@@ -12,7 +12,7 @@ use Rattle.srcp_core.proofs.CourseLaws.Histories.{rows_after, part, concerning_b
 use Rattle.srcp_core.proofs.CourseLaws.ShownRegistry.{shown_after, history_push, length_history}
 use Rattle.srcp_core.proofs.CourseLaws.RoomGivesWhatIsOwed.{Stands, fitting_prefix, exhausted, also_done, took_within, fitting_none}
 use Rattle.srcp_core.proofs.CourseLaws.EventsKeep.{IsKept, kept_all, kept_answered}
-use Rattle.srcp_core.proofs.CourseLaws.ClientHoldsPassedRows.{Fits, Law, gives, owed_by, fits_push}
+use Rattle.srcp_core.proofs.CourseLaws.ItemsFitHistory.{Fits, Law, gives, owed_by, fits_push}
 use Rattle.srcp_core.proofs.Names.{all_append, cases_Bool, ⊎_elim}
 
 -- ---- one connection among all

@@ -13,8 +13,8 @@ use Rattle.srcp_feed.proofs.PanelSteps.{gives_done, gives_listed, gives_told}
 use Rattle.srcp_core.specs.Panels.{IsPanel, SessionsArePanels, given_in}
 use Rattle.srcp_core.proofs.CourseLaws.Histories.{rows_after, AreBy, concerning_by, concerning_push, cursor_by, cursor_done, cursor_later}
 use Rattle.srcp_core.proofs.CourseLaws.ShownRegistry.{heard_prefix, length_history, rows_of_course, shown_after}
-use Rattle.srcp_core.proofs.CourseLaws.ClientHoldsPassedRows.{Fits, Law, cursor_item, cursor_told, fits_listed, fits_told, item_of}
-use Rattle.srcp_core.proofs.CourseLaws.ClientHoldsPassedRows.{rows_push, tolds, untold_by}
+use Rattle.srcp_core.proofs.CourseLaws.ItemsFitHistory.{Fits, Law, cursor_item, cursor_told, fits_listed, fits_told, item_of}
+use Rattle.srcp_core.proofs.CourseLaws.ItemsFitHistory.{rows_push, tolds, untold_by}
 use Rattle.srcp_core.proofs.CourseLaws.RoomGivesWhatIsOwed.{before_done}
 use Rattle.srcp_core.proofs.CourseLaws.SessionsAreKept.{concerning_start, in_order_after, none_concern}
 use Rattle.srcp_core.proofs.CourseLaws.SessionsOfACourse.{OfSessions, open_shut, opening_in_order, settled_facts, stands}

@@ -8,7 +8,7 @@ use Rattle.srcp_core.proofs.Names.{course, rows, history, IsSession, Item, overr
 use Rattle.srcp_core.proofs.CourseLaws.Histories.{rows_after}
 use Rattle.srcp_core.proofs.CourseLaws.ShownRegistry.{shown_after, all_shown}
 use Rattle.srcp_core.proofs.CourseLaws.RoomGivesWhatIsOwed.{Stands}
-use Rattle.srcp_core.proofs.CourseLaws.ClientHoldsPassedRows.{Fits, Law, owed_by, untold_by}
+use Rattle.srcp_core.proofs.CourseLaws.ItemsFitHistory.{Fits, Law, owed_by, untold_by}
 use Rattle.srcp_core.proofs.CourseLaws.SessionsAreKept.{sound, owed_open}
 use Rattle.srcp_core.proofs.CourseLaws.StepsKeepWhole.{whole_opening}
 

@@ -8,7 +8,7 @@ use Rattle.srcp_core.proofs.Names.{rows, happens, course, is_info, entered, brou
 use Rattle.srcp_core.proofs.Names.{le_refl, cond_both, take, take-append-le, take_all}
 use Rattle.srcp_core.specs.Waits.{changes_since, WaitsGrowByChanges, FewChangesCloseNone}
 use Rattle.srcp_core.proofs.CourseLaws.Histories.{concerning_by, concerning_push, concerning_none, cursor_by}
-use Rattle.srcp_core.proofs.CourseLaws.ClientHoldsPassedRows.{untold_by, tolds}
+use Rattle.srcp_core.proofs.CourseLaws.ItemsFitHistory.{untold_by, tolds}
 use Rattle.srcp_core.proofs.CourseLaws.ShownRegistry.{history_push, length_history}
 use Rattle.srcp_core.proofs.Agreement.SlackAgrees.{AtMost, IsIn, least_least, least_in, slack_by, slack_conns}
 use Rattle.srcp_core.proofs.CourseLaws.SessionsOfACourse.{open_shut, untold_open, overran_open}

@@ -12,7 +12,7 @@ use Rattle.srcp_serve.proofs.Names.{cond_both, nil_from_length, IsKept, kept_all
 use Rattle.srcp_rules.specs.State.{State, opening, shown_rows}
 use Rattle.srcp_core.proofs.CourseLaws.ShownRegistry.{length_history}
 use Rattle.srcp_core.proofs.CourseLaws.Histories.{AreBy, IsDoneBy, cursor_later, enumerate_push}
-use Rattle.srcp_core.proofs.CourseLaws.ClientHoldsPassedRows.{Fits}
+use Rattle.srcp_core.proofs.CourseLaws.ItemsFitHistory.{Fits}
 use Rattle.srcp_core.proofs.CourseLaws.LinesHaveBytes.{AreFull, owed_full}
 use Rattle.srcp_core.proofs.CourseLaws.RoomSettles.{owes_after}
 use Rattle.srcp_core.proofs.CourseLaws.RoomAfterRoom.{left_after}
