@@ -1,14 +1,14 @@
 -- All peers of a door, when a step changes one of them.
 use Rattle.std.proofs.Common.{◌≡◌, ◌∙◌, ℕ, ◌<◌, ◌≤◌, ◌+◌, List, length, refl, ap, sym, subst, arith, ⊎_elim, get_or, set, get_or-set_other}
-use Rattle.std.proofs.Common.{get_or-set_same, ◌==◌, Option, Some}
+use Rattle.std.proofs.Common.{get_or-set_same, ◌==◌, Option, [], ◌∷◌, ◌++◌}
 use Rattle.std.specs.Prelude.{◌≢◌, All, Bool, false, true, cond, fold, slice_index_or, take, ◌&&◌, ◌||◌}
 use Rattle.std.proofs.lemmas.Bool.{cases_eq}
 use Rattle.std.proofs.lemmas.List.{get_or_default, length-set}
 use Rattle.srcp_peers.specs.declared.peer.Peer.{Peer}
 use Rattle.srcp_peers.specs.declared.stay.Stay.{Stay}
 use Rattle.srcp_peers.specs.declared.system.Ready.{Ready}
-use Rattle.srcp_peers.specs.Steps.{Clocks, Step, Tells, Waits}
-use Rattle.srcp_peers.specs.Accounts.{Account, is_short_wait, account}
+use Rattle.srcp_peers.specs.Steps.{Clocks, Step, Waits}
+use Rattle.srcp_peers.specs.Accounts.{Account, is_short_wait}
 use Rattle.srcp_peers.specs.Peers.{Agrees, IsKept, Spares, IsRead, after_wake, is_resting, is_silent}
 use Rattle.srcp_peers.specs.Peers.{stay_after}
 use Rattle.srcp_peers.specs.AllPeers.{AreApart, AreKept, AreThose, AreWithin, IsAbsent}
@@ -16,13 +16,11 @@ use Rattle.srcp_peers.proofs.PeersStayKept.{alien, all_number, kept_after, kept_
 use Rattle.srcp_peers.proofs.PeersLingerByAccount.{clocked_agrees}
 
 -- a peer of which no step says anything stays what its account says
-pub kept_spared : (old new : Option (List Step)) (p : Peer) → Spares p.number old new → IsKept old p → IsKept new p
-kept_spared old new p spares kept later is =
-    let s = spares later is in
-    subst (λ (a : Account). Agrees a p) (sym s.2) (kept s.0 s.1)
+pub kept_spared : (old new : List Step) (p : Peer) → Spares p.number old new → IsKept old p → IsKept new p
+kept_spared old new p spares kept = subst (λ (a : Account). Agrees a p) (sym spares) kept
 
 -- all peers, after a step that changed one of them and says nothing of the others
-pub set_kept : (old new : Option (List Step)) (peers : List Peer) (i : ℕ) (p q : Peer) → i < length peers
+pub set_kept : (old new : List Step) (peers : List Peer) (i : ℕ) (p q : Peer) → i < length peers
     → AreApart peers → AreKept old peers → IsKept new q
     → ((other : ℕ) → other ≢ (get_or peers i p).number → Spares other old new) → AreKept new (set peers i q)
 set_kept old new peers i p q within apart kept after spares k d lt =
@@ -90,7 +88,7 @@ within_later last first peers long those within k d lt =
     (subst (λ (n : ℕ). 0 < n) (sym (those k d low)) w.0, subst (λ (n : ℕ). n ≤ last) (sym (those k d low)) w.1)
 
 -- all peers after a clock was read
-pub clocked_all : (old new : Option (List Step)) (peers : List Peer) (answer : Option ℕ) → Tells old (Clocks answer) new
+pub clocked_all : (old new : List Step) (peers : List Peer) (answer : Option ℕ) → new ≡ old ++ Clocks answer ∷ []
     → AreKept old peers → AreKept new peers
 clocked_all old new peers answer tells kept k d lt =
     let p : Peer = slice_index_or peers k d in
@@ -181,8 +179,8 @@ woken_apart before after ready long woken apart = apart_later before after long
     (λ k d lt. ap (λ (x : Peer). x.number) (woken k d lt) ∙ all_number (slice_index_or before k d) ready) apart
 
 -- all peers after a wait, which is long only if all rest
-pub waited_all : (old new : Option (List Step)) (peers later : List Peer) (most : Option ℕ) (count : ℕ) (ready : List Ready)
-    → (is_short_wait most ≡ false → All (λ peer. is_resting peer ≡ true) peers) → Tells old (Waits most count ready) new
+pub waited_all : (old new : List Step) (peers later : List Peer) (most : Option ℕ) (count : ℕ) (ready : List Ready)
+    → (is_short_wait most ≡ false → All (λ peer. is_resting peer ≡ true) peers) → new ≡ old ++ Waits most count ready ∷ []
     → length later ≡ length peers
     → ((k : ℕ) (d : Peer) → k < length peers → slice_index_or later k d ≡ fold after_wake (slice_index_or peers k d) (take count ready))
     → AreKept old peers → AreKept new later
@@ -191,19 +189,10 @@ waited_all old new peers later most count ready rest tells long woken kept k d l
     subst (IsKept new) (sym (woken k d low))
     (kept_waited old new (slice_index_or peers k d) most count ready (λ e. rest e k d low) tells (kept k d low))
 
--- ---- who is spared
-
--- what held of an account holds of it after steps that say nothing of it
-pub spared : (P : Account → Type 0) (socket : ℕ) (old new : Option (List Step)) → Spares socket old new
-    → ((log : List Step) → old ≡ Some log → P (account socket log)) → (log : List Step) → new ≡ Some log → P (account socket log)
-spared P socket old new spares before log is =
-    let s = spares log is in
-    subst P (sym s.2) (before s.0 s.1)
-
 -- ---- all peers are read
 
 -- one more is, and the others stay so
-pub set_read : (old new : Option (List Step)) (peers : List Peer) (i : ℕ) (p q : Peer) → i < length peers → AreApart peers
+pub set_read : (old new : List Step) (peers : List Peer) (i : ℕ) (p q : Peer) → i < length peers → AreApart peers
     → q.number ≡ (get_or peers i p).number → ((other : ℕ) → other ≢ (get_or peers i p).number → Spares other old new)
     → IsRead new (get_or peers i p).number → ((k : ℕ) (d : Peer) → k < i → IsRead old (get_or peers k d).number)
     → (k : ℕ) (d : Peer) → k < i + 1 → IsRead new (get_or (set peers i q) k d).number
@@ -215,6 +204,5 @@ set_read old new peers i p q within apart same others here below k d lt = ⊎_el
     let differ : (get_or peers k d).number ≢ (get_or peers i p).number = λ (e : (get_or peers k d).number ≡ (get_or peers i p).number).
     apart k i d (omega (arith, low, within)) within ne (e ∙ ap (λ (x : Peer). x.number) (get_or_default peers i p d within)) in
     subst (IsRead new) (sym (ap (λ (x : Peer). x.number) (get_or-set_other peers i k q d ne)))
-    (spared (λ (a : Account). (a.watched && a.unread) ≡ false) (get_or peers k d).number old new
-    (others (get_or peers k d).number differ) (below k d low)))
+    (subst (λ (a : Account). (a.watched && a.unread) ≡ false) (sym (others (get_or peers k d).number differ)) (below k d low)))
     (cases_eq k i)

@@ -13,18 +13,11 @@ use Rattle.srcp_peers.specs.declared.stay.Stay.{Stay}
 use Rattle.srcp_peers.specs.declared.stay.Stay.TheVariants as stay
 use Rattle.srcp_peers.specs.Accounts.{Account, Lingering, Received, Sent, account, clocked, clock_after}
 use Rattle.srcp_peers.specs.Accounts.{is_held, is_overdue, is_owed, left_by_core}
-use Rattle.srcp_peers.specs.Accounts.{may_close, may_end, may_fail, shut_down}
+use Rattle.srcp_peers.specs.Accounts.{may_close, may_end, may_fail}
 use Rattle.srcp_peers.specs.Peers.{Agrees, ComesAs, IsKept, MayFail, ReadsAs, StaysAs, WritesAs, closable_as, is_closable, is_here, is_lost}
 use Rattle.srcp_peers.proofs.PeersRestByAccount.{held_is, owed_is}
 use Rattle.srcp_peers.proofs.StatesFollowSteps.{comes_starts, reads_here}
 use Rattle.srcp_peers.proofs.UnreadPeersAreRead.{wants_less}
-
--- one that is there stays so, whatever is queued for it
-pub stays_here : (watched : Bool) (lingering : Lingering) (before after : List ℕ) (here : Stay) → here ≡ stay.Here
-    → StaysAs watched lingering before here → StaysAs watched lingering after here
-stays_here watched lingering before after stay.Here e h = h
-stays_here watched lingering before after (stay.Draining since) e h = h
-stays_here watched lingering before after (stay.Shut since) e h = absurd cc
 
 -- its socket took something of what is queued
 pub stays_drop : (watched : Bool) (lingering : Lingering) (outgoing : List ℕ) (here : Stay) (count : ℕ)
@@ -104,22 +97,19 @@ dropped_as received incoming state stay.Here e h = absurd (true≢false e)
 dropped_as received incoming state (stay.Draining since) e h = h
 dropped_as received incoming state (stay.Shut since) e h = h
 
-pub kept_dropped : (trace : Option (List Step)) (p : Peer) → is_here p.stay ≡ false → IsKept trace p
-    → IsKept trace (record p { incoming = [] })
-kept_dropped trace p gone kept log is =
-    let h = kept log is in
-    record {
-      reads = dropped_as (account p.number log).received p.incoming p.input p.stay gone h.reads;
-      writes = h.writes;
-      stays = h.stays;
-      rightly = h.rightly;
-      unread = λ e. wants_less p.input p.incoming p.incoming [] (sym (append-nil p.incoming)) (h.unread e);
-      served = h.served;
-      cut = h.cut;
-      line = h.line;
-      honest = h.honest;
-      rested = h.rested;
-    }
+pub kept_dropped : (log : List Step) (p : Peer) → is_here p.stay ≡ false → IsKept log p → IsKept log (record p { incoming = [] })
+kept_dropped log p gone h = record {
+  reads = dropped_as (account p.number log).received p.incoming p.input p.stay gone h.reads;
+  writes = h.writes;
+  stays = h.stays;
+  rightly = h.rightly;
+  unread = λ e. wants_less p.input p.incoming p.incoming [] (sym (append-nil p.incoming)) (h.unread e);
+  served = h.served;
+  cut = h.cut;
+  line = h.line;
+  honest = h.honest;
+  rested = h.rested;
+}
 
 -- ---- it is shut down
 
@@ -140,29 +130,6 @@ pub may_end_then : (a : Account) (incoming outgoing : List ℕ) (state : Output)
 may_end_then a incoming outgoing state came over none taken sound w =
     ends a.received.ended (is_held a.received) (is_owed a.sent) over
     (held_is a.received incoming came ∙ ap (λ (i : List ℕ). not (length i == 0)) none) (owed_none a.sent outgoing state sound taken w)
-
-shuts : (rightly watched kept shut owed : Bool) → rightly ≡ true → watched ≡ false → kept ≡ true → shut ≡ false → owed ≡ false
-    → (rightly && ((not watched && kept) && (not shut && not owed))) ≡ true
-shuts rightly watched kept shut owed r w o s n = rw (r, w, o, s, n) refl
-
-pub shut_agrees : (a : Account) (p : Peer) (since : ℕ) → p.stay ≡ stay.Draining since → p.outgoing ≡ [] → is_lost p.output ≡ false
-    → Agrees a p → Agrees (shut_down a) (record p { stay = stay.Shut since })
-shut_agrees a p since draining none kept h =
-    let s : StaysAs a.watched a.lingering p.outgoing (stay.Draining since) =
-    subst (StaysAs a.watched a.lingering p.outgoing) draining h.stays in
-    record {
-      reads = comes_starts a.received p.incoming p.input p.stay h.reads;
-      writes = h.writes;
-      stays = (s.0, s.1, s.2, refl, none);
-      rightly = shuts a.lingering.rightly a.watched a.lingering.kept a.lingering.shut (is_owed a.sent) h.rightly s.0 s.1 s.3
-          (owed_none a.sent p.outgoing p.output kept none h.writes);
-      unread = h.unread;
-      served = h.served;
-      cut = h.cut;
-      line = h.line;
-      honest = h.honest;
-      rested = h.rested;
-    }
 
 -- ---- it is closed
 

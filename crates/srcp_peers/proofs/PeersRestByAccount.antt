@@ -41,11 +41,6 @@ pub and_right : (a b : Bool) → (a && b) ≡ true → b ≡ true
 and_right true b h = h
 and_right false b h = absurd (true≢false (sym h))
 
--- either of two, by their other names
-or_by : (x y b s : Bool) → (x || y) ≡ true → b ≡ x → (y ≡ true → s ≡ true) → (b || s) ≡ true
-or_by true y b s h e f = ap (λ c. c || s) e
-or_by false y b s h e f = ap (λ c. c || s) e ∙ f h
-
 silent_quiet : (held quiet ended failed owed : Bool) → held ≡ false → quiet ≡ true → ended ≡ false → failed ≡ false
     → (not held && ((quiet && (not ended && not failed)) || (ended && owed))) ≡ true
 silent_quiet held quiet ended failed owed h q e f = rw (h, q, e, f) refl
@@ -65,7 +60,7 @@ silent_as received incoming outgoing state owed o h r =
     by : (s : Input) → ReadsAs received incoming s → rests_reading outgoing s ≡ true → (length incoming == 0) ≡ true
         → is_silent received owed ≡ true
     by input.Ready h r none = absurd (true≢false (sym r))
-    by input.Draining h r none = absurd (true≢false (sym r))
+    by input.Emptying h r none = absurd (true≢false (sym r))
     by input.Quiet h r none = silent_quiet (is_held received) received.quiet received.ended received.failed owed
         (held_is received incoming h.0 ∙ ap not none) h.4 h.2 h.1
     by input.Ended h r none = silent_ended (is_held received) received.quiet received.ended received.failed owed

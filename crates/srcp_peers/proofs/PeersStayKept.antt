@@ -4,37 +4,32 @@ use Rattle.std.proofs.Common.{refl, ap, sym, subst, arith, ◌==◌, Option}
 use Rattle.std.specs.Prelude.{◌≢◌, OnErr, Result, ◌&&◌, ◌||◌, fold}
 use Rattle.std.proofs.lemmas.List.Sums.{fold-append}
 use Rattle.std.proofs.lemmas.Bool.Decides.{nat_tests}
-use Rattle.std.specs.declared.io.ErrorKind.{ErrorKind}
 use Rattle.srcp_peers.specs.declared.system.Ready.{Ready}
-use Rattle.srcp_peers.specs.declared.system.IoFailure.{IoFailure}
-use Rattle.srcp_peers.specs.declared.system.IoFailure.TheVariants.{WouldBlock, Interrupted, Fatal}
 use Rattle.srcp_peers.specs.declared.readiness.Input.TheVariants as input
-use Rattle.srcp_peers.specs.declared.readiness.Output.{Output}
 use Rattle.srcp_peers.specs.declared.readiness.Output.TheVariants as output
 use Rattle.srcp_peers.specs.declared.peer.Peer.{Peer}
 use Rattle.srcp_peers.specs.declared.stay.Stay.TheVariants as stay
-use Rattle.srcp_peers.specs.Steps.{Step, Tells, Reads, Shuts, Writes, Waits, Answers}
-use Rattle.srcp_peers.specs.Steps.{failure_of}
+use Rattle.srcp_peers.specs.Steps.{Step, Writes, Waits, Answers}
 use Rattle.srcp_door.specs.Calls.{ReadCall}
 use Rattle.srcp_door.specs.declared.door.DoorFault.{DoorFault}
 use Rattle.srcp_door.specs.declared.door.Got.{Got}
 use Rattle.srcp_door.specs.declared.door.Got.TheVariants as got
-use Rattle.srcp_peers.specs.Accounts.{Account, Sent, Received, account, account_step, answered_step, is_at_rest, is_short_wait}
+use Rattle.srcp_peers.specs.Accounts.{Account, account, account_step, answered_step, is_at_rest, is_short_wait}
 use Rattle.srcp_peers.specs.Accounts.{may_end, may_fail}
-use Rattle.srcp_peers.specs.Accounts.{refused_read, refused_write, shut_down, untouched, waited, wrote, woken, woken_sent}
+use Rattle.srcp_peers.specs.Accounts.{untouched, waited, woken, woken_sent}
 use Rattle.srcp_peers.specs.Accounts.{woken_came}
 use Rattle.srcp_door.specs.Pacing.{line_after}
 use Rattle.srcp_door.specs.declared.pacing.LineBoundary.{LineBoundary}
 use Rattle.srcp_door.specs.declared.pacing.LineBoundary.TheVariants as boundary
 use Rattle.srcp_door.specs.declared.pacing.Share.{Share}
-use Rattle.srcp_peers.specs.Peers.{Agrees, ComesAs, IsKept, MayEnd, MayFail, ReadsAs, Spares, WritesAs, after_wake, given}
-use Rattle.srcp_peers.specs.Peers.{is_lost, is_resting, may_have, missed, output_after, refused, woken_input, woken_output}
+use Rattle.srcp_peers.specs.Peers.{Agrees, ComesAs, IsKept, MayEnd, MayFail, ReadsAs, Spares, WritesAs, after_wake}
+use Rattle.srcp_peers.specs.Peers.{is_resting, output_after, woken_input, woken_output}
 use Rattle.srcp_peers.specs.Turns.{got_bytes}
-use Rattle.srcp_peers.proofs.StatesFollowSteps.{comes_here, handed_as, read_comes, reads_here, unread_comes, unwritten_as, woken_comes}
+use Rattle.srcp_peers.proofs.StatesFollowSteps.{comes_here, handed_as, reads_here, woken_comes}
 use Rattle.srcp_peers.proofs.StatesFollowSteps.{woken_writes, wrote_as}
 use Rattle.srcp_peers.proofs.LinesAreHandedOut.{line_after-append}
-use Rattle.srcp_peers.proofs.PeersLingerByAccount.{may_end_then, may_fail_then, shut_agrees, stays_drop}
-use Rattle.srcp_peers.proofs.UnreadPeersAreRead.{noted_agrees, wants_less, wants_woken, was_read}
+use Rattle.srcp_peers.proofs.PeersLingerByAccount.{may_end_then, may_fail_then, stays_drop}
+use Rattle.srcp_peers.proofs.UnreadPeersAreRead.{noted_agrees, wants_less, wants_woken}
 use Rattle.srcp_peers.proofs.PeersRestByAccount.{resting}
 
 -- an account after one more step
@@ -43,31 +38,18 @@ pub account_more : (socket : ℕ) (log : List Step) (step : Step) → account so
 account_more socket log step = fold-append (account_step socket) untouched log (step ∷ [])
 
 -- a peer is what its account says after a step, if so it was before
-pub kept_after : (old new : Option (List Step)) (step : Step) (p q : Peer) → Tells old step new → q.number ≡ p.number
+pub kept_after : (old new : List Step) (step : Step) (p q : Peer) → new ≡ old ++ step ∷ [] → q.number ≡ p.number
     → ((a : Account) → Agrees a p → Agrees (account_step p.number a step) q) → IsKept old p → IsKept new q
-kept_after old new step p q tells same follows kept later is =
-    let t = tells later is in
-    let before : Agrees (account p.number t.0) p = kept t.0 t.1 in
-    let after : Agrees (account_step p.number (account p.number t.0) step) q = follows (account p.number t.0) before in
-    let more : account p.number later ≡ account_step p.number (account p.number t.0) step = ap (account p.number) t.2
-    ∙ account_more p.number t.0 step in
-    subst (λ (n : ℕ). Agrees (account n later) q) (sym same) (subst (λ (a : Account). Agrees a q) (sym more) after)
+kept_after old new step p q is same follows kept =
+    let more : account p.number new ≡ account_step p.number (account p.number old) step = ap (account p.number) is
+    ∙ account_more p.number old step in
+    subst (λ (n : ℕ). Agrees (account n new) q) (sym same)
+    (subst (λ (a : Account). Agrees a q) (sym more) (follows (account p.number old) kept))
 
 -- the account of another socket stays
-pub spares_after : (other : ℕ) (old new : Option (List Step)) (step : Step) → Tells old step new
+pub spares_after : (other : ℕ) (old new : List Step) (step : Step) → new ≡ old ++ step ∷ []
     → ((a : Account) → account_step other a step ≡ a) → Spares other old new
-spares_after other old new step tells same later is =
-    let t = tells later is in
-    (t.0, t.1, ap (account other) t.2 ∙ account_more other t.0 step ∙ same (account other t.0))
-
-pub spares_none : (other : ℕ) (trace : Option (List Step)) → Spares other trace trace
-spares_none other trace later is = (later, is, refl)
-
-pub spares_then : (other : ℕ) (old mid new : Option (List Step)) → Spares other old mid → Spares other mid new → Spares other old new
-spares_then other old mid new first second later is =
-    let s = second later is in
-    let f = first s.0 s.1 in
-    (f.0, f.1, s.2 ∙ f.2)
+spares_after other old new step is same = ap (account other) is ∙ account_more other old step ∙ same (account other old)
 
 -- ---- whose step it is
 
@@ -88,8 +70,8 @@ skips b x y e = ap (λ c. if c then x else y) e
 agrees_own : (b : Bool) (x y : Account) (p : Peer) → b ≡ true → Agrees x p → Agrees (if b then x else y) p
 agrees_own b x y p e h = subst (λ (a : Account). Agrees a p) (sym (picks b x y e)) h
 
-pub kept_write : (old new : Option (List Step)) (p : Peer) (count : ℕ) (awaits : Bool) → p.output ≡ output.Open
-    → Tells old (Writes p.number p.outgoing (Ok count)) new → IsKept old p
+pub kept_write : (old new : List Step) (p : Peer) (count : ℕ) (awaits : Bool) → p.output ≡ output.Open
+    → new ≡ old ++ Writes p.number p.outgoing (Ok count) ∷ [] → IsKept old p
     → IsKept new (record p { outgoing = drop count p.outgoing; output = output_after count (length p.outgoing); awaits_reply = awaits })
 kept_write old new p count awaits is_open tells kept =
     let q : Peer = record p { outgoing = drop count p.outgoing; output = output_after count (length p.outgoing); awaits_reply = awaits } in
@@ -106,101 +88,6 @@ kept_write old new p count awaits is_open tells kept =
       honest = h.honest;
       rested = h.rested;
     })) kept
-
--- a write that failed says nothing of what the core has
-refused_cut : (sent : Sent) (said : IoFailure) → (refused_write sent said).cut ≡ sent.cut
-refused_cut sent WouldBlock = refl
-refused_cut sent Interrupted = refl
-refused_cut sent Fatal = refl
-
-pub kept_refused : (old new : Option (List Step)) (p : Peer) (fault : ErrorKind) (awaits : Bool) → p.output ≡ output.Open
-    → Tells old (Writes p.number p.outgoing (Err fault)) new → IsKept old p
-    → IsKept new (record p { output = refused p.output (failure_of fault); awaits_reply = awaits })
-kept_refused old new p fault awaits is_open tells kept =
-    let q : Peer = record p { output = refused p.output (failure_of fault); awaits_reply = awaits } in
-    kept_after old new (Writes p.number p.outgoing (Err fault)) p q tells refl
-    (λ (a : Account) (h : Agrees a p). agrees_own (p.number == p.number) (record a { sent = wrote a.sent p.outgoing (Err fault) }) a q
-    (own p.number) (record {
-      cut = refused_cut a.sent (failure_of fault) ∙ h.cut;
-      reads = h.reads;
-      stays = h.stays;
-      rightly = h.rightly;
-      unread = h.unread;
-      served = h.served;
-      writes = subst (λ (s : Output). WritesAs (wrote a.sent p.outgoing (Err fault)) p.outgoing (refused s (failure_of fault)))
-          (sym is_open)
-          (unwritten_as a.sent p.outgoing fault (subst (WritesAs a.sent p.outgoing) is_open h.writes));
-      line = h.line;
-      honest = h.honest;
-      rested = h.rested;
-    })) kept
-
-pub kept_read : (old new : Option (List Step)) (p : Peer) (buffer : List ℕ) (count : ℕ) → may_have p.input ≡ true
-    → Tells old (Reads p.number buffer (Ok count)) new → IsKept old p
-    → IsKept new (record p { incoming = p.incoming ++ take count buffer; input = given p.input count (length buffer) })
-kept_read old new p buffer count ready tells kept =
-    let q : Peer = record p { incoming = p.incoming ++ take count buffer; input = given p.input count (length buffer) } in
-    kept_after old new (Reads p.number buffer (Ok count)) p q tells refl
-    (λ (a : Account) (h : Agrees a p). agrees_own (p.number == p.number) _ a q (own p.number) (record {
-      cut = h.cut;
-      reads = read_comes a.received p.incoming buffer count p.input p.stay ready h.reads;
-      writes = h.writes;
-      stays = h.stays;
-      rightly = h.rightly;
-      unread = was_read a.watched;
-      served = h.served;
-      line = h.line;
-      honest = h.honest;
-      rested = h.rested;
-    })) kept
-
--- a read that failed hands out nothing
-refused_handed : (received : Received) (said : IoFailure) → (refused_read received said).handed ≡ received.handed
-refused_handed received WouldBlock = refl
-refused_handed received Interrupted = refl
-refused_handed received Fatal = refl
-
-pub kept_missed : (old new : Option (List Step)) (p : Peer) (buffer : List ℕ) (fault : ErrorKind) → may_have p.input ≡ true
-    → Tells old (Reads p.number buffer (Err fault)) new → IsKept old p
-    → IsKept new (record p { input = missed p.input (failure_of fault) })
-kept_missed old new p buffer fault ready tells kept =
-    let q : Peer = record p { input = missed p.input (failure_of fault) } in
-    kept_after old new (Reads p.number buffer (Err fault)) p q tells refl
-    (λ (a : Account) (h : Agrees a p). agrees_own (p.number == p.number) _ a q (own p.number) (record {
-      cut = h.cut;
-      reads = unread_comes a.received p.incoming buffer fault p.input p.stay ready h.reads;
-      writes = h.writes;
-      stays = h.stays;
-      rightly = h.rightly;
-      unread = was_read a.watched;
-      served = h.served;
-      line = h.line ∙ ap (line_after boundary.At) (sym (refused_handed a.received (failure_of fault)));
-      honest = h.honest;
-      rested = h.rested;
-    })) kept
-
-pub kept_shut : (old new : Option (List Step)) (p : Peer) (since : ℕ) → p.stay ≡ stay.Draining since → p.outgoing ≡ []
-    → is_lost p.output ≡ false → Tells old (Shuts p.number) new → IsKept old p → IsKept new (record p { stay = stay.Shut since })
-kept_shut old new p since draining none sound tells kept =
-    let q : Peer = record p { stay = stay.Shut since } in
-    kept_after old new (Shuts p.number) p q tells refl
-    (λ (a : Account) (h : Agrees a p). agrees_own (p.number == p.number) (shut_down a) a q (own p.number)
-    (shut_agrees a p since draining none sound h)) kept
-
-pub spares_shut : (n other : ℕ) (old new : Option (List Step)) → other ≢ n → Tells old (Shuts n) new → Spares other old new
-spares_shut n other old new differ tells =
-    spares_after other old new (Shuts n) tells (λ a. skips (n == other) (shut_down a) a (alien n other differ))
-
-pub spares_got : (n other : ℕ) (old new : Option (List Step)) (answer : Result Got DoorFault) (buffer : List ℕ) → other ≢ n
-    → Tells old (Answers (ReadCall n answer buffer)) new → Spares other old new
-spares_got n other old new answer buffer differ tells =
-    spares_after other old new (Answers (ReadCall n answer buffer)) tells (λ a. same a answer)
-  where
-    same : (a : Account) (got : Result Got DoorFault) → answered_step other a (ReadCall n got buffer) ≡ a
-    same a (Ok (got.Bytes count)) = skips (n == other) _ a (alien n other differ)
-    same a (Ok got.Nothing) = refl
-    same a (Ok got.Ended) = skips (n == other) _ a (alien n other differ)
-    same a (Err fault) = skips (n == other) _ a (alien n other differ)
 
 -- what a read of the door answered
 got_agrees : (a : Account) (p : Peer) (answer : Result Got DoorFault) (buffer rest : List ℕ) (share : Share) (awaits : Bool) (heard : ℕ)
@@ -271,12 +158,12 @@ got_agrees a p (Err fault) buffer rest share awaits heard here is lined ended fa
       rested = h.rested;
     })
 
-pub kept_got : (old new : Option (List Step)) (p q : Peer) (answer : Result Got DoorFault) (buffer : List ℕ)
+pub kept_got : (old new : List Step) (p q : Peer) (answer : Result Got DoorFault) (buffer : List ℕ)
     → p.stay ≡ stay.Here → q ≡ record p { incoming = q.incoming; share = q.share; awaits_reply = q.awaits_reply; heard = q.heard }
     → p.incoming ≡ got_bytes answer buffer ++ q.incoming
     → q.share.line ≡ line_after p.share.line (got_bytes answer buffer)
     → (answer ≡ Ok got.Ended → MayEnd p) → OnErr answer (MayFail p)
-    → Tells old (Answers (ReadCall p.number answer buffer)) new → IsKept old p → IsKept new q
+    → new ≡ old ++ Answers (ReadCall p.number answer buffer) ∷ [] → IsKept old p → IsKept new q
 kept_got old new p q answer buffer here same is lined ended failed tells kept =
     subst (IsKept new) (sym same)
     (kept_after old new (Answers (ReadCall p.number answer buffer)) p
@@ -341,9 +228,9 @@ or_so true c e = refl
 or_so false c e = e
 
 -- a wait, long only if the peer rests
-pub kept_waited : (old new : Option (List Step)) (p : Peer) (most : Option ℕ) (count : ℕ) (ready : List Ready)
+pub kept_waited : (old new : List Step) (p : Peer) (most : Option ℕ) (count : ℕ) (ready : List Ready)
     → (is_short_wait most ≡ false → is_resting p ≡ true)
-    → Tells old (Waits most count ready) new → IsKept old p → IsKept new (fold after_wake p (take count ready))
+    → new ≡ old ++ Waits most count ready ∷ [] → IsKept old p → IsKept new (fold after_wake p (take count ready))
 kept_waited old new p most count ready rest tells kept =
     kept_after old new (Waits most count ready) p (fold after_wake p (take count ready)) tells (all_number p (take count ready))
     (λ (a : Account) (h : Agrees a p). noted_agrees (fold (woken p.number) (waited p.number a most) (take count ready))
@@ -363,25 +250,3 @@ kept_waited old new p most count ready rest tells kept =
     }))) kept
 
 -- ---- the same, by the names that a function gives to the parts
-
-pub wrote_peer : (old new : Option (List Step)) (p : Peer) (count all : ℕ) (held left : List ℕ) (out : Output) (awaits : Bool)
-    → p.output ≡ output.Open
-    → held ≡ p.outgoing → left ≡ drop count p.outgoing → all ≡ length p.outgoing → out ≡ output_after count all
-    → Tells old (Writes p.number held (Ok count)) new → IsKept old p
-    → IsKept new (record p { outgoing = left; output = out; awaits_reply = awaits })
-wrote_peer old new p count all held left out awaits is_open is_held lefted alled outed tells kept =
-    let writes : Tells old (Writes p.number p.outgoing (Ok count)) new = subst
-    (λ (f : List ℕ). Tells old (Writes p.number f (Ok count)) new) is_held tells in
-    let k = kept_write old new p count awaits is_open writes kept in
-    subst (λ (o : Output). IsKept new (record p { outgoing = left; output = o; awaits_reply = awaits })) (sym
-    (outed ∙ ap (output_after count) alled))
-    (subst (λ (l : List ℕ). IsKept new (record p { outgoing = l; output = output_after count (length p.outgoing); awaits_reply = awaits }))
-    (sym lefted) k)
-
--- a call about one socket spares the others
-answered_other : (n other : ℕ) (a : Account) (answer : Result Got DoorFault) (buffer : List ℕ) → other ≢ n → answered_step other a
-    (ReadCall n answer buffer) ≡ a
-answered_other n other a (Ok (got.Bytes count)) buffer differ = skips (n == other) _ a (alien n other differ)
-answered_other n other a (Ok got.Nothing) buffer differ = refl
-answered_other n other a (Ok got.Ended) buffer differ = skips (n == other) _ a (alien n other differ)
-answered_other n other a (Err fault) buffer differ = skips (n == other) _ a (alien n other differ)

@@ -1,5 +1,5 @@
 -- Which peers are offered what is queued for them.
-use Rattle.std.proofs.Common.{◌≡◌, ◌∙◌, ℕ, ◌<◌, ◌≤◌, ◌+◌, List, [], ◌∷◌, ◌++◌, length, ap, sym, subst, arith, ⊎_elim, get_or, Option}
+use Rattle.std.proofs.Common.{◌≡◌, ◌∙◌, ℕ, ◌<◌, ◌≤◌, ◌+◌, List, [], ◌∷◌, ◌++◌, length, ap, sym, subst, arith, ⊎_elim, get_or}
 use Rattle.std.proofs.Common.{append_assoc, refl, true}
 use Rattle.std.specs.Prelude.{◌≢◌, slice_index_or}
 use Rattle.std.proofs.lemmas.Bool.{cases_eq}
@@ -17,57 +17,46 @@ use Rattle.srcp_peers.specs.Peers.{woken_output}
 use Rattle.srcp_peers.specs.Steps.{SaysNothing, Step, Writes}
 
 -- the one step that came is the write
-pub offered_now : (p q : Peer) (old new : Option (List Step)) → Offers p q old new
-    → IsOffered p.number p.outgoing old new
-offered_now p q old new offers later is =
-    let t = offers.1 later is in
-    (t.0, [], offers.0, [], t.1, t.2)
+pub offered_now : (p q : Peer) (old new : List Step) → Offers p q old new → IsOffered p.number p.outgoing old new
+offered_now p q old new offers = ([], offers.0, [], offers.1)
 
 -- steps came behind it
-pub offered_then : (socket : ℕ) (bytes : List ℕ) (old mid new : Option (List Step)) → IsOffered socket bytes old mid
+pub offered_then : (socket : ℕ) (bytes : List ℕ) (old mid new : List Step) → IsOffered socket bytes old mid
     → SaysNothing mid new → IsOffered socket bytes old new
-offered_then socket bytes old mid new offered says later is =
-    let s = says later is in
-    let o = offered s.0 s.2 in
-    let write = Writes socket bytes o.2 in (
+offered_then socket bytes old mid new o s =
+    let write = Writes socket bytes o.1 in (
       o.0,
       o.1,
-      o.2,
-      o.3 ++ s.1,
-      o.4,
-      s.3 ∙ ap (λ (l : List Step). l ++ s.1) o.5 ∙ append_assoc o.0 (o.1 ++ write ∷ o.3) s.1
-          ∙ ap (λ (l : List Step). o.0 ++ l) (append_assoc o.1 (write ∷ o.3) s.1),
+      o.2 ++ s.0,
+      s.1 ∙ ap (λ (l : List Step). l ++ s.0) o.3 ∙ append_assoc old (o.0 ++ write ∷ o.2) s.0
+          ∙ ap (λ (l : List Step). old ++ l) (append_assoc o.0 (write ∷ o.2) s.0),
     )
 
 -- steps came before it
-pub offered_after : (socket : ℕ) (bytes : List ℕ) (old mid new : Option (List Step)) → SaysNothing old mid
+pub offered_after : (socket : ℕ) (bytes : List ℕ) (old mid new : List Step) → SaysNothing old mid
     → IsOffered socket bytes mid new → IsOffered socket bytes old new
-offered_after socket bytes old mid new says offered later is =
-    let o = offered later is in
-    let s = says o.0 o.4 in
-    let rest = o.1 ++ Writes socket bytes o.2 ∷ o.3 in (
-      s.0,
-      s.1 ++ o.1,
+offered_after socket bytes old mid new s o =
+    let rest = o.0 ++ Writes socket bytes o.1 ∷ o.2 in (
+      s.0 ++ o.0,
+      o.1,
       o.2,
-      o.3,
-      s.2,
-      o.5 ∙ ap (λ (l : List Step). l ++ rest) s.3 ∙ append_assoc s.0 s.1 rest
-          ∙ ap (λ (l : List Step). s.0 ++ l) (sym (append_assoc s.1 o.1 (Writes socket bytes o.2 ∷ o.3))),
+      o.3 ∙ ap (λ (l : List Step). l ++ rest) s.1 ∙ append_assoc old s.0 rest
+          ∙ ap (λ (l : List Step). old ++ l) (sym (append_assoc s.0 o.0 (Writes socket bytes o.1 ∷ o.2))),
     )
 
 -- by the write of a flush
-pub flushed_now : (what : Flush) (p q : Peer) (old new : Option (List Step))
+pub flushed_now : (what : Flush) (p q : Peer) (old new : List Step)
     → (woken_output p.output (tries_again what) ≡ output.Open → p.outgoing ≢ [] → is_due what p ≡ true
     → Offers (record p { output = output.Open }) q old new) → IsFlushed what p → IsOffered p.number p.outgoing old new
 flushed_now what p q old new offers due = offered_now (record p { output = output.Open }) q old new (offers due.0 due.1 due.2)
 
 -- ---- what is due, by how a peer stays
 
-pub due_here : (what : Flush) (p : Peer) (old new : Option (List Step)) → p.stay ≡ stay.Here
+pub due_here : (what : Flush) (p : Peer) (old new : List Step) → p.stay ≡ stay.Here
     → (IsFlushed what p → IsOffered p.number p.outgoing old new) → OffersDue what p old new
 due_here what p old new here offers due = offers (subst (λ (s : Stay). IsFlushed (flush_of what s) p) here due)
 
-pub due_all : (p : Peer) (old new : Option (List Step)) → (IsFlushed flush.All p → IsOffered p.number p.outgoing old new)
+pub due_all : (p : Peer) (old new : List Step) → (IsFlushed flush.All p → IsOffered p.number p.outgoing old new)
     → OffersDue flush.All p old new
 due_all p old new offers due = offers (subst (λ (f : Flush). IsFlushed f p) (same p.stay) due)
   where
@@ -77,17 +66,16 @@ due_all p old new offers due = offers (subst (λ (f : Flush). IsFlushed f p) (sa
     same (stay.Shut since) = refl
 
 -- nothing is queued for a peer that is shut down
-pub shut_offered : (p : Peer) (since : ℕ) (old new : Option (List Step)) → p.stay ≡ stay.Shut since → IsKept old p
+pub shut_offered : (p : Peer) (since : ℕ) (old new : List Step) → p.stay ≡ stay.Shut since → IsKept old p
     → SaysNothing old new → OffersDue flush.All p old new
-shut_offered p since old new shut kept says due later is =
-    let s = says later is in
-    let h = kept s.0 s.2 in
-    let stays : StaysAs (account p.number s.0).watched (account p.number s.0).lingering p.outgoing (stay.Shut since) =
-    subst (StaysAs (account p.number s.0).watched (account p.number s.0).lingering p.outgoing) shut h.stays in
+shut_offered p since old new shut kept says due =
+    let a = account p.number old in
+    let stays : StaysAs a.watched a.lingering p.outgoing (stay.Shut since) =
+    subst (StaysAs a.watched a.lingering p.outgoing) shut kept.stays in
     absurd (due.1 stays.4)
 
 -- one more peer of all was offered what is queued for it
-pub set_offered : (first old new : Option (List Step)) (what : Flush) (before peers : List Peer) (i : ℕ) (p : Peer)
+pub set_offered : (first old new : List Step) (what : Flush) (before peers : List Peer) (i : ℕ) (p : Peer)
     → i < length peers → ((k : ℕ) (d : Peer) → i ≤ k → slice_index_or peers k d ≡ slice_index_or before k d)
     → SaysNothing first old → SaysNothing old new → OffersDue what (get_or peers i p) old new
     → ((k : ℕ) (d : Peer) → k < i → OffersDue what (slice_index_or before k d) first old)
@@ -101,18 +89,18 @@ set_offered first old new what before peers i p within rest earlier now here bel
     (cases_eq k i)
 
 -- and steps came behind that
-pub all_offered_then : (what : Flush) (peers : List Peer) (old mid new : Option (List Step)) → AreOffered what peers old mid
+pub all_offered_then : (what : Flush) (peers : List Peer) (old mid new : List Step) → AreOffered what peers old mid
     → SaysNothing mid new → AreOffered what peers old new
 all_offered_then what peers old mid new offered says k d lt due =
     let p = slice_index_or peers k d in
     offered_then p.number p.outgoing old mid new (offered k d lt due) says
 
 -- they were by the first of several turns
-pub offered_first : (turns : ℕ) (what : Flush) (before peers : List Peer) (first old new : Option (List Step))
+pub offered_first : (turns : ℕ) (what : Flush) (before peers : List Peer) (first old new : List Step)
     → (turns ≡ 0 → (peers ≡ before) × (old ≡ first)) → (0 < turns → AreOffered what before first old) → SaysNothing old new
     → AreOffered what peers old new → AreOffered what before first new
 offered_first turns what before peers first old new same earlier says here = ⊎_elim
     (λ (e : turns ≡ 0). subst (λ (ps : List Peer). AreOffered what ps first new) (same e).0
-    (subst (λ (trace : Option (List Step)). AreOffered what peers trace new) (same e).1 here))
+    (subst (λ (log : List Step). AreOffered what peers log new) (same e).1 here))
     (λ (ne : turns ≡ 0 → ⊥). all_offered_then what before first old new (earlier (omega (arith, ne))) says)
     (cases_eq turns 0)

@@ -1,5 +1,5 @@
 -- A peer that is unread by its account is read in the next visit.
-use Rattle.std.proofs.Common.{◌≡◌, ◌∙◌, ℕ, ◌+◌, Bool, true, false, not, List, ◌++◌, length, refl, ap, sym, arith, length-append}
+use Rattle.std.proofs.Common.{◌≡◌, ◌∙◌, ℕ, ◌+◌, Bool, true, false, not, List, ◌++◌, length, ap, sym, arith, length-append}
 use Rattle.std.proofs.Common.{true≢false}
 use Rattle.std.specs.Prelude.{◌&&◌, nat_lt}
 use Rattle.std.proofs.lemmas.Bool.Decides.{nat_tests}
@@ -14,11 +14,6 @@ use Rattle.srcp_peers.proofs.PeersRestByAccount.{and_left, and_right}
 
 pub both : (a b : Bool) → a ≡ true → b ≡ true → (a && b) ≡ true
 both a b e f = ap (λ x. x && b) e ∙ f
-
--- nothing follows of one that was just read
-pub was_read : (watched : Bool) {X : Type 0} → (watched && false) ≡ true → X
-was_read true e = absurd (true≢false (sym e))
-was_read false e = absurd (true≢false (sym e))
 
 fewer : (all prefix back : ℕ) → all ≡ prefix + back → nat_lt all 256 ≡ true → nat_lt back 256 ≡ true
 fewer all prefix back is e = grind (arith, nat_tests)
@@ -36,7 +31,7 @@ pub wants_woken : (state : Input) (incoming : List ℕ) (readable closed : Bool)
     → is_wanting (woken_input state readable closed) incoming ≡ true
 wants_woken input.Ready incoming readable true e = e
 wants_woken input.Ready incoming readable false e = e
-wants_woken input.Draining incoming readable closed e = e
+wants_woken input.Emptying incoming readable closed e = e
 wants_woken input.Quiet incoming readable closed e = absurd (true≢false (sym e))
 wants_woken input.Ended incoming readable closed e = absurd (true≢false (sym e))
 wants_woken input.Failed incoming readable closed e = absurd (true≢false (sym e))
@@ -64,7 +59,7 @@ not_true b e f = sym (ap not e) ∙ f
 wanted_here : (received : Received) (incoming : List ℕ) (state : Input) → ReadsAs received incoming state → is_wanted received ≡ true
     → is_wanting state incoming ≡ true
 wanted_here received incoming input.Ready h e = held_less received incoming h.0 e
-wanted_here received incoming input.Draining h e = held_less received incoming h.0 e
+wanted_here received incoming input.Emptying h e = held_less received incoming h.0 e
 wanted_here received incoming input.Quiet h e = absurd (true≢false (sym (not_true received.quiet h.4
     (and_left (not received.quiet) (not received.ended && not received.failed) (might received e)))))
 wanted_here received incoming input.Ended h e = absurd (true≢false (sym (not_true received.ended h.2
@@ -97,8 +92,3 @@ noted_agrees a p h = record {
   honest = h.honest;
   rested = h.rested;
 }
-
--- one that is not read in the next visit is not unread
-pub not_unread : (unread wanting : Bool) → (unread ≡ true → wanting ≡ true) → wanting ≡ false → unread ≡ false
-not_unread true wanting f e = absurd (true≢false (sym (f refl) ∙ e))
-not_unread false wanting f e = refl

@@ -7,7 +7,7 @@ use Rattle.srcp_peers.specs.declared.system.Ready.{Ready}
 use Rattle.srcp_peers.specs.declared.system.IoFailure.{IoFailure}
 use Rattle.srcp_peers.specs.declared.system.IoFailure.TheVariants.{WouldBlock, Interrupted, Fatal}
 use Rattle.srcp_peers.specs.Steps.{Step, Accepts, Clocks, Closes, Reads, Shuts, Writes, Waits, Answers, failure_of}
-use Rattle.srcp_door.specs.Calls.{Call, ExpectCall, NowCall, AcceptCall, ReadCall, WriteCall, CloseCall}
+use Rattle.srcp_door.specs.Calls.{Call, NowCall, ReadCall, WriteCall, CloseCall}
 use Rattle.srcp_door.specs.declared.door.Got.TheVariants as got
 use Rattle.srcp_peers.specs.Limits.{linger, most_outgoing, retry_delay}
 
@@ -24,7 +24,7 @@ pub record Received : Type 0 where
   pub gave : List ℕ  -- what the socket gave
   pub handed : List ℕ  -- what the door handed out of it
   pub quiet : Bool  -- a read found nothing or left space, and since then it was not found ready
-  pub draining : Bool  -- it was found closed or with urgent data, and since then no read found nothing
+  pub emptying : Bool  -- it was found closed or with urgent data, and since then no read found nothing
   pub ended : Bool  -- a read found its end
   pub failed : Bool  -- a read failed
 
@@ -50,7 +50,7 @@ pub record Account : Type 0 where
 abbrev pub untouched : Account
 untouched = record {
   sent = record { written = []; took = []; full = false; lost = false; cut = false };
-  received = record { gave = []; handed = []; quiet = false; draining = false; ended = false; failed = false };
+  received = record { gave = []; handed = []; quiet = false; emptying = false; ended = false; failed = false };
   lingering = record { clock = 0; since = 0; kept = false; shut = false; rightly = true };
   watched = false;
   unread = false;
@@ -133,14 +133,14 @@ wrote sent bytes (Ok count) = record sent {
 wrote sent bytes (Err fault) = refused_write sent (failure_of fault)
 
 abbrev pub refused_read : Received → IoFailure → Received
-refused_read received WouldBlock = record received { quiet = true; draining = false }
+refused_read received WouldBlock = record received { quiet = true; emptying = false }
 refused_read received Interrupted = received
 refused_read received Fatal = record received { failed = true }
 
 abbrev pub read_in : Received → List ℕ → Result ℕ ErrorKind → Received
 read_in received buffer (Ok count) = record received {
   gave = received.gave ++ take count buffer;
-  quiet = not received.draining && nat_lt count (length buffer);
+  quiet = not received.emptying && nat_lt count (length buffer);
   ended = received.ended || (count == 0);
 }
 read_in received buffer (Err fault) = refused_read received (failure_of fault)
@@ -154,7 +154,7 @@ woken_sent sent writable = record sent { full = sent.full && not writable }
 abbrev pub woken_came : Received → (readable closed : Bool) → Received
 woken_came received readable closed = record received {
   quiet = received.quiet && not (readable || closed);
-  draining = received.draining || closed;
+  emptying = received.emptying || closed;
 }
 
 abbrev pub woken : ℕ → Account → Ready → Account
@@ -182,7 +182,7 @@ noted a = record a { unread = is_wanted a.received }
 abbrev pub accepted : Account → Result Unit ErrorKind → Account
 accepted a (Ok done) = record a {
   sent = record a.sent { full = false; lost = false; cut = false };
-  received = record a.received { quiet = false; draining = false; ended = false; failed = false };
+  received = record a.received { quiet = false; emptying = false; ended = false; failed = false };
   lingering = record a.lingering { kept = true; shut = false };
   watched = true;
   unread = false;

@@ -1,5 +1,5 @@
 -- What holds of all peers of a door.
-use Rattle.std.specs.Prelude.{◌≡◌, ◌≢◌, ℕ, ◌<◌, ◌≤◌, ◌||◌, Bool, List, length, slice_index_or, Option, cond}
+use Rattle.std.specs.Prelude.{◌≡◌, ◌≢◌, ℕ, ◌<◌, ◌≤◌, ◌||◌, Bool, List, length, slice_index_or, cond}
 use Rattle.srcp_info.specs.Limits.{most_in_piece}
 use Rattle.srcp_peers.specs.declared.peer.Peer.{Peer}
 use Rattle.srcp_peers.specs.Steps.{Step}
@@ -8,8 +8,8 @@ use Rattle.srcp_peers.specs.Ends.{begun}
 use Rattle.srcp_peers.specs.Peers.{IsKept, OffersDue, is_over, is_silent, stay_after}
 
 -- each is what its account says
-abbrev pub AreKept : Option (List Step) → List Peer → Type 0
-AreKept trace peers = (k : ℕ) (d : Peer) → k < length peers → IsKept trace (slice_index_or peers k d)
+abbrev pub AreKept : List Step → List Peer → Type 0
+AreKept log peers = (k : ℕ) (d : Peer) → k < length peers → IsKept log (slice_index_or peers k d)
 
 -- no two have one socket
 abbrev pub AreApart : List Peer → Type 0
@@ -36,7 +36,7 @@ AreShared anew clock old new = (k : ℕ) (d : Peer) → k < length old → (slic
     ≡ cond (anew || is_silent clock (slice_index_or old k d)) most_in_piece (slice_index_or old k d).share.rest
 
 -- a turn that flushes `what` offers the socket of each what is queued for it, if that is flushed
-abbrev pub AreOffered : Flush → List Peer → (old new : Option (List Step)) → Type 0
+abbrev pub AreOffered : Flush → List Peer → (old new : List Step) → Type 0
 AreOffered what peers old new = (k : ℕ) (d : Peer) → k < length peers
     → OffersDue what (slice_index_or peers k d) old new
 

@@ -3,6 +3,7 @@ pub mod AllPeers
 pub mod Ends
 pub mod Limits
 pub mod Listeners
+pub mod Notes
 pub mod Peers
 pub mod Reports
 pub mod Steps

@@ -1,8 +1,7 @@
 -- What a peer's states mean.
 use Rattle.std.specs.Prelude.{◌≡◌, ◌≢◌, ◌⊎◌, ℕ, ◌==◌, ◌&&◌, ◌||◌, nat_le, nat_lt, Bool, true, false, not, if◌then◌else◌}
 use Rattle.std.specs.Prelude.{List, [], ◌∷◌, ◌++◌, ◌+◌, ◌-◌, ◌/◌, count_by, drop, filter, length, max, min, take}
-use Rattle.std.specs.Prelude.{cond, Option, Some}
-use Rattle.std.specs.Prelude.{Result, Ok, Err}
+use Rattle.std.specs.Prelude.{cond, Result, Ok, Err}
 use Rattle.std.specs.Io.{StartsWith}
 use Rattle.std.specs.declared.io.ErrorKind.{ErrorKind}
 use Rattle.srcp_info.specs.Limits.{most_in_piece}
@@ -21,18 +20,18 @@ use Rattle.srcp_peers.specs.declared.stay.Stay.TheVariants as stay
 use Rattle.srcp_door.specs.Pacing.{line_after}
 use Rattle.srcp_peers.specs.declared.ending.Ending.TheVariants as ending
 use Rattle.srcp_door.specs.declared.pacing.LineBoundary.TheVariants as boundary
-use Rattle.srcp_peers.specs.Steps.{Step, Reads, Tells, Writes, failure_of}
+use Rattle.srcp_peers.specs.Steps.{Step, Reads, Writes, failure_of}
 use Rattle.srcp_peers.specs.Accounts.{Account, Lingering, Sent, Received, account, is_overdue}
 use Rattle.srcp_peers.specs.Limits.{most_drained, most_outgoing, silence}
 
 -- what a state of the input means, if `incoming` is held of it
 abbrev pub ReadsAs : Received → List ℕ → Input → Type 0
 ReadsAs received incoming input.Ready = (received.gave ≡ received.handed ++ incoming) × (received.failed ≡ false)
-    × (received.ended ≡ false) × (received.draining ≡ false)
-ReadsAs received incoming input.Draining = (received.gave ≡ received.handed ++ incoming) × (received.failed ≡ false)
+    × (received.ended ≡ false) × (received.emptying ≡ false)
+ReadsAs received incoming input.Emptying = (received.gave ≡ received.handed ++ incoming) × (received.failed ≡ false)
     × (received.ended ≡ false)
 ReadsAs received incoming input.Quiet = (received.gave ≡ received.handed ++ incoming) × (received.failed ≡ false)
-    × (received.ended ≡ false) × (received.draining ≡ false) × (received.quiet ≡ true)
+    × (received.ended ≡ false) × (received.emptying ≡ false) × (received.quiet ≡ true)
 ReadsAs received incoming input.Ended = (received.gave ≡ received.handed ++ incoming) × (received.failed ≡ false)
     × (received.ended ≡ true)
 ReadsAs received incoming input.Failed = (received.gave ≡ received.handed ++ incoming) × (received.failed ≡ true)
@@ -60,7 +59,7 @@ StaysAs watched lingering outgoing (stay.Shut since) = (watched ≡ false) × (l
 -- a read may find something
 abbrev pub may_have : Input → Bool
 may_have input.Ready = true
-may_have input.Draining = true
+may_have input.Emptying = true
 may_have other = false
 
 -- it is read in the next visit: less than a piece is held
@@ -81,18 +80,16 @@ pub record Agrees (a : Account) (p : Peer) : Type 0 where
   pub rested : a.rested ≡ true
 
 -- so it is after all steps
-abbrev pub IsKept : Option (List Step) → Peer → Type 0
-IsKept trace p = (log : List Step) → trace ≡ Some log → Agrees (account p.number log) p
+abbrev pub IsKept : List Step → Peer → Type 0
+IsKept log p = Agrees (account p.number log) p
 
 -- the steps that came say nothing of this socket
-abbrev pub Spares : ℕ → Option (List Step) → Option (List Step) → Type 0
-Spares socket old new = (later : List Step) → new ≡ Some later
-    → (log : List Step) × (old ≡ Some log) × (account socket later ≡ account socket log)
+abbrev pub Spares : ℕ → (old new : List Step) → Type 0
+Spares socket old new = account socket new ≡ account socket old
 
 -- as many of the steps that came are such
-abbrev pub Makes : (is_such : Step → Bool) → ℕ → Option (List Step) → Option (List Step) → Type 0
-Makes is_such count old new = (later : List Step) → new ≡ Some later
-    → (log : List Step) × (old ≡ Some log) × (count_by is_such later ≡ count_by is_such log + count)
+abbrev pub Makes : (is_such : Step → Bool) → ℕ → (old new : List Step) → Type 0
+Makes is_such count old new = count_by is_such new ≡ count_by is_such old + count
 
 -- a read of this socket
 abbrev pub is_read_of : ℕ → Step → Bool
@@ -100,10 +97,9 @@ is_read_of socket (Reads who buffer answer) = who == socket
 is_read_of socket other = false
 
 -- among the steps that came is a write of these bytes to this socket
-abbrev pub IsOffered : ℕ → List ℕ → Option (List Step) → Option (List Step) → Type 0
-IsOffered socket bytes old new = (later : List Step) → new ≡ Some later
-    → (log : List Step) × (before : List Step) × (answer : Result ℕ ErrorKind) × (after : List Step)
-    × (old ≡ Some log) × (later ≡ log ++ (before ++ Writes socket bytes answer ∷ after))
+abbrev pub IsOffered : ℕ → List ℕ → (old new : List Step) → Type 0
+IsOffered socket bytes old new = (before : List Step) × (answer : Result ℕ ErrorKind) × (after : List Step)
+    × (new ≡ old ++ (before ++ Writes socket bytes answer ∷ after))
 
 -- ---- what answers make of a peer
 
@@ -166,20 +162,20 @@ after_write p (Ok count) = record p {
 after_write p (Err fault) = record p { output = refused p.output (failure_of fault); awaits_reply = false }
 
 -- the step that came is a read of its socket, and `new` has what that gave
-abbrev pub Asks : (p new : Peer) → Option (List Step) → Option (List Step) → Type 0
-Asks p new trace_old trace_new = (buffer : List ℕ) × (answer : Result ℕ ErrorKind)
-    × Tells trace_old (Reads p.number buffer answer) trace_new
-    × (new.incoming ≡ (after_read p buffer answer).incoming) × (new.input ≡ (after_read p buffer answer).input)
+abbrev pub Asks : (p new : Peer) → (log later : List Step) → Type 0
+Asks p new log later = (buffer : List ℕ) × (answer : Result ℕ ErrorKind)
+    × (later ≡ log ++ Reads p.number buffer answer ∷ []) × (new.incoming ≡ (after_read p buffer answer).incoming)
+    × (new.input ≡ (after_read p buffer answer).input)
 
 -- the step that came is a write of what is queued to its socket, and `new` is what that leaves
-abbrev pub Offers : (p new : Peer) → Option (List Step) → Option (List Step) → Type 0
-Offers p new trace_old trace_new = (answer : Result ℕ ErrorKind)
-    × Tells trace_old (Writes p.number p.outgoing answer) trace_new × (new ≡ after_write p answer)
+abbrev pub Offers : (p new : Peer) → (log later : List Step) → Type 0
+Offers p new log later = (answer : Result ℕ ErrorKind) × (later ≡ log ++ Writes p.number p.outgoing answer ∷ [])
+    × (new ≡ after_write p answer)
 
 -- its socket was found ready
 abbrev pub woken_input : Input → (readable closed : Bool) → Input
-woken_input input.Ready readable closed = cond closed input.Draining input.Ready
-woken_input input.Quiet readable closed = cond closed input.Draining (cond readable input.Ready input.Quiet)
+woken_input input.Ready readable closed = cond closed input.Emptying input.Ready
+woken_input input.Quiet readable closed = cond closed input.Emptying (cond readable input.Ready input.Quiet)
 woken_input state readable closed = state
 
 abbrev pub woken_output : Output → Bool → Output
@@ -230,7 +226,7 @@ IsFlushed what p = (woken_output p.output (tries_again what) ≡ output.Open) ×
     × (is_due what p ≡ true)
 
 -- a turn that flushes `what` offers its socket what is queued for it, if that is flushed
-abbrev pub OffersDue : Flush → Peer → Option (List Step) → Option (List Step) → Type 0
+abbrev pub OffersDue : Flush → Peer → (old new : List Step) → Type 0
 OffersDue what p old new = IsFlushed (flush_of what p.stay) p → IsOffered p.number p.outgoing old new
 
 -- it is there
@@ -336,13 +332,12 @@ abbrev pub calls_in : (reads : ℕ) → Peer → ℕ
 calls_in reads p = cond (is_here p.stay) 1 (max 2 reads)
 
 -- one that was shut down is drained: its socket was read until nothing came, or as often as that
-abbrev pub IsDrained : (reads : ℕ) (old new : Peer) → (trace_old trace_new : Option (List Step)) → Type 0
-IsDrained reads old new trace_old trace_new = is_shut old.stay ≡ true
-    → (may_have new.input ≡ false) ⊎ Makes (is_read_of old.number) reads trace_old trace_new
+abbrev pub IsDrained : (reads : ℕ) → (old new : Peer) → (log later : List Step) → Type 0
+IsDrained reads old new log later = is_shut old.stay ≡ true
+    → (may_have new.input ≡ false) ⊎ Makes (is_read_of old.number) reads log later
 
 -- ---- who is read
 
 -- while it is there it is not unread
-abbrev pub IsRead : Option (List Step) → ℕ → Type 0
-IsRead trace socket = (log : List Step) → trace ≡ Some log
-    → ((account socket log).watched && (account socket log).unread) ≡ false
+abbrev pub IsRead : List Step → (socket : ℕ) → Type 0
+IsRead log socket = ((account socket log).watched && (account socket log).unread) ≡ false

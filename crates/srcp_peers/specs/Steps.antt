@@ -26,11 +26,6 @@ pub data Step : Type 0 where
   -- the door answers a call
   Answers : (call : Call) → Step
 
--- the trace after a step is the trace before it, and the step
-abbrev pub Tells : Option (List Step) → Step → Option (List Step) → Type 0
-Tells old step new = (later : List Step) → new ≡ Some later
-    → (log : List Step) × (old ≡ Some log) × (later ≡ log ++ step ∷ [])
-
 -- the call that the door answers, if the step is one
 abbrev pub call_of : Step → Option Call
 call_of (Answers call) = Some call
@@ -41,19 +36,16 @@ abbrev pub calls : List Step → List Call
 calls log = filter_map call_of log
 
 -- the steps that came are no calls of the door
-abbrev pub SaysNothing : Option (List Step) → Option (List Step) → Type 0
-SaysNothing old new = (later : List Step) → new ≡ Some later
-    → (log : List Step) × (came : List Step) × (old ≡ Some log) × (later ≡ log ++ came) × (calls came ≡ [])
+abbrev pub SaysNothing : (old new : List Step) → Type 0
+SaysNothing old new = (came : List Step) × (new ≡ old ++ came) × (calls came ≡ [])
 
 -- the steps that came are one call of the door, and calls of the system
-abbrev pub SaysOne : Option (List Step) → Call → Option (List Step) → Type 0
-SaysOne old call new = (later : List Step) → new ≡ Some later
-    → (log : List Step) × (old ≡ Some log) × (calls later ≡ calls log ++ call ∷ [])
+abbrev pub SaysOne : (old : List Step) → Call → (new : List Step) → Type 0
+SaysOne old call new = calls new ≡ calls old ++ call ∷ []
 
 -- no more steps came than that
-abbrev pub GrowsBy : (most : ℕ) → Option (List Step) → Option (List Step) → Type 0
-GrowsBy most old new = (later : List Step) → new ≡ Some later
-    → (log : List Step) × (old ≡ Some log) × (length later ≤ length log + most)
+abbrev pub GrowsBy : (most : ℕ) → (old new : List Step) → Type 0
+GrowsBy most old new = length new ≤ length old + most
 
 -- what a call of the system that failed says of a socket
 abbrev pub failure_of : ErrorKind → IoFailure

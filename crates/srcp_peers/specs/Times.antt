@@ -14,7 +14,7 @@ use Rattle.srcp_peers.specs.declared.system.IoFailure.{IoFailure}
 use Rattle.srcp_peers.specs.declared.system.IoFailure.TheVariants.{WouldBlock, Interrupted, Fatal}
 use Rattle.srcp_peers.specs.declared.turn.Turn.{Turn}
 use Rattle.srcp_peers.specs.Accounts.{is_short_wait}
-use Rattle.srcp_peers.specs.Steps.{Step, Accepts, Clocks, Closes, Reads, Shuts, Answers, Waits, Writes, failure_of}
+use Rattle.srcp_peers.specs.Steps.{Step, Accepts, Clocks, Answers, Waits, failure_of}
 use Rattle.srcp_peers.specs.Turns.{after_call, after_read, after_wait, begun, first_turn, got_bytes, hands_out}
 use Rattle.srcp_peers.specs.Turns.{is_pending, moment_at, reports_end, time_left, reported_at}
 
@@ -135,6 +135,5 @@ abbrev pub times : (wall start : ℕ) → List Step → Times
 times wall start log = fold times_step (first_times wall start) log
 
 -- the steps that came say nothing of the time
-abbrev pub KeepsTimes : Option (List Step) → Option (List Step) → Type 0
-KeepsTimes old new = (later : List Step) → new ≡ Some later
-    → (log : List Step) × (old ≡ Some log) × ((wall start : ℕ) → times wall start later ≡ times wall start log)
+abbrev pub KeepsTimes : (old new : List Step) → Type 0
+KeepsTimes old new = (wall start : ℕ) → times wall start new ≡ times wall start old

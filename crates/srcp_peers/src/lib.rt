@@ -3,13 +3,14 @@
 //! after the core closed it. `peers` has what a turn does with all peers. `Turn` has what a door knows of its turn, and
 //! `longest_wait` says how long a turn may wait.
 //!
-//! `System` is the small trait of system calls. The account of a socket is what the list of these calls says of the
-//! socket. Whatever the system answers, a state of a peer means what the account says. The crate makes none of these
-//! calls itself, accepts nobody and closes no socket: `srcp_sockets` does.
+//! `System` is the small trait of system calls, and `Logged` is a system with the log of its calls. The account of a
+//! socket is what the log says of the socket. Whatever the system answers, a state of a peer means what the account
+//! says. The crate makes none of these calls itself, accepts nobody and closes no socket: `srcp_sockets` does.
 #![tactic(auto)]
 
 mod ending;
 mod lingering;
+mod log;
 mod peer;
 pub mod peers;
 mod queue;
@@ -21,6 +22,7 @@ mod turn;
 
 pub use ending::Ending;
 pub use lingering::{MOST_LINGERING, count_lingering, first_gone, first_shut};
+pub use log::{Answer, Log, Logged};
 pub use peer::Peer;
 pub use queue::{MOST_INCOMING, MOST_OUTGOING, Outgoing, Queue, Queues};
 pub use readiness::{Flush, Input, Output};

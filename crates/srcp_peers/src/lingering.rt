@@ -12,6 +12,7 @@ ghost use Rattle.srcp_peers.specs.Peers.{IsKept, OffersDue, Spares, is_closable,
 ghost use Rattle.srcp_peers.specs.Peers.{Asks, IsDrained, Makes, calls_in, is_read_of, may_have, reads_each};
 ghost use Rattle.srcp_peers.specs.Peers.{stay_after};
 
+use crate::log::Logged;
 use crate::peer::Peer;
 use crate::readiness::Flush;
 use crate::stay::{Stay, is_overdue};
@@ -33,19 +34,24 @@ impl Peer {
 
     /// Flushes a peer that is there. Goes on with a lingering peer, with at most `reads` reads of its socket.
     #[inline(always)]
-    pub(crate) fn flush_or_linger<S: System>(&mut self, system: &mut S, what: Flush, reads: usize)
-        requires { IsKept (S.trace system.old) self.old }
-        ensures kept { IsKept (S.trace system.new) self.new }
+    pub(crate) fn flush_or_linger<S: System>(
+        &mut self,
+        system: &mut Logged<S>,
+        what: Flush,
+        reads: usize,
+    )
+        requires { IsKept system.old.log.steps self.old }
+        ensures kept { IsKept system.new.log.steps self.new }
         ensures others { (other : ℕ) → other ≢ self.old.number
-            → Spares other (S.trace system.old) (S.trace system.new) }
-        ensures calls { SaysNothing (S.trace system.old) (S.trace system.new) }
-        ensures most { GrowsBy (calls_in reads self.old) (S.trace system.old) (S.trace system.new) }
-        ensures times { KeepsTimes (S.trace system.old) (S.trace system.new) }
+            → Spares other system.old.log.steps system.new.log.steps }
+        ensures calls { SaysNothing system.old.log.steps system.new.log.steps }
+        ensures most { GrowsBy (calls_in reads self.old) system.old.log.steps system.new.log.steps }
+        ensures times { KeepsTimes system.old.log.steps system.new.log.steps }
         ensures number { self.new.number ≡ self.old.number }
-        ensures offered { OffersDue what self.old (S.trace system.old) (S.trace system.new) }
+        ensures offered { OffersDue what self.old system.old.log.steps system.new.log.steps }
         ensures stay { self.new.stay ≡ stay_after self.old.stay self.new.outgoing self.new.output }
         ensures ending { self.new.ending ≡ self.old.ending }
-        ensures drained { IsDrained reads self.old self.new (S.trace system.old) (S.trace system.new) }
+        ensures drained { IsDrained reads self.old self.new system.old.log.steps system.new.log.steps }
     {
         if self.stay.is_here() {
             self.flush(system, what);
@@ -56,20 +62,20 @@ impl Peer {
 
     /// Goes on with a lingering peer: writes its queued bytes, shuts its socket down, or drops its input.
     #[inline(never)]
-    fn linger_step<S: System>(&mut self, system: &mut S, reads: usize)
-        requires { IsKept (S.trace system.old) self.old }
-        ensures kept { IsKept (S.trace system.new) self.new }
+    fn linger_step<S: System>(&mut self, system: &mut Logged<S>, reads: usize)
+        requires { IsKept system.old.log.steps self.old }
+        ensures kept { IsKept system.new.log.steps self.new }
         ensures others { (other : ℕ) → other ≢ self.old.number
-            → Spares other (S.trace system.old) (S.trace system.new) }
-        ensures calls { SaysNothing (S.trace system.old) (S.trace system.new) }
-        ensures most { GrowsBy (max 2 reads) (S.trace system.old) (S.trace system.new) }
-        ensures times { KeepsTimes (S.trace system.old) (S.trace system.new) }
+            → Spares other system.old.log.steps system.new.log.steps }
+        ensures calls { SaysNothing system.old.log.steps system.new.log.steps }
+        ensures most { GrowsBy (max 2 reads) system.old.log.steps system.new.log.steps }
+        ensures times { KeepsTimes system.old.log.steps system.new.log.steps }
         ensures number { self.new.number ≡ self.old.number }
         ensures offered { is_here self.old.stay ≡ false
-            → OffersDue Flush.All self.old (S.trace system.old) (S.trace system.new) }
+            → OffersDue Flush.All self.old system.old.log.steps system.new.log.steps }
         ensures stay { self.new.stay ≡ stay_after self.old.stay self.new.outgoing self.new.output }
         ensures ending { self.new.ending ≡ self.old.ending }
-        ensures drained { IsDrained reads self.old self.new (S.trace system.old) (S.trace system.new) }
+        ensures drained { IsDrained reads self.old self.new system.old.log.steps system.new.log.steps }
     {
         match self.stay {
             Stay::Here => (),
@@ -79,17 +85,17 @@ impl Peer {
     }
 
     /// Writes the queued bytes, and shuts the socket down once the socket took all of them.
-    fn drain_output<S: System>(&mut self, system: &mut S, since: u64)
-        requires kept { IsKept (S.trace system.old) self.old }
+    fn drain_output<S: System>(&mut self, system: &mut Logged<S>, since: u64)
+        requires kept { IsKept system.old.log.steps self.old }
         requires draining { self.old.stay ≡ Stay.Draining since }
-        ensures kept { IsKept (S.trace system.new) self.new }
+        ensures kept { IsKept system.new.log.steps self.new }
         ensures others { (other : ℕ) → other ≢ self.old.number
-            → Spares other (S.trace system.old) (S.trace system.new) }
-        ensures calls { SaysNothing (S.trace system.old) (S.trace system.new) }
-        ensures most { GrowsBy 2 (S.trace system.old) (S.trace system.new) }
-        ensures times { KeepsTimes (S.trace system.old) (S.trace system.new) }
+            → Spares other system.old.log.steps system.new.log.steps }
+        ensures calls { SaysNothing system.old.log.steps system.new.log.steps }
+        ensures most { GrowsBy 2 system.old.log.steps system.new.log.steps }
+        ensures times { KeepsTimes system.old.log.steps system.new.log.steps }
         ensures number { self.new.number ≡ self.old.number }
-        ensures offered { OffersDue Flush.All self.old (S.trace system.old) (S.trace system.new) }
+        ensures offered { OffersDue Flush.All self.old system.old.log.steps system.new.log.steps }
         ensures stay { self.new.stay ≡ stay_after self.old.stay self.new.outgoing self.new.output }
         ensures ending { self.new.ending ≡ self.old.ending }
     {
@@ -100,17 +106,17 @@ impl Peer {
     }
 
     /// Shuts down the writing side of the socket.
-    fn shut_down<S: System>(&mut self, system: &mut S, since: u64)
-        requires kept { IsKept (S.trace system.old) self.old }
+    fn shut_down<S: System>(&mut self, system: &mut Logged<S>, since: u64)
+        requires kept { IsKept system.old.log.steps self.old }
         requires draining { self.old.stay ≡ Stay.Draining since }
         requires taken { self.old.outgoing ≡ [] }
         requires sound { is_lost self.old.output ≡ false }
-        ensures kept { IsKept (S.trace system.new) self.new }
+        ensures kept { IsKept system.new.log.steps self.new }
         ensures others { (other : ℕ) → other ≢ self.old.number
-            → Spares other (S.trace system.old) (S.trace system.new) }
-        ensures calls { SaysNothing (S.trace system.old) (S.trace system.new) }
-        ensures most { GrowsBy 1 (S.trace system.old) (S.trace system.new) }
-        ensures times { KeepsTimes (S.trace system.old) (S.trace system.new) }
+            → Spares other system.old.log.steps system.new.log.steps }
+        ensures calls { SaysNothing system.old.log.steps system.new.log.steps }
+        ensures most { GrowsBy 1 system.old.log.steps system.new.log.steps }
+        ensures times { KeepsTimes system.old.log.steps system.new.log.steps }
         ensures number { self.new.number ≡ self.old.number }
         ensures same { self.new ≡ record self.old { stay = Stay.Shut since } }
     {
@@ -119,20 +125,20 @@ impl Peer {
     }
 
     /// Drops the input that the socket gives, in at most `reads` reads.
-    fn drain_input<S: System>(&mut self, system: &mut S, reads: usize)
-        requires kept { IsKept (S.trace system.old) self.old }
+    fn drain_input<S: System>(&mut self, system: &mut Logged<S>, reads: usize)
+        requires kept { IsKept system.old.log.steps self.old }
         requires gone { is_here self.old.stay ≡ false }
-        ensures kept { IsKept (S.trace system.new) self.new }
+        ensures kept { IsKept system.new.log.steps self.new }
         ensures others { (other : ℕ) → other ≢ self.old.number
-            → Spares other (S.trace system.old) (S.trace system.new) }
-        ensures calls { SaysNothing (S.trace system.old) (S.trace system.new) }
-        ensures most { GrowsBy reads (S.trace system.old) (S.trace system.new) }
-        ensures times { KeepsTimes (S.trace system.old) (S.trace system.new) }
+            → Spares other system.old.log.steps system.new.log.steps }
+        ensures calls { SaysNothing system.old.log.steps system.new.log.steps }
+        ensures most { GrowsBy reads system.old.log.steps system.new.log.steps }
+        ensures times { KeepsTimes system.old.log.steps system.new.log.steps }
         ensures number { self.new.number ≡ self.old.number }
         ensures stay { self.new.stay ≡ self.old.stay }
         ensures ending { self.new.ending ≡ self.old.ending }
         ensures drained { (may_have self.new.input ≡ false)
-            ⊎ Makes (is_read_of self.old.number) reads (S.trace system.old) (S.trace system.new) }
+            ⊎ Makes (is_read_of self.old.number) reads system.old.log.steps system.new.log.steps }
     {
         for _ in 0..reads {
             if !self.input.is_ready() {
@@ -143,20 +149,20 @@ impl Peer {
     }
 
     /// Drops the input that was read, and reads once more.
-    fn skip<S: System>(&mut self, system: &mut S)
-        requires kept { IsKept (S.trace system.old) self.old }
+    fn skip<S: System>(&mut self, system: &mut Logged<S>)
+        requires kept { IsKept system.old.log.steps self.old }
         requires gone { is_here self.old.stay ≡ false }
-        ensures kept { IsKept (S.trace system.new) self.new }
+        ensures kept { IsKept system.new.log.steps self.new }
         ensures others { (other : ℕ) → other ≢ self.old.number
-            → Spares other (S.trace system.old) (S.trace system.new) }
-        ensures calls { SaysNothing (S.trace system.old) (S.trace system.new) }
-        ensures most { GrowsBy 1 (S.trace system.old) (S.trace system.new) }
-        ensures times { KeepsTimes (S.trace system.old) (S.trace system.new) }
+            → Spares other system.old.log.steps system.new.log.steps }
+        ensures calls { SaysNothing system.old.log.steps system.new.log.steps }
+        ensures most { GrowsBy 1 system.old.log.steps system.new.log.steps }
+        ensures times { KeepsTimes system.old.log.steps system.new.log.steps }
         ensures number { self.new.number ≡ self.old.number }
         ensures stay { self.new.stay ≡ self.old.stay }
         ensures ending { self.new.ending ≡ self.old.ending }
         ensures asked { may_have self.old.input ≡ true
-            → Asks (record self.old { incoming = [] }) self.new (S.trace system.old) (S.trace system.new) }
+            → Asks (record self.old { incoming = [] }) self.new system.old.log.steps system.new.log.steps }
     {
         self.drop_input();
         self.fill(system);

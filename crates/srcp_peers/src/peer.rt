@@ -1,7 +1,8 @@
 //! A peer with its socket.
 
 ghost use Rattle.std.specs.Prelude.{◌≡◌, ◌≢◌, ◌<◌, ◌≤◌, ◌||◌, true, false, not, cond, ℕ, [], Ok, length, take, nat_lt};
-ghost use Rattle.srcp_peers.specs.Steps.{GrowsBy, SaysNothing, Tells, Answers};
+ghost use Rattle.std.specs.Prelude.{◌∷◌, ◌++◌};
+ghost use Rattle.srcp_peers.specs.Steps.{GrowsBy, SaysNothing, Answers};
 ghost use Rattle.srcp_door.specs.Calls.{WriteCall};
 ghost use Rattle.srcp_peers.specs.Times.{KeepsTimes};
 ghost use Rattle.srcp_peers.specs.Peers.{Asks, IsKept, Offers, Spares, IsRead, after_wake, has_rest};
@@ -15,6 +16,7 @@ ghost use Rattle.srcp_peers.specs.declared.ending.Ending.{Ending};
 ghost use Rattle.srcp_door.specs.declared.pacing.LineBoundary.{LineBoundary};
 
 use crate::ending::Ending;
+use crate::log::{Answer, Logged};
 use crate::queue::{MOST_INCOMING, MOST_OUTGOING, Outgoing, Queue, Queues};
 use crate::readiness::{Flush, Input, Output};
 use crate::stay::Stay;
@@ -26,7 +28,7 @@ use srcp_info::{LONGEST_LINE, MOST_IN_PIECE};
 /// of a visit.
 const FLUSH_THRESHOLD: usize = MOST_OUTGOING - MOST_WRITES as usize * LONGEST_LINE;
 
-/// A peer is silent if nothing of the peer was handed out for so many milliseconds.
+/// The time after which a peer is silent if nothing of the peer was handed out meanwhile, in milliseconds.
 const SILENCE: u64 = 50;
 
 /// Holds a peer and the state of the peer's socket.
@@ -112,14 +114,14 @@ impl Peer {
 
     /// Writes the queued bytes once, if the socket may take some and `what` says that the peer is due.
     #[inline(always)]
-    pub(crate) fn flush<S: System>(&mut self, system: &mut S, what: Flush)
-        requires { IsKept (S.trace system.old) self.old }
-        ensures kept { IsKept (S.trace system.new) self.new }
+    pub(crate) fn flush<S: System>(&mut self, system: &mut Logged<S>, what: Flush)
+        requires { IsKept system.old.log.steps self.old }
+        ensures kept { IsKept system.new.log.steps self.new }
         ensures others { (other : ℕ) → other ≢ self.old.number
-            → Spares other (S.trace system.old) (S.trace system.new) }
-        ensures calls { SaysNothing (S.trace system.old) (S.trace system.new) }
-        ensures most { GrowsBy 1 (S.trace system.old) (S.trace system.new) }
-        ensures times { KeepsTimes (S.trace system.old) (S.trace system.new) }
+            → Spares other system.old.log.steps system.new.log.steps }
+        ensures calls { SaysNothing system.old.log.steps system.new.log.steps }
+        ensures most { GrowsBy 1 system.old.log.steps system.new.log.steps }
+        ensures times { KeepsTimes system.old.log.steps system.new.log.steps }
         ensures number { self.new.number ≡ self.old.number }
         ensures same { self.new ≡ record self.old {
           outgoing = self.new.outgoing;
@@ -128,21 +130,21 @@ impl Peer {
         } }
         ensures offered { woken_output self.old.output (tries_again what) ≡ Output.Open → self.old.outgoing ≢ []
             → is_due what self.old ≡ true
-            → Offers (record self.old { output = Output.Open }) self.new (S.trace system.old) (S.trace system.new) }
+            → Offers (record self.old { output = Output.Open }) self.new system.old.log.steps system.new.log.steps }
     {
         self.output = self.output.woken(what.tries_again());
         self.write_out(system, what);
     }
 
     #[inline(always)]
-    fn write_out<S: System>(&mut self, system: &mut S, what: Flush)
-        requires { IsKept (S.trace system.old) self.old }
-        ensures kept { IsKept (S.trace system.new) self.new }
+    fn write_out<S: System>(&mut self, system: &mut Logged<S>, what: Flush)
+        requires { IsKept system.old.log.steps self.old }
+        ensures kept { IsKept system.new.log.steps self.new }
         ensures others { (other : ℕ) → other ≢ self.old.number
-            → Spares other (S.trace system.old) (S.trace system.new) }
-        ensures calls { SaysNothing (S.trace system.old) (S.trace system.new) }
-        ensures most { GrowsBy 1 (S.trace system.old) (S.trace system.new) }
-        ensures times { KeepsTimes (S.trace system.old) (S.trace system.new) }
+            → Spares other system.old.log.steps system.new.log.steps }
+        ensures calls { SaysNothing system.old.log.steps system.new.log.steps }
+        ensures most { GrowsBy 1 system.old.log.steps system.new.log.steps }
+        ensures times { KeepsTimes system.old.log.steps system.new.log.steps }
         ensures number { self.new.number ≡ self.old.number }
         ensures same { self.new ≡ record self.old {
           outgoing = self.new.outgoing;
@@ -150,7 +152,7 @@ impl Peer {
           awaits_reply = self.new.awaits_reply;
         } }
         ensures offered { self.old.output ≡ Output.Open → self.old.outgoing ≢ [] → is_due what self.old ≡ true
-            → Offers self.old self.new (S.trace system.old) (S.trace system.new) }
+            → Offers self.old self.new system.old.log.steps system.new.log.steps }
     {
         if !self.output.is_open() || self.outgoing.is_empty() || !self.is_due(what) {
             return;
@@ -181,23 +183,23 @@ impl Peer {
     /// visit while the socket refuses more.
     pub(crate) fn begin_visit<S: System>(
         &mut self,
-        system: &mut S,
+        system: &mut Logged<S>,
         anew: bool,
         clock: u64,
         room: u32,
     )
-        requires { IsKept (S.trace system.old) self.old }
-        ensures kept { IsKept (S.trace system.new) self.new }
+        requires { IsKept system.old.log.steps self.old }
+        ensures kept { IsKept system.new.log.steps self.new }
         ensures others { (other : ℕ) → other ≢ self.old.number
-            → Spares other (S.trace system.old) (S.trace system.new) }
-        ensures calls { SaysNothing (S.trace system.old) (S.trace system.new) }
-        ensures most { GrowsBy 1 (S.trace system.old) (S.trace system.new) }
-        ensures times { KeepsTimes (S.trace system.old) (S.trace system.new) }
+            → Spares other system.old.log.steps system.new.log.steps }
+        ensures calls { SaysNothing system.old.log.steps system.new.log.steps }
+        ensures most { GrowsBy 1 system.old.log.steps system.new.log.steps }
+        ensures times { KeepsTimes system.old.log.steps system.new.log.steps }
         ensures number { self.new.number ≡ self.old.number }
         ensures stay { self.new.stay ≡ self.old.stay }
         ensures asked { may_have self.old.input ≡ true → length self.old.incoming < MOST_IN_PIECE
-            → Asks self.old self.new (S.trace system.old) (S.trace system.new) }
-        ensures read { IsRead (S.trace system.new) self.old.number }
+            → Asks self.old self.new system.old.log.steps system.new.log.steps }
+        ensures read { IsRead system.new.log.steps self.old.number }
         ensures ending { self.new.ending ≡ begun self.old.ending (is_over self.new.incoming self.new.input) }
         ensures share { self.new.share ≡ record self.old.share {
           rest = cond (anew || is_silent clock self.old) MOST_IN_PIECE self.old.share.rest;
@@ -229,18 +231,18 @@ impl Peer {
 
     /// Reads the socket once, if a read may find something and less than a piece is held.
     #[inline(always)]
-    pub(crate) fn fill<S: System>(&mut self, system: &mut S)
-        requires { IsKept (S.trace system.old) self.old }
-        ensures kept { IsKept (S.trace system.new) self.new }
+    pub(crate) fn fill<S: System>(&mut self, system: &mut Logged<S>)
+        requires { IsKept system.old.log.steps self.old }
+        ensures kept { IsKept system.new.log.steps self.new }
         ensures others { (other : ℕ) → other ≢ self.old.number
-            → Spares other (S.trace system.old) (S.trace system.new) }
-        ensures calls { SaysNothing (S.trace system.old) (S.trace system.new) }
-        ensures most { GrowsBy 1 (S.trace system.old) (S.trace system.new) }
-        ensures times { KeepsTimes (S.trace system.old) (S.trace system.new) }
+            → Spares other system.old.log.steps system.new.log.steps }
+        ensures calls { SaysNothing system.old.log.steps system.new.log.steps }
+        ensures most { GrowsBy 1 system.old.log.steps system.new.log.steps }
+        ensures times { KeepsTimes system.old.log.steps system.new.log.steps }
         ensures number { self.new.number ≡ self.old.number }
         ensures asked { may_have self.old.input ≡ true → length self.old.incoming < MOST_IN_PIECE
-            → Asks self.old self.new (S.trace system.old) (S.trace system.new) }
-        ensures read { IsRead (S.trace system.new) self.old.number }
+            → Asks self.old self.new system.old.log.steps system.new.log.steps }
+        ensures read { IsRead system.new.log.steps self.old.number }
         ensures same { self.new ≡ record self.old { incoming = self.new.incoming; input = self.new.input } }
     {
         if !self.is_wanting() {
@@ -254,16 +256,16 @@ impl Peer {
     }
 
     /// Takes as many bytes as there is space for, and returns how many. A lost peer's bytes are dropped.
-    pub fn write<S: System>(&mut self, system: &mut S, bytes: &[u8]) -> usize
-        requires kept { IsKept (S.trace system.old) self.old }
+    pub fn write<S: System>(&mut self, system: &mut Logged<S>, bytes: &[u8]) -> usize
+        requires kept { IsKept system.old.log.steps self.old }
         requires here { self.old.stay ≡ Stay.Here }
-        ensures kept { IsKept (S.trace system.new) self.new }
+        ensures kept { IsKept system.new.log.steps self.new }
         ensures count { result ≤ length bytes.now }
         ensures exact { result ≡ enqueued self.old bytes.now }
-        ensures trace { Tells (S.trace system.old) (Answers (WriteCall self.old.number bytes.now (Ok result)))
-            (S.trace system.new) }
+        ensures log { system.new.log.steps
+            ≡ system.old.log.steps ++ Answers (WriteCall self.old.number bytes.now (Ok result)) ∷ [] }
         ensures others { (other : ℕ) → other ≢ self.old.number
-            → Spares other (S.trace system.old) (S.trace system.new) }
+            → Spares other system.old.log.steps system.new.log.steps }
         ensures number { self.new.number ≡ self.old.number }
         ensures same { self.new ≡ record self.old {
           outgoing = queued_more self.old.output self.old.outgoing (take result bytes.now);
@@ -277,7 +279,7 @@ impl Peer {
         if !self.ending.is_open() {
             self.ending = self.ending.written(!self.backpressured);
         }
-        system.note_write(self.number, bytes, Ok(count));
+        system.answer(&Answer::Write(self.number, bytes, Ok(count)));
         count
     }
 
@@ -314,7 +316,7 @@ impl Peer {
         clock.saturating_sub(self.heard) >= SILENCE
     }
 
-    /// Returns whether the lines of the peer go before those of peers that are not silent.
+    /// Returns whether the peer has priority over peers that are not silent: the peer is silent, and holds input.
     pub fn goes_first(&self, clock: u64) -> bool
         ensures { result ≡ goes_first clock self.now }
     {

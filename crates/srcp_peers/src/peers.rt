@@ -10,22 +10,23 @@ ghost use Rattle.srcp_peers.specs.AllPeers.{IsAbsent, KeepEndings};
 ghost use Rattle.srcp_peers.specs.Listeners.{woken_listening};
 
 use crate::lingering::reads_each;
+use crate::log::Logged;
 use crate::peer::Peer;
 use crate::readiness::Flush;
 use crate::system::{Ready, System};
 use crate::turn::Listening;
 
 /// Flushes each peer that is there, and goes on with the lingering peers.
-pub fn flush<S: System>(system: &mut S, peers: &mut [Peer], what: Flush)
-    requires kept { AreKept (S.trace system.old) peers.old }
+pub fn flush<S: System>(system: &mut Logged<S>, peers: &mut [Peer], what: Flush)
+    requires kept { AreKept system.old.log.steps peers.old }
     requires apart { AreApart peers.old }
-    ensures kept { AreKept (S.trace system.new) peers.new }
+    ensures kept { AreKept system.new.log.steps peers.new }
     ensures those { AreThose peers.old peers.new }
-    ensures others { (other : ℕ) → IsAbsent other peers.old → Spares other (S.trace system.old) (S.trace system.new) }
-    ensures calls { SaysNothing (S.trace system.old) (S.trace system.new) }
-    ensures most { GrowsBy (2 * length peers.old + 64) (S.trace system.old) (S.trace system.new) }
-    ensures times { KeepsTimes (S.trace system.old) (S.trace system.new) }
-    ensures offered { AreOffered what peers.old (S.trace system.old) (S.trace system.new) }
+    ensures others { (other : ℕ) → IsAbsent other peers.old → Spares other system.old.log.steps system.new.log.steps }
+    ensures calls { SaysNothing system.old.log.steps system.new.log.steps }
+    ensures most { GrowsBy (2 * length peers.old + 64) system.old.log.steps system.new.log.steps }
+    ensures times { KeepsTimes system.old.log.steps system.new.log.steps }
+    ensures offered { AreOffered what peers.old system.old.log.steps system.new.log.steps }
     ensures shut { AreShutDown peers.old peers.new }
     ensures endings { KeepEndings peers.old peers.new }
 {
@@ -38,22 +39,22 @@ pub fn flush<S: System>(system: &mut S, peers: &mut [Peer], what: Flush)
 /// Begins the visit of each peer. The share is a whole piece again for each peer that is silent when the clock shows
 /// `clock`, and with `anew` for all peers. At most `room` lines may be queued for each peer whose socket refuses more.
 pub fn begin_visits<S: System>(
-    system: &mut S,
+    system: &mut Logged<S>,
     peers: &mut [Peer],
     anew: bool,
     clock: u64,
     room: u32,
 )
-    requires kept { AreKept (S.trace system.old) peers.old }
+    requires kept { AreKept system.old.log.steps peers.old }
     requires apart { AreApart peers.old }
-    ensures kept { AreKept (S.trace system.new) peers.new }
+    ensures kept { AreKept system.new.log.steps peers.new }
     ensures those { AreThose peers.old peers.new }
-    ensures others { (other : ℕ) → IsAbsent other peers.old → Spares other (S.trace system.old) (S.trace system.new) }
-    ensures calls { SaysNothing (S.trace system.old) (S.trace system.new) }
-    ensures most { GrowsBy (length peers.old) (S.trace system.old) (S.trace system.new) }
-    ensures times { KeepsTimes (S.trace system.old) (S.trace system.new) }
+    ensures others { (other : ℕ) → IsAbsent other peers.old → Spares other system.old.log.steps system.new.log.steps }
+    ensures calls { SaysNothing system.old.log.steps system.new.log.steps }
+    ensures most { GrowsBy (length peers.old) system.old.log.steps system.new.log.steps }
+    ensures times { KeepsTimes system.old.log.steps system.new.log.steps }
     ensures read { (k : ℕ) (d : Peer) → k < length peers.new
-        → IsRead (S.trace system.new) (slice_index_or peers.new k d).number }
+        → IsRead system.new.log.steps (slice_index_or peers.new k d).number }
     ensures shares { AreShared anew clock peers.old peers.new }
     ensures begun { AreBegun peers.old peers.new }
     ensures rooms { All (λ peer. peer.room ≡ room) peers.new }

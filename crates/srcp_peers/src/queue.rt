@@ -1,9 +1,10 @@
 //! Bytes that are held in order until they are handed over.
 
-ghost use Rattle.std.specs.Prelude.{◌≡◌, ◌<◌, ◌≤◌, ◌+◌, ◌-◌, ◌++◌, ◌==◌, [], ℕ, List, IfOk, MatchResult, length, take};
-ghost use Rattle.std.specs.Prelude.{drop, min, slice_range};
-ghost use Rattle.srcp_peers.specs.Steps.{Tells, Reads};
+ghost use Rattle.std.specs.Prelude.{◌≡◌, ◌<◌, ◌≤◌, ◌+◌, ◌-◌, ◌++◌, ◌∷◌, ◌==◌, [], ℕ, List, IfOk, length};
+ghost use Rattle.std.specs.Prelude.{MatchResult, drop, min, slice_range, take};
+ghost use Rattle.srcp_peers.specs.Steps.{Reads};
 
+use crate::log::Logged;
 use crate::system::System;
 use std::alloc::{AllocError, Global};
 use std::io::ErrorKind;
@@ -130,12 +131,12 @@ impl<const MOST: usize> Queue<MOST> {
     /// Returns the error of the system. The queue stays the same then.
     pub(crate) fn read_from<S: System>(
         &mut self,
-        system: &mut S,
+        system: &mut Logged<S>,
         socket: u32,
     ) -> Result<usize, ErrorKind>
         requires { length self.old < MOST }
         ensures { (buffer : List ℕ) × (length buffer ≡ MOST - length self.old)
-            × Tells (S.trace system.old) (Reads socket buffer result) (S.trace system.new)
+            × (system.new.log.steps ≡ system.old.log.steps ++ Reads socket buffer result ∷ [])
             × MatchResult result (λ count. (count ≤ length buffer) × (self.new ≡ self.old ++ take count buffer))
             (λ _. self.new ≡ self.old) }
     {

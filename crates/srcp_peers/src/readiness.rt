@@ -15,21 +15,21 @@ use crate::system::IoFailure;
 /// Ready --------------------------------------> Quiet
 ///   | \   <------------------------------------   |
 ///   |  \             found readable               |
-///   |   +---> Draining <--------------------------+   found closed, or with urgent data
+///   |   +---> Emptying <--------------------------+   found closed, or with urgent data
 ///   |            |
 ///   |            +---> Quiet      a read found nothing
 ///   +------------+---> Ended      a read found the end
 ///                +---> Failed     a read failed
 /// ```
 ///
-/// A read ends at urgent data with space left, and no event reports the bytes behind. So a draining socket is read
+/// A read ends at urgent data with space left, and no event reports the bytes behind. So an emptying socket is read
 /// until a read finds nothing. An interrupted call changes no state.
 #[derive(Clone, Copy)]
 pub enum Input {
     /// A read may return data.
     Ready,
     /// Data behind urgent data, or the end: no event reports these again, and the socket is read until nothing comes.
-    Draining,
+    Emptying,
     /// No data, until the socket is found ready.
     Quiet,
     /// A read found the end.
@@ -41,7 +41,7 @@ pub enum Input {
 /// Says what a write to a socket may find.
 ///
 /// ```text
-///         a write was cut, or refused for now
+///         a write was cut, or would block
 /// Open ---------------------------------------> Full
 ///      <---------------------------------------
 ///       found writable, or a write was taken whole
@@ -92,7 +92,7 @@ impl Input {
         ensures { result ≡ may_have self }
     {
         match self {
-            Input::Ready | Input::Draining => true,
+            Input::Ready | Input::Emptying => true,
             Input::Quiet | Input::Ended | Input::Failed => false,
         }
     }
@@ -102,7 +102,7 @@ impl Input {
         ensures { result ≡ has_ended self }
     {
         match self {
-            Input::Ready | Input::Draining | Input::Quiet => false,
+            Input::Ready | Input::Emptying | Input::Quiet => false,
             Input::Ended | Input::Failed => true,
         }
     }
@@ -117,7 +117,7 @@ impl Input {
         match self {
             Input::Ready if count < room => Input::Quiet,
             Input::Ready => Input::Ready,
-            Input::Draining => Input::Draining,
+            Input::Emptying => Input::Emptying,
             Input::Quiet => Input::Quiet,
             Input::Ended => Input::Ended,
             Input::Failed => Input::Failed,
@@ -136,11 +136,11 @@ impl Input {
     }
 
     /// Returns what follows a socket that was found ready.
-    pub(crate) fn woken(self, readable: bool, drains: bool) -> Input
-        ensures { result ≡ woken_input self readable drains }
+    pub(crate) fn woken(self, readable: bool, behind: bool) -> Input
+        ensures { result ≡ woken_input self readable behind }
     {
         match self {
-            Input::Ready | Input::Quiet if drains => Input::Draining,
+            Input::Ready | Input::Quiet if behind => Input::Emptying,
             Input::Quiet if readable => Input::Ready,
             state => state,
         }
@@ -158,7 +158,7 @@ impl Input {
         ensures { result ≡ rests_reading outgoing.now self }
     {
         match self {
-            Input::Ready | Input::Draining | Input::Failed => false,
+            Input::Ready | Input::Emptying | Input::Failed => false,
             Input::Quiet => true,
             Input::Ended => !outgoing.is_empty(),
         }

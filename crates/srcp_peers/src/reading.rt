@@ -1,8 +1,8 @@
 //! How a read of a peer is answered: with held input, with the end of the peer, or with a fault.
 
-ghost use Rattle.std.specs.Prelude.{◌≡◌, ◌≢◌, ◌<◌, ◌≤◌, ◌++◌, ◌==◌, true, false, cond, ℕ, List, []};
+ghost use Rattle.std.specs.Prelude.{◌≡◌, ◌≢◌, ◌<◌, ◌≤◌, ◌++◌, ◌==◌, true, false, cond, ℕ, List, [], ◌∷◌};
 ghost use Rattle.std.specs.Prelude.{Ok, IfErr, OnErr, length};
-ghost use Rattle.srcp_peers.specs.Steps.{Tells, Answers};
+ghost use Rattle.srcp_peers.specs.Steps.{Answers};
 ghost use Rattle.srcp_door.specs.Calls.{ReadCall};
 ghost use Rattle.srcp_peers.specs.Peers.{IsKept, MayEnd, MayFail, Spares};
 ghost use Rattle.srcp_peers.specs.Turns.{after_read, got_bytes, own_pace, reports_end};
@@ -11,6 +11,7 @@ ghost use Rattle.srcp_door.specs.Pacing.{Allows, IsShort, fits, keeps_back, line
 ghost use Rattle.srcp_door.specs.declared.pacing.LineBoundary.{LineBoundary};
 ghost use Rattle.srcp_peers.specs.declared.stay.Stay.{Stay};
 
+use crate::log::{Answer, Logged};
 use crate::peer::Peer;
 use crate::readiness::Input;
 use crate::system::System;
@@ -39,25 +40,25 @@ enum Due {
 }
 
 impl Peer {
-    /// Moves held input to the start of a buffer, as far as the turn's lines go; with `waits` no line goes that weighs
-    /// something, if the pace is short. If no input is held, reports the end or the fault of the peer, unless the turn
-    /// reported another.
+    /// Moves held input to the start of a buffer, as much as the pace of the turn allows. With `waits` the peer waits
+    /// for others: if the pace is short, no line that weighs something is moved. If no input is held, reports the end
+    /// or the fault of the peer, unless the turn reported another.
     pub fn read<S: System>(
         &mut self,
-        system: &mut S,
+        system: &mut Logged<S>,
         turn: &mut Turn,
         waits: bool,
         buffer: &mut [u8],
     ) -> ReadOutcome
-        requires kept { IsKept (S.trace system.old) self.old }
+        requires kept { IsKept system.old.log.steps self.old }
         requires here { self.old.stay ≡ Stay.Here }
-        ensures kept { IsKept (S.trace system.new) self.new }
-        ensures trace { Tells (S.trace system.old) (Answers (ReadCall self.old.number result.got buffer.new))
-            (S.trace system.new) }
+        ensures kept { IsKept system.new.log.steps self.new }
+        ensures log { system.new.log.steps
+            ≡ system.old.log.steps ++ Answers (ReadCall self.old.number result.got buffer.new) ∷ [] }
         ensures count { (n : ℕ) → result.got ≡ Ok (Got.Bytes n) → (0 < n) × (n ≤ length buffer.new) }
         ensures fault { IfErr result.got (λ fault. fault ≡ DoorFault.Read) }
         ensures others { (other : ℕ) → other ≢ self.old.number
-            → Spares other (S.trace system.old) (S.trace system.new) }
+            → Spares other system.old.log.steps system.new.log.steps }
         ensures number { self.new.number ≡ self.old.number }
         ensures turn { turn.new ≡ after_read turn.old self.old.share.line result.got buffer.new }
         ensures fits { fits turn.old.pace (weight_of self.old.share.line (got_bytes result.got buffer.new)) ≡ true }
@@ -76,46 +77,19 @@ impl Peer {
           heard = self.new.heard;
         } }
     {
-        let outcome = self.read_into(turn, waits, buffer);
-        system.note_read(self.number, outcome.got, buffer);
+        let outcome = if self.incoming.is_empty() {
+            ReadOutcome {
+                got: self.reported_end(turn),
+                starved: false,
+            }
+        } else {
+            self.deliver_input(turn, waits, buffer)
+        };
+        system.answer(&Answer::Read(self.number, outcome.got, buffer));
         outcome
     }
 
-    /// Answers a read, as `read` does, but notes nothing.
-    fn read_into(&mut self, turn: &mut Turn, waits: bool, buffer: &mut [u8]) -> ReadOutcome
-        ensures bytes { self.old.incoming ≡ got_bytes result.got buffer.new ++ self.new.incoming }
-        ensures ended { result.got ≡ Ok Got.Ended → MayEnd self.old }
-        ensures failed { OnErr result.got (MayFail self.old) }
-        ensures count { (n : ℕ) → result.got ≡ Ok (Got.Bytes n) → (0 < n) × (n ≤ length buffer.new) }
-        ensures fault { IfErr result.got (λ fault. fault ≡ DoorFault.Read) }
-        ensures line { self.new.share.line ≡ line_after self.old.share.line (got_bytes result.got buffer.new) }
-        ensures turn { turn.new ≡ after_read turn.old self.old.share.line result.got buffer.new }
-        ensures fits { fits turn.old.pace (weight_of self.old.share.line (got_bytes result.got buffer.new)) ≡ true }
-        ensures ends { reports_end result.got ≡ true → turn.old.may_report_end ≡ true }
-        ensures answered { IsAnswered turn.old waits self.old (length buffer.old) result.got
-            (got_bytes result.got buffer.new) result.starved }
-        ensures share { self.new.share ≡ share_after self.old.share (got_bytes result.got buffer.new)
-            result.starved }
-        ensures starved { result.starved ≡ true → IsShort turn.new.pace }
-        ensures heard { self.new.heard
-            ≡ cond (length (got_bytes result.got buffer.new) == 0) self.old.heard turn.old.clock }
-        ensures same { self.new ≡ record self.old {
-          incoming = self.new.incoming;
-          share = self.new.share;
-          awaits_reply = self.new.awaits_reply;
-          heard = self.new.heard;
-        } }
-    {
-        if self.incoming.is_empty() {
-            return ReadOutcome {
-                got: self.reported_end(turn),
-                starved: false,
-            };
-        }
-        self.deliver_input(turn, waits, buffer)
-    }
-
-    /// Moves held input to the start of a buffer, as far as the turn's lines go.
+    /// Moves held input to the start of a buffer, as much as the pace of the turn allows.
     fn deliver_input(&mut self, turn: &mut Turn, waits: bool, buffer: &mut [u8]) -> ReadOutcome
         ensures bytes { self.old.incoming ≡ got_bytes result.got buffer.new ++ self.new.incoming }
         ensures ended { reports_end result.got ≡ false }

@@ -22,7 +22,7 @@ use crate::system::IoFailure;
 use srcp_door::{Allowed, DoorFault, Got, MOST_WRITES, Pace, RESERVE, Share, Timekeeper};
 use srcp_grammar::MOST_CHANGES;
 
-/// The monotonic clock goes on by at least so many milliseconds.
+/// The least step of the monotonic clock, in milliseconds.
 const TICK: u64 = 1;
 
 /// A wait for a due moment ends early by this part of the wait. The system may end a wait late by a thousandth of the
@@ -254,8 +254,8 @@ impl Turn {
         }
     }
 
-    /// Returns the pace of a peer's lines. If others go first and not every line may go, none goes that weighs
-    /// something.
+    /// Returns the pace of a peer's lines. If the peer waits for others and not every line may be handed out, no line
+    /// that weighs something may be.
     fn own_pace(&self, waits: bool) -> Pace
         ensures { result ≡ own_pace waits self.now.pace }
     {
@@ -266,8 +266,8 @@ impl Turn {
         }
     }
 
-    /// Returns how many bytes of a peer's piece may be handed out now, by the peer's share of the lines. The peer waits
-    /// if others go first. Notes these bytes as handed out.
+    /// Returns how many bytes of a peer's piece may be handed out now, by the peer's share of the lines. With
+    /// `waits` the peer waits for others. Notes these bytes as handed out.
     pub(crate) fn allow(&mut self, waits: bool, share: &mut Share, piece: &[u8]) -> Allowed
         ensures within { result.count ≤ length piece.now }
         ensures nothing { result.count ≡ 0 → self.new ≡ self.old }

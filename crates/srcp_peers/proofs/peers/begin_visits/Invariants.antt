@@ -9,14 +9,14 @@ use Rattle.srcp_peers.proofs.peers.begin_visits.Given as goal
 
 abbrev pub invariant-loop-peer : goal.invariant-loop-peer
 invariant-loop-peer g l = record {
-  kept : AreKept (g.S.System.trace l.system) l.peers;
+  kept : AreKept l.system.log.steps l.peers;
   apart : AreApart l.peers;
   those : AreThose l.fn.peers l.peers;
-  others : (other : ℕ) → IsAbsent other l.fn.peers → Spares other (g.S.System.trace l.fn.system) (g.S.System.trace l.system);
-  calls : SaysNothing (g.S.System.trace l.fn.system) (g.S.System.trace l.system);
-  most : GrowsBy l.peer-index (g.S.System.trace l.fn.system) (g.S.System.trace l.system);
-  times : KeepsTimes (g.S.System.trace l.fn.system) (g.S.System.trace l.system);
-  read : (k : ℕ) (d : Peer) → k < l.peer-index → IsRead (g.S.System.trace l.system) (slice_index_or l.peers k d).number;
+  others : (other : ℕ) → IsAbsent other l.fn.peers → Spares other l.fn.system.log.steps l.system.log.steps;
+  calls : SaysNothing l.fn.system.log.steps l.system.log.steps;
+  most : GrowsBy l.peer-index l.fn.system.log.steps l.system.log.steps;
+  times : KeepsTimes l.fn.system.log.steps l.system.log.steps;
+  read : (k : ℕ) (d : Peer) → k < l.peer-index → IsRead l.system.log.steps (slice_index_or l.peers k d).number;
   shared : (k : ℕ) (d : Peer) → k < l.peer-index
       → (slice_index_or l.peers k d).share.rest ≡ (let p = slice_index_or l.fn.peers k d in
       cond {A = ℕ} (l.anew || is_silent l.clock p) 256 p.share.rest);

@@ -1,71 +1,41 @@
-use Rattle.std.proofs.Common.{◌≡◌, ℕ, arith, get_or, refl, subst, take}
-use Rattle.std.specs.List.{sum_by}
+use Rattle.std.proofs.Common.{◌≡◌, ◌∙◌, arith, get_or}
 use Rattle.srcp_peers.specs.declared.peer.Peer.{Peer}
-use Rattle.srcp_peers.proofs.CallsAreOfTheDoor.{says_none, says_then, keeps_none, keeps_then}
-use Rattle.srcp_peers.proofs.PeersStayKept.{spares_none, spares_then}
+use Rattle.srcp_peers.proofs.CallsAreOfTheDoor.{says_then}
 use Rattle.srcp_peers.proofs.OnePeerChanges.{absent_there, set_apart, set_each, set_kept, set_rest, set_stays, set_those}
 use Rattle.srcp_peers.proofs.QueuedIsOffered.{set_offered}
-use Rattle.srcp_peers.proofs.StepsAreCounted.{grows_flush, grows_none, grows_peer}
+use Rattle.srcp_peers.proofs.StepsAreCounted.{grows_flush, grows_peer}
 use Rattle.srcp_peers.specs.Peers.{calls_in}
-use Rattle.srcp_peers.specs.Steps.{GrowsBy}
 use Rattle.srcp_peers.proofs.peers.flush.Goals as goal
-
-pub loop-peer-init : goal.loop-peer-init
-loop-peer-init g c = record {
-  kept = c.requires.kept;
-  apart = c.requires.apart;
-  those = λ k d lt. refl;
-  others = λ other absent. spares_none other (g.S.System.trace c.args.system.now);
-  calls = says_none (g.S.System.trace c.args.system.now);
-  most = grows_none (g.S.System.trace c.args.system.now);
-  times = keeps_none (g.S.System.trace c.args.system.now);
-  offered = λ k d lt. absurd (omega (arith, lt));
-  shut = λ k d lt. absurd (omega (arith, lt));
-  endings = λ k d lt. absurd (omega (arith, lt));
-  rest = λ k d late. refl;
-}
 
 pub loop-peer-preserved : goal.loop-peer-preserved
 loop-peer-preserved g c =
-    let each = c.flush_or_linger in
+    let first = c.args.peers.now in
+    let peers = c.loop-peer.peers in
+    let i = c.loop-peer.peer-index in
+    let d = c.peer-item.result in
+    let was = c.loop-peer.invariant in
+    let begin = c.args.system.now.log.steps in
+    let old = c.loop-peer.system.log.steps in
+    let new = c.flush_or_linger.new.system.log.steps in
+    let p = c.flush_or_linger.new.self in
+    let each = c.flush_or_linger.ensures in
     record {
-      kept = set_kept (g.S.System.trace c.loop-peer.system) (g.S.System.trace each.new.system) c.loop-peer.peers c.loop-peer.peer-index
-          c.peer-item.result each.new.self (omega arith) c.loop-peer.invariant.apart c.loop-peer.invariant.kept
-          each.ensures.kept each.ensures.others;
-      apart = set_apart c.loop-peer.peers c.loop-peer.peer-index c.peer-item.result each.new.self (omega arith)
-          each.ensures.number c.loop-peer.invariant.apart;
-      those = set_those c.args.peers.now c.loop-peer.peers c.loop-peer.peer-index c.peer-item.result each.new.self (omega arith)
-          c.loop-peer.auto.peers each.ensures.number c.loop-peer.invariant.those;
-      others = λ other absent. spares_then other (g.S.System.trace c.args.system.now) (g.S.System.trace c.loop-peer.system)
-          (g.S.System.trace each.new.system)
-          (c.loop-peer.invariant.others other absent)
-          (each.ensures.others other (absent_there other c.args.peers.now c.loop-peer.peers c.loop-peer.peer-index c.peer-item.result
-          (omega arith)
-          c.loop-peer.auto.peers c.loop-peer.invariant.those absent));
-      calls = says_then (g.S.System.trace c.args.system.now) (g.S.System.trace c.loop-peer.system) (g.S.System.trace each.new.system)
-          c.loop-peer.invariant.calls each.ensures.calls;
-      most = grows_peer (calls_in c.reads_each-reads.result) c.args.peers.now c.loop-peer.peer-index
-          (get_or c.loop-peer.peers c.loop-peer.peer-index c.peer-item.result) c.peer-item.result (g.S.System.trace c.args.system.now)
-          (g.S.System.trace c.loop-peer.system) (g.S.System.trace c.flush_or_linger.new.system) (omega arith)
-          (c.loop-peer.invariant.rest c.loop-peer.peer-index c.peer-item.result (omega arith)) c.loop-peer.invariant.most
-          c.flush_or_linger.ensures.most;
-      times = keeps_then (g.S.System.trace c.args.system.now) (g.S.System.trace c.loop-peer.system) (g.S.System.trace each.new.system)
-          c.loop-peer.invariant.times each.ensures.times;
-      offered = set_offered (g.S.System.trace c.args.system.now) (g.S.System.trace c.loop-peer.system) (g.S.System.trace each.new.system)
-          c.args.what c.args.peers.now c.loop-peer.peers c.loop-peer.peer-index c.peer-item.result (omega arith) c.loop-peer.invariant.rest
-          c.loop-peer.invariant.calls each.ensures.calls each.ensures.offered c.loop-peer.invariant.offered;
-      shut = set_stays c.args.peers.now c.loop-peer.peers c.loop-peer.peer-index c.peer-item.result each.new.self (omega arith)
-          each.ensures.stay c.loop-peer.invariant.rest c.loop-peer.invariant.shut;
-      endings = set_each (λ (p q : Peer). q.ending ≡ p.ending) c.args.peers.now c.loop-peer.peers c.loop-peer.peer-index c.peer-item.result
-          each.new.self (omega arith) each.ensures.ending c.loop-peer.invariant.rest c.loop-peer.invariant.endings;
-      rest = set_rest c.args.peers.now c.loop-peer.peers c.loop-peer.peer-index each.new.self c.loop-peer.invariant.rest;
+      kept = set_kept old new peers i d p (omega arith) was.apart was.kept each.kept each.others;
+      apart = set_apart peers i d p (omega arith) each.number was.apart;
+      those = set_those first peers i d p (omega arith) c.loop-peer.auto.peers each.number was.those;
+      others = λ other absent.
+          each.others other (absent_there other first peers i d (omega arith) c.loop-peer.auto.peers was.those absent)
+          ∙ was.others other absent;
+      calls = says_then begin old new was.calls each.calls;
+      most = grows_peer (calls_in c.reads_each-reads.result) first i (get_or peers i d) d begin old new (omega arith)
+          (was.rest i d (omega arith)) was.most each.most;
+      times = λ wall start. each.times wall start ∙ was.times wall start;
+      offered = set_offered begin old new c.args.what first peers i d (omega arith) was.rest was.calls each.calls each.offered was.offered;
+      shut = set_stays first peers i d p (omega arith) each.stay was.rest was.shut;
+      endings = set_each (λ (x y : Peer). y.ending ≡ x.ending) first peers i d p (omega arith) each.ending was.rest was.endings;
+      rest = set_rest first peers i p was.rest;
     }
 
 pub returns-clause-most : goal.returns-clause-most
-returns-clause-most g c =
-    let old = g.S.System.trace c.args.system.now in
-    let new = g.S.System.trace c.loop-peer.system in
-    let peers = c.args.peers.now in
-    let k = c.loop-peer.peer-index in
-    grows_flush peers k old new
-    (subst (λ (reads : ℕ). GrowsBy (sum_by (calls_in reads) (take k peers)) old new) c.reads_each-reads.ensures c.loop-peer.invariant.most)
+returns-clause-most g c = grows_flush c.args.peers.now c.loop-peer.peer-index c.args.system.now.log.steps c.loop-peer.system.log.steps
+    (rw (← c.reads_each-reads.ensures) c.loop-peer.invariant.most)

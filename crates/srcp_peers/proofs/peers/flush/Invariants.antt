@@ -9,15 +9,15 @@ use Rattle.srcp_peers.proofs.peers.flush.Given as goal
 
 abbrev pub invariant-loop-peer : goal.invariant-loop-peer
 invariant-loop-peer g l = record {
-  kept : AreKept (g.S.System.trace l.system) l.peers;
+  kept : AreKept l.system.log.steps l.peers;
   apart : AreApart l.peers;
   those : AreThose l.fn.peers l.peers;
-  others : (other : ℕ) → IsAbsent other l.fn.peers → Spares other (g.S.System.trace l.fn.system) (g.S.System.trace l.system);
-  calls : SaysNothing (g.S.System.trace l.fn.system) (g.S.System.trace l.system);
-  most : GrowsBy (sum_by (calls_in l.reads) (take l.peer-index l.fn.peers)) (g.S.System.trace l.fn.system) (g.S.System.trace l.system);
-  times : KeepsTimes (g.S.System.trace l.fn.system) (g.S.System.trace l.system);
+  others : (other : ℕ) → IsAbsent other l.fn.peers → Spares other l.fn.system.log.steps l.system.log.steps;
+  calls : SaysNothing l.fn.system.log.steps l.system.log.steps;
+  most : GrowsBy (sum_by (calls_in l.reads) (take l.peer-index l.fn.peers)) l.fn.system.log.steps l.system.log.steps;
+  times : KeepsTimes l.fn.system.log.steps l.system.log.steps;
   offered : (k : ℕ) (d : Peer) → k < l.peer-index
-      → OffersDue l.fn.what (slice_index_or l.fn.peers k d) (g.S.System.trace l.fn.system) (g.S.System.trace l.system);
+      → OffersDue l.fn.what (slice_index_or l.fn.peers k d) l.fn.system.log.steps l.system.log.steps;
   shut : (k : ℕ) (d : Peer) → k < l.peer-index → (let p = slice_index_or l.peers k d in
       p.stay ≡ stay_after (slice_index_or l.fn.peers k d).stay p.outgoing p.output);
   endings : (k : ℕ) (d : Peer) → k < l.peer-index → (slice_index_or l.peers k d).ending ≡ (slice_index_or l.fn.peers k d).ending;

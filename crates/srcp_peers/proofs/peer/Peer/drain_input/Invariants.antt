@@ -6,14 +6,14 @@ use Rattle.srcp_peers.proofs.peer.Peer.drain_input.Given as goal
 
 abbrev pub invariant-loop : goal.invariant-loop
 invariant-loop g l = record {
-  kept : IsKept (g.S.System.trace l.system) l.self;
+  kept : IsKept l.system.log.steps l.self;
   gone : is_here l.self.stay ≡ false;
-  others : (other : ℕ) → other ≢ l.fn.self.number → Spares other (g.S.System.trace l.fn.system) (g.S.System.trace l.system);
-  calls : SaysNothing (g.S.System.trace l.fn.system) (g.S.System.trace l.system);
-  most : GrowsBy l.counter (g.S.System.trace l.fn.system) (g.S.System.trace l.system);
-  times : KeepsTimes (g.S.System.trace l.fn.system) (g.S.System.trace l.system);
+  others : (other : ℕ) → other ≢ l.fn.self.number → Spares other l.fn.system.log.steps l.system.log.steps;
+  calls : SaysNothing l.fn.system.log.steps l.system.log.steps;
+  most : GrowsBy l.counter l.fn.system.log.steps l.system.log.steps;
+  times : KeepsTimes l.fn.system.log.steps l.system.log.steps;
   number : l.self.number ≡ l.fn.self.number;
-  made : Makes (is_read_of l.fn.self.number) l.counter (g.S.System.trace l.fn.system) (g.S.System.trace l.system);
+  made : Makes (is_read_of l.fn.self.number) l.counter l.fn.system.log.steps l.system.log.steps;
   stay : l.self.stay ≡ l.fn.self.stay;
   ending : l.self.ending ≡ l.fn.self.ending;
 }

@@ -1,26 +1,33 @@
-use Rattle.std.proofs.Common.{◌≡◌, ℕ, ap, subst}
+use Rattle.std.proofs.Common.{◌≡◌, ◌∙◌, ◌++◌, ◌∷◌, [], Ok, rules, ap}
+use Rattle.std.specs.Prelude.{OnErr}
+use Rattle.std.proofs.lemmas.List.{nil_from_length}
 use Rattle.srcp_door.specs.Calls.{ReadCall}
-use Rattle.srcp_peers.specs.declared.peer.Peer.{Peer}
-use Rattle.srcp_peers.specs.Steps.{Tells, Answers}
-use Rattle.srcp_peers.proofs.PeersStayKept.{kept_got, spares_got}
+use Rattle.srcp_door.specs.declared.door.Got.TheVariants as got
+use Rattle.srcp_door.specs.Pacing.{line_after}
+use Rattle.srcp_peers.specs.Peers.{MayEnd, MayFail}
+use Rattle.srcp_peers.specs.Steps.{Answers}
+use Rattle.srcp_peers.specs.Turns.{got_bytes}
+use Rattle.srcp_peers.proofs.PeersStayKept.{kept_got}
+use Rattle.srcp_peers.proofs.peer.Peer.read.Goals.{then-is_empty, else-is_empty}
 use Rattle.srcp_peers.proofs.peer.Peer.read.Goals as goal
 
 pub returns-clause-kept : goal.returns-clause-kept
 returns-clause-kept g c =
-    let old = g.S.System.trace c.args.system.now in
-    let new = g.S.System.trace c.note_read.new.self in
-    let out = c.read_into-outcome in
-    let number : out.new.self.number ≡ c.args.self.now.number = ap (λ (p : Peer). p.number) out.ensures.same in
-    kept_got old new c.args.self.now out.new.self out.result.got out.new.buffer c.requires.here out.ensures.same out.ensures.bytes
-    out.ensures.line
-    out.ensures.ended out.ensures.failed
-    (subst (λ (n : ℕ). Tells old (Answers (ReadCall n out.result.got out.new.buffer)) new) number c.note_read.ensures) c.requires.kept
-
-pub returns-clause-others : goal.returns-clause-others
-returns-clause-others g c = λ other differ.
-    let old = g.S.System.trace c.args.system.now in
-    let new = g.S.System.trace c.note_read.new.self in
-    let out = c.read_into-outcome in
-    let number : out.new.self.number ≡ c.args.self.now.number = ap (λ (p : Peer). p.number) out.ensures.same in
-    spares_got c.args.self.now.number other old new out.result.got out.new.buffer differ
-    (subst (λ (n : ℕ). Tells old (Answers (ReadCall n out.result.got out.new.buffer)) new) number c.note_read.ensures)
+    let p = c.args.self.now in
+    let q = c.if-is_empty.self in
+    let answer = c.if-is_empty.outcome.got in
+    let buffer = c.if-is_empty.buffer in
+    let log = c.args.system.now.log.steps in
+    let number : q.number ≡ p.number = search rules in
+    let bytes : p.incoming ≡ got_bytes answer buffer ++ q.incoming =
+    elim c.if-is_empty.branch [ then-is_empty w ↦ search rules | else-is_empty w ↦ search rules ] in
+    let line : q.share.line ≡ line_after p.share.line (got_bytes answer buffer) =
+    elim c.if-is_empty.branch [ then-is_empty w ↦ search rules | else-is_empty w ↦ search rules ] in
+    let ended : answer ≡ Ok got.Ended → MayEnd p = elim c.if-is_empty.branch [
+      | then-is_empty w ↦ λ e. w.reported_end.ensures.ended (search rules) (nil_from_length p.incoming (search rules))
+      | else-is_empty w ↦ search rules
+    ] in
+    let failed : OnErr answer (MayFail p) =
+    elim c.if-is_empty.branch [ then-is_empty w ↦ search rules | else-is_empty w ↦ search rules ] in
+    kept_got log c.answer.new.self.log.steps p q answer buffer c.requires.here (search rules) bytes line ended failed
+    (c.answer.ensures ∙ ap (λ n. log ++ Answers (ReadCall n answer buffer) ∷ []) number) c.requires.kept

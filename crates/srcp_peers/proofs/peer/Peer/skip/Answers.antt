@@ -4,5 +4,5 @@ use Rattle.srcp_peers.proofs.PeersLingerByAccount.{kept_dropped}
 use Rattle.srcp_peers.proofs.peer.Peer.skip.Goals as goal
 
 pub fill-requires : goal.fill-requires
-fill-requires g c = subst (IsKept (g.S.System.trace c.args.system.now)) (sym c.drop_input.ensures)
-    (kept_dropped (g.S.System.trace c.args.system.now) c.args.self.now c.requires.gone c.requires.kept)
+fill-requires g c = subst (IsKept c.args.system.now.log.steps) (sym c.drop_input.ensures)
+    (kept_dropped c.args.system.now.log.steps c.args.self.now c.requires.gone c.requires.kept)

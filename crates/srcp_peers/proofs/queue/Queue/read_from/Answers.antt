@@ -22,4 +22,4 @@ returns-in-Ok g c =
     let all : length bytes ≡ g.row.MOST = search rules in
     let room : length c.read.new.buffer ≡ g.row.MOST - length c.args.self.now =
     omega (arith, own, all, sized, length-take (length bytes - held) mid, length-drop held bytes) in
-    (c.read.new.buffer, room, c.in-Ok.ensures.trace, (c.in-Ok.ensures.count, is))
+    (c.read.new.buffer, room, c.in-Ok.ensures.log, (c.in-Ok.ensures.count, is))

@@ -1,0 +1,180 @@
+//! A system with the log of its calls. Clauses alone read the log, which takes no memory and no instruction.
+
+ghost use Rattle.std.specs.Prelude.{◌≡◌, ◌<◌, ◌≤◌, List, [], ◌∷◌, ◌++◌, IfOk, length};
+ghost use Rattle.std.specs.Borrow.{ftrue};
+ghost use Rattle.srcp_peers.specs.Steps.{Step, Accepts, Answers, Clocks, Closes, Reads, Shuts, Waits, Writes};
+
+use crate::system::{Ready, System};
+use srcp_door::{DoorFault, Got};
+use std::io::ErrorKind;
+use std::marker::Model;
+
+/// Holds the calls of a system with their answers, and the answers of the door, for clauses alone.
+#[derive(Drop)]
+pub struct Log {
+    /// The calls and answers, the first one first.
+    pub ghost steps: { List Step },
+}
+
+impl Model for Log {
+    ghost also_owns = { λ _. ftrue };
+}
+
+/// Names a call of a door, with the answer.
+#[derive(Clone, Copy, Drop)]
+pub enum Answer<'a> {
+    /// The door was told what falls due next, and how many changes the panels can still take.
+    Expect(Option<u64>, Option<usize>),
+    /// The door was asked for the moment.
+    Now(Result<u64, DoorFault>),
+    /// The door was asked for a pending peer.
+    Accept(Result<Option<u32>, DoorFault>),
+    /// The door was asked for the bytes of this peer. The buffer is as the read left it.
+    Read(u32, Result<Got, DoorFault>, &'a [u8]),
+    /// The door was handed these bytes for this peer.
+    Write(u32, &'a [u8], Result<usize, DoorFault>),
+    /// The door was told to close this peer.
+    Close(u32, Result<(), DoorFault>),
+}
+
+/// Names a step of the log.
+#[derive(Clone, Copy, Drop)]
+pub(crate) enum Note<'a> {
+    Accepts(u32, Result<(), ErrorKind>),
+    Reads(u32, &'a [u8], Result<usize, ErrorKind>),
+    Writes(u32, &'a [u8], Result<usize, ErrorKind>),
+    Waits(Option<u64>, usize, &'a [Ready]),
+    Shuts(u32),
+    Closes(u32),
+    Clocks(Option<u64>),
+    Answers(Answer<'a>),
+}
+
+impl Log {
+    ghost use Rattle.srcp_peers.specs.Notes.{step_of};
+
+    /// Makes a log without a step.
+    fn new() -> Log
+        ensures { result.steps ≡ [] }
+    {
+        Log {}
+    }
+
+    /// Adds a step at the end.
+    #[inline(always)]
+    fn note(&mut self, _note: &Note<'_>)
+        ensures { self.new.steps ≡ self.old.steps ++ step_of _note.now ∷ [] }
+    {}
+}
+
+/// Makes the calls of a system, and logs each call with its answer. A door logs its own answers between these calls.
+#[derive(Drop)]
+pub struct Logged<S: System> {
+    system: S,
+    /// The calls and answers up to now.
+    pub log: Log,
+}
+
+impl<S: System> Logged<S> {
+    ghost use Rattle.srcp_peers.specs.Notes.{answered};
+
+    /// Begins an empty log over a system.
+    pub fn new(system: S) -> Logged<S>
+        ensures log { result.log.steps ≡ [] }
+        ensures system { result.system ≡ system }
+    {
+        Logged {
+            system,
+            log: Log::new(),
+        }
+    }
+
+    /// Returns the system.
+    pub fn system(&self) -> &S
+        ensures { result.now ≡ self.now.system }
+    {
+        &self.system
+    }
+
+    /// Accepts the next pending connection. From then on its socket has this number.
+    ///
+    /// # Errors
+    /// Returns the error of the system.
+    pub fn accept(&mut self, number: u32) -> Result<(), ErrorKind>
+        ensures { self.new.log.steps ≡ self.old.log.steps ++ Accepts number result ∷ [] }
+    {
+        let answer = self.system.accept(number);
+        self.log.note(&Note::Accepts(number, answer));
+        answer
+    }
+
+    /// Reads once from a socket, and returns how many bytes came.
+    ///
+    /// # Errors
+    /// Returns the error of the system.
+    pub fn read(&mut self, socket: u32, buffer: &mut [u8]) -> Result<usize, ErrorKind>
+        requires { 0 < length buffer.old }
+        ensures count { IfOk result (λ count. count ≤ length buffer.new) }
+        ensures log { self.new.log.steps ≡ self.old.log.steps ++ Reads socket buffer.new result ∷ [] }
+    {
+        let answer = self.system.read(socket, buffer);
+        self.log.note(&Note::Reads(socket, buffer, answer));
+        answer
+    }
+
+    /// Writes once to a socket, and returns how many bytes the socket took.
+    ///
+    /// # Errors
+    /// Returns the error of the system.
+    pub fn write(&mut self, socket: u32, bytes: &[u8]) -> Result<usize, ErrorKind>
+        ensures count { IfOk result (λ count. count ≤ length bytes.now) }
+        ensures log { self.new.log.steps ≡ self.old.log.steps ++ Writes socket bytes.now result ∷ [] }
+    {
+        let answer = self.system.write(socket, bytes);
+        self.log.note(&Note::Writes(socket, bytes, answer));
+        answer
+    }
+
+    /// Shuts down the writing side of a socket.
+    pub fn shutdown(&mut self, socket: u32)
+        ensures { self.new.log.steps ≡ self.old.log.steps ++ Shuts socket ∷ [] }
+    {
+        self.system.shutdown(socket);
+        self.log.note(&Note::Shuts(socket));
+    }
+
+    /// Closes a socket. From then on no socket has the number.
+    pub fn close(&mut self, socket: u32)
+        ensures { self.new.log.steps ≡ self.old.log.steps ++ Closes socket ∷ [] }
+    {
+        self.system.close(socket);
+        self.log.note(&Note::Closes(socket));
+    }
+
+    /// Waits until a socket is ready, for at most `most` milliseconds if given. Returns how many were found ready,
+    /// which are the first of `ready`. Returns 0 if the system refuses to wait.
+    pub fn wait(&mut self, most: Option<u64>, ready: &mut [Ready]) -> usize
+        ensures count { result ≤ length ready.new }
+        ensures log { self.new.log.steps ≡ self.old.log.steps ++ Waits most result ready.new ∷ [] }
+    {
+        let count = self.system.wait(most, ready);
+        self.log.note(&Note::Waits(most, count, ready));
+        count
+    }
+
+    /// Returns what the monotonic clock shows, in milliseconds, or `None` if the clock cannot be read.
+    pub fn clock(&mut self) -> Option<u64>
+        ensures { self.new.log.steps ≡ self.old.log.steps ++ Clocks result ∷ [] }
+    {
+        let answer = self.system.clock();
+        self.log.note(&Note::Clocks(answer));
+        answer
+    }
+
+    /// Logs an answer of the door.
+    pub fn answer(&mut self, answer: &Answer<'_>)
+        ensures { self.new.log.steps ≡ self.old.log.steps ++ Answers (answered answer.now) ∷ [] }
+    {
+        self.log.note(&Note::Answers(*answer));
+    }
+}
