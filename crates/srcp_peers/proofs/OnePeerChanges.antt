@@ -1,16 +1,14 @@
 -- All peers of a door, when a step changes one of them.
 use Rattle.std.proofs.Common.{◌≡◌, ◌∙◌, ℕ, ◌<◌, ◌≤◌, ◌+◌, List, length, refl, ap, sym, subst, arith, ⊎_elim, get_or, set, get_or-set_other}
 use Rattle.std.proofs.Common.{get_or-set_same, ◌==◌, Option, [], ◌∷◌, ◌++◌}
-use Rattle.std.specs.Prelude.{◌≢◌, All, Bool, false, true, cond, fold, slice_index_or, take, ◌&&◌, ◌||◌}
+use Rattle.std.specs.Prelude.{◌≢◌, All, false, true, fold, slice_index_or, take, ◌&&◌}
 use Rattle.std.proofs.lemmas.Bool.{cases_eq}
 use Rattle.std.proofs.lemmas.List.{get_or_default, length-set}
 use Rattle.srcp_peers.specs.declared.peer.Peer.{Peer}
-use Rattle.srcp_peers.specs.declared.stay.Stay.{Stay}
 use Rattle.srcp_peers.specs.declared.system.Ready.{Ready}
 use Rattle.srcp_peers.specs.Steps.{Clocks, Step, Waits}
 use Rattle.srcp_peers.specs.Accounts.{Account, is_short_wait}
-use Rattle.srcp_peers.specs.Peers.{Agrees, IsKept, Spares, IsRead, after_wake, is_resting, is_silent}
-use Rattle.srcp_peers.specs.Peers.{stay_after}
+use Rattle.srcp_peers.specs.Peers.{Agrees, IsKept, Spares, IsRead, after_wake, is_resting}
 use Rattle.srcp_peers.specs.AllPeers.{AreApart, AreKept, AreThose, AreWithin, IsAbsent}
 use Rattle.srcp_peers.proofs.PeersStayKept.{alien, all_number, kept_after, kept_waited, skips}
 use Rattle.srcp_peers.proofs.PeersLingerByAccount.{clocked_agrees}
@@ -34,32 +32,26 @@ set_kept old new peers i p q within apart kept after spares k d lt =
     (kept_spared old new (get_or peers k d) (spares (get_or peers k d).number differ) (kept k d low)))
     (cases_eq k i)
 
+-- the numbers stay if the one keeps its number
+set_numbers : (peers : List Peer) (i : ℕ) (p q : Peer) → i < length peers → q.number ≡ (get_or peers i p).number
+    → (n : ℕ) (d : Peer) → (get_or (set peers i q) n d).number ≡ (get_or peers n d).number
+set_numbers peers i p q within same n d = ⊎_elim
+    (λ (e : n ≡ i). ap (λ (x : Peer). x.number) (ap (λ m. get_or (set peers i q) m d) e ∙ get_or-set_same peers i q d within) ∙ same
+    ∙ ap (λ (x : Peer). x.number) (get_or_default peers i p d within ∙ ap (λ m. get_or peers m d) (sym e)))
+    (λ (ne : n ≡ i → ⊥). ap (λ (x : Peer). x.number) (get_or-set_other peers i n q d ne))
+    (cases_eq n i)
+
 -- the sockets stay apart if the one keeps its number
 pub set_apart : (peers : List Peer) (i : ℕ) (p q : Peer) → i < length peers → q.number ≡ (get_or peers i p).number
     → AreApart peers → AreApart (set peers i q)
 set_apart peers i p q within same apart j k d lj lk differ e =
-    let low_j : j < length peers = omega (arith, lj, length-set peers i q) in
-    let low_k : k < length peers = omega (arith, lk, length-set peers i q) in
-    apart j k d low_j low_k differ (sym (numbers j low_j) ∙ e ∙ numbers k low_k)
-  where
-    numbers : (n : ℕ) → n < length peers → (get_or (set peers i q) n d).number ≡ (get_or peers n d).number
-    numbers n low = ⊎_elim
-        (λ (e : n ≡ i). ap (λ (x : Peer). x.number) (ap (λ m. get_or (set peers i q) m d) e ∙ get_or-set_same peers i q d within) ∙ same
-        ∙ ap (λ (x : Peer). x.number) (get_or_default peers i p d within ∙ ap (λ m. get_or peers m d) (sym e)))
-        (λ (ne : n ≡ i → ⊥). ap (λ (x : Peer). x.number) (get_or-set_other peers i n q d ne))
-        (cases_eq n i)
+    apart j k d (omega (arith, lj, length-set peers i q)) (omega (arith, lk, length-set peers i q)) differ
+    (sym (set_numbers peers i p q within same j d) ∙ e ∙ set_numbers peers i p q within same k d)
 
 -- the same peers, if one keeps its number
 pub set_those : (first peers : List Peer) (i : ℕ) (p q : Peer) → i < length peers → length peers ≡ length first
     → q.number ≡ (get_or peers i p).number → AreThose first peers → AreThose first (set peers i q)
-set_those first peers i p q within long same those k d lt = numbers k (omega (arith, long)) ∙ those k d lt
-  where
-    numbers : (n : ℕ) → n < length peers → (get_or (set peers i q) n d).number ≡ (get_or peers n d).number
-    numbers n low = ⊎_elim
-        (λ (e : n ≡ i). ap (λ (x : Peer). x.number) (ap (λ m. get_or (set peers i q) m d) e ∙ get_or-set_same peers i q d within) ∙ same
-        ∙ ap (λ (x : Peer). x.number) (get_or_default peers i p d within ∙ ap (λ m. get_or peers m d) (sym e)))
-        (λ (ne : n ≡ i → ⊥). ap (λ (x : Peer). x.number) (get_or-set_other peers i n q d ne))
-        (cases_eq n i)
+set_those first peers i p q within long same those k d lt = set_numbers peers i p q within same k d ∙ those k d lt
 
 -- who has none of these sockets has none of them later
 pub absent_there : (other : ℕ) (first peers : List Peer) (i : ℕ) (p : Peer) → i < length peers → length peers ≡ length first
@@ -93,50 +85,6 @@ pub clocked_all : (old new : List Step) (peers : List Peer) (answer : Option ℕ
 clocked_all old new peers answer tells kept k d lt =
     let p : Peer = slice_index_or peers k d in
     kept_after old new (Clocks answer) p p tells refl (λ a h. clocked_agrees a p answer h) (kept k d lt)
-
--- the shares of those that were visited, and the others as they were
-abbrev whole_or : (anew : Bool) (clock : ℕ) → Peer → ℕ
-whole_or anew clock p = cond {A = ℕ} (anew || is_silent clock p) 256 p.share.rest
-
-pub set_shared : (first peers : List Peer) (i : ℕ) (p q : Peer) (anew : Bool) (clock : ℕ) → i < length peers
-    → q.share.rest ≡ whole_or anew clock (get_or peers i p)
-    → ((k : ℕ) (d : Peer) → i ≤ k → slice_index_or peers k d ≡ slice_index_or first k d)
-    → ((k : ℕ) (d : Peer) → k < i → (slice_index_or peers k d).share.rest ≡ whole_or anew clock (slice_index_or first k d))
-    → (k : ℕ) (d : Peer) → k < i + 1
-    → (slice_index_or (set peers i q) k d).share.rest ≡ whole_or anew clock (slice_index_or first k d)
-set_shared first peers i p q anew clock within shared rest before k d lt = ⊎_elim
-    (λ (e : k ≡ i). ap (λ (x : Peer). x.share.rest) (ap (λ n. get_or (set peers i q) n d) e ∙ get_or-set_same peers i q d within) ∙ shared
-    ∙ ap (whole_or anew clock)
-    (get_or_default peers i p d within ∙ rest i d (omega arith) ∙ ap (λ n. get_or first n d) (sym e)))
-    (λ (ne : k ≡ i → ⊥). ap (λ (x : Peer). x.share.rest) (get_or-set_other peers i k q d ne) ∙ before k d (omega (arith, lt, ne)))
-    (cases_eq k i)
-
-abbrev pub StaysAfter : Stay → Peer → Type 0
-StaysAfter before p = p.stay ≡ stay_after before p.outgoing p.output
-
--- so many lines may be queued for each that was visited
-pub set_rooms : (peers : List Peer) (i : ℕ) (q : Peer) (room : ℕ) → i < length peers → q.room ≡ room
-    → ((k : ℕ) (d : Peer) → k < i → (slice_index_or peers k d).room ≡ room)
-    → (k : ℕ) (d : Peer) → k < i + 1 → (slice_index_or (set peers i q) k d).room ≡ room
-set_rooms peers i q room within is before k d lt = ⊎_elim
-    (λ (e : k ≡ i). ap (λ (x : Peer). x.room) (ap (λ n. get_or (set peers i q) n d) e ∙ get_or-set_same peers i q d within) ∙ is)
-    (λ (ne : k ≡ i → ⊥). ap (λ (x : Peer). x.room) (get_or-set_other peers i k q d ne) ∙ before k d (omega (arith, lt, ne)))
-    (cases_eq k i)
-
--- each that lingers is shut down once its socket took all
-pub set_stays : (first peers : List Peer) (i : ℕ) (p q : Peer) → i < length peers
-    → q.stay ≡ stay_after (get_or peers i p).stay q.outgoing q.output
-    → ((k : ℕ) (d : Peer) → i ≤ k → slice_index_or peers k d ≡ slice_index_or first k d)
-    → ((k : ℕ) (d : Peer) → k < i → StaysAfter (slice_index_or first k d).stay (slice_index_or peers k d))
-    → (k : ℕ) (d : Peer) → k < i + 1 → StaysAfter (slice_index_or first k d).stay (slice_index_or (set peers i q) k d)
-set_stays first peers i p q within stays rest below k d lt = ⊎_elim
-    (λ (e : k ≡ i). subst (StaysAfter (slice_index_or first k d).stay)
-    (sym (ap (λ n. get_or (set peers i q) n d) e ∙ get_or-set_same peers i q d within))
-    (subst (λ (x : Peer). StaysAfter x.stay q)
-    (get_or_default peers i p d within ∙ rest i d (omega arith) ∙ ap (λ n. get_or first n d) (sym e)) stays))
-    (λ (ne : k ≡ i → ⊥). subst (StaysAfter (slice_index_or first k d).stay) (sym (get_or-set_other peers i k q d ne))
-    (below k d (omega (arith, lt, ne))))
-    (cases_eq k i)
 
 -- what holds between each that was gone through and what it was
 pub set_each : (Holds : Peer → Peer → Type 0) (first peers : List Peer) (i : ℕ) (p q : Peer) → i < length peers

@@ -15,6 +15,7 @@ use Rattle.srcp_peers.specs.Accounts.{Account, Lingering, Received, Sent, accoun
 use Rattle.srcp_peers.specs.Accounts.{is_held, is_overdue, is_owed, left_by_core}
 use Rattle.srcp_peers.specs.Accounts.{may_close, may_end, may_fail}
 use Rattle.srcp_peers.specs.Peers.{Agrees, ComesAs, IsKept, MayFail, ReadsAs, StaysAs, WritesAs, closable_as, is_closable, is_here, is_lost}
+use Rattle.srcp_peers.specs.Peers.{is_wanting}
 use Rattle.srcp_peers.proofs.PeersRestByAccount.{held_is, owed_is}
 use Rattle.srcp_peers.proofs.StatesFollowSteps.{comes_starts, reads_here}
 use Rattle.srcp_peers.proofs.UnreadPeersAreRead.{wants_less}
@@ -37,18 +38,8 @@ stays_clocked watched lingering clock outgoing (stay.Draining since) h = h
 stays_clocked watched lingering clock outgoing (stay.Shut since) h = h
 
 pub clocked_agrees : (a : Account) (p : Peer) (answer : Option ℕ) → Agrees a p → Agrees (clocked a answer) p
-clocked_agrees a p answer h = record {
-  reads = h.reads;
-  writes = h.writes;
-  stays = stays_clocked a.watched a.lingering (clock_after a.lingering.clock answer) p.outgoing p.stay h.stays;
-  rightly = h.rightly;
-  unread = h.unread;
-  served = h.served;
-  cut = h.cut;
-  line = h.line;
-  honest = h.honest;
-  rested = h.rested;
-}
+clocked_agrees a p answer h =
+    assumption (stays_clocked a.watched a.lingering (clock_after a.lingering.clock answer) p.outgoing p.stay h.stays)
 
 -- ---- the core closes it
 
@@ -56,18 +47,10 @@ pub left_agrees : (a : Account) (p : Peer) (since : ℕ) → p.stay ≡ stay.Her
     → Agrees (left_by_core a) (record p { stay = stay.Draining since })
 left_agrees a p since here clock h =
     let s : StaysAs a.watched a.lingering p.outgoing stay.Here = subst (StaysAs a.watched a.lingering p.outgoing) here h.stays in
-    record {
-      reads = comes_starts a.received p.incoming p.input p.stay h.reads;
-      writes = h.writes;
-      stays = (refl, s.1, ap (λ w. cond w a.lingering.clock a.lingering.since) s.0 ∙ clock, s.2);
-      rightly = h.rightly;
-      unread = λ e. absurd (true≢false (sym e));
-      served = h.served;
-      cut = h.cut;
-      line = h.line;
-      honest = h.honest;
-      rested = h.rested;
-    }
+    let stays : StaysAs false (left_by_core a).lingering p.outgoing (stay.Draining since) =
+    (refl, s.1, ap (λ w. cond w a.lingering.clock a.lingering.since) s.0 ∙ clock, s.2) in
+    let unread : false ≡ true → is_wanting p.input p.incoming ≡ true = λ e. absurd (true≢false (sym e)) in
+    assumption (comes_starts a.received p.incoming p.input p.stay h.reads, stays, unread)
 
 -- one that the core closed before
 stays_gone : (a : Account) (outgoing : List ℕ) (here : Stay) → is_here here ≡ false → StaysAs a.watched a.lingering outgoing here
@@ -77,18 +60,9 @@ stays_gone a outgoing (stay.Draining since) e h = (refl, h.1, ap (λ w. cond w a
 stays_gone a outgoing (stay.Shut since) e h = (refl, h.1, ap (λ w. cond w a.lingering.clock a.lingering.since) h.0 ∙ h.2, h.3, h.4)
 
 pub gone_agrees : (a : Account) (p : Peer) → is_here p.stay ≡ false → Agrees a p → Agrees (left_by_core a) p
-gone_agrees a p gone h = record {
-  reads = h.reads;
-  writes = h.writes;
-  stays = stays_gone a p.outgoing p.stay gone h.stays;
-  rightly = h.rightly;
-  unread = λ e. absurd (true≢false (sym e));
-  served = h.served;
-  cut = h.cut;
-  line = h.line;
-  honest = h.honest;
-  rested = h.rested;
-}
+gone_agrees a p gone h =
+    let unread : false ≡ true → is_wanting p.input p.incoming ≡ true = λ e. absurd (true≢false (sym e)) in
+    assumption (stays_gone a p.outgoing p.stay gone h.stays, unread)
 
 -- what was read of one that lingers is dropped
 dropped_as : (received : Received) (incoming : List ℕ) (state : Input) (here : Stay) → is_here here ≡ false
@@ -98,18 +72,11 @@ dropped_as received incoming state (stay.Draining since) e h = h
 dropped_as received incoming state (stay.Shut since) e h = h
 
 pub kept_dropped : (log : List Step) (p : Peer) → is_here p.stay ≡ false → IsKept log p → IsKept log (record p { incoming = [] })
-kept_dropped log p gone h = record {
-  reads = dropped_as (account p.number log).received p.incoming p.input p.stay gone h.reads;
-  writes = h.writes;
-  stays = h.stays;
-  rightly = h.rightly;
-  unread = λ e. wants_less p.input p.incoming p.incoming [] (sym (append-nil p.incoming)) (h.unread e);
-  served = h.served;
-  cut = h.cut;
-  line = h.line;
-  honest = h.honest;
-  rested = h.rested;
-}
+kept_dropped log p gone h =
+    let a = account p.number log in
+    let unread : (a.watched && a.unread) ≡ true → is_wanting p.input [] ≡ true =
+    λ e. wants_less p.input p.incoming p.incoming [] (sym (append-nil p.incoming)) (h.unread e) in
+    assumption (dropped_as a.received p.incoming p.input p.stay gone h.reads, unread)
 
 -- ---- it is shut down
 

@@ -14,16 +14,15 @@ use Rattle.srcp_door.specs.Calls.{ReadCall}
 use Rattle.srcp_door.specs.declared.door.DoorFault.{DoorFault}
 use Rattle.srcp_door.specs.declared.door.Got.{Got}
 use Rattle.srcp_door.specs.declared.door.Got.TheVariants as got
-use Rattle.srcp_peers.specs.Accounts.{Account, account, account_step, answered_step, is_at_rest, is_short_wait}
+use Rattle.srcp_peers.specs.Accounts.{Account, account, account_step, answered_step, is_at_rest, is_short_wait, Received, wrote}
 use Rattle.srcp_peers.specs.Accounts.{may_end, may_fail}
 use Rattle.srcp_peers.specs.Accounts.{untouched, waited, woken, woken_sent}
 use Rattle.srcp_peers.specs.Accounts.{woken_came}
 use Rattle.srcp_door.specs.Pacing.{line_after}
 use Rattle.srcp_door.specs.declared.pacing.LineBoundary.{LineBoundary}
 use Rattle.srcp_door.specs.declared.pacing.LineBoundary.TheVariants as boundary
-use Rattle.srcp_door.specs.declared.pacing.Share.{Share}
 use Rattle.srcp_peers.specs.Peers.{Agrees, ComesAs, IsKept, MayEnd, MayFail, ReadsAs, Spares, WritesAs, after_wake}
-use Rattle.srcp_peers.specs.Peers.{is_resting, output_after, woken_input, woken_output}
+use Rattle.srcp_peers.specs.Peers.{is_resting, is_wanting, output_after, woken_input, woken_output}
 use Rattle.srcp_peers.specs.Turns.{got_bytes}
 use Rattle.srcp_peers.proofs.StatesFollowSteps.{comes_here, handed_as, reads_here, woken_comes}
 use Rattle.srcp_peers.proofs.StatesFollowSteps.{woken_writes, wrote_as}
@@ -76,87 +75,55 @@ pub kept_write : (old new : List Step) (p : Peer) (count : ℕ) (awaits : Bool) 
 kept_write old new p count awaits is_open tells kept =
     let q : Peer = record p { outgoing = drop count p.outgoing; output = output_after count (length p.outgoing); awaits_reply = awaits } in
     kept_after old new (Writes p.number p.outgoing (Ok count)) p q tells refl
-    (λ (a : Account) (h : Agrees a p). agrees_own (p.number == p.number) _ a q (own p.number) (record {
-      cut = h.cut;
-      reads = h.reads;
-      stays = stays_drop a.watched a.lingering p.outgoing p.stay count h.stays;
-      rightly = h.rightly;
-      unread = h.unread;
-      served = h.served;
-      writes = wrote_as a.sent p.outgoing count (subst (WritesAs a.sent p.outgoing) is_open h.writes);
-      line = h.line;
-      honest = h.honest;
-      rested = h.rested;
-    })) kept
+    (λ (a : Account) (h : Agrees a p). agrees_own (p.number == p.number)
+    (record a { sent = wrote a.sent p.outgoing (Ok count) }) a q (own p.number)
+    (assumption (
+      stays_drop a.watched a.lingering p.outgoing p.stay count h.stays,
+      wrote_as a.sent p.outgoing count (subst (WritesAs a.sent p.outgoing) is_open h.writes),
+    ))) kept
+
+-- some of what is held was handed out
+handed_agrees : (a : Account) (p q : Peer) (received : Received) (honest : Bool) (bytes : List ℕ)
+    → q ≡ record p { incoming = q.incoming; share = q.share; awaits_reply = q.awaits_reply; heard = q.heard }
+    → p.incoming ≡ bytes ++ q.incoming → ComesAs received q.incoming p.input p.stay
+    → q.share.line ≡ line_after boundary.At received.handed → honest ≡ true → Agrees a p
+    → Agrees (record a { received = received; honest = honest }) q
+handed_agrees a p q received honest bytes same is reads line rightly h =
+    let unread : (a.watched && a.unread) ≡ true → is_wanting p.input q.incoming ≡ true =
+    λ e. wants_less p.input p.incoming bytes q.incoming is (h.unread e) in
+    rw same (assumption (reads, line, rightly, unread))
 
 -- what a read of the door answered
-got_agrees : (a : Account) (p : Peer) (answer : Result Got DoorFault) (buffer rest : List ℕ) (share : Share) (awaits : Bool) (heard : ℕ)
-    → p.stay ≡ stay.Here → p.incoming ≡ got_bytes answer buffer ++ rest
-    → share.line ≡ line_after p.share.line (got_bytes answer buffer)
+got_agrees : (a : Account) (p q : Peer) (answer : Result Got DoorFault) (buffer : List ℕ) → p.stay ≡ stay.Here
+    → q ≡ record p { incoming = q.incoming; share = q.share; awaits_reply = q.awaits_reply; heard = q.heard }
+    → p.incoming ≡ got_bytes answer buffer ++ q.incoming → q.share.line ≡ line_after p.share.line (got_bytes answer buffer)
     → (answer ≡ Ok got.Ended → MayEnd p) → OnErr answer (MayFail p) → Agrees a p
-    → Agrees (answered_step p.number a (ReadCall p.number answer buffer))
-    (record p { incoming = rest; share = share; awaits_reply = awaits; heard = heard })
-got_agrees a p (Ok (got.Bytes count)) buffer rest share awaits heard here is lined ended failed h =
-    let q : Peer = record p { incoming = rest; share = share; awaits_reply = awaits; heard = heard } in
+    → Agrees (answered_step p.number a (ReadCall p.number answer buffer)) q
+got_agrees a p q (Ok (got.Bytes count)) buffer here same is lined ended failed h =
+    let bytes = take count buffer in
+    let received : Received = record a.received { handed = a.received.handed ++ bytes } in
     let r = reads_here a.received p.incoming p.input p.stay here h.reads in
-    agrees_own (p.number == p.number) _ a q (own p.number) (record {
-      cut = h.cut;
-      reads = comes_here (record a.received { handed = a.received.handed ++ take count buffer }) rest p.input p.stay here
-          (handed_as a.received (take count buffer) rest p.input (subst (λ (b : List ℕ). ReadsAs a.received b p.input) is r));
-      writes = h.writes;
-      stays = h.stays;
-      rightly = h.rightly;
-      unread = λ e. wants_less p.input p.incoming (got_bytes (Ok (got.Bytes count)) buffer) rest is (h.unread e);
-      served = h.served;
-      line = lined ∙ ap (λ (l : LineBoundary). line_after l (take count buffer)) h.line
-          ∙ sym (line_after-append boundary.At a.received.handed (take count buffer));
-      honest = h.honest;
-      rested = h.rested;
-    })
-got_agrees a p (Ok got.Nothing) buffer rest share awaits heard here is lined ended failed h = record {
-  cut = h.cut;
-  reads = subst (λ (b : List ℕ). ComesAs a.received b p.input p.stay) is h.reads;
-  writes = h.writes;
-  stays = h.stays;
-  rightly = h.rightly;
-  unread = λ e. wants_less p.input p.incoming (got_bytes (Ok got.Nothing) buffer) rest is (h.unread e);
-  served = h.served;
-  line = lined ∙ h.line;
-  honest = h.honest;
-  rested = h.rested;
-}
-got_agrees a p (Ok got.Ended) buffer rest share awaits heard here is lined ended failed h =
-    let q : Peer = record p { incoming = rest; share = share; awaits_reply = awaits; heard = heard } in
+    agrees_own (p.number == p.number) (record a { received = received }) a q (own p.number)
+    (handed_agrees a p q received a.honest bytes same is
+    (comes_here received q.incoming p.input p.stay here
+    (handed_as a.received bytes q.incoming p.input (subst (λ (b : List ℕ). ReadsAs a.received b p.input) is r)))
+    (lined ∙ ap (λ (l : LineBoundary). line_after l bytes) h.line ∙ sym (line_after-append boundary.At a.received.handed bytes)) h.honest h)
+got_agrees a p q (Ok got.Nothing) buffer here same is lined ended failed h =
+    handed_agrees a p q a.received a.honest [] same is (subst (λ (b : List ℕ). ComesAs a.received b p.input p.stay) is h.reads)
+    (lined ∙ h.line) h.honest h
+got_agrees a p q (Ok got.Ended) buffer here same is lined ended failed h =
     let e = ended refl in
     let r : ReadsAs a.received p.incoming input.Ended = subst (ReadsAs a.received p.incoming) e.0
     (reads_here a.received p.incoming p.input p.stay here h.reads) in
-    agrees_own (p.number == p.number) _ a q (own p.number) (record {
-      cut = h.cut;
-      reads = subst (λ (b : List ℕ). ComesAs a.received b p.input p.stay) is h.reads;
-      writes = h.writes;
-      stays = h.stays;
-      rightly = h.rightly;
-      unread = λ e. wants_less p.input p.incoming (got_bytes (Ok got.Ended) buffer) rest is (h.unread e);
-      served = h.served;
-      line = lined ∙ h.line;
-      honest = ap (λ b. b && may_end a) h.honest
-          ∙ may_end_then a p.incoming p.outgoing p.output r.0 r.2 e.1 e.3 e.4 h.writes;
-      rested = h.rested;
-    })
-got_agrees a p (Err fault) buffer rest share awaits heard here is lined ended failed h =
-    let q : Peer = record p { incoming = rest; share = share; awaits_reply = awaits; heard = heard } in
-    agrees_own (p.number == p.number) _ a q (own p.number) (record {
-      cut = h.cut;
-      reads = subst (λ (b : List ℕ). ComesAs a.received b p.input p.stay) is h.reads;
-      writes = h.writes;
-      stays = h.stays;
-      rightly = h.rightly;
-      unread = λ e. wants_less p.input p.incoming (got_bytes (Err fault) buffer) rest is (h.unread e);
-      served = h.served;
-      line = lined ∙ h.line;
-      honest = ap (λ b. b && may_fail a) h.honest ∙ may_fail_then a p here failed h;
-      rested = h.rested;
-    })
+    agrees_own (p.number == p.number) (record a { honest = a.honest && may_end a }) a q (own p.number)
+    (handed_agrees a p q a.received (a.honest && may_end a) [] same is
+    (subst (λ (b : List ℕ). ComesAs a.received b p.input p.stay) is h.reads) (lined ∙ h.line)
+    (ap (λ b. b && may_end a) h.honest ∙ may_end_then a p.incoming p.outgoing p.output r.0 r.2 e.1 e.3 e.4 h.writes) h)
+got_agrees a p q (Err fault) buffer here same is lined ended failed h =
+    agrees_own (p.number == p.number) (record a { honest = a.honest && may_fail a }) a q (own p.number)
+    (handed_agrees a p q a.received (a.honest && may_fail a) [] same is
+    (subst (λ (b : List ℕ). ComesAs a.received b p.input p.stay) is h.reads) (lined ∙ h.line)
+    (ap (λ b. b && may_fail a) h.honest ∙ may_fail_then a p here failed h) h)
 
 pub kept_got : (old new : List Step) (p q : Peer) (answer : Result Got DoorFault) (buffer : List ℕ)
     → p.stay ≡ stay.Here → q ≡ record p { incoming = q.incoming; share = q.share; awaits_reply = q.awaits_reply; heard = q.heard }
@@ -165,17 +132,17 @@ pub kept_got : (old new : List Step) (p q : Peer) (answer : Result Got DoorFault
     → (answer ≡ Ok got.Ended → MayEnd p) → OnErr answer (MayFail p)
     → new ≡ old ++ Answers (ReadCall p.number answer buffer) ∷ [] → IsKept old p → IsKept new q
 kept_got old new p q answer buffer here same is lined ended failed tells kept =
-    subst (IsKept new) (sym same)
-    (kept_after old new (Answers (ReadCall p.number answer buffer)) p
-    (record p { incoming = q.incoming; share = q.share; awaits_reply = q.awaits_reply; heard = q.heard }) tells refl
-    (λ (a : Account) (h : Agrees a p).
-    got_agrees a p answer buffer q.incoming q.share q.awaits_reply q.heard here is lined ended failed h) kept)
+    kept_after old new (Answers (ReadCall p.number answer buffer)) p q tells (ap (λ (x : Peer). x.number) same)
+    (λ (a : Account) (h : Agrees a p). got_agrees a p q answer buffer here same is lined ended failed h) kept
 
 -- ---- the sockets that a wait found ready
 
 pub woken_agrees : (a : Account) (p : Peer) (ready : Ready) → Agrees a p → Agrees (woken p.number a ready) (after_wake p ready)
 woken_agrees a p ready h = by (ready.socket == p.number)
   where
+    closed : Bool
+    closed = ready.closed || ready.urgent
+
     by : (b : Bool) → Agrees (if b then record a {
       sent = woken_sent a.sent ready.writable;
       received = woken_came a.received ready.readable (ready.closed || ready.urgent);
@@ -183,18 +150,13 @@ woken_agrees a p ready h = by (ready.socket == p.number)
       input = woken_input p.input ready.readable (ready.closed || ready.urgent);
       output = woken_output p.output ready.writable;
     } else p)
-    by true = record {
-      cut = h.cut;
-      reads = woken_comes a.received p.incoming p.input p.stay ready.readable (ready.closed || ready.urgent) h.reads;
-      stays = h.stays;
-      rightly = h.rightly;
-      unread = λ e. wants_woken p.input p.incoming ready.readable (ready.closed || ready.urgent) (h.unread e);
-      served = h.served;
-      writes = woken_writes a.sent p.outgoing p.output ready.writable h.writes;
-      line = h.line;
-      honest = h.honest;
-      rested = h.rested;
-    }
+    by true = let unread : (a.watched && a.unread) ≡ true → is_wanting (woken_input p.input ready.readable closed) p.incoming ≡ true =
+        λ e. wants_woken p.input p.incoming ready.readable closed (h.unread e) in
+        assumption (
+          woken_comes a.received p.incoming p.input p.stay ready.readable closed h.reads,
+          woken_writes a.sent p.outgoing p.output ready.writable h.writes,
+          unread,
+        )
     by false = h
 
 pub woken_number : (p : Peer) (ready : Ready) → (after_wake p ready).number ≡ p.number
@@ -234,19 +196,7 @@ pub kept_waited : (old new : List Step) (p : Peer) (most : Option ℕ) (count : 
 kept_waited old new p most count ready rest tells kept =
     kept_after old new (Waits most count ready) p (fold after_wake p (take count ready)) tells (all_number p (take count ready))
     (λ (a : Account) (h : Agrees a p). noted_agrees (fold (woken p.number) (waited p.number a most) (take count ready))
-    (fold after_wake p (take count ready)) (all_woken p.number (waited p.number a most) p (take count ready) refl (record {
-      cut = h.cut;
-      reads = h.reads;
-      writes = h.writes;
-      stays = h.stays;
-      rightly = h.rightly;
-      unread = h.unread;
-      served = h.served;
-      line = h.line;
-      honest = h.honest;
-      rested = ap (λ b. b && (not (a.watched || (p.number == 0)) || (is_short_wait most || is_at_rest a.sent a.received))) h.rested
-          ∙ or_so (not (a.watched || (p.number == 0))) (is_short_wait most || is_at_rest a.sent a.received)
-          (unless_long (is_short_wait most) (is_at_rest a.sent a.received) (λ long. resting a p h (rest long)));
-    }))) kept
-
--- ---- the same, by the names that a function gives to the parts
+    (fold after_wake p (take count ready)) (all_woken p.number (waited p.number a most) p (take count ready) refl
+    (assumption (ap (λ b. b && (not (a.watched || (p.number == 0)) || (is_short_wait most || is_at_rest a.sent a.received))) h.rested
+    ∙ or_so (not (a.watched || (p.number == 0))) (is_short_wait most || is_at_rest a.sent a.received)
+    (unless_long (is_short_wait most) (is_at_rest a.sent a.received) (λ long. resting a p h (rest long))))))) kept

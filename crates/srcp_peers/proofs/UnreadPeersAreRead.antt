@@ -80,15 +80,5 @@ wanted_as watched lingering received incoming outgoing state (stay.Shut since) h
     absurd (true≢false (sym (and_left watched (is_wanted received) e) ∙ s.0))
 
 pub noted_agrees : (a : Account) (p : Peer) → Agrees a p → Agrees (noted a) p
-noted_agrees a p h = record {
-  reads = h.reads;
-  writes = h.writes;
-  stays = h.stays;
-  rightly = h.rightly;
-  unread = wanted_as a.watched a.lingering a.received p.incoming p.outgoing p.input p.stay h.reads h.stays;
-  served = h.served;
-  cut = h.cut;
-  line = h.line;
-  honest = h.honest;
-  rested = h.rested;
-}
+noted_agrees a p h =
+    assumption (wanted_as a.watched a.lingering a.received p.incoming p.outgoing p.input p.stay h.reads h.stays)

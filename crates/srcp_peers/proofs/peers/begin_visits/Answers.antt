@@ -1,9 +1,10 @@
-use Rattle.std.proofs.Common.{◌≡◌, ◌∙◌, arith, refl}
+use Rattle.std.proofs.Common.{◌≡◌, ◌∙◌, arith}
+use Rattle.std.specs.Prelude.{◌||◌, cond}
 use Rattle.srcp_peers.specs.Ends.{begun}
-use Rattle.srcp_peers.specs.Peers.{is_over}
+use Rattle.srcp_peers.specs.Peers.{is_over, is_silent}
 use Rattle.srcp_peers.specs.declared.peer.Peer.{Peer}
 use Rattle.srcp_peers.proofs.CallsAreOfTheDoor.{says_then}
-use Rattle.srcp_peers.proofs.OnePeerChanges.{set_read, absent_there, set_apart, set_each, set_kept, set_shared, set_rest, set_rooms}
+use Rattle.srcp_peers.proofs.OnePeerChanges.{set_read, absent_there, set_apart, set_each, set_kept, set_rest}
 use Rattle.srcp_peers.proofs.OnePeerChanges.{set_those}
 use Rattle.srcp_peers.proofs.peers.begin_visits.Goals as goal
 
@@ -29,8 +30,9 @@ loop-peer-preserved g c =
       most = omega (arith, was.most, each.most);
       times = λ wall start. each.times wall start ∙ was.times wall start;
       read = set_read old new peers i d p (omega arith) was.apart each.number each.others each.read was.read;
-      shared = set_shared first peers i d p c.args.anew c.args.clock (omega arith) (cc) was.rest was.shared;
-      rooms = set_rooms peers i p c.args.room (omega arith) (rw each.same refl) was.rooms;
+      shared = set_each (λ (x y : Peer). y.share.rest ≡ cond (c.args.anew || is_silent c.args.clock x) 256 x.share.rest)
+          first peers i d p (omega arith) (cc) was.rest was.shared;
+      rooms = set_each (λ (x y : Peer). y.room ≡ c.args.room) first peers i d p (omega arith) (cc) was.rest was.rooms;
       begun = set_each (λ (x y : Peer). (y.stay ≡ x.stay) × (y.ending ≡ begun x.ending (is_over y.incoming y.input)))
           first peers i d p (omega arith) (each.stay, each.ending) was.rest was.begun;
       rest = set_rest first peers i p was.rest;
