@@ -20,11 +20,11 @@ use Rattle.srcp_peers.specs.declared.turn.Listening.{Listening}
 use Rattle.srcp_peers.specs.Accounts.{Account, Lingering, account, closed, is_lingering}
 use Rattle.srcp_peers.specs.AllPeers.{AreApart}
 use Rattle.srcp_peers.specs.Peers.{StaysAs, is_here}
-use Rattle.srcp_peers.specs.Steps.{Accepts, Answers, Clocks, Closes, Reads, SaysNothing, Shuts, Step, Tells, Waits, Writes, calls}
+use Rattle.srcp_peers.specs.Steps.{Accepts, Answers, Clocks, Closes, Reads, SaysNothing, Shuts, Step, Waits, Writes, calls}
 use Rattle.srcp_peers.specs.Times.{Times, accept_answer, times}
 use Rattle.srcp_peers.proofs.PeersStayKept.{account_more, alien, skips}
 use Rattle.srcp_peers.proofs.CallsAreOfTheDoor.{times_more}
-use Rattle.srcp_sockets.specs.Asked.{AreAsked, Covers, IsExcused, MayRefuse}
+use Rattle.srcp_sockets.specs.Asked.{AreAsked, Covers, IsExcused}
 use Rattle.srcp_sockets.specs.Doors.{Stands}
 use Rattle.srcp_sockets.specs.Work.{is_crowded}
 use Rattle.srcp_sockets.proofs.AcceptsKeepSockets.{new_peer}
@@ -63,16 +63,13 @@ any_in : (mid after : List Step) → list_any is_nobody (mid ++ nobody ∷ after
 any_in [] after = refl
 any_in (step ∷ mid) after = ap (λ b. is_nobody step || b) (any_in mid after) ∙ or_last (is_nobody step)
 
-asked_came : (old new : Option (List Step)) → ((later : List Step) → new ≡ Some later
-    → (log : List Step) × (came : List Step) × (old ≡ Some log) × (later ≡ log ++ came) × (list_any is_nobody came ≡ false))
-    → AreAsked old → AreAsked new
-asked_came old new says asked before after is =
-    let s = says (before ++ nobody ∷ after) is in
+asked_came : (old came : List Step) → list_any is_nobody came ≡ false → AreAsked old → AreAsked (old ++ came)
+asked_came old came none asked before after is =
     ⊎_elim
-    (λ (here : (rest : List Step) × (s.0 ≡ before ++ nobody ∷ rest)). asked before here.0 (s.2 ∙ ap Some here.1))
-    (λ (there : (mid : List Step) × (s.1 ≡ mid ++ nobody ∷ after) × (before ≡ s.0 ++ mid)).
-    absurd (true≢false (sym (any_in there.0 after) ∙ ap (list_any is_nobody) (sym there.1) ∙ s.4)))
-    (splits s.0 s.1 before after nobody (sym s.3))
+    (λ (here : (rest : List Step) × (old ≡ before ++ nobody ∷ rest)). asked before here.0 here.1)
+    (λ (there : (mid : List Step) × (came ≡ mid ++ nobody ∷ after) × (before ≡ old ++ mid)).
+    absurd (true≢false (sym (any_in there.0 after) ∙ ap (list_any is_nobody) (sym there.1) ∙ none)))
+    (splits old came before after nobody is)
 
 none_silent : (came : List Step) → calls came ≡ [] → list_any is_nobody came ≡ false
 none_silent [] e = refl
@@ -85,13 +82,13 @@ none_silent (Closes who ∷ came) e = none_silent came e
 none_silent (Clocks answer ∷ came) e = none_silent came e
 none_silent (Answers call ∷ came) e = cc
 
-pub asked_silent : (old new : Option (List Step)) → SaysNothing old new → AreAsked old → AreAsked new
+pub asked_silent : (old new : List Step) → SaysNothing old new → AreAsked old → AreAsked new
 asked_silent old new says asked =
-    asked_came old new (λ later is. let s = says later is in (s.0, s.1, s.2, s.3, none_silent s.1 s.4)) asked
+    subst AreAsked (sym says.1) (asked_came old says.0 (none_silent says.0 says.2) asked)
 
-pub asked_step : (old new : Option (List Step)) (step : Step) → Tells old step new → is_nobody step ≡ false → AreAsked old → AreAsked new
+pub asked_step : (old new : List Step) (step : Step) → new ≡ old ++ step ∷ [] → is_nobody step ≡ false → AreAsked old → AreAsked new
 asked_step old new step tells none asked =
-    asked_came old new (λ later is. let t = tells later is in (t.0, step ∷ [], t.1, t.2, ap (λ b. b || false) none)) asked
+    subst AreAsked (sym tells) (asked_came old (step ∷ []) (ap (λ b. b || false) none) asked)
 
 -- ---- nobody is accepted
 
@@ -101,29 +98,27 @@ alone (step ∷ mid) after e =
     let none : [] ≡ mid ++ nobody ∷ after = cc in
     absurd (true≢false (sym (any_in mid after) ∙ ap (list_any is_nobody) (sym none)))
 
-asked_nobody : (old new : Option (List Step)) → Tells old nobody new → MayRefuse old → AreAsked old → AreAsked new
-asked_nobody old new tells may asked before after is =
-    let t = tells (before ++ nobody ∷ after) is in
+asked_nobody : (old new : List Step) → new ≡ old ++ nobody ∷ [] → IsExcused old → AreAsked old → AreAsked new
+asked_nobody old new tells excused asked before after is =
     ⊎_elim
-    (λ (here : (rest : List Step) × (t.0 ≡ before ++ nobody ∷ rest)). asked before here.0 (t.1 ∙ ap Some here.1))
-    (λ (there : (mid : List Step) × (nobody ∷ [] ≡ mid ++ nobody ∷ after) × (before ≡ t.0 ++ mid)).
-    let same : t.0 ≡ before = sym (there.2 ∙ ap (λ (l : List Step). t.0 ++ l) (alone there.0 after there.1) ∙ append-nil t.0) in
-    subst IsExcused same (may t.0 t.1))
-    (splits t.0 (nobody ∷ []) before after nobody (sym t.2))
+    (λ (here : (rest : List Step) × (old ≡ before ++ nobody ∷ rest)). asked before here.0 here.1)
+    (λ (there : (mid : List Step) × (nobody ∷ [] ≡ mid ++ nobody ∷ after) × (before ≡ old ++ mid)).
+    let same : old ≡ before = sym (there.2 ∙ ap (λ (l : List Step). old ++ l) (alone there.0 after there.1) ∙ append-nil old) in
+    subst IsExcused same excused)
+    (splits old (nobody ∷ []) before after nobody (sym tells ∙ is))
 
-pub asked_accept : (old new : Option (List Step)) (answer : Result (Option ℕ) DoorFault) → Tells old (Answers (AcceptCall answer)) new
-    → (answer ≡ Ok None → MayRefuse old) → AreAsked old → AreAsked new
+pub asked_accept : (old new : List Step) (answer : Result (Option ℕ) DoorFault) → new ≡ old ++ Answers (AcceptCall answer) ∷ []
+    → (answer ≡ Ok None → IsExcused old) → AreAsked old → AreAsked new
 asked_accept old new (Ok (Some number)) tells may asked = asked_step old new (Answers (AcceptCall (Ok (Some number)))) tells refl asked
 asked_accept old new (Ok None) tells may asked = asked_nobody old new tells (may refl) asked
 asked_accept old new (Err fault) tells may asked = asked_step old new (Answers (AcceptCall (Err fault))) tells refl asked
 
 -- the system was asked
-pub was_asked : (old new : Option (List Step)) (number : ℕ) (said : Result Unit ErrorKind) → Tells old (Accepts number said) new
-    → MayRefuse new
-was_asked old new number said tells log is wall start none =
-    let t = tells log is in
-    let some : (times wall start log).heard ≡ Some (accept_answer number said) =
-    ap (λ (x : Times). x.heard) (ap (times wall start) t.2 ∙ times_more wall start t.0 (Accepts number said)) in
+pub was_asked : (old new : List Step) (number : ℕ) (said : Result Unit ErrorKind) → new ≡ old ++ Accepts number said ∷ []
+    → IsExcused new
+was_asked old new number said tells wall start none =
+    let some : (times wall start new).heard ≡ Some (accept_answer number said) =
+    ap (λ (x : Times). x.heard) (ap (times wall start) tells ∙ times_more wall start old (Accepts number said)) in
     absurd (nothing (sym none ∙ some))
   where
     nothing : None ≡ Some (accept_answer number said) → ⊥
@@ -232,15 +227,15 @@ stays_kept watched lingering outgoing (stay.Shut since) h = h.1
 abbrev is_kept : Account → Bool
 is_kept a = a.lingering.kept
 
-crowded_is : (trace : Option (List Step)) (peers : List Peer) (l : Listening) (last : ℕ) (log : List Step) → Stands trace peers l last
-    → trace ≡ Some log → is_crowded 129 peers ≡ true → (kept lingering : List ℕ) → Covers is_kept log kept
+crowded_is : (log : List Step) (peers : List Peer) (l : Listening) (last : ℕ) → Stands log peers l last → is_crowded 129 peers ≡ true
+    → (kept lingering : List ℕ) → Covers is_kept log kept
     → Covers is_lingering log lingering → (nat_le 129 (length kept) || nat_le 64 (length lingering)) ≡ true
-crowded_is trace peers l last log stands is crowded kept lingering all_kept all_lingering = ⊎_elim
+crowded_is log peers l last stands crowded kept lingering all_kept all_lingering = ⊎_elim
     (λ (full : nat_le 129 (length peers) ≡ true).
     let most : length (numbers peers) ≤ length kept = length-le_from_is_member nat_eq_equiv (numbers peers) kept differ
     (λ socket there. all_kept socket (each_number (λ n. is_kept (account n log)) peers
     (λ k d lt. let p = slice_index_or peers k d in let a = account p.number log in
-    stays_kept a.watched a.lingering p.outgoing p.stay (stands.kept k d lt log is).stays) socket there)) in
+    stays_kept a.watched a.lingering p.outgoing p.stay (stands.kept k d lt).stays) socket there)) in
     ap (λ b. b || nat_le 64 (length lingering))
     (at_least 129 (length peers) (length kept) full (omega (arith, most, length_numbers peers))))
     (λ (many : nat_le 64 (length (filter (λ (p : Peer). not (is_here p.stay)) peers)) ≡ true).
@@ -261,7 +256,7 @@ crowded_is trace peers l last log stands is crowded kept lingering all_kept all_
 
     count : length (filter lingers (numbers peers)) ≡ length (filter (λ (p : Peer). not (is_here p.stay)) peers)
     count = same_count lingers peers (λ k d lt. let p = slice_index_or peers k d in let a = account p.number log in
-        stays_lingering a.watched a.lingering p.outgoing p.stay (stands.kept k d lt log is).stays)
+        stays_lingering a.watched a.lingering p.outgoing p.stay (stands.kept k d lt).stays)
 
     at_least : (least n m : ℕ) → nat_le least n ≡ true → n ≤ m → nat_le least m ≡ true
     at_least least n m e le = grind (arith, nat_tests)
@@ -301,38 +296,28 @@ covers_more is_such log later one sockets same covers socket such = ⊎_elim
     equal : (n m : ℕ) → n ≡ m → (n == m) ≡ true
     equal n m e = grind (arith, nat_tests)
 
-pub may_crowded : (trace : Option (List Step)) (peers : List Peer) (l : Listening) (last : ℕ) → Stands trace peers l last
-    → is_crowded 129 peers ≡ true → MayRefuse trace
-may_crowded trace peers l last stands crowded log is wall start none loud kept lingering all_kept all_lingering =
+pub may_crowded : (log : List Step) (peers : List Peer) (l : Listening) (last : ℕ) → Stands log peers l last
+    → is_crowded 129 peers ≡ true → IsExcused log
+may_crowded log peers l last stands crowded wall start none loud kept lingering all_kept all_lingering =
     one_less (length kept) (length lingering)
-    (crowded_is trace peers l last log stands is crowded (0 ∷ kept) (0 ∷ lingering)
+    (crowded_is log peers l last stands crowded (0 ∷ kept) (0 ∷ lingering)
     (covers_more is_kept log log 0 kept (λ socket ne. refl) all_kept)
     (covers_more is_lingering log log 0 lingering (λ socket ne. refl) all_lingering))
 
 -- one was closed to make a place
-pub may_closed : (old new : Option (List Step)) (peers : List Peer) (l : Listening) (last who : ℕ) → Stands old peers l last
-    → is_crowded 129 peers ≡ true → Tells old (Closes who) new → MayRefuse new
-may_closed old new peers l last who stands crowded tells log is wall start none loud kept lingering all_kept all_lingering =
-    let t = tells log is in
+pub may_closed : (old new : List Step) (peers : List Peer) (l : Listening) (last who : ℕ) → Stands old peers l last
+    → is_crowded 129 peers ≡ true → new ≡ old ++ Closes who ∷ [] → IsExcused new
+may_closed old new peers l last who stands crowded tells wall start none loud kept lingering all_kept all_lingering =
     one_less (length kept) (length lingering)
-    (crowded_is old peers l last t.0 stands t.1 crowded (who ∷ kept) (who ∷ lingering)
-    (covers_more is_kept t.0 log who kept (λ socket ne. ap is_kept (same socket ne)) all_kept)
-    (covers_more is_lingering t.0 log who lingering (λ socket ne. ap is_lingering (same socket ne)) all_lingering))
+    (crowded_is old peers l last stands crowded (who ∷ kept) (who ∷ lingering)
+    (covers_more is_kept old new who kept (λ socket ne. ap is_kept (same socket ne)) all_kept)
+    (covers_more is_lingering old new who lingering (λ socket ne. ap is_lingering (same socket ne)) all_lingering))
   where
-    same : (socket : ℕ) → (socket ≡ who → ⊥) → account socket log ≡ account socket (tells log is).0
-    same socket ne =
-        let t = tells log is in
-        ap (account socket) t.2 ∙ account_more socket t.0 (Closes who)
-        ∙ skips (who == socket) (closed (account socket t.0)) (account socket t.0) (alien who socket ne)
+    same : (socket : ℕ) → (socket ≡ who → ⊥) → account socket new ≡ account socket old
+    same socket ne = ap (account socket) tells ∙ account_more socket old (Closes who)
+        ∙ skips (who == socket) (closed (account socket old)) (account socket old) (alien who socket ne)
 
 -- no step was made
-pub asked_first : (trace : Option (List Step)) → (trace ≡ Some [] ⊎ trace ≡ None) → AreAsked trace
-asked_first trace begins before after is = ⊎_elim
-    (λ (e : trace ≡ Some []).
-    let same : [] ≡ before ++ nobody ∷ after = cc in
-    absurd (true≢false (sym (any_in before after) ∙ ap (list_any is_nobody) (sym same))))
-    (λ (e : trace ≡ None). absurd (nothing (sym e ∙ is)))
-    begins
-  where
-    nothing : None ≡ Some (before ++ nobody ∷ after) → ⊥
-    nothing e = cc
+pub asked_first : (log : List Step) → log ≡ [] → AreAsked log
+asked_first log none before after is =
+    absurd (true≢false (sym (any_in before after) ∙ ap (list_any is_nobody) (sym is ∙ none)))

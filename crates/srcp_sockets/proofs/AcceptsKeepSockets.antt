@@ -1,6 +1,6 @@
 -- What holds of all sockets holds after an accept.
 use Rattle.std.proofs.Common.{◌≡◌, ◌∙◌, ℕ, ◌<◌, ◌≤◌, ◌+◌, true, false, List, [], ◌∷◌, ◌++◌, length, refl, ap, sym}
-use Rattle.std.proofs.Common.{subst, arith, ⊎_elim, ◌==◌, Option, Some, Ok, Err, true≢false}
+use Rattle.std.proofs.Common.{subst, arith, ⊎_elim, ◌==◌, Ok, Err, true≢false}
 use Rattle.std.specs.Prelude.{◌≢◌, slice_index_or, Result}
 use Rattle.std.proofs.lemmas.Bool.{cases_eq, cases_lt}
 use Rattle.std.proofs.lemmas.List.{length-append, get_or_push, get_or_append_left}
@@ -14,7 +14,7 @@ use Rattle.srcp_peers.specs.declared.readiness.Output.TheVariants as output
 use Rattle.srcp_peers.specs.declared.stay.Stay.TheVariants as stay
 use Rattle.srcp_peers.specs.declared.turn.Listening.{Listening}
 use Rattle.srcp_peers.specs.declared.turn.Listening.TheVariants as listening
-use Rattle.srcp_peers.specs.Steps.{Accepts, Step, Tells, failure_of}
+use Rattle.srcp_peers.specs.Steps.{Accepts, Step, failure_of}
 use Rattle.srcp_peers.specs.Accounts.{Account, accepted, account, account_step, heard, heard_refusal}
 use Rattle.srcp_peers.specs.Peers.{Agrees, IsKept, Spares}
 use Rattle.srcp_door.specs.Pacing.{line_after}
@@ -24,7 +24,7 @@ use Rattle.srcp_peers.specs.Listeners.{refused_listening}
 use Rattle.srcp_peers.specs.AllPeers.{AreApart, AreKept, IsAbsent}
 use Rattle.srcp_sockets.specs.Doors.{Closed, Fresh, Hears, Sound, Stands, is_quiet}
 use Rattle.srcp_peers.proofs.PeersStayKept.{account_more, alien, own, picks, skips, spares_after}
-use Rattle.srcp_peers.proofs.OnePeerChanges.{kept_spared, spared}
+use Rattle.srcp_peers.proofs.OnePeerChanges.{kept_spared}
 use Rattle.srcp_sockets.proofs.SocketsStayStanding.{absent_above, all_sound, not_listener}
 
 abbrev pub new_peer : (clock number : ℕ) → Peer
@@ -56,8 +56,8 @@ accept_other socket number a answer ne differ = skips (socket == 0) (record a { 
     ∙ skips (number == socket) (accepted a answer) a (alien number socket differ)
 
 -- one that comes in leaves the others as they are
-spares_come : (old new : Option (List Step)) (number : ℕ) (done : Unit {0}) (other : ℕ) → other ≢ number
-    → Tells old (Accepts number (Ok done)) new → Spares other old new
+spares_come : (old new : List Step) (number : ℕ) (done : Unit {0}) (other : ℕ) → other ≢ number
+    → new ≡ old ++ Accepts number (Ok done) ∷ [] → Spares other old new
 spares_come old new number done other differ tells =
     spares_after other old new (Accepts number (Ok done)) tells (λ a. ⊎_elim
     (λ (e : other ≡ 0). subst (λ (n : ℕ). account_step n a (Accepts number (Ok done)) ≡ a) (sym e) refl)
@@ -111,8 +111,8 @@ absent_push socket peers p absent = (
       (ap (λ (x : Peer). x.number) (get_or_push peers p p (length peers) refl) ∙ sym e),
 )
 
-pub stands_come : (old new : Option (List Step)) (peers : List Peer) (l : Listening) (clock last : ℕ) (done : Unit {0})
-    → Tells old (Accepts (last + 1) (Ok done)) new → Stands old peers l last
+pub stands_come : (old new : List Step) (peers : List Peer) (l : Listening) (clock last : ℕ) (done : Unit {0})
+    → new ≡ old ++ Accepts (last + 1) (Ok done) ∷ [] → Stands old peers l last
     → Stands new (peers ++ new_peer clock (last + 1) ∷ []) l (last + 1)
 stands_come old new peers l clock last done tells stands = record {
   kept = kept;
@@ -120,19 +120,16 @@ stands_come old new peers l clock last done tells stands = record {
   within = at_push (λ (p : Peer). (0 < p.number) × (p.number ≤ last + 1)) peers (new_peer clock (last + 1))
       (λ k d lt. let w = stands.within k d lt in (w.0, (let m : (slice_index_or peers k d).number ≤ last = w.1 in omega (arith, m))))
       (omega arith, omega arith);
-  sound = λ log is. all_sound new (peers ++ new_peer clock (last + 1) ∷ []) log is kept (λ socket absent.
+  sound = all_sound new (peers ++ new_peer clock (last + 1) ∷ []) kept (λ socket absent.
       let there = absent_push socket peers (new_peer clock (last + 1)) absent in
-      spared Sound socket old new (spares_come old new (last + 1) done socket there.1 tells) (λ lg e. stands.sound lg e socket) log is);
-  fresh = λ log is socket above.
-      spared Fresh socket old new (spares_come old new (last + 1) done socket (λ e. omega (arith, above, e)) tells)
-      (λ lg e. stands.fresh lg e socket (omega (arith, above))) log is;
-  closed = λ log is socket absent.
+      subst Sound (sym (spares_come old new (last + 1) done socket there.1 tells)) (stands.sound socket));
+  fresh = λ socket above.
+      subst Fresh (sym (spares_come old new (last + 1) done socket (λ e. omega (arith, above, e)) tells))
+      (stands.fresh socket (omega (arith, above)));
+  closed = λ socket absent.
       let there = absent_push socket peers (new_peer clock (last + 1)) absent in
-      spared Closed socket old new (spares_come old new (last + 1) done socket there.1 tells)
-      (λ lg e. stands.closed lg e socket there.0) log is;
-  heard = λ log is.
-      spared (λ (a : Account). Hears a l) 0 old new (spares_come old new (last + 1) done 0 (λ e. omega (arith, e)) tells) stands.heard log
-      is;
+      subst Closed (sym (spares_come old new (last + 1) done socket there.1 tells)) (stands.closed socket there.0);
+  heard = subst (λ (a : Account). Hears a l) (sym (spares_come old new (last + 1) done 0 (λ e. omega (arith, e)) tells)) stands.heard;
 }
   where
     old_kept : (k : ℕ) (d : Peer) → k < length peers → IsKept new (slice_index_or peers k d)
@@ -143,14 +140,12 @@ stands_come old new peers l clock last done tells stands = record {
         (spares_come old new (last + 1) done (slice_index_or peers k d).number (λ e. omega (arith, m, e)) tells) (stands.kept k d lt)
 
     one_kept : IsKept new (new_peer clock (last + 1))
-    one_kept later is =
-        let t = tells later is in
-        let more : account (last + 1) later ≡ accepted (account (last + 1) t.0) (Ok done) =
-        ap (account (last + 1)) t.2 ∙ account_more (last + 1) t.0 (Accepts (last + 1) (Ok done))
-        ∙ accept_new (last + 1) (account (last + 1) t.0) (Ok done) (λ e. omega (arith, e)) in
+    one_kept =
+        let more : account (last + 1) new ≡ accepted (account (last + 1) old) (Ok done) =
+        ap (account (last + 1)) tells ∙ account_more (last + 1) old (Accepts (last + 1) (Ok done))
+        ∙ accept_new (last + 1) (account (last + 1) old) (Ok done) (λ e. omega (arith, e)) in
         subst (λ (a : Account). Agrees a (new_peer clock (last + 1))) (sym more)
-        (fresh_agrees clock (last + 1) (account (last + 1) t.0) done (stands.fresh t.0 t.1 (last + 1) (omega arith))
-        (stands.sound t.0 t.1 (last + 1)))
+        (fresh_agrees clock (last + 1) (account (last + 1) old) done (stands.fresh (last + 1) (omega arith)) (stands.sound (last + 1)))
 
     kept : AreKept new (peers ++ new_peer clock (last + 1) ∷ [])
     kept = at_push (IsKept new) peers (new_peer clock (last + 1)) old_kept one_kept
@@ -161,16 +156,16 @@ hears_loud a l other was is h =
     record { fresh = h.fresh; lost = h.lost; cut = h.cut; ended = h.ended; failed = h.failed; heard = h.heard ∙ was ∙ sym is }
 
 -- the system is asked again after a rest
-pub stands_later : (trace : Option (List Step)) (peers : List Peer) (l : Listening) (last : ℕ) → is_quiet l ≡ false
-    → Stands trace peers l last → Stands trace peers listening.BackingOff last
-stands_later trace peers l last loud stands = record {
+pub stands_later : (log : List Step) (peers : List Peer) (l : Listening) (last : ℕ) → is_quiet l ≡ false
+    → Stands log peers l last → Stands log peers listening.BackingOff last
+stands_later log peers l last loud stands = record {
   kept = stands.kept;
   apart = stands.apart;
   within = stands.within;
   sound = stands.sound;
   fresh = stands.fresh;
   closed = stands.closed;
-  heard = λ log is. hears_loud (account 0 log) l listening.BackingOff loud refl (stands.heard log is);
+  heard = hears_loud (account 0 log) l listening.BackingOff loud refl stands.heard;
 }
 
 -- an accept that failed
@@ -209,16 +204,16 @@ refused_fresh a WouldBlock h = record { written = h.written; took = h.took; gave
 refused_fresh a Interrupted h = h
 refused_fresh a Fatal h = h
 
-spares_refused : (old new : Option (List Step)) (number : ℕ) (fault : ErrorKind) (other : ℕ) → (other ≡ 0 → ⊥)
-    → Tells old (Accepts number (Err fault)) new → Spares other old new
+spares_refused : (old new : List Step) (number : ℕ) (fault : ErrorKind) (other : ℕ) → (other ≡ 0 → ⊥)
+    → new ≡ old ++ Accepts number (Err fault) ∷ [] → Spares other old new
 spares_refused old new number fault other ne tells =
     spares_after other old new (Accepts number (Err fault)) tells (λ a. ⊎_elim
     (λ (e : other ≡ number). subst (λ (n : ℕ). account_step other a (Accepts n (Err fault)) ≡ a) e (accept_new other a (Err fault) ne))
     (λ (differ : other ≡ number → ⊥). accept_other other number a (Err fault) ne differ)
     (cases_eq other number))
 
-pub stands_refused : (old new : Option (List Step)) (peers : List Peer) (l : Listening) (last number : ℕ) (fault : ErrorKind)
-    → is_quiet l ≡ false → Tells old (Accepts number (Err fault)) new → Stands old peers l last
+pub stands_refused : (old new : List Step) (peers : List Peer) (l : Listening) (last number : ℕ) (fault : ErrorKind)
+    → is_quiet l ≡ false → new ≡ old ++ Accepts number (Err fault) ∷ [] → Stands old peers l last
     → Stands new peers (refused_listening (failure_of fault)) last
 stands_refused old new peers l last number fault loud tells stands = record {
   kept = λ k d lt.
@@ -227,42 +222,34 @@ stands_refused old new peers l last number fault loud tells stands = record {
       (spares_refused old new number fault (slice_index_or peers k d).number (λ e. omega (arith, some, e)) tells) (stands.kept k d lt);
   apart = stands.apart;
   within = stands.within;
-  sound = λ log is socket. ⊎_elim
-      (λ (e : socket ≡ 0). subst (λ (n : ℕ). Sound (account n log)) (sym e)
-      (subst Sound (sym (more log is)) (refused_sound (account 0 (tells log is).0) (failure_of fault)
-      (stands.sound (tells log is).0 (tells log is).1 0))))
-      (λ (ne : socket ≡ 0 → ⊥). spared Sound socket old new (spares_refused old new number fault socket ne tells)
-      (λ lg e. stands.sound lg e socket) log is)
+  sound = λ socket. ⊎_elim
+      (λ (e : socket ≡ 0). subst (λ (n : ℕ). Sound (account n new)) (sym e)
+      (subst Sound (sym more) (refused_sound (account 0 old) (failure_of fault) (stands.sound 0))))
+      (λ (ne : socket ≡ 0 → ⊥). subst Sound (sym (spares_refused old new number fault socket ne tells)) (stands.sound socket))
       (cases_eq socket 0);
-  fresh = λ log is socket above.
-      spared Fresh socket old new (spares_refused old new number fault socket (λ e. omega (arith, above, e)) tells)
-      (λ lg e. stands.fresh lg e socket above) log is;
-  closed = λ log is socket absent. ⊎_elim
-      (λ (e : socket ≡ 0). subst (λ (n : ℕ). Closed (account n log)) (sym e)
-      (subst Closed (sym (more log is)) (refused_closed (account 0 (tells log is).0) (failure_of fault)
-      (stands.closed (tells log is).0 (tells log is).1 0 (subst (λ (n : ℕ). IsAbsent n peers) e absent)))))
-      (λ (ne : socket ≡ 0 → ⊥). spared Closed socket old new
-      (spares_refused old new number fault socket ne tells)
-      (λ lg e. stands.closed lg e socket absent) log is)
+  fresh = λ socket above.
+      subst Fresh (sym (spares_refused old new number fault socket (λ e. omega (arith, above, e)) tells)) (stands.fresh socket above);
+  closed = λ socket absent. ⊎_elim
+      (λ (e : socket ≡ 0). subst (λ (n : ℕ). Closed (account n new)) (sym e)
+      (subst Closed (sym more) (refused_closed (account 0 old) (failure_of fault)
+      (stands.closed 0 (subst (λ (n : ℕ). IsAbsent n peers) e absent)))))
+      (λ (ne : socket ≡ 0 → ⊥). subst Closed (sym (spares_refused old new number fault socket ne tells)) (stands.closed socket absent))
       (cases_eq socket 0);
-  heard = λ log is. subst (λ (a : Account). Hears a (refused_listening (failure_of fault))) (sym (more log is))
-      (refused_hears (account 0 (tells log is).0) l (failure_of fault) loud (stands.heard (tells log is).0 (tells log is).1));
+  heard = subst (λ (a : Account). Hears a (refused_listening (failure_of fault))) (sym more)
+      (refused_hears (account 0 old) l (failure_of fault) loud stands.heard);
 }
   where
-    more : (log : List Step) (is : new ≡ Some log)
-        → account 0 log ≡ record (account 0 (tells log is).0) {
-          received = heard_refusal (account 0 (tells log is).0).received
-              (failure_of fault);
-        }
-    more log is = ap (account 0) (tells log is).2 ∙ account_more 0 (tells log is).0 (Accepts number (Err fault))
+    more : account 0 new ≡ record (account 0 old) { received = heard_refusal (account 0 old).received (failure_of fault) }
+    more = ap (account 0) tells ∙ account_more 0 old (Accepts number (Err fault))
 
 -- a new peer, by the names that the function gives
-pub stands_came : (old new : Option (List Step)) (peers items : List Peer) (peer : Peer) (l : Listening) (clock last number : ℕ)
+pub stands_came : (old new : List Step) (peers items : List Peer) (peer : Peer) (l : Listening) (clock last number : ℕ)
     (done : Unit {0})
     → number ≡ last + 1 → items ≡ peers ++ peer ∷ [] → peer ≡ new_peer clock number
-    → Tells old (Accepts number (Ok done)) new → Stands old peers l last → Stands new items l number
+    → new ≡ old ++ Accepts number (Ok done) ∷ [] → Stands old peers l last → Stands new items l number
 stands_came old new peers items peer l clock last number done next pushed is tells stands =
-    let accepts : Tells old (Accepts (last + 1) (Ok done)) new = subst (λ (n : ℕ). Tells old (Accepts n (Ok done)) new) next tells in
+    let accepts : new ≡ old ++ Accepts (last + 1) (Ok done) ∷ [] =
+    subst (λ (n : ℕ). new ≡ old ++ Accepts n (Ok done) ∷ []) next tells in
     let received = stands_come old new peers l clock last done accepts stands in
     let one : new_peer clock (last + 1) ≡ peer = ap (new_peer clock) (sym next) ∙ sym is in
     subst (λ (n : ℕ). Stands new items l n) (sym next)

@@ -1,5 +1,5 @@
 -- The accounts read the clock as the times do.
-use Rattle.std.proofs.Common.{◌≡◌, ◌∙◌, ℕ, Bool, true, false, List, [], ◌∷◌, take, refl, ap, sym, ◌==◌, if◌then◌else◌, Option, Some, None}
+use Rattle.std.proofs.Common.{◌≡◌, ◌∙◌, ℕ, Bool, true, false, List, [], ◌∷◌, take, refl, ap, sym, ◌==◌, if◌then◌else◌, Some, None}
 use Rattle.std.proofs.Common.{Ok, Err}
 use Rattle.std.specs.Prelude.{◌||◌, Result, fold}
 use Rattle.std.specs.declared.io.ErrorKind.{ErrorKind}
@@ -84,7 +84,6 @@ both_clocks socket a t (step ∷ log) same = both_clocks socket (account_step so
     (account_clock socket a step ∙ ap (λ c. clock_step c step) same ∙ sym (times_clock t step))
 
 -- the account of each socket has the clock of the turn
-pub clock_is : (trace : Option (List Step)) (turn : Turn) (socket : ℕ) → IsTimed trace turn → (log : List Step) → trace ≡ Some log
-    → (account socket log).lingering.clock ≡ turn.clock
-clock_is trace turn socket timed log is =
-    both_clocks socket untouched (first_times turn.timekeeper.wall turn.timekeeper.start) log refl ∙ (timed log is).clock
+pub clock_is : (log : List Step) (turn : Turn) (socket : ℕ) → IsTimed log turn → (account socket log).lingering.clock ≡ turn.clock
+clock_is log turn socket timed =
+    both_clocks socket untouched (first_times turn.timekeeper.wall turn.timekeeper.start) log refl ∙ timed.clock

@@ -1,5 +1,5 @@
 -- What a door has delivered when it ends.
-use Rattle.std.proofs.Common.{◌≡◌, ◌∙◌, ℕ, ◌+◌, Bool, true, false, not, List, length, refl, ap, arith, ◌==◌, ◌⊎◌, inl, inr}
+use Rattle.std.proofs.Common.{◌++◌, ◌∷◌, [], ◌≡◌, ◌∙◌, ℕ, ◌+◌, Bool, true, false, not, List, length, refl, ap, arith, ◌==◌, ◌⊎◌, inl, inr}
 use Rattle.std.proofs.Common.{get_or, Option, Some, None, sym, subst, ⊎_elim, true≢false}
 use Rattle.std.specs.Prelude.{All, ◌&&◌}
 use Rattle.srcp_peers.specs.declared.peer.Peer.{Peer}
@@ -11,7 +11,7 @@ use Rattle.srcp_sockets.specs.Delivery.{AreDelivered, HasEnded, HasWaited, HaveE
 use Rattle.srcp_sockets.specs.Doors.{AreStanding, IsThere}
 use Rattle.srcp_peers.specs.AllPeers.{AreKept, IsAbsent}
 use Rattle.srcp_peers.specs.Peers.{WritesAs, is_lost, is_waiting}
-use Rattle.srcp_peers.specs.Steps.{Clocks, Step, Tells, Waits}
+use Rattle.srcp_peers.specs.Steps.{Clocks, Step, Waits}
 use Rattle.srcp_peers.specs.Times.{KeepsTimes, Times, times, times_step}
 use Rattle.srcp_peers.proofs.PeersRestByAccount.{owed_is}
 use Rattle.srcp_sockets.proofs.SocketsStayStanding.{find, nobody}
@@ -32,23 +32,22 @@ delivered_as sent outgoing output.Full e h = inl (owed_is sent outgoing h.0 ∙ 
     alone false f = refl
 delivered_as sent outgoing output.Lost e h = inr h.1
 
-pub are_delivered : (trace : Option (List Step)) (peers : List Peer) → AreKept trace peers → All (λ peer. is_waiting peer ≡ false) peers
-    → AreDelivered trace peers
-are_delivered trace peers kept none log is k d lt =
+pub are_delivered : (log : List Step) (peers : List Peer) → AreKept log peers → All (λ peer. is_waiting peer ≡ false) peers
+    → AreDelivered log peers
+are_delivered log peers kept none k d lt =
     let p : Peer = get_or peers k d in
-    delivered_as (account p.number log).sent p.outgoing p.output (none k d lt) (kept k d lt log is).writes
+    delivered_as (account p.number log).sent p.outgoing p.output (none k d lt) (kept k d lt).writes
 
 -- every socket that is not closed has a peer
-is_all_delivered : (trace : Option (List Step)) (peers : List Peer) → AreStanding trace peers → AreDelivered trace peers
-    → IsAllDelivered trace
-is_all_delivered trace peers standing delivered log is socket kept = ⊎_elim
+is_all_delivered : (log : List Step) (peers : List Peer) → AreStanding log peers → AreDelivered log peers → IsAllDelivered log
+is_all_delivered log peers standing delivered socket kept = ⊎_elim
     (λ (there : IsThere socket peers).
     subst (λ (n : ℕ). (is_owed (account n log).sent ≡ false) ⊎ ((account n log).sent.lost ≡ true)) (there.same nobody)
-    (delivered log is there.index nobody there.within))
-    (λ (absent : IsAbsent socket peers). absurd (true≢false (sym kept ∙ (standing.2.closed log is socket absent).kept)))
+    (delivered there.index nobody there.within))
+    (λ (absent : IsAbsent socket peers). absurd (true≢false (sym kept ∙ (standing.2.closed socket absent).kept)))
     (find socket peers)
 
-pub has_ended : (until : ℕ) (old new : Option (List Step)) (peers : List Peer) → AreStanding new peers → HaveEnded until old new peers
+pub has_ended : (until : ℕ) (old new : List Step) (peers : List Peer) → AreStanding new peers → HaveEnded until old new peers
     → HasEnded until old new
 has_ended until old new peers standing ended = ⊎_elim
     (λ (delivered : AreDelivered new peers). inl (is_all_delivered new peers standing delivered))
@@ -57,48 +56,28 @@ has_ended until old new peers standing ended = ⊎_elim
 
 -- ---- how often it waited
 
-pub waited_none : (trace : Option (List Step)) → HasWaited 0 trace trace
-waited_none trace later is = (later, is, λ wall start. omega arith)
+pub waited_none : (log : List Step) → HasWaited 0 log log
+waited_none log wall start = omega arith
 
-pub waited_keeps : (count : ℕ) (old mid new : Option (List Step)) → HasWaited count old mid → KeepsTimes mid new
-    → HasWaited count old new
-waited_keeps count old mid new waited keeps later is =
-    let k = keeps later is in
-    let w = waited k.0 k.1 in
-    (w.0, w.1, λ wall start. ap (λ t. t.waits) (k.2 wall start) ∙ w.2 wall start)
+pub waited_keeps : (count : ℕ) (old mid new : List Step) → HasWaited count old mid → KeepsTimes mid new → HasWaited count old new
+waited_keeps count old mid new waited keeps wall start = ap (λ t. t.waits) (keeps wall start) ∙ waited wall start
 
-pub waited_after : (count : ℕ) (old mid new : Option (List Step)) → KeepsTimes old mid → HasWaited count mid new
-    → HasWaited count old new
-waited_after count old mid new keeps waited later is =
-    let w = waited later is in
-    let k = keeps w.0 w.1 in
-    (k.0, k.1, λ wall start. w.2 wall start ∙ ap (λ t. t.waits + count) (k.2 wall start))
+pub waited_after : (count : ℕ) (old mid new : List Step) → KeepsTimes old mid → HasWaited count mid new → HasWaited count old new
+waited_after count old mid new keeps waited wall start = waited wall start ∙ ap (λ t. t.waits + count) (keeps wall start)
 
 same : (t : Times) (answer : Option ℕ) → (times_step t (Clocks answer)).waits ≡ t.waits
 same t None = refl
 same t (Some time) = refl
 
-pub waited_clocked : (count : ℕ) (old mid new : Option (List Step)) (answer : Option ℕ) → Tells mid (Clocks answer) new
+pub waited_clocked : (count : ℕ) (old mid new : List Step) (answer : Option ℕ) → new ≡ mid ++ Clocks answer ∷ []
     → HasWaited count old mid → HasWaited count old new
-waited_clocked count old mid new answer tells waited later is =
-    let t = tells later is in
-    let w = waited t.0 t.1 in (
-      w.0,
-      w.1,
-      λ wall start. ap (λ l. (times wall start l).waits) t.2
-          ∙ ap (λ x. x.waits) (times_more wall start t.0 (Clocks answer)) ∙ same (times wall start t.0) answer ∙ w.2 wall start,
-    )
+waited_clocked count old mid new answer tells waited wall start = ap (λ l. (times wall start l).waits) tells
+    ∙ ap (λ x. x.waits) (times_more wall start mid (Clocks answer)) ∙ same (times wall start mid) answer ∙ waited wall start
 
-pub waited_more : (count : ℕ) (old mid new : Option (List Step)) (most : Option ℕ) (n : ℕ) (ready : List Ready)
-    → Tells mid (Waits most n ready) new → HasWaited count old mid → HasWaited (count + 1) old new
-waited_more count old mid new most n ready tells waited later is =
-    let t = tells later is in
-    let w = waited t.0 t.1 in (
-      w.0,
-      w.1,
-      λ wall start.
-          let one : (times wall start later).waits ≡ (times wall start t.0).waits + 1 =
-          ap (λ l. (times wall start l).waits) t.2 ∙ ap (λ x. x.waits) (times_more wall start t.0 (Waits most n ready)) in
-          let before = w.2 wall start in
-          omega (arith, one, before),
-    )
+pub waited_more : (count : ℕ) (old mid new : List Step) (most : Option ℕ) (n : ℕ) (ready : List Ready)
+    → new ≡ mid ++ Waits most n ready ∷ [] → HasWaited count old mid → HasWaited (count + 1) old new
+waited_more count old mid new most n ready tells waited wall start =
+    let one : (times wall start new).waits ≡ (times wall start mid).waits + 1 =
+    ap (λ l. (times wall start l).waits) tells ∙ ap (λ x. x.waits) (times_more wall start mid (Waits most n ready)) in
+    let before = waited wall start in
+    omega (arith, one, before)

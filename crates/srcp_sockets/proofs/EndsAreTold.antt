@@ -1,7 +1,7 @@
 -- How far the peers are on the way to their ends goes on from step to step.
 use Rattle.std.proofs.Common.{◌≡◌, ◌∙◌, ℕ, ◌<◌, ◌+◌, Bool, true, false, not, List, [], ◌∷◌, ◌++◌, length, refl, ap, sym, subst}
 use Rattle.std.proofs.Common.{arith, ⊎_elim, ◌==◌, cond, get_or, set, get_or-set_other, get_or-set_same, if◌then◌else◌}
-use Rattle.std.proofs.Common.{Option, Some, None, Ok, Err, true≢false}
+use Rattle.std.proofs.Common.{Option, None, Ok, Err, true≢false}
 use Rattle.std.specs.Prelude.{◌≢◌, ◌&&◌, ◌||◌, fold, nat_le, nat_lt, slice_index_or, Result}
 use Rattle.std.proofs.lemmas.Bool.{cases_eq}
 use Rattle.std.proofs.lemmas.Bool.Decides.{nat_tests}
@@ -25,7 +25,7 @@ use Rattle.srcp_peers.specs.AllPeers.{AreApart, AreBegun, AreKept, AreShutDown, 
 use Rattle.srcp_peers.specs.Ends.{begun, written}
 use Rattle.srcp_peers.specs.Peers.{Agrees, ReadsAs, after_wake, is_lost, is_over, stay_after, woken_input, woken_output}
 use Rattle.srcp_peers.specs.Reports.{is_settled}
-use Rattle.srcp_peers.specs.Steps.{Accepts, Answers, Clocks, Closes, Reads, SaysNothing, Shuts, Step, Tells, Waits, Writes, call_of, calls}
+use Rattle.srcp_peers.specs.Steps.{Accepts, Answers, Clocks, Closes, Reads, SaysNothing, Shuts, Step, Waits, Writes, call_of, calls}
 use Rattle.srcp_peers.proofs.PeersStayKept.{account_more, alien, own, picks, skips}
 use Rattle.srcp_peers.proofs.PeersRestByAccount.{held_is}
 use Rattle.srcp_peers.proofs.CallsAreOfTheDoor.{says_step}
@@ -111,9 +111,8 @@ ending_more socket log step =
     ap (λ (x : Leaving). x.ending) (fold-append (leaving_step socket) (record { account = untouched; ending = Open }) log (step ∷ []))
 
 -- nobody is wanted further after the steps that came
-abbrev pub Slackens : Option (List Step) → Option (List Step) → Type 0
-Slackens old new = (later : List Step) → new ≡ Some later → (log : List Step) × (old ≡ Some log)
-    × ((socket : ℕ) (is : Ending) → is_as_far (ending_of socket log) is ≡ true → is_as_far (ending_of socket later) is ≡ true)
+abbrev pub Slackens : (old new : List Step) → Type 0
+Slackens old new = (socket : ℕ) (is : Ending) → is_as_far (ending_of socket old) is ≡ true → is_as_far (ending_of socket new) is ≡ true
 
 far_accepted : (b : Bool) (wanted is : Ending) → is_as_far wanted is ≡ true → is_as_far (if b then Open else wanted) is ≡ true
 far_accepted true wanted is e = refl
@@ -138,26 +137,17 @@ far_came socket x (step ∷ came) is none e =
     let n = no_calls step came none in
     far_came socket (leaving_step socket x step) came is n.1 (far_step socket x step is n.0 e)
 
-pub slackens_silent : (old new : Option (List Step)) → SaysNothing old new → Slackens old new
-slackens_silent old new says later is =
-    let s = says later is in (
-      s.0,
-      s.2,
-      λ socket far e. subst (λ (l : List Step). is_as_far (ending_of socket l) far ≡ true) (sym s.3)
-          (subst (λ (x : Leaving). is_as_far x.ending far ≡ true)
-          (sym (fold-append (leaving_step socket) (record { account = untouched; ending = Open }) s.0 s.1))
-          (far_came socket (leaving socket s.0) s.1 far s.4 e)),
-    )
+pub slackens_silent : (old new : List Step) → SaysNothing old new → Slackens old new
+slackens_silent old new says socket far e =
+    subst (λ (l : List Step). is_as_far (ending_of socket l) far ≡ true) (sym says.1)
+    (subst (λ (x : Leaving). is_as_far x.ending far ≡ true)
+    (sym (fold-append (leaving_step socket) (record { account = untouched; ending = Open }) old says.0))
+    (far_came socket (leaving socket old) says.0 far says.2 e))
 
-pub slackens_step : (old new : Option (List Step)) (step : Step) → Tells old step new
+pub slackens_step : (old new : List Step) (step : Step) → new ≡ old ++ step ∷ []
     → ((socket : ℕ) (x : Leaving) → ending_step socket x step ≡ x.ending) → Slackens old new
-slackens_step old new step tells same later is =
-    let t = tells later is in (
-      t.0,
-      t.1,
-      λ socket far e. subst (λ (x : Ending). is_as_far x far ≡ true)
-          (sym (ap (ending_of socket) t.2 ∙ ending_more socket t.0 step ∙ same socket (leaving socket t.0))) e,
-    )
+slackens_step old new step tells same socket far e = subst (λ (x : Ending). is_as_far x far ≡ true)
+    (sym (ap (ending_of socket) tells ∙ ending_more socket old step ∙ same socket (leaving socket old))) e
 
 -- ---- the peers
 
@@ -171,18 +161,17 @@ AreOf before after = (k : ℕ) (d : Peer) → k < length after → (slice_index_
 pub same_ones : (peers : List Peer) → AreOf peers peers
 same_ones peers k d lt here = (k, lt, here, refl, refl)
 
-pub far_goes : (old new : Option (List Step)) (before after : List Peer) → Slackens old new → AreOf before after → AreAsFar old before
+pub far_goes : (old new : List Step) (before after : List Peer) → Slackens old new → AreOf before after → AreAsFar old before
     → AreAsFar new after
-far_goes old new before after slackens those far later is k d lt here =
-    let s = slackens later is in
+far_goes old new before after slackens those far k d lt here =
     let j = those k d lt here in
     let p : Peer = slice_index_or before j.0 d in
     let q : Peer = slice_index_or after k d in
-    subst (λ (n : ℕ). is_as_far (ending_of n later) q.ending ≡ true) (sym j.3)
-    (subst (λ (e : Ending). is_as_far (ending_of p.number later) e ≡ true) (sym j.4)
-    (s.2 p.number p.ending (far s.0 s.1 j.0 d j.1 j.2)))
+    subst (λ (n : ℕ). is_as_far (ending_of n new) q.ending ≡ true) (sym j.3)
+    (subst (λ (e : Ending). is_as_far (ending_of p.number new) e ≡ true) (sym j.4)
+    (slackens p.number p.ending (far j.0 d j.1 j.2)))
 
-pub far_same : (old new : Option (List Step)) (peers : List Peer) (step : Step) → Tells old step new
+pub far_same : (old new : List Step) (peers : List Peer) (step : Step) → new ≡ old ++ step ∷ []
     → ((socket : ℕ) (x : Leaving) → ending_step socket x step ≡ x.ending) → AreAsFar old peers → AreAsFar new peers
 far_same old new peers step tells same far =
     far_goes old new peers peers (slackens_step old new step tells same) (same_ones peers) far
@@ -260,57 +249,55 @@ removed_of peers i p within at apart k d lt here =
       ap (λ (x : Peer). x.ending) f.2,
     )
 
-pub far_pushed : (old new : Option (List Step)) (peers items : List Peer) (p : Peer) (clock number : ℕ) (done : Unit {0})
-    → items ≡ peers ++ p ∷ [] → p ≡ new_peer clock number → Tells old (Accepts number (Ok done)) new
+pub far_pushed : (old new : List Step) (peers items : List Peer) (p : Peer) (clock number : ℕ) (done : Unit {0})
+    → items ≡ peers ++ p ∷ [] → p ≡ new_peer clock number → new ≡ old ++ Accepts number (Ok done) ∷ []
     → AreAsFar old peers → AreAsFar new items
-far_pushed old new peers items p clock number done pushed is tells far later logged k d lt here =
-    let t = tells later logged in
-    let slackens = slackens_silent old new (says_step old new (Accepts number (Ok done)) tells refl) later logged in
-    let Far : Peer → Type 0 = λ q. q.stay ≡ stay.Here → is_as_far (ending_of q.number later) q.ending ≡ true in
-    let opens : ending_of p.number later ≡ Open = ap (ending_of p.number) t.2 ∙ ending_more p.number t.0 (Accepts number (Ok done))
-    ∙ picks (number == p.number) Open (leaving p.number t.0).ending
+far_pushed old new peers items p clock number done pushed is tells far k d lt here =
+    let slackens = slackens_silent old new (says_step old new (Accepts number (Ok done)) tells refl) in
+    let Far : Peer → Type 0 = λ q. q.stay ≡ stay.Here → is_as_far (ending_of q.number new) q.ending ≡ true in
+    let opens : ending_of p.number new ≡ Open = ap (ending_of p.number) tells ∙ ending_more p.number old (Accepts number (Ok done))
+    ∙ picks (number == p.number) Open (leaving p.number old).ending
     (ap (λ (x : Peer). number == x.number) is ∙ own number) in
     let one : Far p = λ e. ap (λ w. is_as_far w p.ending) opens in
     let each : (j : ℕ) (e : Peer) → j < length peers → Far (slice_index_or peers j e) = λ j e low stays.
-    slackens.2 (slice_index_or peers j e).number (slice_index_or peers j e).ending (far slackens.0 slackens.1 j e low stays) in
+    slackens (slice_index_or peers j e).number (slice_index_or peers j e).ending (far j e low stays) in
     subst (λ (qs : List Peer). k < length qs → Far (slice_index_or qs k d)) (sym pushed) (All-push Far peers p each one k d) lt here
 
 -- ---- one was written to
 
-pub far_wrote : (old new : Option (List Step)) (peers : List Peer) (i : ℕ) (p q : Peer) (bytes : List ℕ) (count : ℕ) → i < length peers
+pub far_wrote : (old new : List Step) (peers : List Peer) (i : ℕ) (p q : Peer) (bytes : List ℕ) (count : ℕ) → i < length peers
     → p ≡ get_or peers i p → AreApart peers → q.number ≡ p.number → q.stay ≡ p.stay
     → q.ending ≡ written p.ending (not (nat_lt count (length bytes)))
-    → Tells old (Answers (WriteCall p.number bytes (Ok count))) new → AreAsFar old peers → AreAsFar new (set peers i q)
-far_wrote old new peers i p q bytes count within at apart same stays ends tells far later logged k d lt here =
+    → new ≡ old ++ Answers (WriteCall p.number bytes (Ok count)) ∷ [] → AreAsFar old peers → AreAsFar new (set peers i q)
+far_wrote old new peers i p q bytes count within at apart same stays ends tells far k d lt here =
     let low : k < length peers = omega (arith, lt, length-set peers i q) in
-    let t = tells later logged in
-    let more : (socket : ℕ) → ending_of socket later
-    ≡ (if p.number == socket then written (ending_of socket t.0) (not (nat_lt count (length bytes))) else ending_of socket t.0) =
-    λ socket. ap (ending_of socket) t.2 ∙ ending_more socket t.0 (Answers (WriteCall p.number bytes (Ok count))) in
+    let more : (socket : ℕ) → ending_of socket new
+    ≡ (if p.number == socket then written (ending_of socket old) (not (nat_lt count (length bytes))) else ending_of socket old) =
+    λ socket. ap (ending_of socket) tells ∙ ending_more socket old (Answers (WriteCall p.number bytes (Ok count))) in
     ⊎_elim
     (λ (e : k ≡ i).
     let is : get_or (set peers i q) k d ≡ q = ap (λ n. get_or (set peers i q) n d) e ∙ get_or-set_same peers i q d within in
     let there : get_or peers k d ≡ p = ap (λ n. get_or peers n d) e ∙ get_or_default peers i d p within ∙ sym at in
-    let was : is_as_far (ending_of p.number t.0) p.ending ≡ true =
-    subst (λ (x : Peer). is_as_far (ending_of x.number t.0) x.ending ≡ true) there
-    (far t.0 t.1 k d low (ap (λ (x : Peer). x.stay) there ∙ sym stays ∙ ap (λ (x : Peer). x.stay) (sym is) ∙ here)) in
-    let wanted : ending_of p.number later ≡ written (ending_of p.number t.0) (not (nat_lt count (length bytes))) = more p.number
+    let was : is_as_far (ending_of p.number old) p.ending ≡ true =
+    subst (λ (x : Peer). is_as_far (ending_of x.number old) x.ending ≡ true) there
+    (far k d low (ap (λ (x : Peer). x.stay) there ∙ sym stays ∙ ap (λ (x : Peer). x.stay) (sym is) ∙ here)) in
+    let wanted : ending_of p.number new ≡ written (ending_of p.number old) (not (nat_lt count (length bytes))) = more p.number
     ∙ picks (p.number == p.number) _ _ (own p.number) in
-    subst (λ (x : Peer). is_as_far (ending_of x.number later) x.ending ≡ true) (sym is)
-    (subst (λ (n : ℕ). is_as_far (ending_of n later) q.ending ≡ true) (sym same)
+    subst (λ (x : Peer). is_as_far (ending_of x.number new) x.ending ≡ true) (sym is)
+    (subst (λ (n : ℕ). is_as_far (ending_of n new) q.ending ≡ true) (sym same)
     (subst (λ (w : Ending). is_as_far w q.ending ≡ true) (sym wanted)
-    (subst (λ (e : Ending). is_as_far (written (ending_of p.number t.0) (not (nat_lt count (length bytes)))) e ≡ true) (sym ends)
-    (far_written (ending_of p.number t.0) p.ending (not (nat_lt count (length bytes))) was)))))
+    (subst (λ (e : Ending). is_as_far (written (ending_of p.number old) (not (nat_lt count (length bytes)))) e ≡ true) (sym ends)
+    (far_written (ending_of p.number old) p.ending (not (nat_lt count (length bytes))) was)))))
     (λ (ne : k ≡ i → ⊥).
     let x : Peer = get_or peers k d in
     let is : get_or (set peers i q) k d ≡ x = get_or-set_other peers i k q d ne in
     let differ : x.number ≢ p.number = λ (e : x.number ≡ p.number).
     apart k i d low within ne (e ∙ ap (λ (y : Peer). y.number) (at ∙ get_or_default peers i p d within)) in
-    let wanted : ending_of x.number later ≡ ending_of x.number t.0 = more x.number
+    let wanted : ending_of x.number new ≡ ending_of x.number old = more x.number
     ∙ skips (p.number == x.number) _ _ (alien p.number x.number differ) in
-    subst (λ (y : Peer). is_as_far (ending_of y.number later) y.ending ≡ true) (sym is)
+    subst (λ (y : Peer). is_as_far (ending_of y.number new) y.ending ≡ true) (sym is)
     (subst (λ (w : Ending). is_as_far w x.ending ≡ true) (sym wanted)
-    (far t.0 t.1 k d low (ap (λ (y : Peer). y.stay) (sym is) ∙ here))))
+    (far k d low (ap (λ (y : Peer). y.stay) (sym is) ∙ here))))
     (cases_eq k i)
 
 -- ---- visits begin
@@ -336,56 +323,52 @@ over_as received incoming input.Ended h =
 over_as received incoming input.Failed h =
     sym (ap (λ f. received.ended && (not f && not (is_held received))) h.1 ∙ and_none received.ended)
 
-pub far_visited : (old new : Option (List Step)) (before after : List Peer) → length after ≡ length before → SaysNothing old new
+pub far_visited : (old new : List Step) (before after : List Peer) → length after ≡ length before → SaysNothing old new
     → AreThose before after → AreBegun before after → AreAsFar old before → AreAsFar new after
-far_visited old new before after long says those begins far later logged k d lt here =
+far_visited old new before after long says those begins far k d lt here =
     let low : k < length before = omega (arith, lt, long) in
     let p : Peer = slice_index_or before k d in
     let q : Peer = slice_index_or after k d in
     let b = begins k d low in
-    let s = slackens_silent old new says later logged in
-    subst (λ (n : ℕ). is_as_far (ending_of n later) q.ending ≡ true) (sym (those k d low))
-    (subst (λ (e : Ending). is_as_far (ending_of p.number later) e ≡ true) (sym b.1)
-    (far_on (ending_of p.number later) p.ending (is_over q.incoming q.input)
-    (s.2 p.number p.ending (far s.0 s.1 k d low (sym b.0 ∙ here)))))
+    subst (λ (n : ℕ). is_as_far (ending_of n new) q.ending ≡ true) (sym (those k d low))
+    (subst (λ (e : Ending). is_as_far (ending_of p.number new) e ≡ true) (sym b.1)
+    (far_on (ending_of p.number new) p.ending (is_over q.incoming q.input)
+    (slackens_silent old new says p.number p.ending (far k d low (sym b.0 ∙ here)))))
 
-pub visited_all : (old new : Option (List Step)) (before after : List Peer) → length after ≡ length before → SaysNothing old new
+pub visited_all : (old new : List Step) (before after : List Peer) → length after ≡ length before → SaysNothing old new
     → AreThose before after → AreKept new after → AreBegun before after → AreAsFar old before → AreVisited new after
-visited_all old new before after long says those kept begins far later logged k d lt here =
+visited_all old new before after long says those kept begins far k d lt here =
     let low : k < length before = omega (arith, lt, long) in
     let p : Peer = slice_index_or before k d in
     let q : Peer = slice_index_or after k d in
     let b = begins k d low in
-    let s = slackens_silent old new says later logged in
-    let agrees : Agrees (account q.number later) q = kept k d lt later logged in
-    let received : Received = (account q.number later).received in
+    let agrees : Agrees (account q.number new) q = kept k d lt in
+    let received : Received = (account q.number new).received in
     let over : is_over q.incoming q.input ≡ is_all_read received =
     over_as received q.incoming q.input (reads_here received q.incoming q.input q.stay here agrees.reads) in
-    let wanted : is_as_far (begun (ending_of p.number later) (is_over q.incoming q.input)) q.ending ≡ true =
-    subst (λ (e : Ending). is_as_far (begun (ending_of p.number later) (is_over q.incoming q.input)) e ≡ true) (sym b.1)
-    (far_begun (ending_of p.number later) p.ending (is_over q.incoming q.input)
-    (s.2 p.number p.ending (far s.0 s.1 k d low (sym b.0 ∙ here)))) in
-    subst (λ (o : Bool). is_as_far (begun (ending_of q.number later) o) q.ending ≡ true) over
-    (subst (λ (n : ℕ). is_as_far (begun (ending_of n later) (is_over q.incoming q.input)) q.ending ≡ true) (sym (those k d low)) wanted)
+    let wanted : is_as_far (begun (ending_of p.number new) (is_over q.incoming q.input)) q.ending ≡ true =
+    subst (λ (e : Ending). is_as_far (begun (ending_of p.number new) (is_over q.incoming q.input)) e ≡ true) (sym b.1)
+    (far_begun (ending_of p.number new) p.ending (is_over q.incoming q.input)
+    (slackens_silent old new says p.number p.ending (far k d low (sym b.0 ∙ here)))) in
+    subst (λ (o : Bool). is_as_far (begun (ending_of q.number new) o) q.ending ≡ true) over
+    (subst (λ (n : ℕ). is_as_far (begun (ending_of n new) (is_over q.incoming q.input)) q.ending ≡ true) (sym (those k d low)) wanted)
 
 -- ---- the moment is reported
 
-pub far_told : (old mid new : Option (List Step)) (peers : List Peer) (shown : Option ℕ) (answer : Result ℕ DoorFault)
-    → Tells old (Clocks shown) mid → Tells mid (Answers (NowCall answer)) new → AreVisited old peers → AreAsFar new peers
-far_told old mid new peers shown answer reads tells visited later logged k d lt here =
+pub far_told : (old mid new : List Step) (peers : List Peer) (shown : Option ℕ) (answer : Result ℕ DoorFault)
+    → mid ≡ old ++ Clocks shown ∷ [] → new ≡ mid ++ Answers (NowCall answer) ∷ [] → AreVisited old peers → AreAsFar new peers
+far_told old mid new peers shown answer reads tells visited k d lt here =
     let p : Peer = slice_index_or peers k d in
-    let t = tells later logged in
-    let r = reads t.0 t.1 in
-    let was : (leaving p.number t.0).ending ≡ ending_of p.number r.0 = ap (ending_of p.number) r.2
-    ∙ ending_more p.number r.0 (Clocks shown) in
-    let came : (leaving p.number t.0).account.received ≡ (account p.number r.0).received =
+    let was : (leaving p.number mid).ending ≡ ending_of p.number old = ap (ending_of p.number) reads
+    ∙ ending_more p.number old (Clocks shown) in
+    let came : (leaving p.number mid).account.received ≡ (account p.number old).received =
     ap (λ (a : Account). a.received)
-    (leaving_account p.number t.0 ∙ ap (account p.number) r.2 ∙ account_more p.number r.0 (Clocks shown)) in
-    let wanted : ending_of p.number later ≡ begun (ending_of p.number r.0) (is_all_read (account p.number r.0).received) =
-    ap (ending_of p.number) t.2 ∙ ending_more p.number t.0 (Answers (NowCall answer))
-    ∙ ap (λ (e : Ending). begun e (is_all_read (leaving p.number t.0).account.received)) was
-    ∙ ap (λ (x : Received). begun (ending_of p.number r.0) (is_all_read x)) came in
-    subst (λ (w : Ending). is_as_far w p.ending ≡ true) (sym wanted) (visited r.0 r.1 k d lt here)
+    (leaving_account p.number mid ∙ ap (account p.number) reads ∙ account_more p.number old (Clocks shown)) in
+    let wanted : ending_of p.number new ≡ begun (ending_of p.number old) (is_all_read (account p.number old).received) =
+    ap (ending_of p.number) tells ∙ ending_more p.number mid (Answers (NowCall answer))
+    ∙ ap (λ (e : Ending). begun e (is_all_read (leaving p.number mid).account.received)) was
+    ∙ ap (λ (x : Received). begun (ending_of p.number old) (is_all_read x)) came in
+    subst (λ (w : Ending). is_as_far w p.ending ≡ true) (sym wanted) (visited k d lt here)
 
 -- ---- the end is told
 
@@ -419,7 +402,7 @@ flushed_of before after long those shut endings k d lt here =
       endings k d low,
     )
 
-pub far_left : (old new : Option (List Step)) (peers : List Peer) (i : ℕ) (p q : Peer) (since : ℕ) → i < length peers
+pub far_left : (old new : List Step) (peers : List Peer) (i : ℕ) (p q : Peer) (since : ℕ) → i < length peers
     → q ≡ record p { stay = stay.Draining since } → Slackens old new → AreAsFar old peers → AreAsFar new (set peers i q)
 far_left old new peers i p q since within is slackens far =
     far_goes old new peers (set peers i q) slackens

@@ -1,6 +1,6 @@
 -- The numbers of the peers differ.
 use Rattle.std.proofs.Common.{◌≡◌, ◌∙◌, ℕ, suc, ◌<◌, ◌≤◌, false, List, [], ◌∷◌, ◌++◌, length, refl, ap, sym, subst}
-use Rattle.std.proofs.Common.{arith, ⊎_elim, ◌==◌, ◌⊎◌, Option, Some, None, Ok, append-nil}
+use Rattle.std.proofs.Common.{arith, ⊎_elim, ◌==◌, Some, Ok, append-nil}
 use Rattle.std.specs.Prelude.{filter_map, slice_index}
 use Rattle.std.specs.List.{AllByRecursion, IsDistinct}
 use Rattle.std.proofs.lemmas.Bool.{cases_lt}
@@ -40,28 +40,26 @@ named_push xs last n below h = record {
       (cases_lt k (length xs));
 }
 
-pub named_silent : (old new : Option (List Step)) (last : ℕ) → SaysNothing old new → IsNamed old last → IsNamed new last
-named_silent old new last says named later is =
-    let s = calls_stay old new says later is in
-    subst (λ (xs : List ℕ). Named xs last) (ap (filter_map peer_of) (sym s.2)) (named s.0 s.1)
+pub named_silent : (old new : List Step) (last : ℕ) → SaysNothing old new → IsNamed old last → IsNamed new last
+named_silent old new last says named =
+    subst (λ (xs : List ℕ). Named xs last) (ap (filter_map peer_of) (sym (calls_stay old new says))) named
 
-pub named_call : (old new : Option (List Step)) (last : ℕ) (call : Call) → SaysOne old call new → filter_map peer_of (call ∷ []) ≡ []
+more_of : (old new : List Step) (call : Call) → SaysOne old call new
+    → filter_map peer_of (calls new) ≡ filter_map peer_of (calls old) ++ filter_map peer_of (call ∷ [])
+more_of old new call says = ap (filter_map peer_of) says ∙ filter_map-append peer_of (calls old) (call ∷ [])
+
+pub named_call : (old new : List Step) (last : ℕ) (call : Call) → SaysOne old call new → filter_map peer_of (call ∷ []) ≡ []
     → IsNamed old last → IsNamed new last
-named_call old new last call says none named later is =
-    let s = says later is in
-    let more : filter_map peer_of (calls later) ≡ filter_map peer_of (calls s.0) =
-    ap (filter_map peer_of) s.2 ∙ filter_map-append peer_of (calls s.0) (call ∷ []) ∙ ap (λ xs. filter_map peer_of (calls s.0) ++ xs) none
-    ∙ append-nil (filter_map peer_of (calls s.0)) in
-    subst (λ (xs : List ℕ). Named xs last) (sym more) (named s.0 s.1)
+named_call old new last call says none named =
+    subst (λ (xs : List ℕ). Named xs last) (sym (more_of old new call says
+    ∙ ap (λ xs. filter_map peer_of (calls old) ++ xs) none ∙ append-nil (filter_map peer_of (calls old)))) named
 
 -- one came
-pub named_come : (old new : Option (List Step)) (last n : ℕ) → last < n → SaysOne old (AcceptCall (Ok (Some n))) new → IsNamed old last
+pub named_come : (old new : List Step) (last n : ℕ) → last < n → SaysOne old (AcceptCall (Ok (Some n))) new → IsNamed old last
     → IsNamed new n
-named_come old new last n below says named later is =
-    let s = says later is in
-    let more : filter_map peer_of (calls later) ≡ filter_map peer_of (calls s.0) ++ n ∷ [] =
-    ap (filter_map peer_of) s.2 ∙ filter_map-append peer_of (calls s.0) (AcceptCall (Ok (Some n)) ∷ []) in
-    subst (λ (xs : List ℕ). Named xs n) (sym more) (named_push (filter_map peer_of (calls s.0)) last n below (named s.0 s.1))
+named_come old new last n below says named =
+    subst (λ (xs : List ℕ). Named xs n) (sym (more_of old new (AcceptCall (Ok (Some n))) says))
+    (named_push (filter_map peer_of (calls old)) last n below named)
 
 -- nobody came
 pub nobody_named : (said : IoFailure) → filter_map peer_of (AcceptCall (refused_accept said) ∷ []) ≡ []
@@ -69,17 +67,7 @@ nobody_named WouldBlock = refl
 nobody_named Interrupted = refl
 nobody_named Fatal = refl
 
-named_nobody : (last : ℕ) → Named [] last
+pub named_first : (log : List Step) (last : ℕ) → log ≡ [] → IsNamed log last
 unfolding IsDistinct
-named_nobody last = record { differ = tt; within = λ k lt. absurd (omega (arith, lt)) }
-
-pub named_first : (trace : Option (List Step)) (last : ℕ) → (trace ≡ Some [] ⊎ trace ≡ None) → IsNamed trace last
-named_first trace last begins log is = ⊎_elim
-    (λ (e : trace ≡ Some []).
-    let same : log ≡ [] = cc in
-    subst (λ (l : List Step). Named (filter_map peer_of (calls l)) last) (sym same) (named_nobody last))
-    (λ (e : trace ≡ None). absurd (nothing (sym e ∙ is)))
-    begins
-  where
-    nothing : None ≡ Some log → ⊥
-    nothing e = cc
+named_first log last none = subst (λ (l : List Step). IsNamed l last) (sym none)
+    (record { differ = tt; within = λ k lt. absurd (omega (arith, lt)) })

@@ -1,7 +1,7 @@
 -- What a read answers that is made in time.
 use Rattle.std.proofs.Common.{◌≡◌, ◌∙◌, ℕ, suc, ◌<◌, ◌≤◌, Bool, true, false, not}
 use Rattle.std.proofs.Common.{List, [], ◌∷◌, ◌++◌, length, take, drop, refl, ap, sym, subst}
-use Rattle.std.proofs.Common.{arith, ⊎_elim, ◌==◌, ◌&&◌, ◌||◌, cond, Option, Some, Ok, Err, true≢false}
+use Rattle.std.proofs.Common.{arith, ⊎_elim, ◌==◌, ◌&&◌, ◌||◌, cond, Ok, Err, true≢false}
 use Rattle.std.specs.Prelude.{◌≢◌, Result, min}
 use Rattle.std.proofs.Math.Seq.{drop-append_seam}
 use Rattle.std.proofs.lemmas.Bool.{cases_lt}
@@ -27,12 +27,13 @@ use Rattle.srcp_peers.specs.Accounts.{Account, Received, Sent, account, is_held,
 use Rattle.srcp_peers.specs.Peers.{Agrees, IsKept, ReadsAs, StaysAs, WritesAs, is_lost, is_over}
 use Rattle.srcp_peers.specs.Reports.{IsAnswered, has_failed, is_ended, is_failed, is_settled, piece_of}
 use Rattle.srcp_peers.specs.Steps.{Step}
+use Rattle.srcp_peers.specs.Times.{times}
 use Rattle.srcp_peers.specs.Turns.{got_bytes, own_pace}
 use Rattle.srcp_peers.proofs.PeersRestByAccount.{and_left, and_right, held_is, owed_is}
 use Rattle.srcp_peers.proofs.StatesFollowSteps.{reads_here}
 use Rattle.srcp_sockets.specs.Duties.{IsHandedOut, IsReadDone, held_piece, is_end, is_failing, is_fault}
 use Rattle.srcp_sockets.specs.Endings.{ending_of, is_all_read, is_as_far}
-use Rattle.srcp_sockets.specs.KeptTimes.{IsTimedFrom}
+use Rattle.srcp_sockets.specs.KeptTimes.{Timed}
 use Rattle.srcp_sockets.proofs.WorkIsDone.{gave_as}
 use Rattle.srcp_sockets.proofs.EndsAreTold.{over_as, settled_so}
 use Rattle.srcp_sockets.proofs.TimesGoOn.{line_kept}
@@ -149,14 +150,14 @@ leaves a p wanted h here far may sound settled =
 -- ---- the answer
 
 -- of a peer that is there
-pub read_done : (wall start : ℕ) (trace : Option (List Step)) (turn : Turn) (waits : Bool) (p : Peer) (answer : Result Got DoorFault)
-    (buffer : List ℕ) (room : ℕ) (kept : Bool) (log : List Step) → trace ≡ Some log → IsTimedFrom wall start trace turn → IsKept trace p
+pub read_done : (wall start : ℕ) (log : List Step) (turn : Turn) (waits : Bool) (p : Peer) (answer : Result Got DoorFault)
+    (buffer : List ℕ) (room : ℕ) (kept : Bool) → Timed (times wall start log) turn → IsKept log p
     → p.stay ≡ stay.Here → is_as_far (ending_of p.number log) p.ending ≡ true → length buffer ≡ room
     → IsAnswered turn waits p room answer (got_bytes answer buffer) kept
     → IsReadDone wall start log p.number answer buffer
-read_done wall start trace turn waits p answer buffer room kept log is timed agrees here far long answered =
+read_done wall start log turn waits p answer buffer room kept timed agrees here far long answered =
     let a : Account = account p.number log in
-    let h : Agrees a p = agrees log is in
+    let h : Agrees a p = agrees in
     let reads : ReadsAs a.received p.incoming p.input = reads_here a.received p.incoming p.input p.stay here h.reads in
     let gave : a.received.gave ≡ a.received.handed ++ p.incoming = gave_as a.received p.incoming p.input reads in
     let held : is_held a.received ≡ not (length p.incoming == 0) = held_is a.received p.incoming gave in
@@ -174,7 +175,7 @@ read_done wall start trace turn waits p answer buffer room kept log is timed agr
           let fails : is_failed p ≡ true = ap (λ b. b || has_failed p.input) (lost_as a.sent p.outgoing p.output h.writes)
           ∙ ap (λ b. a.sent.lost || b) (failed_as a.received p.incoming p.input reads)
           ∙ and_right (not (is_held a.received)) (a.sent.lost || a.received.failed) rest in
-          let may : turn.may_report_end ≡ true = ap (λ (t : Turn). t.may_report_end) (sym (timed log is).same) ∙ ends in
+          let may : turn.may_report_end ≡ true = ap (λ (t : Turn). t.may_report_end) (sym timed.same) ∙ ends in
           let end : Result Got DoorFault = cond (is_ended p) (Ok got.Ended) (Ok got.Nothing) in
           ap is_fault (answered.end none ∙ ap (λ b. cond b (cond (is_failed p) (Err fault.Read) end) (Ok got.Nothing)) may
           ∙ ap (λ b. cond b (Err fault.Read) end) fails);
@@ -185,25 +186,25 @@ read_done wall start trace turn waits p answer buffer room kept log is timed agr
           and_left (may_end a && not (is_failing a)) (is_settled (ending_of p.number log)) leaving in
           let l = leaves a p (ending_of p.number log) h here far (and_left (may_end a) (not (is_failing a)) sound)
           (not_so (is_failing a) (and_right (may_end a) (not (is_failing a)) sound)) settled in
-          let may : turn.may_report_end ≡ true = ap (λ (t : Turn). t.may_report_end) (sym (timed log is).same) ∙ ends in
+          let may : turn.may_report_end ≡ true = ap (λ (t : Turn). t.may_report_end) (sym timed.same) ∙ ends in
           let end : Result Got DoorFault = cond (is_ended p) (Ok got.Ended) (Ok got.Nothing) in
           ap is_end (answered.end l.0 ∙ ap (λ b. cond b (cond (is_failed p) (Err fault.Read) end) (Ok got.Nothing)) may
           ∙ ap (λ b. cond b (Err fault.Read) end) l.1 ∙ ap (λ b. cond b (Ok got.Ended) (Ok got.Nothing)) l.2);
       held = λ watched e. (answered.some (some e)).0;
       handed = λ watched e.
           subst (λ (l : LineBoundary). IsHandedOut l (held_piece a.received (length buffer)) (length (got_bytes answer buffer)))
-          (sym (line_kept trace wall start p log agrees is))
+          (sym (line_kept log wall start p agrees))
           (subst (λ (xs : List ℕ). IsHandedOut p.share.line xs (length (got_bytes answer buffer))) piece
           (allowed (own_pace waits turn.pace) p.share (piece_of p room) (length (got_bytes answer buffer)) (answered.some (some e)).1));
     }
 
 -- of one that is not there
-pub missing_done : (wall start : ℕ) (trace : Option (List Step)) (turn : Turn) (who : ℕ) (answer : Result Got DoorFault) (buffer : List ℕ)
-    (log : List Step) → trace ≡ Some log → IsTimedFrom wall start trace turn → (account who log).watched ≡ false
+pub missing_done : (wall start : ℕ) (log : List Step) (turn : Turn) (who : ℕ) (answer : Result Got DoorFault) (buffer : List ℕ)
+    → Timed (times wall start log) turn → (account who log).watched ≡ false
     → answer ≡ cond turn.may_report_end (Err fault.Read) (Ok got.Nothing) → IsReadDone wall start log who answer buffer
-missing_done wall start trace turn who answer buffer log is timed missing answered = record {
+missing_done wall start log turn who answer buffer timed missing answered = record {
   told = λ ends failing.
-      let may : turn.may_report_end ≡ true = ap (λ (t : Turn). t.may_report_end) (sym (timed log is).same) ∙ ends in
+      let may : turn.may_report_end ≡ true = ap (λ (t : Turn). t.may_report_end) (sym timed.same) ∙ ends in
       ap is_fault (answered ∙ ap (λ b. cond b (Err fault.Read) (Ok got.Nothing)) may);
   ended = λ ends leaving.
       let a : Account = account who log in

@@ -1,7 +1,7 @@
 -- The sockets follow the course.
 use Rattle.std.proofs.Common.{◌≡◌, ◌∙◌, ℕ, ◌<◌, List, [], ◌∷◌, ◌++◌, length, take, refl, ap, sym, subst, arith, get_or, ◌==◌, if◌then◌else◌}
-use Rattle.std.proofs.Common.{Ok, Option}
-use Rattle.std.specs.Prelude.{map, flat_map, option_map, slice_index_or}
+use Rattle.std.proofs.Common.{Ok, Some}
+use Rattle.std.specs.Prelude.{map, flat_map, slice_index_or}
 use Rattle.std.specs.Io.{StartsWith}
 use Rattle.std.proofs.lemmas.List.{get_or_default, length-map}
 use Rattle.std.proofs.Math.ListN.{get_or-map}
@@ -42,13 +42,12 @@ at_index f g xs ys same k x y within =
     sym (get_or-map f xs k x) ∙ ap (λ zs. get_or zs k (f x)) same
     ∙ get_or_default (map g ys) k (f x) (g y) (omega (arith, within, long, length-map ys g)) ∙ get_or-map g ys k y
 
-pub follows : (count opens last : ℕ) (old : Held) (trace_old : Option (List Step)) (new : Held) (trace_new : Option (List Step))
-    → ServesCourse count opens old (option_map calls trace_old) new (option_map calls trace_new)
-    → AreSound trace_new → IsNamed trace_new last
-    → Follows count opens old trace_old new trace_new
-follows count opens last old trace_old new trace_new serves sound named buses log layout stands none is =
+pub follows : (count opens last : ℕ) (old : Held) (log_old : List Step) (new : Held) (log : List Step)
+    → ServesCourse count opens old (Some (calls log_old)) new (Some (calls log)) → AreSound log → IsNamed log last
+    → Follows count opens old log_old new log
+follows count opens last old log_old new log serves sound named buses layout stands none =
     let given : IsOfGiven buses count opens (calls log) old new =
-    serves buses [] (calls log) layout stands (ap (option_map calls) none) (ap (option_map calls) is) (named log is).differ in
+    serves buses [] (calls log) layout stands (ap (λ l. Some (calls l)) none) refl named.differ in
     record {
       given = given;
       sockets = λ k conn other within.
@@ -59,7 +58,7 @@ follows count opens last old trace_old new trace_new serves sound named buses lo
           let all : sent (slice_index_or (course buses (events_of buses given.calls)).connections k conn) ≡ taken peer log =
           here ∙ taken_trace peer given.calls ∙ ap (flat_map (taken_in peer)) given.are in
           subst (λ (xs : List ℕ). StartsWith xs (took peer log)) (taken_is peer log ∙ sym all)
-          (subst (λ (xs : List ℕ). StartsWith (account peer log).sent.written xs) (took_is peer log) (sound log is peer).took);
+          (subst (λ (xs : List ℕ). StartsWith (account peer log).sent.written xs) (took_is peer log) (sound peer).took);
       fed = λ k conn other within.
           let peer = slice_index_or (stand_after buses given.calls).connected k other in
           let here : (slice_index_or (course buses (events_of buses given.calls)).connections k conn).fed ≡ handed_out peer given.calls =
@@ -70,5 +69,5 @@ follows count opens last old trace_old new trace_new serves sound named buses lo
           subst (λ (xs : List ℕ). StartsWith xs (slice_index_or (course buses (events_of buses given.calls)).connections k conn).fed)
           (gave_is peer log)
           (subst (λ (xs : List ℕ). StartsWith (account peer log).received.gave xs) (handed_is peer log ∙ sym all)
-          (sound log is peer).handed);
+          (sound peer).handed);
     }

@@ -1,6 +1,7 @@
 -- A peer lingers, and its socket is closed.
-use Rattle.std.proofs.Common.{◌≡◌, ◌∙◌, ℕ, ◌<◌, ◌≤◌, ◌+◌, ◌-◌, Bool, true, false, not, List, length, refl, ap, sym, subst, arith, ⊎_elim}
-use Rattle.std.proofs.Common.{get_or, set, ◌==◌, if◌then◌else◌, Option, Some, Ok, Err, ◌⊎◌, true≢false}
+use Rattle.std.proofs.Common.{◌≡◌, ◌∙◌, ℕ, ◌<◌, ◌≤◌, ◌+◌, ◌-◌, Bool, true, false, not, List, [], ◌∷◌, ◌++◌, length}
+use Rattle.std.proofs.Common.{refl, ap, sym, subst, arith, ⊎_elim}
+use Rattle.std.proofs.Common.{get_or, set, ◌==◌, if◌then◌else◌, Option, Ok, Err, ◌⊎◌, true≢false}
 use Rattle.std.specs.Prelude.{⊤, ◌≢◌, ◌&&◌, ◌||◌, nat_lt, slice_index_or, Result}
 use Rattle.std.proofs.lemmas.Bool.{cases_eq, cases_lt}
 use Rattle.std.proofs.lemmas.List.{get_or_default}
@@ -11,7 +12,7 @@ use Rattle.std.proofs.lemmas.Bool.Decides.{nat_tests}
 use Rattle.srcp_peers.specs.declared.peer.Peer.{Peer}
 use Rattle.srcp_peers.specs.declared.stay.Stay.TheVariants as stay
 use Rattle.srcp_peers.specs.declared.turn.Listening.{Listening}
-use Rattle.srcp_peers.specs.Steps.{Clocks, Closes, Step, Tells, Answers}
+use Rattle.srcp_peers.specs.Steps.{Clocks, Closes, Step, Answers}
 use Rattle.srcp_door.specs.Calls.{Call, CloseCall, ReadCall, WriteCall}
 use Rattle.srcp_door.specs.declared.door.Got.{Got}
 use Rattle.srcp_door.specs.declared.door.Got.TheVariants as got
@@ -33,28 +34,22 @@ pub record Goes (Holds : ℕ → Account → Type 0) (step : Step) (l : Listenin
   pub closed : (socket : ℕ) (a : Account) → Closed a → Closed (account_step socket a step)
   pub heard : (a : Account) → Hears a l → Hears (account_step 0 a step) l
 
-pub stands_goes : (Holds : ℕ → Account → Type 0) (old new : Option (List Step)) (peers : List Peer) (l : Listening) (last : ℕ) (step : Step)
-    → Goes Holds step l → ((log : List Step) → old ≡ Some log → (socket : ℕ) → Holds socket (account socket log))
-    → ((k : ℕ) (d : Peer) → k < length peers → IsKept new (slice_index_or peers k d)) → Tells old step new
+pub stands_goes : (Holds : ℕ → Account → Type 0) (old new : List Step) (peers : List Peer) (l : Listening) (last : ℕ) (step : Step)
+    → Goes Holds step l → ((socket : ℕ) → Holds socket (account socket old))
+    → ((k : ℕ) (d : Peer) → k < length peers → IsKept new (slice_index_or peers k d)) → new ≡ old ++ step ∷ []
     → Stands old peers l last → Stands new peers l last
 stands_goes Holds old new peers l last step goes holds kept tells stands = record {
   kept = kept;
   apart = stands.apart;
   within = stands.within;
-  sound = λ log is socket. subst Sound (sym (more socket log is))
-      (goes.sound socket (account socket (tells log is).0) (holds (tells log is).0 (tells log is).1 socket)
-      (stands.sound (tells log is).0 (tells log is).1 socket));
-  fresh = λ log is socket above. subst Fresh (sym (more socket log is))
-      (goes.fresh socket (account socket (tells log is).0) (stands.fresh (tells log is).0 (tells log is).1 socket above));
-  closed = λ log is socket absent. subst Closed (sym (more socket log is))
-      (goes.closed socket (account socket (tells log is).0) (stands.closed (tells log is).0 (tells log is).1 socket absent));
-  heard = λ log is. subst (λ (a : Account). Hears a l) (sym (more 0 log is))
-      (goes.heard (account 0 (tells log is).0) (stands.heard (tells log is).0 (tells log is).1));
+  sound = λ socket. subst Sound (sym (more socket)) (goes.sound socket (account socket old) (holds socket) (stands.sound socket));
+  fresh = λ socket above. subst Fresh (sym (more socket)) (goes.fresh socket (account socket old) (stands.fresh socket above));
+  closed = λ socket absent. subst Closed (sym (more socket)) (goes.closed socket (account socket old) (stands.closed socket absent));
+  heard = subst (λ (a : Account). Hears a l) (sym (more 0)) (goes.heard (account 0 old) stands.heard);
 }
   where
-    more : (socket : ℕ) (log : List Step) (is : new ≡ Some log) → account socket log
-        ≡ account_step socket (account socket (tells log is).0) step
-    more socket log is = ap (account socket) (tells log is).2 ∙ account_more socket (tells log is).0 step
+    more : (socket : ℕ) → account socket new ≡ account_step socket (account socket old) step
+    more socket = ap (account socket) tells ∙ account_more socket old step
 
 -- a clock was read
 clock_goes : (answer : Option ℕ) (l : Listening) → Goes (λ socket a. ⊤) (Clocks answer) l
@@ -79,11 +74,11 @@ clock_goes answer l = record {
   };
 }
 
-pub stands_clocked : (old new : Option (List Step)) (peers : List Peer) (l : Listening) (last : ℕ) (answer : Option ℕ)
-    → Tells old (Clocks answer) new → Stands old peers l last → Stands new peers l last
+pub stands_clocked : (old new : List Step) (peers : List Peer) (l : Listening) (last : ℕ) (answer : Option ℕ)
+    → new ≡ old ++ Clocks answer ∷ [] → Stands old peers l last → Stands new peers l last
 stands_clocked old new peers l last answer tells stands =
     stands_goes (λ socket a. ⊤) old new peers l last (Clocks answer) (clock_goes answer l)
-    (λ log is socket. tt) (clocked_all old new peers answer tells stands.kept) tells stands
+    (λ socket. tt) (clocked_all old new peers answer tells stands.kept) tells stands
 
 -- ---- one that the core closes
 
@@ -126,10 +121,10 @@ left_goes number answer l = record {
     heard false a h = h
 
 -- nobody was there to be closed
-pub stands_missing : (old new : Option (List Step)) (peers : List Peer) (l : Listening) (last number : ℕ) (answer : Result Unit DoorFault)
-    → IsMissing number peers → Tells old (Answers (CloseCall number answer)) new → Stands old peers l last → Stands new peers l last
+pub stands_missing : (old new : List Step) (peers : List Peer) (l : Listening) (last number : ℕ) (answer : Result Unit DoorFault)
+    → IsMissing number peers → new ≡ old ++ Answers (CloseCall number answer) ∷ [] → Stands old peers l last → Stands new peers l last
 stands_missing old new peers l last number answer missing tells stands =
-    stands_goes (λ socket a. ⊤) old new peers l last (Answers (CloseCall number answer)) (left_goes number answer l) (λ log is socket. tt)
+    stands_goes (λ socket a. ⊤) old new peers l last (Answers (CloseCall number answer)) (left_goes number answer l) (λ socket. tt)
     (λ k d lt. kept_after old new (Answers (CloseCall number answer)) (slice_index_or peers k d) (slice_index_or peers k d) tells refl
     (λ a h. by k d lt a (number == (slice_index_or peers k d).number) (λ e. grind (arith, nat_tests)) h) (stands.kept k d lt)) tells stands
   where
@@ -193,25 +188,25 @@ same_number : (n m : ℕ) → (n == m) ≡ true → n ≡ m
 same_number n m e = grind (arith, nat_tests)
 
 -- nobody with that number is there by its account
-pub unwatched_is : (trace : Option (List Step)) (peers : List Peer) (l : Listening) (last number : ℕ) (log : List Step) → trace ≡ Some log
-    → IsMissing number peers → Stands trace peers l last → (account number log).watched ≡ false
-unwatched_is trace peers l last number log is missing stands = ⊎_elim
+pub unwatched_is : (log : List Step) (peers : List Peer) (l : Listening) (last number : ℕ)
+    → IsMissing number peers → Stands log peers l last → (account number log).watched ≡ false
+unwatched_is log peers l last number missing stands = ⊎_elim
     (λ (there : IsThere number peers).
     let p : Peer = slice_index_or peers there.index nobody in
-    let h : Agrees (account p.number log) p = stands.kept there.index nobody there.within log is in
+    let h : Agrees (account p.number log) p = stands.kept there.index nobody there.within in
     subst (λ (n : ℕ). (account n log).watched ≡ false) (there.same nobody)
     (gone_unwatched (account p.number log) p.outgoing p.stay (missing there.index nobody there.within (there.same nobody)) h.stays))
-    (λ (absent : IsAbsent number peers). (stands.closed log is number absent).watched)
+    (λ (absent : IsAbsent number peers). (stands.closed number absent).watched)
     (find number peers)
 
-pub stands_judged : (old new : Option (List Step)) (peers : List Peer) (l : Listening) (last number : ℕ) (call : Call)
+pub stands_judged : (old new : List Step) (peers : List Peer) (l : Listening) (last number : ℕ) (call : Call)
     (may : Account → Bool) → ((socket : ℕ) (a : Account) → account_step socket a (Answers call) ≡ judged may (number == socket) a)
-    → ((a : Account) → a.watched ≡ false → may a ≡ true) → IsMissing number peers → Tells old (Answers call) new
+    → ((a : Account) → a.watched ≡ false → may a ≡ true) → IsMissing number peers → new ≡ old ++ Answers call ∷ []
     → Stands old peers l last → Stands new peers l last
 stands_judged old new peers l last number call may is right missing tells stands =
     stands_goes (λ socket a. (number == socket) ≡ true → may a ≡ true) old new peers l last (Answers call) goes
-    (λ log logged socket e. right (account socket log) (subst (λ (n : ℕ). (account n log).watched ≡ false) (same_number number socket e)
-    (unwatched_is old peers l last number log logged missing stands)))
+    (λ socket e. right (account socket old) (subst (λ (n : ℕ). (account n old).watched ≡ false) (same_number number socket e)
+    (unwatched_is old peers l last number missing stands)))
     (λ k d lt. kept_after old new (Answers call) (slice_index_or peers k d) (slice_index_or peers k d) tells refl
     (λ a h. one k d lt a h) (stands.kept k d lt)) tells stands
   where
@@ -232,9 +227,9 @@ stands_judged old new peers l last number call may is right missing tells stands
         (λ e. right a (gone_unwatched a p.outgoing p.stay (missing k d lt (sym (same_number number p.number e))) h.stays)) h)
 
 -- a read of a peer that is not there
-pub stands_missed : (old new : Option (List Step)) (peers : List Peer) (l : Listening) (last number : ℕ) (answer : Result Got DoorFault)
+pub stands_missed : (old new : List Step) (peers : List Peer) (l : Listening) (last number : ℕ) (answer : Result Got DoorFault)
     (buffer : List ℕ) → (answer ≡ Ok got.Nothing ⊎ answer ≡ Err DoorFault.Read) → IsMissing number peers
-    → Tells old (Answers (ReadCall number answer buffer)) new → Stands old peers l last → Stands new peers l last
+    → new ≡ old ++ Answers (ReadCall number answer buffer) ∷ [] → Stands old peers l last → Stands new peers l last
 stands_missed old new peers l last number answer buffer reported missing tells stands = ⊎_elim
     (λ e. stands_answered old new peers l last (ReadCall number answer buffer)
     (λ socket a. ap (λ x. answered_step socket a (ReadCall number x buffer)) e) tells stands)
@@ -244,18 +239,18 @@ stands_missed old new peers l last number answer buffer reported missing tells s
     reported
 
 -- a write to a peer that is not there
-pub stands_unwritten : (old new : Option (List Step)) (peers : List Peer) (l : Listening) (last number : ℕ) (bytes : List ℕ)
-    (fault : DoorFault) → IsMissing number peers → Tells old (Answers (WriteCall number bytes (Err fault))) new
+pub stands_unwritten : (old new : List Step) (peers : List Peer) (l : Listening) (last number : ℕ) (bytes : List ℕ)
+    (fault : DoorFault) → IsMissing number peers → new ≡ old ++ Answers (WriteCall number bytes (Err fault)) ∷ []
     → Stands old peers l last → Stands new peers l last
 stands_unwritten old new peers l last number bytes fault missing tells stands =
     stands_judged old new peers l last number (WriteCall number bytes (Err fault)) (λ a. not a.watched) (λ socket a. refl)
     (λ a w. ap not w) missing tells stands
 
 -- one that was there was closed by the core
-pub stands_left : (old new : Option (List Step)) (peers : List Peer) (i : ℕ) (p q : Peer) (l : Listening) (last number since : ℕ)
+pub stands_left : (old new : List Step) (peers : List Peer) (i : ℕ) (p q : Peer) (l : Listening) (last number since : ℕ)
     (answer : Result Unit DoorFault) → i < length peers → get_or peers i p ≡ p → p.number ≡ number → p.stay ≡ stay.Here
-    → q ≡ record p { stay = stay.Draining since } → ((log : List Step) → old ≡ Some log → (account number log).lingering.clock ≡ since)
-    → Tells old (Answers (CloseCall number answer)) new → Stands old peers l last → Stands new (set peers i q) l last
+    → q ≡ record p { stay = stay.Draining since } → (account number old).lingering.clock ≡ since
+    → new ≡ old ++ Answers (CloseCall number answer) ∷ [] → Stands old peers l last → Stands new (set peers i q) l last
 stands_left old new peers i p q l last number since answer within at same here is clock tells stands =
     let there : (get_or peers i p).number ≡ number = ap (λ (x : Peer). x.number) at ∙ same in
     stands_one old new peers i p q l last within kept (ap (λ (x : Peer). x.number) is ∙ same ∙ sym there)
@@ -266,18 +261,16 @@ stands_left old new peers i p q l last number since answer within at same here i
     before = subst (IsKept old) at (stands.kept i p within)
 
     kept : IsKept new q
-    kept later e =
-        let t = tells later e in
-        let a : Account = account p.number t.0 in
+    kept =
+        let a : Account = account p.number old in
         let after : Agrees (left_by_core a) (record p { stay = stay.Draining since }) =
-        left_agrees a p since here (ap (λ n. (account n t.0).lingering.clock) same ∙ clock t.0 t.1) (before t.0 t.1) in
-        let more : account number later ≡ account_step number (account number t.0) (Answers (CloseCall number answer)) =
-        ap (account number) t.2 ∙ account_more number t.0 (Answers (CloseCall number answer)) in
-        let own_is : account number later ≡ left_by_core (account number t.0) =
-        more ∙ picks (number == number) (left_by_core (account number t.0)) (account number t.0) (own number) in
-        subst (λ (x : Peer). Agrees (account x.number later) x) (sym is)
+        left_agrees a p since here (ap (λ n. (account n old).lingering.clock) same ∙ clock) before in
+        let own_is : account number new ≡ left_by_core (account number old) =
+        ap (account number) tells ∙ account_more number old (Answers (CloseCall number answer))
+        ∙ picks (number == number) (left_by_core (account number old)) (account number old) (own number) in
+        subst (λ (x : Peer). Agrees (account x.number new) x) (sym is)
         (subst (λ (x : Account). Agrees x (record p { stay = stay.Draining since }))
-        (sym (ap (λ n. account n later) same ∙ own_is ∙ ap (λ n. left_by_core (account n t.0)) (sym same))) after)
+        (sym (ap (λ n. account n new) same ∙ own_is ∙ ap (λ n. left_by_core (account n old)) (sym same))) after)
 
 -- ---- one that is closed
 
@@ -319,12 +312,11 @@ pub record Leaves (number : ℕ) (before after : List Peer) : Type 0 where
   pub others : (other : ℕ) → other ≢ number → IsAbsent other after → IsAbsent other before
 
 -- it may be closed
-abbrev pub IsClosable : Option (List Step) → ℕ → Type 0
-IsClosable trace socket = (log : List Step) → trace ≡ Some log → (may_close (account socket log) ≡ true)
-    × ((account socket log).watched ≡ false)
+abbrev pub IsClosable : Account → Type 0
+IsClosable a = (may_close a ≡ true) × (a.watched ≡ false)
 
-pub stands_closed : (old new : Option (List Step)) (before after : List Peer) (l : Listening) (last number : ℕ)
-    → Tells old (Closes number) new → Leaves number before after → IsClosable old number → Stands old before l last
+pub stands_closed : (old new : List Step) (before after : List Peer) (l : Listening) (last number : ℕ)
+    → new ≡ old ++ Closes number ∷ [] → Leaves number before after → IsClosable (account number old) → Stands old before l last
     → Stands new after l last
 stands_closed old new before after l last number tells leaves closable stands = record {
   kept = λ k d lt.
@@ -338,30 +330,24 @@ stands_closed old new before after l last number tells leaves closable stands = 
   within = λ k d lt.
       let f = leaves.from k d lt in
       subst (λ (p : Peer). (0 < p.number) × (p.number ≤ last)) (sym f.2) (stands.within f.0 d f.1);
-  sound = λ log is socket. subst Sound (sym (more socket log is))
-      (close_sound (number == socket) (account socket (tells log is).0) (λ e. (right socket log is e).0)
-      (stands.sound (tells log is).0 (tells log is).1 socket));
-  fresh = λ log is socket above. subst Fresh (sym (more socket log is))
-      (close_fresh (number == socket) (account socket (tells log is).0) (stands.fresh (tells log is).0 (tells log is).1 socket above));
-  closed = λ log is socket absent. subst Closed (sym (more socket log is))
-      (close_closed (number == socket) (account socket (tells log is).0) (λ e. (right socket log is e).1) (λ alien_is.
-      stands.closed (tells log is).0 (tells log is).1 socket (leaves.others socket (differ_by socket alien_is) absent)));
-  heard = λ log is. subst (λ (a : Account). Hears a l) (sym (more 0 log is))
-      (close_hears (number == 0) (account 0 (tells log is).0) l (stands.heard (tells log is).0 (tells log is).1));
+  sound = λ socket. subst Sound (sym (more socket))
+      (close_sound (number == socket) (account socket old) (λ e. (right socket e).0) (stands.sound socket));
+  fresh = λ socket above. subst Fresh (sym (more socket))
+      (close_fresh (number == socket) (account socket old) (stands.fresh socket above));
+  closed = λ socket absent. subst Closed (sym (more socket))
+      (close_closed (number == socket) (account socket old) (λ e. (right socket e).1) (λ alien_is.
+      stands.closed socket (leaves.others socket (differ_by socket alien_is) absent)));
+  heard = subst (λ (a : Account). Hears a l) (sym (more 0)) (close_hears (number == 0) (account 0 old) l stands.heard);
 }
   where
-    more : (socket : ℕ) (log : List Step) (is : new ≡ Some log) → account socket log
-        ≡ (if number == socket then closed (account socket (tells log is).0) else account socket (tells log is).0)
-    more socket log is = ap (account socket) (tells log is).2 ∙ account_more socket (tells log is).0 (Closes number)
+    more : (socket : ℕ) → account socket new ≡ (if number == socket then closed (account socket old) else account socket old)
+    more socket = ap (account socket) tells ∙ account_more socket old (Closes number)
 
     differ_by : (socket : ℕ) → (number == socket) ≡ false → socket ≢ number
     differ_by socket f e = true≢false (sym (own number) ∙ ap (λ n. number == n) (sym e) ∙ f)
 
-    right : (socket : ℕ) (log : List Step) (is : new ≡ Some log) → (number == socket) ≡ true
-        → (may_close (account socket (tells log is).0) ≡ true) × ((account socket (tells log is).0).watched ≡ false)
-    right socket log is e = subst
-        (λ (n : ℕ). (may_close (account n (tells log is).0) ≡ true) × ((account n (tells log is).0).watched ≡ false))
-        (grind (arith, nat_tests)) (closable (tells log is).0 (tells log is).1)
+    right : (socket : ℕ) → (number == socket) ≡ true → IsClosable (account socket old)
+    right socket e = subst (λ (n : ℕ). IsClosable (account n old)) (grind (arith, nat_tests)) closable
 
 -- one peer was taken out
 pub leaves_one : (number : ℕ) (peers : List Peer) (i : ℕ) → i < length peers → ((d : Peer) → (slice_index_or peers i d).number ≡ number)
@@ -426,14 +412,14 @@ leaves_one number peers i within same apart = record {
         (cases_lt j i)
 
 -- the peer at an index was closed, if it may be at that time of the monotonic clock
-pub stands_closed_at : (old new : Option (List Step)) (peers : List Peer) (i : ℕ) (p : Peer) (l : Listening) (last clock : ℕ)
+pub stands_closed_at : (old new : List Step) (peers : List Peer) (i : ℕ) (p : Peer) (l : Listening) (last clock : ℕ)
     → i < length peers → get_or peers i p ≡ p → is_closable clock (get_or peers i p) ≡ true
-    → ((log : List Step) → old ≡ Some log → (account p.number log).lingering.clock ≡ clock) → Tells old (Closes p.number) new
+    → (account p.number old).lingering.clock ≡ clock → new ≡ old ++ Closes p.number ∷ []
     → Stands old peers l last → Stands new (remove peers i) l last
 stands_closed_at old new peers i p l last clock within at closable shown tells stands =
     stands_closed old new peers (remove peers i) l last p.number tells (leaves_one p.number peers i within same stands.apart)
-    (λ log is. may_close_then (account p.number log) p clock (shown log is) (subst (λ (x : Peer). is_closable clock x ≡ true) at closable)
-    (subst (IsKept old) at (stands.kept i p within) log is)) stands
+    (may_close_then (account p.number old) p clock shown (subst (λ (x : Peer). is_closable clock x ≡ true) at closable)
+    (subst (IsKept old) at (stands.kept i p within))) stands
   where
     same : (d : Peer) → (slice_index_or peers i d).number ≡ p.number
     same d = ap (λ (x : Peer). x.number) (get_or_default peers i d p within ∙ at)

@@ -1,6 +1,6 @@
 -- What holds of all sockets goes on from step to step.
-use Rattle.std.proofs.Common.{◌≡◌, ℕ, zero, suc, ◌<◌, ◌≤◌, true, false, List, [], ◌∷◌, length, refl, sym, ap, ◌∙◌}
-use Rattle.std.proofs.Common.{subst, arith, ⊎_elim, inl, inr, ◌⊎◌, get_or, set, ◌==◌, Option, Some}
+use Rattle.std.proofs.Common.{◌++◌, ◌≡◌, ℕ, zero, suc, ◌<◌, ◌≤◌, true, false, List, [], ◌∷◌, length, refl, sym, ap, ◌∙◌}
+use Rattle.std.proofs.Common.{subst, arith, ⊎_elim, inl, inr, ◌⊎◌, get_or, set, ◌==◌}
 use Rattle.std.specs.Prelude.{◌≢◌, slice_index_or}
 use Rattle.std.specs.Io.{StartsWith}
 use Rattle.std.proofs.lemmas.Bool.{cases_eq}
@@ -12,7 +12,7 @@ use Rattle.srcp_peers.specs.declared.readiness.Output.{Output}
 use Rattle.srcp_peers.specs.declared.readiness.Output.TheVariants as output
 use Rattle.srcp_peers.specs.declared.stay.Stay.TheVariants as stay
 use Rattle.srcp_peers.specs.declared.turn.Listening.{Listening}
-use Rattle.srcp_peers.specs.Steps.{Step, Tells, Answers}
+use Rattle.srcp_peers.specs.Steps.{Step, Answers}
 use Rattle.srcp_door.specs.Calls.{Call}
 use Rattle.srcp_peers.specs.Accounts.{Account, account, account_step, answered_step}
 use Rattle.srcp_peers.specs.Peers.{Agrees, IsKept, Spares, WritesAs}
@@ -23,7 +23,7 @@ use Rattle.srcp_sockets.specs.Doors.{Closed, Fresh, Hears, Sound, Stands}
 use Rattle.srcp_sockets.specs.Doors.{IsThere}
 use Rattle.srcp_peers.proofs.StatesFollowSteps.{comes_starts, starts}
 use Rattle.srcp_peers.proofs.PeersStayKept.{spares_after}
-use Rattle.srcp_peers.proofs.OnePeerChanges.{absent_before, apart_later, kept_spared, set_kept, set_those, within_later, spared}
+use Rattle.srcp_peers.proofs.OnePeerChanges.{absent_before, apart_later, kept_spared, set_kept, set_those, within_later}
 
 -- ---- who is there
 
@@ -80,12 +80,12 @@ sound_of a p h = record {
     took output.Lost w = w.0
 
 -- all sockets are sound if the peers are kept and the others are
-pub all_sound : (trace : Option (List Step)) (peers : List Peer) (log : List Step) → trace ≡ Some log → AreKept trace peers
+pub all_sound : (log : List Step) (peers : List Peer) → AreKept log peers
     → ((socket : ℕ) → IsAbsent socket peers → Sound (account socket log)) → (socket : ℕ) → Sound (account socket log)
-all_sound trace peers log is kept others socket = ⊎_elim
+all_sound log peers kept others socket = ⊎_elim
     (λ (there : IsThere socket peers).
     let h : Agrees (account (slice_index_or peers there.index nobody).number log) (slice_index_or peers there.index nobody) =
-    kept there.index nobody there.within log is in
+    kept there.index nobody there.within in
     subst (λ (n : ℕ). Sound (account n log)) (there.same nobody)
     (sound_of (account (slice_index_or peers there.index nobody).number log) (slice_index_or peers there.index nobody) h))
     (λ (absent : IsAbsent socket peers). others socket absent)
@@ -111,7 +111,7 @@ absent_listener last peers within k d lt e =
 pub not_listener : (socket : ℕ) → (socket ≡ 0 → ⊥) → (socket == 0) ≡ false
 not_listener socket ne = grind (arith, nat_tests)
 
-pub stands_turned : (old new : Option (List Step)) (before after : List Peer) (listening : Listening) (last : ℕ)
+pub stands_turned : (old new : List Step) (before after : List Peer) (listening : Listening) (last : ℕ)
     → length after ≡ length before → AreKept new after → AreThose before after
     → ((other : ℕ) → IsAbsent other before → Spares other old new)
     → Stands old before listening last → Stands new after listening last
@@ -119,22 +119,19 @@ stands_turned old new before after listening last long kept those others stands 
   kept = kept;
   apart = apart_later before after long those stands.apart;
   within = within_later last before after long those stands.within;
-  sound = λ log is. all_sound new after log is kept (λ socket absent.
-      spared Sound socket old new (others socket (absent_before socket before after long those absent))
-      (λ l e. stands.sound l e socket) log is);
-  fresh = λ log is socket above.
-      spared Fresh socket old new (others socket (absent_above last socket before stands.within above))
-      (λ l e. stands.fresh l e socket above) log is;
-  closed = λ log is socket absent.
+  sound = all_sound new after kept (λ socket absent.
+      subst Sound (sym (others socket (absent_before socket before after long those absent))) (stands.sound socket));
+  fresh = λ socket above.
+      subst Fresh (sym (others socket (absent_above last socket before stands.within above))) (stands.fresh socket above);
+  closed = λ socket absent.
       let there = absent_before socket before after long those absent in
-      spared Closed socket old new (others socket there) (λ l e. stands.closed l e socket there) log is;
-  heard = λ log is.
-      spared (λ (a : Account). Hears a listening) 0 old new (others 0 (absent_listener last before stands.within)) stands.heard log is;
+      subst Closed (sym (others socket there)) (stands.closed socket there);
+  heard = subst (λ (a : Account). Hears a listening) (sym (others 0 (absent_listener last before stands.within))) stands.heard;
 }
 
 -- ---- a door after a step of one peer, or of none
 
-pub stands_one : (old new : Option (List Step)) (peers : List Peer) (i : ℕ) (p q : Peer) (l : Listening) (last : ℕ) → i < length peers
+pub stands_one : (old new : List Step) (peers : List Peer) (i : ℕ) (p q : Peer) (l : Listening) (last : ℕ) → i < length peers
     → IsKept new q → q.number ≡ (get_or peers i p).number
     → ((other : ℕ) → other ≢ (get_or peers i p).number → Spares other old new)
     → Stands old peers l last → Stands new (set peers i q) l last
@@ -145,22 +142,22 @@ stands_one old new peers i p q l last within kept same spares stands =
     (λ other absent. spares other (λ e. absent i p within (sym e)))
     stands
 
-pub stands_spared : (old new : Option (List Step)) (peers : List Peer) (l : Listening) (last : ℕ) → ((other : ℕ) → Spares other old new)
+pub stands_spared : (old new : List Step) (peers : List Peer) (l : Listening) (last : ℕ) → ((other : ℕ) → Spares other old new)
     → Stands old peers l last → Stands new peers l last
 stands_spared old new peers l last spares stands =
     stands_turned old new peers peers l last refl
     (λ k d lt. kept_spared old new (slice_index_or peers k d) (spares (slice_index_or peers k d).number) (stands.kept k d lt))
     (λ k d lt. refl) (λ other absent. spares other) stands
 
-pub stands_answered : (old new : Option (List Step)) (peers : List Peer) (l : Listening) (last : ℕ) (call : Call)
-    → ((socket : ℕ) (a : Account) → answered_step socket a call ≡ a) → Tells old (Answers call) new
+pub stands_answered : (old new : List Step) (peers : List Peer) (l : Listening) (last : ℕ) (call : Call)
+    → ((socket : ℕ) (a : Account) → answered_step socket a call ≡ a) → new ≡ old ++ Answers call ∷ []
     → Stands old peers l last → Stands new peers l last
 stands_answered old new peers l last call nothing tells stands =
     stands_spared old new peers l last (λ other. spares_after other old new (Answers call) tells (λ a. nothing other a)) stands
 
 -- a step that says nothing of any socket
-pub stands_step : (old new : Option (List Step)) (peers : List Peer) (l : Listening) (last : ℕ) (step : Step)
-    → ((socket : ℕ) (a : Account) → account_step socket a step ≡ a) → Tells old step new
+pub stands_step : (old new : List Step) (peers : List Peer) (l : Listening) (last : ℕ) (step : Step)
+    → ((socket : ℕ) (a : Account) → account_step socket a step ≡ a) → new ≡ old ++ step ∷ []
     → Stands old peers l last → Stands new peers l last
 stands_step old new peers l last step nothing tells stands =
     stands_spared old new peers l last (λ other. spares_after other old new step tells (λ a. nothing other a)) stands

@@ -1,5 +1,5 @@
 -- How the times go on from step to step.
-use Rattle.std.proofs.Common.{◌≡◌, ◌∙◌, ℕ, Bool, true, false, List, [], refl, ap, sym, subst, arith, ⊎_elim, ◌⊎◌, ◌==◌}
+use Rattle.std.proofs.Common.{◌++◌, ◌∷◌, ◌≡◌, ◌∙◌, ℕ, Bool, true, false, List, [], refl, ap, sym, subst, arith, ⊎_elim, ◌⊎◌, ◌==◌}
 use Rattle.std.proofs.Common.{Option, Some, None, Ok, Err, true≢false}
 use Rattle.std.specs.Prelude.{◌&&◌, ◌||◌, not, Result}
 use Rattle.std.specs.Option.{option_map_or}
@@ -21,8 +21,8 @@ use Rattle.srcp_peers.specs.declared.system.Ready.{Ready}
 use Rattle.srcp_peers.specs.declared.turn.Turn.{Turn}
 use Rattle.srcp_door.specs.Calls.{Call, ExpectCall, NowCall, AcceptCall, ReadCall, WriteCall, CloseCall}
 use Rattle.srcp_peers.specs.Accounts.{is_short_wait}
-use Rattle.srcp_peers.specs.Steps.{Accepts, Clocks, Step, Tells, Answers, Waits}
-use Rattle.srcp_sockets.specs.KeptTimes.{IsTimed, IsTimedFrom, Timed}
+use Rattle.srcp_peers.specs.Steps.{Accepts, Clocks, Step, Answers, Waits}
+use Rattle.srcp_sockets.specs.KeptTimes.{IsTimed, Timed}
 use Rattle.srcp_peers.specs.Times.{KeepsTimes, Times, clocked, ends_by}
 use Rattle.srcp_peers.specs.Times.{in_time, is_as_heard, accept_answer, times, times_step, answered_accept, answered_moment, answered_read}
 use Rattle.srcp_peers.specs.Turns.{after_call, after_read, after_wait, begun, first_turn, got_bytes, hands_out, is_pending, moment_at}
@@ -30,31 +30,22 @@ use Rattle.srcp_peers.specs.Turns.{reports_end, time_left, reported_at}
 use Rattle.srcp_peers.specs.Waiting.{IsWithin}
 use Rattle.srcp_peers.proofs.CallsAreOfTheDoor.{times_more}
 
-pub timed_kept : (old new : Option (List Step)) (turn : Turn) → KeepsTimes old new → IsTimed old turn → IsTimed new turn
-timed_kept old new turn keeps timed later is =
-    let k = keeps later is in
-    subst (λ (t : Times). Timed t turn) (sym (k.2 turn.timekeeper.wall turn.timekeeper.start)) (timed k.0 k.1)
+pub timed_kept : (old new : List Step) (turn : Turn) → KeepsTimes old new → IsTimed old turn → IsTimed new turn
+timed_kept old new turn keeps timed =
+    subst (λ (t : Times). Timed t turn) (sym (keeps turn.timekeeper.wall turn.timekeeper.start)) timed
 
 -- a step after which the times say another turn
-timed_step : (wall start : ℕ) (old new : Option (List Step)) (step : Step) (before after : Turn) → Tells old step new
-    → ((t : Times) → Timed t before → Timed (times_step t step) after) → IsTimedFrom wall start old before
-    → IsTimedFrom wall start new after
-timed_step wall start old new step before after tells follows timed later is =
-    let t = tells later is in
-    subst (λ (x : Times). Timed x after) (sym (ap (times wall start) t.2 ∙ times_more wall start t.0 step))
-    (follows (times wall start t.0) (timed t.0 t.1))
+timed_step : (wall start : ℕ) (old new : List Step) (step : Step) (after : Turn) → new ≡ old ++ step ∷ []
+    → Timed (times_step (times wall start old) step) after → Timed (times wall start new) after
+timed_step wall start old new step after tells timed =
+    subst (λ (t : Times). Timed t after) (sym (ap (times wall start) tells ∙ times_more wall start old step)) timed
 
 -- and two of them
-timed_two : (wall start : ℕ) (old mid new : Option (List Step)) (one two : Step) (before after : Turn)
-    → ((t : Times) → Timed t before → Timed (times_step (times_step t one) two) after) → Tells old one mid → Tells mid two new
-    → IsTimedFrom wall start old before → IsTimedFrom wall start new after
-timed_two wall start old mid new one two before after follows first second timed later is =
-    let t = second later is in
-    let k = first t.0 t.1 in
-    let same : times wall start later ≡ times_step (times_step (times wall start k.0) one) two =
-    ap (times wall start) t.2 ∙ times_more wall start t.0 two
-    ∙ ap (λ x. times_step x two) (ap (times wall start) k.2 ∙ times_more wall start k.0 one) in
-    subst (λ (x : Times). Timed x after) (sym same) (follows (times wall start k.0) (timed k.0 k.1))
+timed_two : (wall start : ℕ) (old mid new : List Step) (one two : Step) (after : Turn) → mid ≡ old ++ one ∷ [] → new ≡ mid ++ two ∷ []
+    → Timed (times_step (times_step (times wall start old) one) two) after → Timed (times wall start new) after
+timed_two wall start old mid new one two after first second timed =
+    timed_step wall start mid new two after second
+    (subst (λ (t : Times). Timed (times_step t two) after) (sym (ap (times wall start) first ∙ times_more wall start old one)) timed)
 
 both : (a b : Bool) → a ≡ true → b ≡ true → (a && b) ≡ true
 both a b e f = ap (λ x. x && b) e ∙ f
@@ -86,14 +77,15 @@ called t before call h = record {
   honest = h.honest;
 }
 
-pub timed_expect : (old new : Option (List Step)) (before after : Turn) (due slack : Option ℕ) → after ≡ after_call before
+pub timed_expect : (old new : List Step) (before after : Turn) (due slack : Option ℕ) → after ≡ after_call before
     (ExpectCall due slack)
-    → Tells old (Answers (ExpectCall due slack)) new → IsTimed old before → IsTimed new after
+    → new ≡ old ++ Answers (ExpectCall due slack) ∷ [] → IsTimed old before → IsTimed new after
 timed_expect old new before after due slack is tells timed =
     let call : Call = ExpectCall due slack in
-    subst (IsTimed new) (sym is) (timed_step before.timekeeper.wall before.timekeeper.start old new (Answers call) before
-    (after_call before call) tells
-    (λ t h. called t before call h) timed)
+    let wall = before.timekeeper.wall in
+    let start = before.timekeeper.start in
+    subst (IsTimed new) (sym is) (timed_step wall start old new (Answers call) (after_call before call) tells
+    (called (times wall start old) before call timed))
 
 -- what `accept` answered
 accepted : (t : Times) (before : Turn) (answer : Result (Option ℕ) DoorFault) (heard : Option (Result (Option ℕ) DoorFault))
@@ -114,42 +106,48 @@ accepted t before answer heard as_heard h = record {
 }
 
 -- the system was not asked
-pub timed_unasked : (old new : Option (List Step)) (before after : Turn) (answer : Result (Option ℕ) DoorFault)
+pub timed_unasked : (old new : List Step) (before after : Turn) (answer : Result (Option ℕ) DoorFault)
     → after ≡ after_call before (AcceptCall answer) → is_as_heard None answer ≡ true
-    → Tells old (Answers (AcceptCall answer)) new → IsTimed old before → IsTimed new after
+    → new ≡ old ++ Answers (AcceptCall answer) ∷ [] → IsTimed old before → IsTimed new after
 timed_unasked old new before after answer is as_heard tells timed =
-    subst (IsTimed new) (sym is) (timed_step before.timekeeper.wall before.timekeeper.start old new (Answers (AcceptCall answer)) before
-    (after_call before (AcceptCall answer)) tells
-    (λ t h. subst (λ (x : Option (Result (Option ℕ) DoorFault)). Timed (answered_accept (record t { heard = x }) answer)
-    (after_call before (AcceptCall answer))) (sym h.heard) (accepted t before answer None as_heard h)) timed)
+    let wall = before.timekeeper.wall in
+    let start = before.timekeeper.start in
+    let t = times wall start old in
+    subst (IsTimed new) (sym is) (timed_step wall start old new (Answers (AcceptCall answer)) (after_call before (AcceptCall answer)) tells
+    (subst (λ (x : Option (Result (Option ℕ) DoorFault)). Timed (answered_accept (record t { heard = x }) answer)
+    (after_call before (AcceptCall answer))) (sym timed.heard) (accepted t before answer None as_heard timed)))
 
 -- the system was asked
-pub timed_asked : (old mid new : Option (List Step)) (before after : Turn) (number : ℕ) (said : Result Unit ErrorKind)
+pub timed_asked : (old mid new : List Step) (before after : Turn) (number : ℕ) (said : Result Unit ErrorKind)
     (answer : Result (Option ℕ) DoorFault) → after ≡ after_call before (AcceptCall answer)
-    → is_as_heard (Some (accept_answer number said)) answer ≡ true → Tells old (Accepts number said) mid
-    → Tells mid (Answers (AcceptCall answer)) new → IsTimed old before → IsTimed new after
+    → is_as_heard (Some (accept_answer number said)) answer ≡ true → mid ≡ old ++ Accepts number said ∷ []
+    → new ≡ mid ++ Answers (AcceptCall answer) ∷ [] → IsTimed old before → IsTimed new after
 timed_asked old mid new before after number said answer is as_heard asks tells timed =
-    subst (IsTimed new) (sym is) (timed_two before.timekeeper.wall before.timekeeper.start old mid new (Accepts number said)
-    (Answers (AcceptCall answer)) before (after_call before (AcceptCall answer))
-    (λ t h. accepted t before answer (Some (accept_answer number said)) as_heard h) asks tells timed)
+    let wall = before.timekeeper.wall in
+    let start = before.timekeeper.start in
+    subst (IsTimed new) (sym is) (timed_two wall start old mid new (Accepts number said) (Answers (AcceptCall answer))
+    (after_call before (AcceptCall answer)) asks tells
+    (accepted (times wall start old) before answer (Some (accept_answer number said)) as_heard timed))
 
-pub timed_write : (old new : Option (List Step)) (before after : Turn) (peer : ℕ) (bytes : List ℕ) (answer : Result ℕ DoorFault)
+pub timed_write : (old new : List Step) (before after : Turn) (peer : ℕ) (bytes : List ℕ) (answer : Result ℕ DoorFault)
     → ((p : ℕ) (xs : List ℕ) → after ≡ after_call before (WriteCall p xs answer))
-    → Tells old (Answers (WriteCall peer bytes answer)) new → IsTimed old before → IsTimed new after
+    → new ≡ old ++ Answers (WriteCall peer bytes answer) ∷ [] → IsTimed old before → IsTimed new after
 timed_write old new before after peer bytes answer is tells timed =
     let call : Call = WriteCall peer bytes answer in
-    subst (IsTimed new) (sym (is peer bytes)) (timed_step before.timekeeper.wall before.timekeeper.start old new (Answers call) before
-    (after_call before call) tells
-    (λ t h. called t before call h) timed)
+    let wall = before.timekeeper.wall in
+    let start = before.timekeeper.start in
+    subst (IsTimed new) (sym (is peer bytes)) (timed_step wall start old new (Answers call) (after_call before call) tells
+    (called (times wall start old) before call timed))
 
-pub timed_close : (old new : Option (List Step)) (before after : Turn) (peer : ℕ) (answer : Result Unit DoorFault)
+pub timed_close : (old new : List Step) (before after : Turn) (peer : ℕ) (answer : Result Unit DoorFault)
     → ((p : ℕ) → after ≡ after_call before (CloseCall p answer))
-    → Tells old (Answers (CloseCall peer answer)) new → IsTimed old before → IsTimed new after
+    → new ≡ old ++ Answers (CloseCall peer answer) ∷ [] → IsTimed old before → IsTimed new after
 timed_close old new before after peer answer is tells timed =
     let call : Call = CloseCall peer answer in
-    subst (IsTimed new) (sym (is peer)) (timed_step before.timekeeper.wall before.timekeeper.start old new (Answers call) before
-    (after_call before call) tells
-    (λ t h. called t before call h) timed)
+    let wall = before.timekeeper.wall in
+    let start = before.timekeeper.start in
+    subst (IsTimed new) (sym (is peer)) (timed_step wall start old new (Answers call) (after_call before call) tells
+    (called (times wall start old) before call timed))
 
 -- ---- a read of the door
 
@@ -200,16 +198,13 @@ read_rightly t before line who answer buffer lined allowed h = record {
   honest = h.honest;
 }
 
-read_from : (wall start : ℕ) (old new : Option (List Step)) (before : Turn) (line : LineBoundary) (who : ℕ) (answer : Result Got DoorFault)
-    (buffer : List ℕ)
-    → ((log : List Step) → old ≡ Some log → (times wall start log).lines who ≡ line) → IsAllowed before line answer buffer
-    → Tells old (Answers (ReadCall who answer buffer)) new → IsTimedFrom wall start old before
-    → IsTimedFrom wall start new (after_read before line answer buffer)
-read_from wall start old new before line who answer buffer lined allowed tells timed later is =
-    let t = tells later is in
-    subst (λ (x : Times). Timed x (after_read before line answer buffer))
-    (sym (ap (times wall start) t.2 ∙ times_more wall start t.0 (Answers (ReadCall who answer buffer))))
-    (read_rightly (times wall start t.0) before line who answer buffer (lined t.0 t.1) allowed (timed t.0 t.1))
+read_from : (wall start : ℕ) (old new : List Step) (before : Turn) (line : LineBoundary) (who : ℕ) (answer : Result Got DoorFault)
+    (buffer : List ℕ) → (times wall start old).lines who ≡ line → IsAllowed before line answer buffer
+    → new ≡ old ++ Answers (ReadCall who answer buffer) ∷ [] → Timed (times wall start old) before
+    → Timed (times wall start new) (after_read before line answer buffer)
+read_from wall start old new before line who answer buffer lined allowed tells timed =
+    timed_step wall start old new (Answers (ReadCall who answer buffer)) (after_read before line answer buffer) tells
+    (read_rightly (times wall start old) before line who answer buffer lined allowed timed)
 
 pub read_time : (turn : Turn) (line : LineBoundary) (answer : Result Got DoorFault) (buffer : List ℕ)
     → (after_read turn line answer buffer).timekeeper ≡ turn.timekeeper
@@ -218,16 +213,16 @@ read_time turn line (Ok got.Nothing) buffer = refl
 read_time turn line (Ok got.Ended) buffer = refl
 read_time turn line (Err fault) buffer = refl
 
-timed_by : (new : Option (List Step)) (before after : Turn) → after.timekeeper ≡ before.timekeeper
-    → IsTimedFrom before.timekeeper.wall before.timekeeper.start new after → IsTimed new after
-timed_by new before after same timed = subst (λ (m : Moments). IsTimedFrom m.wall m.start new after) (sym same) timed
+timed_by : (new : List Step) (before after : Turn) → after.timekeeper ≡ before.timekeeper
+    → Timed (times before.timekeeper.wall before.timekeeper.start new) after → IsTimed new after
+timed_by new before after same timed = subst (λ (m : Moments). Timed (times m.wall m.start new) after) (sym same) timed
 
-pub timed_read : (old new : Option (List Step)) (before after : Turn) (line : LineBoundary) (who : ℕ) (answer : Result Got DoorFault)
+pub timed_read : (old new : List Step) (before after : Turn) (line : LineBoundary) (who : ℕ) (answer : Result Got DoorFault)
     (buffer : List ℕ)
     → after ≡ after_read before line answer buffer
-    → ((wall start : ℕ) (log : List Step) → old ≡ Some log → (times wall start log).lines who ≡ line)
+    → ((wall start : ℕ) → (times wall start old).lines who ≡ line)
     → IsAllowed before line answer buffer
-    → Tells old (Answers (ReadCall who answer buffer)) new → IsTimed old before → IsTimed new after
+    → new ≡ old ++ Answers (ReadCall who answer buffer) ∷ [] → IsTimed old before → IsTimed new after
 timed_read old new before after line who answer buffer is lined allowed tells timed =
     subst (IsTimed new) (sym is)
     (timed_by new before (after_read before line answer buffer) (read_time before line answer buffer)
@@ -235,9 +230,8 @@ timed_read old new before after line who answer buffer is lined allowed tells ti
     (lined before.timekeeper.wall before.timekeeper.start) allowed tells timed))
 
 -- the line of a socket's peer is the one that the times say
-pub line_kept : (trace : Option (List Step)) (wall start : ℕ) (p : Peer) (log : List Step) → IsKept trace p → trace ≡ Some log
-    → (times wall start log).lines p.number ≡ p.share.line
-line_kept trace wall start p log kept is = line_is wall start p.number log ∙ sym (kept log is).line
+pub line_kept : (log : List Step) (wall start : ℕ) (p : Peer) → IsKept log p → (times wall start log).lines p.number ≡ p.share.line
+line_kept log wall start p kept = line_is wall start p.number log ∙ sym kept.line
 
 -- a read that handed out nothing, of whatever line
 fits_none : (pace : Pace) → fits pace 0 ≡ true
@@ -252,27 +246,27 @@ none_allowed turn line answer buffer none kept_back ends = record {
   single = ends;
 }
 
-none_from : (wall start : ℕ) (old new : Option (List Step)) (before after : Turn) (who : ℕ) (answer : Result Got DoorFault)
+none_from : (wall start : ℕ) (old new : List Step) (before after : Turn) (who : ℕ) (answer : Result Got DoorFault)
     (buffer : List ℕ) → ((line : LineBoundary) → after ≡ after_read before line answer buffer)
-    → ((line : LineBoundary) → IsAllowed before line answer buffer) → Tells old (Answers (ReadCall who answer buffer)) new
-    → IsTimedFrom wall start old before → IsTimedFrom wall start new after
+    → ((line : LineBoundary) → IsAllowed before line answer buffer) → new ≡ old ++ Answers (ReadCall who answer buffer) ∷ []
+    → Timed (times wall start old) before → Timed (times wall start new) after
 none_from wall start old new before after who answer buffer is allowed tells timed =
-    timed_step wall start old new (Answers (ReadCall who answer buffer)) before after tells
-    (λ t h. subst (λ (u : Turn). Timed (answered_read t who answer buffer) u) (sym (is (t.lines who)))
-    (read_rightly t before (t.lines who) who answer buffer refl (allowed (t.lines who)) h)) timed
+    let line = (times wall start old).lines who in
+    subst (Timed (times wall start new)) (sym (is line))
+    (read_from wall start old new before line who answer buffer refl (allowed line) tells timed)
 
-pub timed_nothing : (old new : Option (List Step)) (turn : Turn) (who : ℕ) (buffer : List ℕ)
-    → Tells old (Answers (ReadCall who (Ok got.Nothing) buffer)) new → IsTimed old turn → IsTimed new turn
+pub timed_nothing : (old new : List Step) (turn : Turn) (who : ℕ) (buffer : List ℕ)
+    → new ≡ old ++ Answers (ReadCall who (Ok got.Nothing) buffer) ∷ [] → IsTimed old turn → IsTimed new turn
 timed_nothing old new turn who buffer tells timed =
     none_from turn.timekeeper.wall turn.timekeeper.start old new turn turn who (Ok got.Nothing) buffer (λ line. refl)
     (λ line. none_allowed turn line (Ok got.Nothing) buffer refl refl (λ e. absurd (true≢false (sym e)))) tells timed
 
 -- nobody was there: that was reported, or nothing
-pub timed_missed : (old new : Option (List Step)) (before after : Turn) (who : ℕ) (answer : Result Got DoorFault) (buffer : List ℕ)
+pub timed_missed : (old new : List Step) (before after : Turn) (who : ℕ) (answer : Result Got DoorFault) (buffer : List ℕ)
     → (answer ≡ Ok got.Nothing ⊎ answer ≡ Err DoorFault.Read)
     → ((line : LineBoundary) (bytes : List ℕ) → after ≡ after_read before line answer bytes)
     → (reports_end answer ≡ true → before.may_report_end ≡ true)
-    → Tells old (Answers (ReadCall who answer buffer)) new → IsTimed old before → IsTimed new after
+    → new ≡ old ++ Answers (ReadCall who answer buffer) ∷ [] → IsTimed old before → IsTimed new after
 timed_missed old new before after who answer buffer reported is ends tells timed =
     timed_by new before after (ap (λ (u : Turn). u.timekeeper) (is boundary.At buffer) ∙ read_time before boundary.At answer buffer)
     (none_from before.timekeeper.wall before.timekeeper.start old new before after who answer buffer (λ line. is line buffer)
@@ -298,12 +292,13 @@ unless_long : (short pending : Bool) → (short ≡ false → pending ≡ false)
 unless_long true pending f = refl
 unless_long false pending f = ap not (f refl)
 
-pub timed_wait : (old new : Option (List Step)) (turn : Turn) (most : Option ℕ) (count : ℕ) (ready : List Ready)
+pub timed_wait : (old new : List Step) (turn : Turn) (most : Option ℕ) (count : ℕ) (ready : List Ready)
     → ((left : ℕ) → time_left turn ≡ Some left → IsWithin left most)
     → (is_short_wait most ≡ false → is_pending turn.slack turn.busy ≡ false)
-    → Tells old (Waits most count ready) new → IsTimed old turn → IsTimed new (after_wait turn)
+    → new ≡ old ++ Waits most count ready ∷ [] → IsTimed old turn → IsTimed new (after_wait turn)
 timed_wait old new turn most count ready ends quiet tells timed =
-    timed_step turn.timekeeper.wall turn.timekeeper.start old new (Waits most count ready) turn (after_wait turn) tells follows timed
+    timed_step turn.timekeeper.wall turn.timekeeper.start old new (Waits most count ready) (after_wait turn) tells
+    (follows (times turn.timekeeper.wall turn.timekeeper.start old) timed)
   where
     follows : (t : Times) → Timed t turn → Timed (times_step t (Waits most count ready)) (after_wait turn)
     follows t h = record {
@@ -362,46 +357,39 @@ reported_rightly t turn time h = record {
   honest = h.honest;
 }
 
-pub timed_moment : (old mid new : Option (List Step)) (before after : Turn) (shown : Option ℕ) (answer : Result ℕ DoorFault)
+pub timed_moment : (old mid new : List Step) (before after : Turn) (shown : Option ℕ) (answer : Result ℕ DoorFault)
     → (shown ≡ None → (answer ≡ Err DoorFault.Now) × (after ≡ begun before false))
     → ((time : ℕ) → shown ≡ Some time → (answer ≡ Ok (moment_at before time)) × (after ≡ reported_at before time (moment_at before time)))
-    → Tells old (Clocks shown) mid → Tells mid (Answers (NowCall answer)) new → IsTimed old before → IsTimed new after
+    → mid ≡ old ++ Clocks shown ∷ [] → new ≡ mid ++ Answers (NowCall answer) ∷ [] → IsTimed old before → IsTimed new after
 timed_moment old mid new before after None answer none some clocks tells timed =
     let n = none refl in
+    let wall = before.timekeeper.wall in
+    let start = before.timekeeper.start in
+    let t = times wall start old in
     subst (IsTimed new) (sym n.1)
-    (timed_two before.timekeeper.wall before.timekeeper.start old mid new (Clocks None) (Answers (NowCall answer)) before
-    (begun before false)
-    (λ t h. subst (λ (a : Result ℕ DoorFault). Timed (answered_moment (clocked t None) a) (begun before false)) (sym n.0)
-    (unreported t before h))
-    clocks tells timed)
+    (timed_two wall start old mid new (Clocks None) (Answers (NowCall answer)) (begun before false) clocks tells
+    (subst (λ (a : Result ℕ DoorFault). Timed (answered_moment (clocked t None) a) (begun before false)) (sym n.0)
+    (unreported t before timed)))
 timed_moment old mid new before after (Some time) answer none some clocks tells timed =
     let s = some time refl in
+    let wall = before.timekeeper.wall in
+    let start = before.timekeeper.start in
+    let t = times wall start old in
+    let next = reported_at before time (moment_at before time) in
     subst (IsTimed new) (sym s.1)
-    (timed_two before.timekeeper.wall before.timekeeper.start old mid new (Clocks (Some time)) (Answers (NowCall answer)) before
-    (reported_at before time (moment_at before time))
-    (λ t h. subst
-    (λ (a : Result ℕ DoorFault). Timed (answered_moment (clocked t (Some time)) a) (reported_at before time (moment_at before time)))
-    (sym s.0)
-    (reported_rightly t before time h)) clocks tells timed)
+    (timed_two wall start old mid new (Clocks (Some time)) (Answers (NowCall answer)) next clocks tells
+    (subst (λ (a : Result ℕ DoorFault). Timed (answered_moment (clocked t (Some time)) a) next) (sym s.0)
+    (reported_rightly t before time timed)))
 
--- ---- the trace is empty
+-- ---- the log is empty
 
-pub timed_first : (trace : Option (List Step)) (turn : Turn) → turn ≡ first_turn turn.timekeeper.wall turn.timekeeper.start
-    → (trace ≡ Some [] ⊎ trace ≡ None) → IsTimed trace turn
-timed_first trace turn is begins log e = ⊎_elim
-    (λ (f : trace ≡ Some []).
-    let same : log ≡ [] = cc in
-    subst (λ (l : List Step). Timed (times turn.timekeeper.wall turn.timekeeper.start l) turn) (sym same)
-    (record {
-      same = sym is;
-      clock = ap (λ (u : Turn). u.clock) (sym is);
-      kept = record { exact = refl; punctual = refl; patient = refl; prompt = refl };
-      paced = record { light = refl; once = refl };
-      heard = refl;
-      honest = refl;
-    }))
-    (λ (f : trace ≡ None). absurd (nothing (sym f ∙ e)))
-    begins
-  where
-    nothing : None ≡ Some log → ⊥
-    nothing e = cc
+pub timed_first : (log : List Step) (turn : Turn) → turn ≡ first_turn turn.timekeeper.wall turn.timekeeper.start → log ≡ []
+    → IsTimed log turn
+timed_first log turn is none = subst (λ (l : List Step). IsTimed l turn) (sym none) (record {
+  same = sym is;
+  clock = ap (λ (u : Turn). u.clock) (sym is);
+  kept = record { exact = refl; punctual = refl; patient = refl; prompt = refl };
+  paced = record { light = refl; once = refl };
+  heard = refl;
+  honest = refl;
+})

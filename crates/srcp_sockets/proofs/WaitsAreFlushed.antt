@@ -23,14 +23,14 @@ use Rattle.srcp_peers.specs.AllPeers.{AreOffered, AreShutDown, IsAbsent}
 use Rattle.srcp_peers.specs.Peers.{Agrees, IsFlushed, IsKept, IsOffered, Makes, OffersDue, Spares, StaysAs, WritesAs}
 use Rattle.srcp_peers.specs.Peers.{flush_of, flushes_all, gone_as, is_gone}
 use Rattle.srcp_peers.specs.Peers.{has_ended, is_due, is_lost, stay_after, tries_again, woken_output}
-use Rattle.srcp_peers.specs.Steps.{Accepts, Answers, Clocks, Closes, Reads, SaysNothing, Shuts, Step, Tells, Waits, Writes, call_of, calls}
+use Rattle.srcp_peers.specs.Steps.{Accepts, Answers, Clocks, Closes, Reads, SaysNothing, Shuts, Step, Waits, Writes, call_of, calls}
 use Rattle.srcp_peers.specs.Times.{KeepsTimes, Times, first_times, times, times_step}
 use Rattle.srcp_peers.specs.Turns.{flushing, is_pending, is_short}
 use Rattle.srcp_peers.proofs.AccountsHoldStreams.{if_same}
 use Rattle.srcp_peers.proofs.PeersStayKept.{account_more, own}
 use Rattle.srcp_peers.proofs.PeersRestByAccount.{and_left, and_right, owed_is}
 use Rattle.srcp_sockets.specs.Doors.{IsThere, Stands}
-use Rattle.srcp_sockets.specs.Waits.{AreFlushed, IsFlushedOut, MayWait, closes, closes_after, has_to_close, is_written, written_after}
+use Rattle.srcp_sockets.specs.Waits.{AreFlushed, IsFlushedOut, IsWaitDone, closes, closes_after, has_to_close, is_written, written_after}
 use Rattle.srcp_sockets.specs.KeptTimes.{IsTimed}
 use Rattle.srcp_sockets.specs.Work.{AreClosedUp, is_close}
 use Rattle.srcp_sockets.proofs.AccountsReadTheClock.{clock_is}
@@ -60,20 +60,14 @@ closes_came n (step ∷ came) e =
     let all = sum_by-append (λ s. cond (is_close s) 1 0) (step ∷ []) came in
     omega (arith, one, rest, all)
 
-many_closed : (old new : Option (List Step)) → SaysNothing old new → Makes is_close 64 old new → (log : List Step) → new ≡ Some log
-    → nat_lt (closes log) 64 ≡ false
-many_closed old new says made log is =
-    let s = says log is in
-    let m = made log is in
-    let both : Some s.0 ≡ Some m.0 = sym s.2 ∙ m.1 in
-    let same : s.0 ≡ m.0 = cc in
-    let now : closes log ≡ closes s.0 + count_by is_close s.1 = ap closes s.3 ∙ fold-append closes_after 0 s.0 s.1
-    ∙ closes_came (closes s.0) s.1 s.4 in
-    let all : count_by is_close log ≡ count_by is_close s.0 + count_by is_close s.1 = ap (count_by is_close) s.3
-    ∙ sum_by-append (λ x. cond (is_close x) 1 0) s.0 s.1 in
-    let before : count_by is_close s.0 ≡ count_by is_close m.0 = ap (count_by is_close) same in
-    let more : count_by is_close log ≡ count_by is_close m.0 + 64 = m.2 in
-    at_least (closes log) (omega (arith, now, all, before, more))
+many_closed : (old new : List Step) → SaysNothing old new → Makes is_close 64 old new → nat_lt (closes new) 64 ≡ false
+many_closed old new says made =
+    let now : closes new ≡ closes old + count_by is_close says.0 = ap closes says.1 ∙ fold-append closes_after 0 old says.0
+    ∙ closes_came (closes old) says.0 says.2 in
+    let all : count_by is_close new ≡ count_by is_close old + count_by is_close says.0 = ap (count_by is_close) says.1
+    ∙ sum_by-append (λ x. cond (is_close x) 1 0) old says.0 in
+    let more : count_by is_close new ≡ count_by is_close old + 64 = made in
+    at_least (closes new) (omega (arith, now, all, more))
   where
     at_least : (n : ℕ) → 64 ≤ n → nat_lt n 64 ≡ false
     at_least n le = grind (arith, nat_tests)
@@ -128,23 +122,22 @@ not_gone a p clock h shown stays = by p.stay h.stays stays
         let o = neither (has_ended p.input) (is_overdue clock since) n.1 in
         remains (is_lingering a) a.sent.lost (is_overdue a.lingering.clock a.lingering.since) (lost ∙ n.0) (overdue since s.2 ∙ o.1)
 
-pub all_closed : (old new : Option (List Step)) (turn : Turn) (peers : List Peer) (l : Listening) (last : ℕ) → Stands new peers l last
-    → IsTimed new turn → SaysNothing old new → AreClosedUp turn.clock peers old new → (log : List Step) → new ≡ Some log
-    → nat_lt (closes log) 64 ≡ true → (socket : ℕ) → has_to_close (account socket log) ≡ false
-all_closed old new turn peers l last stands timed says closed log is few socket = ⊎_elim
+pub all_closed : (old new : List Step) (turn : Turn) (peers : List Peer) (l : Listening) (last : ℕ) → Stands new peers l last
+    → IsTimed new turn → SaysNothing old new → AreClosedUp turn.clock peers old new
+    → nat_lt (closes new) 64 ≡ true → (socket : ℕ) → has_to_close (account socket new) ≡ false
+all_closed old new turn peers l last stands timed says closed few socket = ⊎_elim
     (λ (none : position (is_gone turn.clock) peers ≡ None). ⊎_elim
     (λ (there : IsThere socket peers).
     let p : Peer = slice_index_or peers there.index nobody in
-    subst (λ (n : ℕ). has_to_close (account n log) ≡ false) (there.same nobody)
-    (not_gone (account p.number log) p turn.clock (stands.kept there.index nobody there.within log is)
-    (clock_is new turn p.number timed log is) (none_first (is_gone turn.clock) peers there.index nobody none there.within)))
+    subst (λ (n : ℕ). has_to_close (account n new) ≡ false) (there.same nobody)
+    (not_gone (account p.number new) p turn.clock (stands.kept there.index nobody there.within)
+    (clock_is new turn p.number timed) (none_first (is_gone turn.clock) peers there.index nobody none there.within)))
     (λ (absent : IsAbsent socket peers).
-    let a = account socket log in
-    ap (λ k. (not a.watched && k) && (a.sent.lost || is_overdue a.lingering.clock a.lingering.since))
-    (stands.closed log is socket absent).kept
+    let a = account socket new in
+    ap (λ k. (not a.watched && k) && (a.sent.lost || is_overdue a.lingering.clock a.lingering.since)) (stands.closed socket absent).kept
     ∙ ap (λ b. b && (a.sent.lost || is_overdue a.lingering.clock a.lingering.since)) (and_none (not a.watched)))
     (find socket peers))
-    (λ (made : Makes is_close 64 old new). absurd (true≢false (sym few ∙ many_closed old new says made log is)))
+    (λ (made : Makes is_close 64 old new). absurd (true≢false (sym few ∙ many_closed old new says made)))
     closed
 
 -- ---- who is written to
@@ -177,18 +170,14 @@ written_in socket written bytes answer (step ∷ before) after e =
     written_in socket (written_after socket written step) bytes answer before after
     (no_calls step (before ++ Writes socket bytes answer ∷ after) e).1
 
-offered_written : (socket : ℕ) (bytes : List ℕ) (old new : Option (List Step)) → SaysNothing old new → IsOffered socket bytes old new
-    → (log : List Step) → new ≡ Some log → is_written socket log ≡ true
-offered_written socket bytes old new says offered log is =
-    let s = says log is in
-    let o = offered log is in
-    let both : Some s.0 ≡ Some o.0 = sym s.2 ∙ o.4 in
-    let same : s.0 ≡ o.0 = cc in
-    let rest = o.1 ++ Writes socket bytes o.2 ∷ o.3 in
-    let came : s.1 ≡ rest = append_cancel_left s.0 s.1 rest (sym s.3 ∙ o.5 ∙ ap (λ (xs : List Step). xs ++ rest) (sym same)) in
-    ap (is_written socket) s.3 ∙ fold-append (written_after socket) false s.0 s.1
-    ∙ ap (fold (written_after socket) (is_written socket s.0)) came
-    ∙ written_in socket (is_written socket s.0) bytes o.2 o.1 o.3 (ap calls (sym came) ∙ s.4)
+offered_written : (socket : ℕ) (bytes : List ℕ) (old new : List Step) → SaysNothing old new → IsOffered socket bytes old new
+    → is_written socket new ≡ true
+offered_written socket bytes old new says offered =
+    let rest = offered.0 ++ Writes socket bytes offered.1 ∷ offered.2 in
+    let came : says.0 ≡ rest = append_cancel_left old says.0 rest (sym says.1 ∙ offered.3) in
+    ap (is_written socket) says.1 ∙ fold-append (written_after socket) false old says.0
+    ∙ ap (fold (written_after socket) (is_written socket old)) came
+    ∙ written_in socket (is_written socket old) bytes offered.1 offered.0 offered.2 (ap calls (sym came) ∙ says.2)
 
 -- no connection was accepted among them
 abbrev is_some : Option (Result (Option ℕ) DoorFault) → Bool
@@ -307,59 +296,50 @@ or_none : (none stuck written : Bool) → (none || stuck) ≡ true → (none || 
 or_none true stuck written e = refl
 or_none false stuck written e = ap (λ b. b || written) e
 
-offered_all : (what : Flush) (old new : Option (List Step)) (peers : List Peer) (l : Listening) (last wall start : ℕ)
+offered_all : (what : Flush) (old new : List Step) (peers : List Peer) (l : Listening) (last wall start : ℕ)
     → Stands old peers l last → AreOffered what peers old new → ((other : ℕ) → IsAbsent other peers → Spares other old new)
-    → SaysNothing old new → KeepsTimes old new → ((log : List Step) → old ≡ Some log → (times wall start log).heard ≡ None)
-    → flushes_all what ≡ true → (log : List Step) → new ≡ Some log → (socket : ℕ) → (account socket log).lingering.kept ≡ true
-    → (let a = account socket log in
-    (not (is_owed a.sent) || ((a.sent.full || a.sent.lost) || is_written socket log)) ≡ true)
-offered_all what old new peers l last wall start stands offered others says keeps heard all log is socket kept = ⊎_elim
+    → SaysNothing old new → KeepsTimes old new → (times wall start old).heard ≡ None
+    → flushes_all what ≡ true → (socket : ℕ) → (account socket new).lingering.kept ≡ true
+    → (let a = account socket new in
+    (not (is_owed a.sent) || ((a.sent.full || a.sent.lost) || is_written socket new)) ≡ true)
+offered_all what old new peers l last wall start stands offered others says keeps heard all socket kept = ⊎_elim
     (λ (there : IsThere socket peers).
     let p : Peer = slice_index_or peers there.index nobody in
-    subst (λ (n : ℕ). (not (is_owed (account n log).sent)
-    || (((account n log).sent.full || (account n log).sent.lost) || is_written n log)) ≡ true) (there.same nobody)
+    subst (λ (n : ℕ). (not (is_owed (account n new).sent)
+    || (((account n new).sent.full || (account n new).sent.lost) || is_written n new)) ≡ true) (there.same nobody)
     (each p (stands.kept there.index nobody there.within) (offered there.index nobody there.within)))
     (λ (absent : IsAbsent socket peers).
-    let s = others socket absent log is in
-    absurd (true≢false (sym kept ∙ ap (λ (a : Account). a.lingering.kept) s.2 ∙ (stands.closed s.0 s.1 socket absent).kept)))
+    absurd (true≢false (sym kept ∙ ap (λ (a : Account). a.lingering.kept) (others socket absent) ∙ (stands.closed socket absent).kept)))
     (find socket peers)
   where
     each : (p : Peer) → IsKept old p → OffersDue what p old new
-        → (not (is_owed (account p.number log).sent)
-        || (((account p.number log).sent.full || (account p.number log).sent.lost) || is_written p.number log)) ≡ true
+        → (not (is_owed (account p.number new).sent)
+        || (((account p.number new).sent.full || (account p.number new).sent.lost) || is_written p.number new)) ≡ true
     each p agrees due =
-        let f = free_came old new says keeps log is in
-        let c = says log is in
-        let both : Some f.0 ≡ Some c.0 = sym f.2 ∙ c.2 in
-        let one : f.0 ≡ c.0 = cc in
-        let k = keeps log is in
-        let both_times : Some k.0 ≡ Some c.0 = sym k.1 ∙ c.2 in
-        let two : k.0 ≡ c.0 = cc in
-        let came : f.1 ≡ c.1 = append_cancel_left c.0 f.1 c.1
-        (ap (λ (xs : List Step). xs ++ f.1) (sym one) ∙ sym f.3 ∙ c.3) in
-        let a = account p.number c.0 in
-        let now = account p.number log in
-        let free : list_all is_free c.1 ≡ true = ap (list_all is_free) (sym came) ∙ f.4 in
-        let quiet : is_some (fold times_step (times wall start c.0) c.1).heard ≡ false =
-        ap (λ (t : Times). is_some t.heard) (sym (fold-append times_step (first_times wall start) c.0 c.1))
-        ∙ ap (λ l. is_some (times wall start l).heard) (sym c.3) ∙ ap (λ (t : Times). is_some t.heard) (k.2 wall start)
-        ∙ ap (λ l. is_some (times wall start l).heard) two ∙ ap is_some (heard c.0 c.2) in
-        let none = unasked (times wall start c.0) c.1 c.4 quiet in
+        let came = says.0 in
+        let a = account p.number old in
+        let now = account p.number new in
+        let free : list_all is_free came ≡ true = free_came old new says keeps in
+        let quiet : is_some (fold times_step (times wall start old) came).heard ≡ false =
+        ap (λ (t : Times). is_some t.heard) (sym (fold-append times_step (first_times wall start) old came))
+        ∙ ap (λ l. is_some (times wall start l).heard) (sym says.1) ∙ ap (λ (t : Times). is_some t.heard) (keeps wall start)
+        ∙ ap is_some heard in
+        let none = unasked (times wall start old) came says.2 quiet in
         ⊎_elim
         (λ (flushed : IsFlushed (flush_of what p.stay) p).
-        or_written (not (is_owed now.sent)) (now.sent.full || now.sent.lost) (is_written p.number log)
-        (offered_written p.number p.outgoing old new says (due flushed) log is))
+        or_written (not (is_owed now.sent)) (now.sent.full || now.sent.lost) (is_written p.number new)
+        (offered_written p.number p.outgoing old new says (due flushed)))
         (λ (stuck : (not (is_owed a.sent) || (a.sent.full || a.sent.lost)) ≡ true). ⊎_elim
-        (λ (w : fold (written_after p.number) (is_written p.number c.0) c.1 ≡ true).
-        or_written (not (is_owed now.sent)) (now.sent.full || now.sent.lost) (is_written p.number log)
-        (ap (is_written p.number) c.3 ∙ fold-append (written_after p.number) false c.0 c.1 ∙ w))
-        (λ (same : (fold (account_step p.number) a c.1).sent ≡ a.sent).
-        let sent : now.sent ≡ a.sent = ap (λ l. (account p.number l).sent) c.3
-        ∙ ap (λ (x : Account). x.sent) (fold-append (account_step p.number) untouched c.0 c.1) ∙ same in
-        or_none (not (is_owed now.sent)) (now.sent.full || now.sent.lost) (is_written p.number log)
+        (λ (w : fold (written_after p.number) (is_written p.number old) came ≡ true).
+        or_written (not (is_owed now.sent)) (now.sent.full || now.sent.lost) (is_written p.number new)
+        (ap (is_written p.number) says.1 ∙ fold-append (written_after p.number) false old came ∙ w))
+        (λ (same : (fold (account_step p.number) a came).sent ≡ a.sent).
+        let sent : now.sent ≡ a.sent = ap (λ l. (account p.number l).sent) says.1
+        ∙ ap (λ (x : Account). x.sent) (fold-append (account_step p.number) untouched old came) ∙ same in
+        or_none (not (is_owed now.sent)) (now.sent.full || now.sent.lost) (is_written p.number new)
         (ap (λ (s : Sent). not (is_owed s) || (s.full || s.lost)) sent ∙ stuck))
-        (sent_came p.number a (is_written p.number c.0) c.1 c.4 free none))
-        (due_or_none a p what (agrees c.0 c.2) all)
+        (sent_came p.number a (is_written p.number old) came says.2 free none))
+        (due_or_none a p what agrees all)
 
 -- it is there, shut down, or owed something, or lost
 shut_none : (watched kept shut owed lost : Bool) → ((watched ≡ true) ⊎ ((shut ≡ true) ⊎ ((owed ≡ true) ⊎ (lost ≡ true))))
@@ -401,39 +381,38 @@ was_shut a p before h is = shut_none a.watched a.lingering.kept a.lingering.shut
         on false c f = inr (inr (owed p.output h.writes c))
     by (stay.Shut since) e = inr (inl (here (stay.Shut since) e).3)
 
-pub all_flushed : (what : Flush) (old new : Option (List Step)) (before after : List Peer) (l : Listening) (last wall start : ℕ)
+pub all_flushed : (what : Flush) (old new : List Step) (before after : List Peer) (l : Listening) (last wall start : ℕ)
     → Stands old before l last → Stands new after l last → length after ≡ length before → AreOffered what before old new
     → AreShutDown before after → ((other : ℕ) → IsAbsent other before → Spares other old new) → SaysNothing old new → KeepsTimes old new
-    → ((log : List Step) → old ≡ Some log → (times wall start log).heard ≡ None) → AreFlushed (flushes_all what) new
-all_flushed what old new before after l last wall start stood stands long offered down others says keeps heard log is socket = record {
+    → (times wall start old).heard ≡ None → AreFlushed (flushes_all what) new
+all_flushed what old new before after l last wall start stood stands long offered down others says keeps heard socket = record {
   shut = ⊎_elim
       (λ (there : IsThere socket after).
       let p : Peer = slice_index_or after there.index nobody in
       let within : there.index < length after = there.within in
-      subst (λ (n : ℕ). (may_shut (account n log) && not (account n log).sent.lost) ≡ false) (there.same nobody)
-      (was_shut (account p.number log) p (slice_index_or before there.index nobody).stay
-      (stands.kept there.index nobody there.within log is) (down there.index nobody (omega (arith, within, long)))))
+      subst (λ (n : ℕ). (may_shut (account n new) && not (account n new).sent.lost) ≡ false) (there.same nobody)
+      (was_shut (account p.number new) p (slice_index_or before there.index nobody).stay
+      (stands.kept there.index nobody there.within) (down there.index nobody (omega (arith, within, long)))))
       (λ (absent : IsAbsent socket after).
-      let a = account socket log in
+      let a = account socket new in
       ap (λ k. ((not a.watched && k) && (not a.lingering.shut && not (is_owed a.sent))) && not a.sent.lost)
-      (stands.closed log is socket absent).kept
+      (stands.closed socket absent).kept
       ∙ ap (λ b. (b && (not a.lingering.shut && not (is_owed a.sent))) && not a.sent.lost) (and_none (not a.watched)))
       (find socket after);
-  offered = λ all kept. offered_all what old new before l last wall start stood offered others says keeps heard all log is socket kept;
+  offered = λ all kept. offered_all what old new before l last wall start stood offered others says keeps heard all socket kept;
 }
 
 -- one was closed behind that
-pub flushed_close : (all : Bool) (old new : Option (List Step)) (who : ℕ) → Tells old (Closes who) new → AreFlushed all old
+pub flushed_close : (all : Bool) (old new : List Step) (who : ℕ) → new ≡ old ++ Closes who ∷ [] → AreFlushed all old
     → AreFlushed all new
-flushed_close all old new who tells flushed log is socket =
-    let t = tells log is in
-    let a = account socket t.0 in
-    let more : account socket log ≡ account_step socket a (Closes who) = ap (account socket) t.2 ∙ account_more socket t.0 (Closes who) in
-    let same : is_written socket log ≡ is_written socket t.0 = ap (is_written socket) t.2
-    ∙ fold-append (written_after socket) false t.0 (Closes who ∷ []) in
-    subst (λ (x : Account). IsFlushedOut all x (is_written socket log)) (sym more)
+flushed_close all old new who tells flushed socket =
+    let a = account socket old in
+    let more : account socket new ≡ account_step socket a (Closes who) = ap (account socket) tells ∙ account_more socket old (Closes who) in
+    let same : is_written socket new ≡ is_written socket old = ap (is_written socket) tells
+    ∙ fold-append (written_after socket) false old (Closes who ∷ []) in
+    subst (λ (x : Account). IsFlushedOut all x (is_written socket new)) (sym more)
     (subst (IsFlushedOut all (account_step socket a (Closes who))) (sym same)
-    (by a (is_written socket t.0) (who == socket) (flushed t.0 t.1 socket)))
+    (by a (is_written socket old) (who == socket) (flushed socket)))
   where
     by : (a : Account) (written b : Bool) → IsFlushedOut all a written → IsFlushedOut all (if b then closed a else a) written
     by a written true h = record {
@@ -456,16 +435,16 @@ quiet_is : (pending : Bool) → not pending ≡ true → pending ≡ false
 quiet_is true e = absurd (true≢false (sym e))
 quiet_is false e = refl
 
-pub may_wait : (trace : Option (List Step)) (turn : Turn) (ticked : Bool) → IsTimed trace turn
-    → AreFlushed (flushes_all (flushing ticked false turn)) trace
-    → ((log : List Step) → trace ≡ Some log → nat_lt (closes log) 64 ≡ true → (socket : ℕ) → has_to_close (account socket log) ≡ false)
-    → MayWait turn trace
-may_wait trace turn ticked timed flushed closed log is = record {
-  closed = closed log is;
+pub may_wait : (log : List Step) (turn : Turn) (ticked : Bool) → IsTimed log turn
+    → AreFlushed (flushes_all (flushing ticked false turn)) log
+    → (nat_lt (closes log) 64 ≡ true → (socket : ℕ) → has_to_close (account socket log) ≡ false)
+    → IsWaitDone turn.timekeeper.wall turn.timekeeper.start log
+may_wait log turn ticked timed flushed closed = record {
+  closed = closed;
   flushed = λ socket. record {
-    shut = (flushed log is socket).shut;
-    offered = λ quiet kept. (flushed log is socket).offered
-        (every ticked turn (ap (λ (t : Turn). is_pending t.slack t.busy) (sym (timed log is).same)
+    shut = (flushed socket).shut;
+    offered = λ quiet kept. (flushed socket).offered
+        (every ticked turn (ap (λ (t : Turn). is_pending t.slack t.busy) (sym timed.same)
         ∙ quiet_is (is_pending (times turn.timekeeper.wall turn.timekeeper.start log).turn.slack
         (times turn.timekeeper.wall turn.timekeeper.start log).turn.busy) quiet)) kept;
   };

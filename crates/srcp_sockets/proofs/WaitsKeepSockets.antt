@@ -1,13 +1,13 @@
 -- What holds of all sockets holds after a wait.
-use Rattle.std.proofs.Common.{◌≡◌, ◌∙◌, ℕ, ◌<◌, Bool, true, false, not, List, [], ◌∷◌, length, refl, ap, sym}
-use Rattle.std.proofs.Common.{subst, ⊎_elim, ◌==◌, if◌then◌else◌, Option, Some}
+use Rattle.std.proofs.Common.{◌++◌, ◌≡◌, ◌∙◌, ℕ, ◌<◌, Bool, true, false, not, List, [], ◌∷◌, length, refl, ap, sym}
+use Rattle.std.proofs.Common.{subst, ⊎_elim, ◌==◌, if◌then◌else◌, Option}
 use Rattle.std.specs.Prelude.{All, ◌&&◌, ◌||◌, fold, slice_index_or, take}
 use Rattle.std.proofs.lemmas.Bool.{cases_eq}
 use Rattle.srcp_peers.specs.declared.peer.Peer.{Peer}
 use Rattle.srcp_peers.specs.declared.turn.Listening.{Listening}
 use Rattle.srcp_peers.specs.declared.turn.Listening.TheVariants as listening
 use Rattle.srcp_peers.specs.declared.system.Ready.{Ready}
-use Rattle.srcp_peers.specs.Steps.{Step, Tells, Waits}
+use Rattle.srcp_peers.specs.Steps.{Step, Waits}
 use Rattle.srcp_peers.specs.Accounts.{Account, account, is_at_rest, is_short_wait}
 use Rattle.srcp_peers.specs.Accounts.{waited, woken, woken_came, woken_sent, noted}
 use Rattle.srcp_peers.specs.Peers.{after_wake, is_resting}
@@ -145,37 +145,36 @@ waited_sound socket a most h rests = record {
 unwatched : (watched listener rests : Bool) → watched ≡ false → listener ≡ false → (not (watched || listener) || rests) ≡ true
 unwatched watched listener rests w l = rw (w, l) refl
 
-pub stands_waited : (old new : Option (List Step)) (before after : List Peer) (most : Option ℕ) (count : ℕ) (ready : List Ready)
+pub stands_waited : (old new : List Step) (before after : List Peer) (most : Option ℕ) (count : ℕ) (ready : List Ready)
     (l : Listening) (last : ℕ)
     → (is_short_wait most ≡ false → All (λ peer. is_resting peer ≡ true) before) → (is_short_wait most ≡ false → l ≡ listening.Quiet)
-    → Tells old (Waits most count ready) new → length after ≡ length before
+    → new ≡ old ++ Waits most count ready ∷ [] → length after ≡ length before
     → ((k : ℕ) (d : Peer) → k < length before → slice_index_or after k d ≡ fold after_wake (slice_index_or before k d) (take count ready))
     → Stands old before l last → Stands new after (fold woken_listening l (take count ready)) last
 stands_waited old new before after most count ready l last rest quiet tells long woke stands = record {
   kept = kept;
   apart = apart_later before after long those stands.apart;
   within = within_later last before after long those stands.within;
-  sound = λ log is. all_sound new after log is kept (λ socket absent. subst Sound (sym (more socket log is))
-      (noted_sound (fold (woken socket) (waited socket (account socket (tells log is).0) most) (take count ready))
-      (woken_sound socket (waited socket (account socket (tells log is).0) most) (take count ready)
-      (waited_sound socket (account socket (tells log is).0) most (stands.sound (tells log is).0 (tells log is).1 socket)
-      (rests socket log is (absent_before socket before after long those absent))))));
-  fresh = λ log is socket above. subst Fresh (sym (more socket log is))
-      (noted_fresh (fold (woken socket) (waited socket (account socket (tells log is).0) most) (take count ready))
-      (woken_fresh socket (waited socket (account socket (tells log is).0) most) (take count ready)
-      (let h : Fresh (account socket (tells log is).0) = stands.fresh (tells log is).0 (tells log is).1 socket above in
+  sound = all_sound new after kept (λ socket absent. subst Sound (sym (more socket))
+      (noted_sound (fold (woken socket) (waited socket (account socket old) most) (take count ready))
+      (woken_sound socket (waited socket (account socket old) most) (take count ready)
+      (waited_sound socket (account socket old) most (stands.sound socket)
+      (rests socket (absent_before socket before after long those absent))))));
+  fresh = λ socket above. subst Fresh (sym (more socket))
+      (noted_fresh (fold (woken socket) (waited socket (account socket old) most) (take count ready))
+      (woken_fresh socket (waited socket (account socket old) most) (take count ready)
+      (let h : Fresh (account socket old) = stands.fresh socket above in
       record { written = h.written; took = h.took; gave = h.gave; handed = h.handed })));
-  closed = λ log is socket absent. subst Closed (sym (more socket log is))
-      (noted_closed (fold (woken socket) (waited socket (account socket (tells log is).0) most) (take count ready))
-      (woken_closed socket (waited socket (account socket (tells log is).0) most) (take count ready)
-      (let h : Closed (account socket (tells log is).0) =
-      stands.closed (tells log is).0 (tells log is).1 socket (absent_before socket before after long those absent) in
+  closed = λ socket absent. subst Closed (sym (more socket))
+      (noted_closed (fold (woken socket) (waited socket (account socket old) most) (take count ready))
+      (woken_closed socket (waited socket (account socket old) most) (take count ready)
+      (let h : Closed (account socket old) = stands.closed socket (absent_before socket before after long those absent) in
       record { watched = h.watched; kept = h.kept })));
-  heard = λ log is. subst (λ (a : Account). Hears a (fold woken_listening l (take count ready))) (sym (more 0 log is))
-      (noted_hears (fold (woken 0) (waited 0 (account 0 (tells log is).0) most) (take count ready))
+  heard = subst (λ (a : Account). Hears a (fold woken_listening l (take count ready))) (sym (more 0))
+      (noted_hears (fold (woken 0) (waited 0 (account 0 old) most) (take count ready))
       (fold woken_listening l (take count ready))
-      (all_heard (waited 0 (account 0 (tells log is).0) most) l (take count ready)
-      (let h : Hears (account 0 (tells log is).0) l = stands.heard (tells log is).0 (tells log is).1 in
+      (all_heard (waited 0 (account 0 old) most) l (take count ready)
+      (let h : Hears (account 0 old) l = stands.heard in
       record {
         fresh = record { written = h.fresh.written; took = h.fresh.took; gave = h.fresh.gave; handed = h.fresh.handed };
         lost = h.lost;
@@ -192,19 +191,16 @@ stands_waited old new before after most count ready l last rest quiet tells long
     those : AreThose before after
     those k d lt = ap (λ (x : Peer). x.number) (woke k d lt) ∙ all_number (slice_index_or before k d) (take count ready)
 
-    more : (socket : ℕ) (log : List Step) (is : new ≡ Some log)
-        → account socket log ≡ noted (fold (woken socket) (waited socket (account socket (tells log is).0) most) (take count ready))
-    more socket log is = ap (account socket) (tells log is).2 ∙ account_more socket (tells log is).0 (Waits most count ready)
+    more : (socket : ℕ) → account socket new ≡ noted (fold (woken socket) (waited socket (account socket old) most) (take count ready))
+    more socket = ap (account socket) tells ∙ account_more socket old (Waits most count ready)
 
-    rests : (socket : ℕ) (log : List Step) (is : new ≡ Some log) → IsAbsent socket before
-        → (not ((account socket (tells log is).0).watched || (socket == 0))
-        || (is_short_wait most || is_at_rest (account socket (tells log is).0).sent (account socket (tells log is).0).received)) ≡ true
-    rests socket log is absent = ⊎_elim
-        (λ (e : socket ≡ 0). or_so (not ((account socket (tells log is).0).watched || (socket == 0))) _
-        (unless_long (is_short_wait most) _ (λ long. subst (λ (n : ℕ). is_at_rest (account n (tells log is).0).sent
-        (account n (tells log is).0).received ≡ true) (sym e)
-        (listener_rests (account 0 (tells log is).0)
-        (subst (λ (x : Listening). Hears (account 0 (tells log is).0) x) (quiet long) (stands.heard (tells log is).0 (tells log is).1))))))
-        (λ (ne : socket ≡ 0 → ⊥). unwatched (account socket (tells log is).0).watched (socket == 0) _
-        (stands.closed (tells log is).0 (tells log is).1 socket absent).watched (not_listener socket ne))
+    rests : (socket : ℕ) → IsAbsent socket before
+        → (not ((account socket old).watched || (socket == 0))
+        || (is_short_wait most || is_at_rest (account socket old).sent (account socket old).received)) ≡ true
+    rests socket absent = ⊎_elim
+        (λ (e : socket ≡ 0). or_so (not ((account socket old).watched || (socket == 0))) _
+        (unless_long (is_short_wait most) _ (λ long. subst (λ (n : ℕ). is_at_rest (account n old).sent (account n old).received ≡ true)
+        (sym e) (listener_rests (account 0 old) (subst (λ (x : Listening). Hears (account 0 old) x) (quiet long) stands.heard)))))
+        (λ (ne : socket ≡ 0 → ⊥). unwatched (account socket old).watched (socket == 0) _
+        (stands.closed socket absent).watched (not_listener socket ne))
         (cases_eq socket 0)

@@ -1,7 +1,7 @@
 -- What a door has done goes on from step to step.
 use Rattle.std.proofs.Common.{◌≡◌, ◌∙◌, ℕ, suc, ◌<◌, ◌≤◌, ◌+◌, Bool, true, false, not}
 use Rattle.std.proofs.Common.{List, [], ◌∷◌, ◌++◌, length, take, refl, ap, sym, subst}
-use Rattle.std.proofs.Common.{arith, ⊎_elim, ◌⊎◌, ◌==◌, ◌&&◌, ◌||◌, if◌then◌else◌, Option, Some, None, Ok, Err, true≢false}
+use Rattle.std.proofs.Common.{arith, ⊎_elim, ◌==◌, ◌&&◌, ◌||◌, if◌then◌else◌, Option, Some, None, Ok, Err, true≢false}
 use Rattle.std.proofs.Common.{append-nil, append_assoc}
 use Rattle.std.specs.Prelude.{Result, fold, nat_lt, slice_index_or}
 use Rattle.std.specs.List.{list_all, list_any}
@@ -25,14 +25,14 @@ use Rattle.srcp_peers.specs.declared.turn.Turn.{Turn}
 use Rattle.srcp_peers.specs.Accounts.{Account, Received, accepted, account, account_step, closed, heard_refusal, is_held, read_in, read_of}
 use Rattle.srcp_peers.specs.Accounts.{refused_read, refused_write, shut_down, untouched, waited, woken, woken_came, woken_sent}
 use Rattle.srcp_peers.specs.Peers.{Agrees, ComesAs, ReadsAs, StaysAs, holds_input, is_here}
-use Rattle.srcp_peers.specs.Steps.{Accepts, Answers, Clocks, Closes, Reads, SaysNothing, Shuts, Step, Tells, Waits, Writes}
+use Rattle.srcp_peers.specs.Steps.{Accepts, Answers, Clocks, Closes, Reads, SaysNothing, Shuts, Step, Waits, Writes}
 use Rattle.srcp_peers.specs.Steps.{call_of, calls, failure_of}
 use Rattle.srcp_peers.specs.Times.{KeepsTimes, Times, first_times, times, times_step}
 use Rattle.srcp_peers.proofs.AccountsHoldStreams.{if_same}
 use Rattle.srcp_peers.proofs.PeersStayKept.{account_more}
 use Rattle.srcp_peers.proofs.PeersRestByAccount.{and_left, and_right, held_is}
 use Rattle.srcp_sockets.specs.Doors.{Stands}
-use Rattle.srcp_sockets.specs.Duties.{AreDone, HasLooked, IsDone, MayTell, has_waited, is_shown, last_shown, shown_by}
+use Rattle.srcp_sockets.specs.Duties.{AreDone, IsDone, MayTell, has_waited, is_shown, last_shown, shown_by}
 use Rattle.srcp_sockets.specs.Duties.{takes_input, waited_after}
 use Rattle.srcp_sockets.proofs.AcceptsAreAsked.{splits}
 use Rattle.srcp_sockets.proofs.SocketsStayStanding.{nobody}
@@ -49,26 +49,22 @@ one_only step x (y ∷ mid) after e =
     let none : [] ≡ mid ++ x ∷ after = cc in
     absurd (not_none x mid after none)
 
-pub done_step : (wall start : ℕ) (old new : Option (List Step)) (step : Step) → Tells old step new
-    → ((log : List Step) → old ≡ Some log → IsDone wall start log step) → AreDone wall start old → AreDone wall start new
+pub done_step : (wall start : ℕ) (old new : List Step) (step : Step) → new ≡ old ++ step ∷ [] → IsDone wall start old step
+    → AreDone wall start old → AreDone wall start new
 done_step wall start old new step tells may done before after x is =
-    let t = tells (before ++ x ∷ after) is in
     ⊎_elim
-    (λ (here : (rest : List Step) × (t.0 ≡ before ++ x ∷ rest)). done before here.0 x (t.1 ∙ ap Some here.1))
-    (λ (there : (mid : List Step) × (step ∷ [] ≡ mid ++ x ∷ after) × (before ≡ t.0 ++ mid)).
+    (λ (here : (rest : List Step) × (old ≡ before ++ x ∷ rest)). done before here.0 x here.1)
+    (λ (there : (mid : List Step) × (step ∷ [] ≡ mid ++ x ∷ after) × (before ≡ old ++ mid)).
     let one = one_only step x there.0 after there.1 in
-    let same : before ≡ t.0 = there.2 ∙ ap (λ (l : List Step). t.0 ++ l) one.0 ∙ append-nil t.0 in
-    subst (λ (l : List Step). IsDone wall start l x) (sym same)
-    (subst (λ (s : Step). IsDone wall start t.0 s) (sym one.1) (may t.0 t.1)))
-    (splits t.0 (step ∷ []) before after x (sym t.2))
+    let same : before ≡ old = there.2 ∙ ap (λ (l : List Step). old ++ l) one.0 ∙ append-nil old in
+    subst (λ (l : List Step). IsDone wall start l x) (sym same) (subst (λ (s : Step). IsDone wall start old s) (sym one.1) may))
+    (splits old (step ∷ []) before after x (sym tells ∙ is))
 
 -- two steps came
-pub tells_two : (old mid new : Option (List Step)) (one other : Step) → Tells old one mid → Tells mid other new → (later : List Step)
-    → new ≡ Some later → (log : List Step) × (old ≡ Some log) × (later ≡ log ++ (one ∷ other ∷ []))
-tells_two old mid new one other first second later is =
-    let s = second later is in
-    let f = first s.0 s.1 in
-    (f.0, f.1, s.2 ∙ ap (λ (l : List Step). l ++ other ∷ []) f.2 ∙ append_assoc f.0 (one ∷ []) (other ∷ []))
+pub tells_two : (old mid new : List Step) (one other : Step) → mid ≡ old ++ one ∷ [] → new ≡ mid ++ other ∷ []
+    → new ≡ old ++ one ∷ other ∷ []
+tells_two old mid new one other first second =
+    second ∙ ap (λ (l : List Step). l ++ other ∷ []) first ∙ append_assoc old (one ∷ []) (other ∷ [])
 
 -- ---- steps came that are no calls and no waits
 
@@ -128,46 +124,34 @@ free_from (Clocks (Some time) ∷ came) t e same = free_from came (times_step t 
 free_from (Clocks None ∷ came) t e same = free_from came t e same
 free_from (Answers call ∷ came) t e same = absurd (no_call call (calls came) e)
 
-pub free_came : (old new : Option (List Step)) → SaysNothing old new → KeepsTimes old new → (later : List Step) → new ≡ Some later
-    → (log : List Step) × (came : List Step) × (old ≡ Some log) × (later ≡ log ++ came) × (list_all is_free came ≡ true)
-free_came old new says keeps later is =
-    let s = says later is in
-    let k = keeps later is in
-    let both : Some s.0 ≡ Some k.0 = sym s.2 ∙ k.1 in
-    let same : s.0 ≡ k.0 = cc in
-    let waits : (fold times_step (times 0 0 s.0) s.1).waits ≡ (times 0 0 s.0).waits =
-    ap (λ (t : Times). t.waits) (sym (fold-append times_step (first_times 0 0) s.0 s.1))
-    ∙ ap (λ l. (times 0 0 l).waits) (sym s.3) ∙ ap (λ (t : Times). t.waits) (k.2 0 0) ∙ ap (λ l. (times 0 0 l).waits) (sym same) in
-    (s.0, s.1, s.2, s.3, free_from s.1 (times 0 0 s.0) s.4 waits)
+pub free_came : (old new : List Step) (says : SaysNothing old new) → KeepsTimes old new → list_all is_free says.0 ≡ true
+free_came old new says keeps =
+    let waits : (fold times_step (times 0 0 old) says.0).waits ≡ (times 0 0 old).waits =
+    ap (λ (t : Times). t.waits) (sym (fold-append times_step (first_times 0 0) old says.0))
+    ∙ ap (λ l. (times 0 0 l).waits) (sym says.1) ∙ ap (λ (t : Times). t.waits) (keeps 0 0) in
+    free_from says.0 (times 0 0 old) says.2 waits
 
-pub done_silent : (wall start : ℕ) (old new : Option (List Step)) → SaysNothing old new → KeepsTimes old new → AreDone wall start old
+pub done_silent : (wall start : ℕ) (old new : List Step) → SaysNothing old new → KeepsTimes old new → AreDone wall start old
     → AreDone wall start new
 done_silent wall start old new says keeps done before after x is =
-    let s = free_came old new says keeps (before ++ x ∷ after) is in
     ⊎_elim
-    (λ (here : (rest : List Step) × (s.0 ≡ before ++ x ∷ rest)). done before here.0 x (s.2 ∙ ap Some here.1))
-    (λ (there : (mid : List Step) × (s.1 ≡ mid ++ x ∷ after) × (before ≡ s.0 ++ mid)).
-    free_done wall start before x (free_in there.0 after x (ap (list_all is_free) (sym there.1) ∙ s.4)))
-    (splits s.0 s.1 before after x (sym s.3))
+    (λ (here : (rest : List Step) × (old ≡ before ++ x ∷ rest)). done before here.0 x here.1)
+    (λ (there : (mid : List Step) × (says.0 ≡ mid ++ x ∷ after) × (before ≡ old ++ mid)).
+    free_done wall start before x (free_in there.0 after x (ap (list_all is_free) (sym there.1) ∙ free_came old new says keeps)))
+    (splits old says.0 before after x (sym says.1 ∙ is))
 
 -- no step was made
-pub done_first : (wall start : ℕ) (trace : Option (List Step)) → (trace ≡ Some [] ⊎ trace ≡ None) → AreDone wall start trace
-done_first wall start trace begins before after x is = ⊎_elim
-    (λ (e : trace ≡ Some []). let same : [] ≡ before ++ x ∷ after = cc in absurd (not_none x before after same))
-    (λ (e : trace ≡ None). absurd (nothing (sym e ∙ is)))
-    begins
-  where
-    nothing : None ≡ Some (before ++ x ∷ after) → ⊥
-    nothing e = cc
+pub done_first : (wall start : ℕ) (log : List Step) → log ≡ [] → AreDone wall start log
+done_first wall start log none before after x is = absurd (not_none x before after (sym none ∙ is))
 
 -- the turn went on, from the same clocks
-pub done_turn : (trace : Option (List Step)) (before after same : Turn) → after ≡ same → same.timekeeper.wall ≡ before.timekeeper.wall
-    → same.timekeeper.start ≡ before.timekeeper.start → AreDone before.timekeeper.wall before.timekeeper.start trace
-    → AreDone after.timekeeper.wall after.timekeeper.start trace
-done_turn trace before after same is wall start done =
-    subst (λ (t : Turn). AreDone t.timekeeper.wall t.timekeeper.start trace) (sym is)
-    (subst (λ (w : ℕ). AreDone w same.timekeeper.start trace) (sym wall)
-    (subst (λ (s : ℕ). AreDone before.timekeeper.wall s trace) (sym start) done))
+pub done_turn : (log : List Step) (before after same : Turn) → after ≡ same → same.timekeeper.wall ≡ before.timekeeper.wall
+    → same.timekeeper.start ≡ before.timekeeper.start → AreDone before.timekeeper.wall before.timekeeper.start log
+    → AreDone after.timekeeper.wall after.timekeeper.start log
+done_turn log before after same is wall start done =
+    subst (λ (t : Turn). AreDone t.timekeeper.wall t.timekeeper.start log) (sym is)
+    (subst (λ (w : ℕ). AreDone w same.timekeeper.start log) (sym wall)
+    (subst (λ (s : ℕ). AreDone before.timekeeper.wall s log) (sym start) done))
 
 -- ---- input is held
 
@@ -259,13 +243,11 @@ takes_came socket a (step ∷ came) e takes =
     let none = no_calls step came e in
     takes_came socket (account_step socket a step) came none.1 (takes_step socket a step none.0 takes)
 
-takes_silent : (socket : ℕ) (old new : Option (List Step)) → SaysNothing old new
-    → ((log : List Step) → old ≡ Some log → takes_input (account socket log) ≡ true) → (log : List Step) → new ≡ Some log
-    → takes_input (account socket log) ≡ true
-takes_silent socket old new says takes later is =
-    let s = says later is in
-    ap (λ l. takes_input (account socket l)) s.3 ∙ ap takes_input (fold-append (account_step socket) untouched s.0 s.1)
-    ∙ takes_came socket (account socket s.0) s.1 s.4 (takes s.0 s.2)
+takes_silent : (socket : ℕ) (old new : List Step) → SaysNothing old new → takes_input (account socket old) ≡ true
+    → takes_input (account socket new) ≡ true
+takes_silent socket old new says takes =
+    ap (λ l. takes_input (account socket l)) says.1 ∙ ap takes_input (fold-append (account_step socket) untouched old says.0)
+    ∙ takes_came socket (account socket old) says.0 says.2 takes
 
 -- a peer of which the door holds input
 held_peer : (peers : List Peer) → list_any holds_input peers ≡ true
@@ -319,39 +301,34 @@ waited_came waited (step ∷ came) e w =
     let none = no_calls step came e in
     waited_came (waited_after waited step) came none.1 (waited_step waited step none.0 w)
 
-pub looked_wait : (old new : Option (List Step)) (most : Option ℕ) (count : ℕ) (ready : List Ready) → Tells old (Waits most count ready) new
-    → HasLooked new
-looked_wait old new most count ready tells later is =
-    let t = tells later is in
-    ap has_waited t.2 ∙ fold-append waited_after false t.0 (Waits most count ready ∷ [])
+pub looked_wait : (old new : List Step) (most : Option ℕ) (count : ℕ) (ready : List Ready) → new ≡ old ++ Waits most count ready ∷ []
+    → has_waited new ≡ true
+looked_wait old new most count ready tells =
+    ap has_waited tells ∙ fold-append waited_after false old (Waits most count ready ∷ [])
 
-pub looked_silent : (old new : Option (List Step)) → SaysNothing old new → HasLooked old → HasLooked new
-looked_silent old new says looked later is =
-    let s = says later is in
-    ap has_waited s.3 ∙ fold-append waited_after false s.0 s.1 ∙ waited_came (has_waited s.0) s.1 s.4 (looked s.0 s.2)
+pub looked_silent : (old new : List Step) → SaysNothing old new → has_waited old ≡ true → has_waited new ≡ true
+looked_silent old new says looked =
+    ap has_waited says.1 ∙ fold-append waited_after false old says.0 ∙ waited_came (has_waited old) says.0 says.2 looked
 
 -- ---- a moment may be reported
 
-pub may_tell : (old new : Option (List Step)) (peers : List Peer) (l : Listening) (last : ℕ) (held : Bool) → Stands old peers l last
-    → SaysNothing old new → (held ≡ true → list_any holds_input peers ≡ true) → (held ≡ false → HasLooked new) → MayTell new
-may_tell old new peers l last true stands says holds looked log is none =
+pub may_tell : (old new : List Step) (peers : List Peer) (l : Listening) (last : ℕ) (held : Bool) → Stands old peers l last
+    → SaysNothing old new → (held ≡ true → list_any holds_input peers ≡ true) → (held ≡ false → has_waited new ≡ true) → MayTell new
+may_tell old new peers l last true stands says holds looked none =
     let one = held_peer peers (holds refl) in
     let p : Peer = slice_index_or peers one.0 nobody in
     let takes = takes_silent p.number old new says
-    (λ before was. takes_as (account p.number before) p (stands.kept one.0 nobody one.1 before was) (one.2 nobody)) log is in
+    (takes_as (account p.number old) p (stands.kept one.0 nobody one.1) (one.2 nobody)) in
     absurd (true≢false (sym takes ∙ none p.number))
-may_tell old new peers l last false stands says holds looked log is none = looked refl log is
+may_tell old new peers l last false stands says holds looked none = looked refl
 
-pub moment_done : (wall start : ℕ) (old mid : Option (List Step)) (shown : Option ℕ) (answer : Result ℕ DoorFault)
-    → Tells old (Clocks shown) mid
-    → is_shown (Some shown) answer ≡ true → MayTell old → (log : List Step) → mid ≡ Some log
-    → IsDone wall start log (Answers (NowCall answer))
-moment_done wall start old mid shown answer tells is_so may log is =
-    let t = tells log is in
-    record {
-      clock = ap (λ l. is_shown (last_shown l) answer) t.2
-          ∙ ap (λ s. is_shown s answer) (fold-append (λ before step. shown_by step) None t.0 (Clocks shown ∷ [])) ∙ is_so;
-      waits = λ none. ap has_waited t.2 ∙ fold-append waited_after false t.0 (Clocks shown ∷ [])
-          ∙ may t.0 t.1 (λ socket. sym (ap takes_input (account_more socket t.0 (Clocks shown)))
-          ∙ ap (λ l. takes_input (account socket l)) (sym t.2) ∙ none socket);
-    }
+pub moment_done : (wall start : ℕ) (old mid : List Step) (shown : Option ℕ) (answer : Result ℕ DoorFault)
+    → mid ≡ old ++ Clocks shown ∷ [] → is_shown (Some shown) answer ≡ true → MayTell old
+    → IsDone wall start mid (Answers (NowCall answer))
+moment_done wall start old mid shown answer tells is_so may = record {
+  clock = ap (λ l. is_shown (last_shown l) answer) tells
+      ∙ ap (λ s. is_shown s answer) (fold-append (λ before step. shown_by step) None old (Clocks shown ∷ [])) ∙ is_so;
+  waits = λ none. ap has_waited tells ∙ fold-append waited_after false old (Clocks shown ∷ [])
+      ∙ may (λ socket. sym (ap takes_input (account_more socket old (Clocks shown)))
+      ∙ ap (λ l. takes_input (account socket l)) (sym tells) ∙ none socket);
+}

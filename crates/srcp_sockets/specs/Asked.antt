@@ -1,6 +1,6 @@
 -- When nobody is accepted though the system was not asked.
 use Rattle.std.specs.Prelude.{◌≡◌, ℕ, ◌==◌, ◌∷◌, ◌++◌, ◌||◌, nat_le, Bool, true, false, List, length}
-use Rattle.std.specs.Prelude.{Option, Some, None, Ok}
+use Rattle.std.specs.Prelude.{None, Ok}
 use Rattle.std.specs.List.{list_any}
 use Rattle.std.proofs.Props.{props}
 use Rattle.srcp_door.specs.Calls.{AcceptCall}
@@ -26,13 +26,8 @@ IsExcused log = (wall start : ℕ) → (times wall start log).heard ≡ None →
     → IsCrowded log
 
 -- so it was each time when `accept` answered nobody
-abbrev pub AreAsked : Option (List Step) → Type 0
-AreAsked trace = (before after : List Step) → trace ≡ Some (before ++ Answers (AcceptCall (Ok None)) ∷ after)
-    → IsExcused before
+abbrev pub AreAsked : List Step → Type 0
+AreAsked log = (before after : List Step) → log ≡ before ++ Answers (AcceptCall (Ok None)) ∷ after → IsExcused before
 
--- so it is after all steps
-abbrev pub MayRefuse : Option (List Step) → Type 0
-MayRefuse trace = (log : List Step) → trace ≡ Some log → IsExcused log
-
-pub AreAsked-prop : (trace : Option (List Step)) → IsProp (AreAsked trace)
-AreAsked-prop trace = hlevel props
+pub AreAsked-prop : (log : List Step) → IsProp (AreAsked log)
+AreAsked-prop log = hlevel props

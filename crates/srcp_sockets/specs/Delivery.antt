@@ -9,13 +9,13 @@ use Rattle.srcp_peers.specs.Steps.{Clocks, Step}
 use Rattle.srcp_peers.specs.Times.{times}
 
 -- the socket of each of these peers took all that was taken for it, or a write found that it takes no more
-abbrev pub AreDelivered : Option (List Step) → List Peer → Type 0
-AreDelivered trace peers = (log : List Step) → trace ≡ Some log → (k : ℕ) (d : Peer) → k < length peers
+abbrev pub AreDelivered : List Step → List Peer → Type 0
+AreDelivered log peers = (k : ℕ) (d : Peer) → k < length peers
     → (let a = account (slice_index_or peers k d).number log in (is_owed a.sent ≡ false) ⊎ (a.sent.lost ≡ true))
 
 -- so did each socket that was accepted and is not closed
-abbrev pub IsAllDelivered : Option (List Step) → Type 0
-IsAllDelivered trace = (log : List Step) → trace ≡ Some log → (socket : ℕ) → (account socket log).lingering.kept ≡ true
+abbrev pub IsAllDelivered : List Step → Type 0
+IsAllDelivered log = (socket : ℕ) → (account socket log).lingering.kept ≡ true
     → (is_owed (account socket log).sent ≡ false) ⊎ ((account socket log).sent.lost ≡ true)
 
 -- the time of the clock until which is delivered at most, if it showed this: as long as a peer lingers
@@ -28,19 +28,18 @@ is_over until (Some now) = nat_le until now
 is_over until None = true
 
 -- the step that came last found it so
-abbrev pub IsOver : (until : ℕ) → Option (List Step) → Type 0
-IsOver until trace = (log : List Step) → trace ≡ Some log
-    → (before : List Step) × (answer : Option ℕ) × (log ≡ before ++ Clocks answer ∷ []) × (is_over until answer ≡ true)
+abbrev pub IsOver : (until : ℕ) → List Step → Type 0
+IsOver until log = (before : List Step) × (answer : Option ℕ) × (log ≡ before ++ Clocks answer ∷ [])
+    × (is_over until answer ≡ true)
 
 -- `count` waits were made
-abbrev pub HasWaited : (count : ℕ) (old new : Option (List Step)) → Type 0
-HasWaited count old new = (later : List Step) → new ≡ Some later → (log : List Step) × (old ≡ Some log)
-    × ((wall start : ℕ) → (times wall start later).waits ≡ (times wall start log).waits + count)
+abbrev pub HasWaited : (count : ℕ) (old new : List Step) → Type 0
+HasWaited count old new = (wall start : ℕ) → (times wall start new).waits ≡ (times wall start old).waits + count
 
 -- these peers are delivered, or the time is over, or a million waits were made
-abbrev pub HaveEnded : (until : ℕ) (old new : Option (List Step)) → List Peer → Type 0
+abbrev pub HaveEnded : (until : ℕ) (old new : List Step) → List Peer → Type 0
 HaveEnded until old new peers = AreDelivered new peers ⊎ (IsOver until new ⊎ HasWaited 1000000 old new)
 
 -- every socket is delivered, or the time is over, or a million waits were made
-abbrev pub HasEnded : (until : ℕ) (old new : Option (List Step)) → Type 0
+abbrev pub HasEnded : (until : ℕ) (old new : List Step) → Type 0
 HasEnded until old new = IsAllDelivered new ⊎ (IsOver until new ⊎ HasWaited 1000000 old new)

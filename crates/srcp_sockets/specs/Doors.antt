@@ -1,6 +1,5 @@
 -- What holds of all sockets of a door.
 use Rattle.std.specs.Prelude.{◌≡◌, ℕ, ◌<◌, ◌&&◌, Bool, true, false, not, List, [], length, slice_index_or}
-use Rattle.std.specs.Prelude.{Option, Some}
 use Rattle.std.specs.Io.{StartsWith}
 use Rattle.std.specs.List.{list_any}
 use Rattle.srcp_peers.specs.declared.peer.Peer.{Peer}
@@ -45,8 +44,8 @@ pub record Sound (a : Account) : Type 0 where
   pub rightly : a.lingering.rightly ≡ true
   pub served : a.served ≡ true
 
-abbrev pub AreSound : Option (List Step) → Type 0
-AreSound trace = (log : List Step) → trace ≡ Some log → (socket : ℕ) → Sound (account socket log)
+abbrev pub AreSound : List Step → Type 0
+AreSound log = (socket : ℕ) → Sound (account socket log)
 
 -- nothing was given to it or came of it
 pub record Fresh (a : Account) : Type 0 where
@@ -56,8 +55,8 @@ pub record Fresh (a : Account) : Type 0 where
   pub handed : a.received.handed ≡ []
 
 -- so it is for all numbers that no socket had
-abbrev pub AreFresh : Option (List Step) → ℕ → Type 0
-AreFresh trace last = (log : List Step) → trace ≡ Some log → (socket : ℕ) → last < socket → Fresh (account socket log)
+abbrev pub AreFresh : List Step → ℕ → Type 0
+AreFresh log last = (socket : ℕ) → last < socket → Fresh (account socket log)
 
 -- it is neither there nor kept
 pub record Closed (a : Account) : Type 0 where
@@ -65,14 +64,13 @@ pub record Closed (a : Account) : Type 0 where
   pub kept : a.lingering.kept ≡ false
 
 -- so it is for all of which no peer is kept
-abbrev pub AreClosed : Option (List Step) → List Peer → Type 0
-AreClosed trace peers = (log : List Step) → trace ≡ Some log → (socket : ℕ) → IsAbsent socket peers
-    → Closed (account socket log)
+abbrev pub AreClosed : List Step → List Peer → Type 0
+AreClosed log peers = (socket : ℕ) → IsAbsent socket peers → Closed (account socket log)
 
 -- ---- who is read
 
-abbrev pub AreRead : Option (List Step) → Type 0
-AreRead trace = (socket : ℕ) → IsRead trace socket
+abbrev pub AreRead : List Step → Type 0
+AreRead log = (socket : ℕ) → IsRead log socket
 
 -- ---- what a turn flushes
 
@@ -97,20 +95,17 @@ pub record Hears (a : Account) (listening : Listening) : Type 0 where
   pub failed : a.received.failed ≡ false
   pub heard : a.received.quiet ≡ is_quiet listening
 
-abbrev pub IsHeard : Option (List Step) → Listening → Type 0
-IsHeard trace listening = (log : List Step) → trace ≡ Some log → Hears (account 0 log) listening
-
 -- ---- a door
 
-pub record Stands (trace : Option (List Step)) (peers : List Peer) (listening : Listening) (last : ℕ) : Type 0 where
-  pub kept : AreKept trace peers
+pub record Stands (log : List Step) (peers : List Peer) (listening : Listening) (last : ℕ) : Type 0 where
+  pub kept : AreKept log peers
   pub apart : AreApart peers
   pub within : AreWithin last peers
-  pub sound : AreSound trace
-  pub fresh : AreFresh trace last
-  pub closed : AreClosed trace peers
-  pub heard : IsHeard trace listening
+  pub sound : AreSound log
+  pub fresh : AreFresh log last
+  pub closed : AreClosed log peers
+  pub heard : Hears (account 0 log) listening
 
 -- so it is whatever the listener said, and however many peers came
-abbrev pub AreStanding : Option (List Step) → List Peer → Type 0
-AreStanding trace peers = (listening : Listening) × (last : ℕ) × Stands trace peers listening last
+abbrev pub AreStanding : List Step → List Peer → Type 0
+AreStanding log peers = (listening : Listening) × (last : ℕ) × Stands log peers listening last

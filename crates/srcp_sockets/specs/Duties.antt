@@ -107,8 +107,8 @@ IsDone wall start log (Answers (ReadCall who answer buffer)) =
 IsDone wall start log other = ⊤
 
 -- so it was each time
-abbrev pub AreDone : (wall start : ℕ) → Option (List Step) → Type 0
-AreDone wall start trace = (before after : List Step) (step : Step) → trace ≡ Some (before ++ step ∷ after)
+abbrev pub AreDone : (wall start : ℕ) → List Step → Type 0
+AreDone wall start log = (before after : List Step) (step : Step) → log ≡ before ++ step ∷ after
     → IsDone wall start before step
 
 IsDone-prop : (wall start : ℕ) (log : List Step) (step : Step) → IsProp (IsDone wall start log step)
@@ -126,14 +126,9 @@ IsDone-prop wall start log (Answers (ReadCall who answer buffer)) = hlevel props
 IsDone-prop wall start log (Answers (WriteCall who bytes answer)) = hlevel props
 IsDone-prop wall start log (Answers (CloseCall who answer)) = hlevel props
 
-pub AreDone-prop : (wall start : ℕ) (trace : Option (List Step)) → IsProp (AreDone wall start trace)
-AreDone-prop wall start trace = hlevel (props, IsDone-prop)
+pub AreDone-prop : (wall start : ℕ) (log : List Step) → IsProp (AreDone wall start log)
+AreDone-prop wall start log = hlevel (props, IsDone-prop)
 
 -- the door may report a moment once the clock is read
-abbrev pub MayTell : Option (List Step) → Type 0
-MayTell trace = (log : List Step) → trace ≡ Some log → ((socket : ℕ) → takes_input (account socket log) ≡ false)
-    → has_waited log ≡ true
-
--- it waited since it answered a call
-abbrev pub HasLooked : Option (List Step) → Type 0
-HasLooked trace = (log : List Step) → trace ≡ Some log → has_waited log ≡ true
+abbrev pub MayTell : List Step → Type 0
+MayTell log = ((socket : ℕ) → takes_input (account socket log) ≡ false) → has_waited log ≡ true

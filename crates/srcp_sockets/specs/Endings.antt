@@ -1,7 +1,7 @@
 -- How far a peer is on the way to its end, by the steps so far.
 use Rattle.std.specs.Prelude.{◌≡◌, ℕ, ◌<◌, ◌==◌, ◌&&◌, nat_le, nat_lt}
 use Rattle.std.specs.Prelude.{Bool, true, false, not, if◌then◌else◌, List, fold}
-use Rattle.std.specs.Prelude.{length, slice_index_or, Option, Some, Ok}
+use Rattle.std.specs.Prelude.{length, slice_index_or, Ok}
 use Rattle.std.proofs.Props.{props}
 use Rattle.srcp_door.specs.Calls.{Call, NowCall, WriteCall}
 use Rattle.srcp_peers.specs.declared.ending.Ending.{Ending}
@@ -60,15 +60,15 @@ is_as_far Settled (Settling writes) = false
 is_as_far Settled Settled = true
 
 -- so is each that is there
-abbrev pub AreAsFar : Option (List Step) → List Peer → Type 0
-AreAsFar trace peers = (log : List Step) → trace ≡ Some log → (k : ℕ) (d : Peer) → k < length peers
+abbrev pub AreAsFar : List Step → List Peer → Type 0
+AreAsFar log peers = (k : ℕ) (d : Peer) → k < length peers
     → (let p = slice_index_or peers k d in p.stay ≡ stay.Here → is_as_far (ending_of p.number log) p.ending ≡ true)
 
 -- so is each whose visit was begun, before the moment is reported
-abbrev pub AreVisited : Option (List Step) → List Peer → Type 0
-AreVisited trace peers = (log : List Step) → trace ≡ Some log → (k : ℕ) (d : Peer) → k < length peers
+abbrev pub AreVisited : List Step → List Peer → Type 0
+AreVisited log peers = (k : ℕ) (d : Peer) → k < length peers
     → (let p = slice_index_or peers k d in p.stay ≡ stay.Here
     → is_as_far (begun (ending_of p.number log) (is_all_read (account p.number log).received)) p.ending ≡ true)
 
-pub AreAsFar-prop : (trace : Option (List Step)) (peers : List Peer) → IsProp (AreAsFar trace peers)
-AreAsFar-prop trace peers = hlevel props
+pub AreAsFar-prop : (log : List Step) (peers : List Peer) → IsProp (AreAsFar log peers)
+AreAsFar-prop log peers = hlevel props

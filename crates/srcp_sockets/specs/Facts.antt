@@ -1,5 +1,5 @@
 -- What a door is has one proof at most.
-use Rattle.std.specs.Prelude.{ℕ, Bool, List, Option}
+use Rattle.std.specs.Prelude.{ℕ, Bool, List}
 use Rattle.std.proofs.Props.{props}
 use Rattle.srcp_peers.specs.declared.peer.Peer.{Peer}
 use Rattle.srcp_peers.specs.declared.readiness.Input.{Input}
@@ -38,6 +38,5 @@ StaysAs-prop watched lingering outgoing stay.Here = hlevel props
 StaysAs-prop watched lingering outgoing (stay.Draining since) = hlevel props
 StaysAs-prop watched lingering outgoing (stay.Shut since) = hlevel props
 
-pub Stands-prop : (trace : Option (List Step)) (peers : List Peer) (l : Listening) (last : ℕ) → IsProp
-    (Stands trace peers l last)
-Stands-prop trace peers l last = hlevel (props, ComesAs-prop, StaysAs-prop, WritesAs-prop)
+pub Stands-prop : (log : List Step) (peers : List Peer) (l : Listening) (last : ℕ) → IsProp (Stands log peers l last)
+Stands-prop log peers l last = hlevel (props, ComesAs-prop, StaysAs-prop, WritesAs-prop)

@@ -1,5 +1,5 @@
 -- What the sockets took of what the course sends their peers, and what it is fed of what they gave.
-use Rattle.std.specs.Prelude.{◌≡◌, ℕ, ◌<◌, List, [], length, slice_index_or, Option, Some}
+use Rattle.std.specs.Prelude.{◌≡◌, ℕ, ◌<◌, List, [], length, slice_index_or}
 use Rattle.std.specs.Io.{StartsWith}
 use Rattle.srcp_grammar.specs.declared.layout.Bus.{Bus}
 use Rattle.srcp_grammar.specs.Layout.{IsLayout}
@@ -25,9 +25,7 @@ pub record IsFollowed (buses : List Bus) (count opens : ℕ) (log : List Step) (
       → StartsWith (gave (slice_index_or (stand_after buses given.calls).connected k peer) log)
       (slice_index_or (course buses (events_of buses given.calls)).connections k conn).fed
 
--- so it is for a core that stands for no events, over a system with an empty trace
-abbrev pub Follows : (count opens : ℕ) (old : Held) (trace_old : Option (List Step)) (new : Held)
-    (trace_new : Option (List Step)) → Type 0
-Follows count opens old trace_old new trace_new = (buses : List Bus) (log : List Step) → IsLayout buses
-    → StandsFor buses [] old (course buses []) → trace_old ≡ Some [] → trace_new ≡ Some log
-    → IsFollowed buses count opens log old new
+-- so it is for a core that stands for no events, and a door whose log was empty
+abbrev pub Follows : (count opens : ℕ) (old : Held) (log_old : List Step) (new : Held) (log_new : List Step) → Type 0
+Follows count opens old log_old new log_new = (buses : List Bus) → IsLayout buses
+    → StandsFor buses [] old (course buses []) → log_old ≡ [] → IsFollowed buses count opens log_new old new

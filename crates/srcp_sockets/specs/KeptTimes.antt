@@ -1,5 +1,5 @@
 -- What holds of a door's times.
-use Rattle.std.specs.Prelude.{◌≡◌, ℕ, true, List, Option, Some, None}
+use Rattle.std.specs.Prelude.{◌≡◌, true, List, None}
 use Rattle.std.proofs.Props.{props}
 use Rattle.srcp_peers.specs.declared.turn.Turn.{Turn}
 use Rattle.srcp_peers.specs.Steps.{Step}
@@ -27,11 +27,8 @@ pub record Timed (t : Times) (turn : Turn) : Type 0 where
   pub honest : t.honest ≡ true
 
 -- so it is after all steps
-abbrev pub IsTimedFrom : (wall start : ℕ) → Option (List Step) → Turn → Type 0
-IsTimedFrom wall start trace turn = (log : List Step) → trace ≡ Some log → Timed (times wall start log) turn
+abbrev pub IsTimed : List Step → Turn → Type 0
+IsTimed log turn = Timed (times turn.timekeeper.wall turn.timekeeper.start log) turn
 
-abbrev pub IsTimed : Option (List Step) → Turn → Type 0
-IsTimed trace turn = IsTimedFrom turn.timekeeper.wall turn.timekeeper.start trace turn
-
-pub IsTimed-prop : (trace : Option (List Step)) (turn : Turn) → IsProp (IsTimed trace turn)
-IsTimed-prop trace turn = hlevel props
+pub IsTimed-prop : (log : List Step) (turn : Turn) → IsProp (IsTimed log turn)
+IsTimed-prop log turn = hlevel props

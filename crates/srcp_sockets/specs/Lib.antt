@@ -8,7 +8,6 @@ pub mod Faults
 pub mod Follows
 pub mod KeptTimes
 pub mod Names
-pub mod Notes
 pub mod Panels
 pub mod Waits
 pub mod Work

@@ -1,5 +1,5 @@
 -- The numbers that the door gave its peers.
-use Rattle.std.specs.Prelude.{◌≡◌, ℕ, ◌<◌, ◌≤◌, ◌==◌, List, length, filter_map, slice_index, Option, Some}
+use Rattle.std.specs.Prelude.{ℕ, ◌<◌, ◌≤◌, ◌==◌, List, length, filter_map, slice_index}
 use Rattle.std.specs.List.{IsDistinct}
 use Rattle.std.proofs.Props.{props}
 use Rattle.std.proofs.lemmas.Map.Keys.{IsDistinct-prop}
@@ -11,8 +11,8 @@ pub record Named (numbers : List ℕ) (last : ℕ) : Type 0 where
   pub differ : IsDistinct (λ a b. a == b) numbers
   pub within : (k : ℕ) → k < length numbers → slice_index numbers k ≤ last
 
-abbrev pub IsNamed : Option (List Step) → ℕ → Type 0
-IsNamed trace last = (log : List Step) → trace ≡ Some log → Named (filter_map peer_of (calls log)) last
+abbrev pub IsNamed : List Step → ℕ → Type 0
+IsNamed log last = Named (filter_map peer_of (calls log)) last
 
-pub IsNamed-prop : (trace : Option (List Step)) (last : ℕ) → IsProp (IsNamed trace last)
-IsNamed-prop trace last = hlevel (props, IsDistinct-prop)
+pub IsNamed-prop : (log : List Step) (last : ℕ) → IsProp (IsNamed log last)
+IsNamed-prop log last = hlevel (props, IsDistinct-prop)

@@ -1,7 +1,6 @@
 -- What a door has done when it waits.
-use Rattle.std.specs.Prelude.{◌≡◌, ℕ, ◌+◌, ◌==◌, ◌&&◌, ◌||◌, nat_lt, Bool, true, false, not, List, fold, Option, Some}
+use Rattle.std.specs.Prelude.{◌≡◌, ℕ, ◌+◌, ◌==◌, ◌&&◌, ◌||◌, nat_lt, Bool, true, false, not, List, fold}
 use Rattle.srcp_door.specs.Calls.{NowCall}
-use Rattle.srcp_peers.specs.declared.turn.Turn.{Turn}
 use Rattle.srcp_peers.specs.Accounts.{Account, account, is_lingering, is_overdue, is_owed, may_shut}
 use Rattle.srcp_peers.specs.Steps.{Answers, Closes, Step, Writes}
 use Rattle.srcp_peers.specs.Times.{times}
@@ -37,9 +36,8 @@ pub record IsFlushedOut (all : Bool) (a : Account) (written : Bool) : Type 0 whe
       → (not (is_owed a.sent) || ((a.sent.full || a.sent.lost) || written)) ≡ true
 
 -- so it is for each socket
-abbrev pub AreFlushed : (all : Bool) → Option (List Step) → Type 0
-AreFlushed all trace = (log : List Step) → trace ≡ Some log → (socket : ℕ)
-    → IsFlushedOut all (account socket log) (is_written socket log)
+abbrev pub AreFlushed : (all : Bool) → List Step → Type 0
+AreFlushed all log = (socket : ℕ) → IsFlushedOut all (account socket log) (is_written socket log)
 
 -- nothing happened since the last wait, or there is no panel
 abbrev pub is_calm : (wall start : ℕ) → List Step → Bool
@@ -50,8 +48,3 @@ is_calm wall start log = let turn = (times wall start log).turn in not (is_pendi
 pub record IsWaitDone (wall start : ℕ) (log : List Step) : Type 0 where
   pub closed : nat_lt (closes log) 64 ≡ true → (socket : ℕ) → has_to_close (account socket log) ≡ false
   pub flushed : (socket : ℕ) → IsFlushedOut (is_calm wall start log) (account socket log) (is_written socket log)
-
--- so it is before a wait
-abbrev pub MayWait : Turn → Option (List Step) → Type 0
-MayWait turn trace = (log : List Step) → trace ≡ Some log
-    → IsWaitDone turn.timekeeper.wall turn.timekeeper.start log

@@ -15,7 +15,7 @@ use Rattle.srcp_peers.specs.declared.turn.Turn.{Turn}
 use Rattle.srcp_peers.specs.Listeners.{refused_listening, woken_listening}
 use Rattle.srcp_peers.specs.Peers.{Makes, goes_first, holds_input, is_gone, is_here, is_shut, is_silent}
 use Rattle.srcp_peers.specs.Reports.{IsAnswered}
-use Rattle.srcp_peers.specs.Steps.{Accepts, Answers, Clocks, Closes, Step, Tells, Waits, failure_of}
+use Rattle.srcp_peers.specs.Steps.{Accepts, Answers, Clocks, Closes, Step, Waits, failure_of}
 use Rattle.srcp_peers.specs.Times.{accept_answer}
 use Rattle.srcp_peers.specs.Turns.{has_ticked, is_short_pace, moment_at}
 use Rattle.srcp_sockets.specs.Doors.{IsPresent, is_quiet}
@@ -28,7 +28,7 @@ is_close (Closes who) = true
 is_close other = false
 
 -- of those that linger nobody is left for whom nothing is left to do, or 64 sockets were closed
-abbrev pub AreClosedUp : (clock : ℕ) → List Peer → Option (List Step) → Option (List Step) → Type 0
+abbrev pub AreClosedUp : (clock : ℕ) → List Peer → (old new : List Step) → Type 0
 AreClosedUp clock peers old new = (position (is_gone clock) peers ≡ None) ⊎ Makes is_close 64 old new
 
 -- ---- when the door waits, and what time it is
@@ -38,9 +38,8 @@ abbrev pub goes_on : Turn → (flushed : ℕ) → List Peer → Bool
 goes_on turn flushed peers = not (has_ticked turn flushed) && list_any holds_input peers
 
 -- the step that came is a wait of that length, and the listener is heard as that found it
-abbrev pub IsWaiting : (most : Option ℕ) → (before after : Listening) → Option (List Step) → Option (List Step)
-    → Type 0
-IsWaiting most before after old new = (count : ℕ) × (ready : List Ready) × Tells old (Waits most count ready) new
+abbrev pub IsWaiting : (most : Option ℕ) → (before after : Listening) → (old new : List Step) → Type 0
+IsWaiting most before after old new = (count : ℕ) × (ready : List Ready) × (new ≡ old ++ Waits most count ready ∷ [])
     × (after ≡ fold woken_listening before (take count ready))
 
 -- the moment that is reported, if the clock shows this
@@ -49,10 +48,9 @@ moment_of turn None = Err fault.Now
 moment_of turn (Some time) = Ok (moment_at turn time)
 
 -- the steps that came are a look at the clock, and the moment that follows of it
-abbrev pub IsClocked : Turn → Result ℕ DoorFault → Option (List Step) → Option (List Step) → Type 0
-IsClocked turn answer old new = (shown : Option ℕ) × (answer ≡ moment_of turn shown) × ((later : List Step)
-    → new ≡ Some later
-    → (log : List Step) × (old ≡ Some log) × (later ≡ log ++ (Clocks shown ∷ Answers (NowCall answer) ∷ [])))
+abbrev pub IsClocked : Turn → Result ℕ DoorFault → (old new : List Step) → Type 0
+IsClocked turn answer old new = (shown : Option ℕ) × (answer ≡ moment_of turn shown)
+    × (new ≡ old ++ Clocks shown ∷ Answers (NowCall answer) ∷ [])
 
 -- ---- who is accepted
 
@@ -68,20 +66,18 @@ after_accept heard (Err fault) = refused_listening (failure_of fault)
 
 -- the steps that came are an accept of the system under that number, and the answer that follows of it; the listener is
 -- heard as the system answered
-abbrev pub IsAccepting : (number : ℕ) → Result (Option ℕ) DoorFault → (before after : Listening)
-    → Option (List Step) → Option (List Step) → Type 0
+abbrev pub IsAccepting : (number : ℕ) → Result (Option ℕ) DoorFault → (before after : Listening) → (old new : List Step)
+    → Type 0
 IsAccepting number answer before after old new = (said : Result Unit ErrorKind)
-    × (answer ≡ accept_answer number said) × (after ≡ after_accept before said) × ((later : List Step)
-    → new ≡ Some later
-    → (log : List Step) × (old ≡ Some log)
-    × (later ≡ log ++ (Accepts number said ∷ Answers (AcceptCall answer) ∷ [])))
+    × (answer ≡ accept_answer number said) × (after ≡ after_accept before said)
+    × (new ≡ old ++ Accepts number said ∷ Answers (AcceptCall answer) ∷ [])
 
 -- the next pending connection may be accepted
 abbrev pub may_accept : Listening → (places : ℕ) → List Peer → Bool
 may_accept heard places peers = not (is_quiet heard) && not (is_crowded places peers)
 
 -- a place is made: the first peer that lingers and is owed nothing is closed. Without one nobody comes in for now
-pub record MakesRoom (peers : List Peer) (before after : Listening) (old new : Option (List Step)) : Type 0 where
+pub record MakesRoom (peers : List Peer) (before after : Listening) (old new : List Step) : Type 0 where
   pub none : position (λ peer. is_shut peer.stay) peers ≡ None → after ≡ listening.BackingOff
   pub one : (index : ℕ) → position (λ peer. is_shut peer.stay) peers ≡ Some index
       → (after ≡ before) × Makes is_close 1 old new

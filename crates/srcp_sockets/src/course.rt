@@ -13,15 +13,15 @@ use srcp_serve::{Served, serve};
 /// door failed. Whatever the system answers, what socket k took is a prefix of what the course sends connection k.
 /// Connection k of that course is fed a prefix of what socket k gave. In that course the core counted exactly the
 /// refusals of memory.
-pub fn serve_sockets<R: Rows, S: System + Drop>(
+pub fn serve_sockets<R: Rows, S: System>(
     core: &mut Core<'_, R>,
     door: &mut SocketDoor<S>,
     turns: u64,
 ) -> Served
     ensures turns { result.turns ≡ turns }
     ensures faults { door.new.faults < 18446744073709551615 → door.old.faults + result.faults ≡ door.new.faults }
-    ensures course { Follows turns result.opened core.old (S.trace door.old.sockets.system)
-        core.new (S.trace door.new.sockets.system) }
+    ensures course { Follows turns result.opened core.old door.old.sockets.system.log.steps
+        core.new door.new.sockets.system.log.steps }
 {
     serve(core, door, turns)
 }

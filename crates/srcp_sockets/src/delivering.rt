@@ -7,7 +7,7 @@ ghost use Rattle.srcp_peers.specs.AllPeers.{AreApart, AreKept, AreOffered};
 ghost use Rattle.srcp_peers.specs.Peers.{is_waiting};
 
 use srcp_peers::peers::{flush, wake};
-use srcp_peers::{Flush, Peer, RETRY_DELAY, Ready, System};
+use srcp_peers::{Flush, Logged, Peer, RETRY_DELAY, Ready, System};
 
 /// The most waits of a door for its sockets at its end.
 const MOST_LAST_WAITS: u32 = 1_000_000;
@@ -15,20 +15,20 @@ const MOST_LAST_WAITS: u32 = 1_000_000;
 /// Writes the queued bytes until the sockets took all, or until the monotonic clock shows `until`, in milliseconds.
 /// Gives up too if the clock cannot be read.
 pub(crate) fn deliver<S: System>(
-    system: &mut S,
+    system: &mut Logged<S>,
     peers: &mut [Peer],
     until: u64,
     ready: &mut [Ready],
 )
-    requires kept { AreKept (S.trace system.old) peers.old }
+    requires kept { AreKept system.old.log.steps peers.old }
     requires apart { AreApart peers.old }
     requires ready { length ready.old ≡ 128 }
-    ensures kept { AreKept (S.trace system.new) peers.new }
-    ensures ended { HaveEnded until (S.trace system.old) (S.trace system.new) peers.new }
-    ensures standing { AreStanding (S.trace system.old) peers.old → AreStanding (S.trace system.new) peers.new }
-    ensures all { AreStanding (S.trace system.old) peers.old
-        → HasEnded until (S.trace system.old) (S.trace system.new) }
-    ensures offered { AreOffered Flush.All peers.old (S.trace system.old) (S.trace system.new) }
+    ensures kept { AreKept system.new.log.steps peers.new }
+    ensures ended { HaveEnded until system.old.log.steps system.new.log.steps peers.new }
+    ensures standing { AreStanding system.old.log.steps peers.old → AreStanding system.new.log.steps peers.new }
+    ensures all { AreStanding system.old.log.steps peers.old
+        → HasEnded until system.old.log.steps system.new.log.steps }
+    ensures offered { AreOffered Flush.All peers.old system.old.log.steps system.new.log.steps }
 {
     for _look in 0..MOST_LAST_WAITS {
         flush(system, peers, Flush::All);

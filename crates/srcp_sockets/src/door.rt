@@ -1,9 +1,9 @@
 //! The door over the system's sockets.
 
-ghost use Rattle.std.specs.Prelude.{◌≡◌, ◌⊎◌, ◌<◌, ◌≤◌, IfErr, Ok, true, false, option_map, ℕ, Option, Some, None, []};
+ghost use Rattle.std.specs.Prelude.{◌≡◌, ◌<◌, ◌≤◌, IfErr, Ok, true, false, ℕ, Some, []};
 ghost use Rattle.std.specs.Prelude.{IfOk, OnOk, OnErr, length, vec_capacity};
-ghost use Rattle.srcp_door.specs.Calls.{ReadCall, Tells, one_more};
-ghost use Rattle.srcp_peers.specs.Steps.{calls};
+ghost use Rattle.srcp_door.specs.Calls.{ReadCall, one_more};
+ghost use Rattle.srcp_peers.specs.Steps.{SaysOne};
 ghost use Rattle.srcp_peers.specs.Turns.{first_turn, got_bytes};
 ghost use Rattle.srcp_sockets.specs.Work.{IsPeerRead};
 
@@ -21,7 +21,7 @@ const MOST_PEERS: usize = MOST_CONNECTIONS + 1 + MOST_LINGERING;
 pub(crate) const MOST_READY: usize = 128;
 
 /// Holds a door over the system's sockets. When dropped, the door delivers the bytes that were taken.
-pub struct SocketDoor<S: System + Drop> {
+pub struct SocketDoor<S: System> {
     pub(crate) sockets: Sockets<S>,
     alloc: Global,
     ready: Vec<Ready>,
@@ -29,8 +29,8 @@ pub struct SocketDoor<S: System + Drop> {
     ghost most: { length ready.items ≡ 128 },
 }
 
-impl<S: System + Drop> SocketDoor<S> {
-    /// Opens a door over a system with an empty trace. The moments begin with the wall clock `wall`, and go on with the
+impl<S: System> SocketDoor<S> {
+    /// Opens a door over a system, with an empty log. The moments begin with the wall clock `wall`, and go on with the
     /// monotonic clock, which showed `start` then; both in milliseconds.
     ///
     /// # Errors
@@ -41,9 +41,9 @@ impl<S: System + Drop> SocketDoor<S> {
         wall: u64,
         start: u64,
     ) -> Result<SocketDoor<S>, AllocError>
-        requires { S.trace system ≡ Some [] ⊎ S.trace system ≡ None }
         ensures faults { IfOk result (λ door. door.faults ≡ 0) }
-        ensures system { IfOk result (λ door. door.sockets.system ≡ system) }
+        ensures system { IfOk result (λ door. door.sockets.system.system ≡ system) }
+        ensures log { IfOk result (λ door. door.sockets.system.log.steps ≡ []) }
         ensures turn { IfOk result (λ door. door.sockets.turn ≡ first_turn wall start) }
         ensures places { IfOk result (λ door. vec_capacity door.sockets.peers ≡ 129) }
     {
@@ -73,11 +73,11 @@ impl<S: System + Drop> SocketDoor<S> {
         self.sockets.wait_at_most(milliseconds);
     }
 
-    /// Returns the system below, which has the trace if the system keeps a trace.
+    /// Returns the system below.
     pub fn system(&self) -> &S
-        ensures { result.now ≡ self.now.sockets.system }
+        ensures { result.now ≡ self.now.sockets.system.system }
     {
-        &self.sockets.system
+        self.sockets.system.system()
     }
 
     /// Counts a failed call.
@@ -89,7 +89,7 @@ impl<S: System + Drop> SocketDoor<S> {
     }
 }
 
-impl<S: System + Drop> Drop for SocketDoor<S> {
+impl<S: System> Drop for SocketDoor<S> {
     /// Delivers the bytes that were taken, for 10 seconds at most.
     fn drop(self) {
         let SocketDoor {
@@ -102,13 +102,13 @@ impl<S: System + Drop> Drop for SocketDoor<S> {
     }
 }
 
-impl<S: System + Drop> Door for SocketDoor<S> {
-    ghost use Rattle.std.specs.Prelude.{option_map};
+impl<S: System> Door for SocketDoor<S> {
+    ghost use Rattle.std.specs.Prelude.{Some};
     ghost use Rattle.srcp_peers.specs.Steps.{calls};
 
     ghost faults = { λ d. d.faults };
 
-    ghost trace = { λ d. option_map calls (S.trace d.sockets.system) };
+    ghost trace = { λ d. Some (calls d.sockets.system.log.steps) };
 
     fn expect(&mut self, due: Option<u64>, slack: Option<usize>) {
         self.sockets.expect(due, slack);
@@ -136,8 +136,8 @@ impl<S: System + Drop> Door for SocketDoor<S> {
         ensures err { OnErr result (self.new.faults ≡ one_more self.old.faults) }
         ensures fault { IfErr result (λ fault. fault ≡ DoorFault.Read) }
         ensures count { (n : ℕ) → result ≡ Ok (Got.Bytes n) → (0 < n) × (n ≤ length buf.old) }
-        ensures trace { Tells (option_map calls (S.trace self.old.sockets.system)) (ReadCall peer result buf.new)
-            (option_map calls (S.trace self.new.sockets.system)) }
+        ensures trace { SaysOne self.old.sockets.system.log.steps (ReadCall peer result buf.new)
+            self.new.sockets.system.log.steps }
         ensures late { self.old.sockets.turn.late ≡ true → result ≡ Ok Got.Nothing }
         ensures answered { self.old.sockets.turn.late ≡ false
             → IsPeerRead self.old.sockets.turn self.old.sockets.peers.items peer (length buf.old) result

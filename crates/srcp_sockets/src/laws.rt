@@ -30,10 +30,10 @@ use srcp_peers::{MOST_OUTGOING, System};
 
 /// States that each socket took a prefix of what the door said to have taken for the peer. What the door handed out of
 /// a peer is a prefix of what the peer's socket gave.
-pub fn sockets_follow<S: System + Drop>(door: &SocketDoor<S>)
-    ensures took { (log : List Step) → S.trace door.now.sockets.system ≡ Some log → (socket : ℕ)
+pub fn sockets_follow<S: System>(door: &SocketDoor<S>)
+    ensures took { let log = door.now.sockets.system.log.steps in (socket : ℕ)
         → StartsWith (taken socket log) (took socket log) }
-    ensures handed { (log : List Step) → S.trace door.now.sockets.system ≡ Some log → (socket : ℕ)
+    ensures handed { let log = door.now.sockets.system.log.steps in (socket : ℕ)
         → StartsWith (gave socket log) (handed socket log) }
 {
     let _sockets = &door.sockets;
@@ -41,8 +41,8 @@ pub fn sockets_follow<S: System + Drop>(door: &SocketDoor<S>)
 
 /// States that bytes taken for a peer, and not yet taken by the socket, are held in order. This holds while the peer is
 /// there or is kept, unless a write found that the socket takes no more.
-pub fn untaken_is_held<S: System + Drop>(door: &SocketDoor<S>)
-    ensures { (log : List Step) → S.trace door.now.sockets.system ≡ Some log → (k : ℕ) (d : Peer)
+pub fn untaken_is_held<S: System>(door: &SocketDoor<S>)
+    ensures { let log = door.now.sockets.system.log.steps in (k : ℕ) (d : Peer)
         → k < length door.now.sockets.peers.items
         → (let peer = slice_index_or door.now.sockets.peers.items k d in
         ((account peer.number log).sent.lost ≡ true)
@@ -53,9 +53,9 @@ pub fn untaken_is_held<S: System + Drop>(door: &SocketDoor<S>)
 
 /// States that the end of a peer was reported only after a read of the peer's socket had found the end. By then all
 /// input before the end was handed out, and the socket had taken all bytes taken for the peer.
-pub fn ends_are_true<S: System + Drop>(door: &SocketDoor<S>)
+pub fn ends_are_true<S: System>(door: &SocketDoor<S>)
     ensures { (before after : List Step) (socket : ℕ) (buffer : List ℕ)
-        → S.trace door.now.sockets.system ≡ Some (before ++ Answers (ReadCall socket (Ok Got.Ended) buffer) ∷ after)
+        → door.now.sockets.system.log.steps ≡ before ++ Answers (ReadCall socket (Ok Got.Ended) buffer) ∷ after
         → may_end (account socket before) ≡ true }
 {
     let _sockets = &door.sockets;
@@ -63,12 +63,12 @@ pub fn ends_are_true<S: System + Drop>(door: &SocketDoor<S>)
 
 /// States that a read was reported as failed only if a read or a write of the socket had failed before, or the peer was
 /// not there. A failed write was reported only if the peer was not there.
-pub fn faults_are_true<S: System + Drop>(door: &SocketDoor<S>)
+pub fn faults_are_true<S: System>(door: &SocketDoor<S>)
     ensures read { (before after : List Step) (socket : ℕ) (fault : DoorFault) (buffer : List ℕ)
-        → S.trace door.now.sockets.system ≡ Some (before ++ Answers (ReadCall socket (Err fault) buffer) ∷ after)
+        → door.now.sockets.system.log.steps ≡ before ++ Answers (ReadCall socket (Err fault) buffer) ∷ after
         → may_fail (account socket before) ≡ true }
     ensures write { (before after : List Step) (socket : ℕ) (bytes : List ℕ) (fault : DoorFault)
-        → S.trace door.now.sockets.system ≡ Some (before ++ Answers (WriteCall socket bytes (Err fault)) ∷ after)
+        → door.now.sockets.system.log.steps ≡ before ++ Answers (WriteCall socket bytes (Err fault)) ∷ after
         → (account socket before).watched ≡ false }
 {
     let _sockets = &door.sockets;
@@ -76,9 +76,9 @@ pub fn faults_are_true<S: System + Drop>(door: &SocketDoor<S>)
 
 /// States what a wait owes to a peer that is there. The wait may leave the peer with less than a piece held, and with
 /// something that a read might find. Then the peer was read before the next moment was reported.
-pub fn peers_are_read<S: System + Drop>(door: &SocketDoor<S>)
+pub fn peers_are_read<S: System>(door: &SocketDoor<S>)
     ensures { (before after : List Step) (socket : ℕ) (answer : Result ℕ DoorFault)
-        → S.trace door.now.sockets.system ≡ Some (before ++ Answers (NowCall answer) ∷ after)
+        → door.now.sockets.system.log.steps ≡ before ++ Answers (NowCall answer) ∷ after
         → ((account socket before).watched && (account socket before).unread) ≡ false }
 {
     let _sockets = &door.sockets;
@@ -86,9 +86,9 @@ pub fn peers_are_read<S: System + Drop>(door: &SocketDoor<S>)
 
 /// States that a wait longer than the retry delay found at rest each peer that was there, and the listener, which is
 /// socket 0.
-pub fn waits_are_safe<S: System + Drop>(door: &SocketDoor<S>)
+pub fn waits_are_safe<S: System>(door: &SocketDoor<S>)
     ensures { (before after : List Step) (most : Option ℕ) (count : ℕ) (ready : List Ready)
-        → S.trace door.now.sockets.system ≡ Some (before ++ Waits most count ready ∷ after) → is_short_wait most ≡ false
+        → door.now.sockets.system.log.steps ≡ before ++ Waits most count ready ∷ after → is_short_wait most ≡ false
         → (socket : ℕ) → ((account socket before).watched || (socket == 0)) ≡ true
         → is_at_rest (account socket before).sent (account socket before).received ≡ true }
 {
@@ -99,14 +99,14 @@ pub fn waits_are_safe<S: System + Drop>(door: &SocketDoor<S>)
 /// when it had taken all bytes taken for the peer. There are three cases in which the socket was closed. First, it took
 /// all these bytes and was shut down. Second, a write had found that it takes no more. Third, 10 seconds were over by
 /// the clock that was read. An accepted socket that is not closed has a peer.
-pub fn closed_rightly<S: System + Drop>(door: &SocketDoor<S>)
+pub fn closed_rightly<S: System>(door: &SocketDoor<S>)
     ensures shut { (before after : List Step) (socket : ℕ)
-        → S.trace door.now.sockets.system ≡ Some (before ++ Shuts socket ∷ after)
+        → door.now.sockets.system.log.steps ≡ before ++ Shuts socket ∷ after
         → may_shut (account socket before) ≡ true }
     ensures closed { (before after : List Step) (socket : ℕ)
-        → S.trace door.now.sockets.system ≡ Some (before ++ Closes socket ∷ after)
+        → door.now.sockets.system.log.steps ≡ before ++ Closes socket ∷ after
         → may_close (account socket before) ≡ true }
-    ensures kept { (log : List Step) (socket : ℕ) → S.trace door.now.sockets.system ≡ Some log
+    ensures kept { let log = door.now.sockets.system.log.steps in (socket : ℕ)
         → (account socket log).lingering.kept ≡ true → IsThere socket door.now.sockets.peers.items }
 {
     let _sockets = &door.sockets;
@@ -115,9 +115,9 @@ pub fn closed_rightly<S: System + Drop>(door: &SocketDoor<S>)
 /// States that each moment was the moment to report by a clock that was read since the moment before. No wait ended
 /// past what the door expects to fall due, and no wait began in a late turn. A wait longer than the retry delay came
 /// after a turn in which nothing happened, unless there was no panel. No input was handed out in a late turn.
-pub fn times_are_kept<S: System + Drop>(door: &SocketDoor<S>)
-    ensures { (log : List Step) → S.trace door.now.sockets.system ≡ Some log
-        → AreKeptTimes (times door.now.sockets.turn.timekeeper.wall door.now.sockets.turn.timekeeper.start log) }
+pub fn times_are_kept<S: System>(door: &SocketDoor<S>)
+    ensures { AreKeptTimes (times door.now.sockets.turn.timekeeper.wall door.now.sockets.turn.timekeeper.start
+        door.now.sockets.system.log.steps) }
 {
     let _sockets = &door.sockets;
 }
@@ -125,9 +125,9 @@ pub fn times_are_kept<S: System + Drop>(door: &SocketDoor<S>)
 /// States that the door answered `accept` as the system did. The answer was the number of the accepted connection, a
 /// fault if the system failed, or nobody if the system found nobody or was interrupted. If the system was not asked,
 /// the answer was nobody, or a fault since memory or the numbers ran out.
-pub fn accepts_are_true<S: System + Drop>(door: &SocketDoor<S>)
-    ensures { (log : List Step) → S.trace door.now.sockets.system ≡ Some log
-        → (times door.now.sockets.turn.timekeeper.wall door.now.sockets.turn.timekeeper.start log).honest ≡ true }
+pub fn accepts_are_true<S: System>(door: &SocketDoor<S>)
+    ensures { (times door.now.sockets.turn.timekeeper.wall door.now.sockets.turn.timekeeper.start
+        door.now.sockets.system.log.steps).honest ≡ true }
 {
     let _sockets = &door.sockets;
 }
@@ -136,8 +136,8 @@ pub fn accepts_are_true<S: System + Drop>(door: &SocketDoor<S>)
 /// `accept`, or the listener (socket 0) was found quiet, or there was no place. No place means that at least 128
 /// accepted sockets are not closed, or 63 linger. With one more there is no place, and one may have been closed just
 /// now to make a place.
-pub fn accepts_are_asked<S: System + Drop>(door: &SocketDoor<S>)
-    ensures { AreAsked (S.trace door.now.sockets.system) }
+pub fn accepts_are_asked<S: System>(door: &SocketDoor<S>)
+    ensures { AreAsked door.now.sockets.system.log.steps }
 {
     let _sockets = &door.sockets;
 }
@@ -145,12 +145,12 @@ pub fn accepts_are_asked<S: System + Drop>(door: &SocketDoor<S>)
 /// States that each moment was reported as the next step behind a look at the clock: as a fault if the clock could not
 /// be read, else as a time. If the door had not waited since it answered the call before, input of a peer was held that
 /// the core takes.
-pub fn turns_wait<S: System + Drop>(door: &SocketDoor<S>)
+pub fn turns_wait<S: System>(door: &SocketDoor<S>)
     ensures clock { (before after : List Step) (answer : Result ℕ DoorFault)
-        → S.trace door.now.sockets.system ≡ Some (before ++ Answers (NowCall answer) ∷ after)
+        → door.now.sockets.system.log.steps ≡ before ++ Answers (NowCall answer) ∷ after
         → is_shown (last_shown before) answer ≡ true }
     ensures waits { (before after : List Step) (answer : Result ℕ DoorFault)
-        → S.trace door.now.sockets.system ≡ Some (before ++ Answers (NowCall answer) ∷ after)
+        → door.now.sockets.system.log.steps ≡ before ++ Answers (NowCall answer) ∷ after
         → ((socket : ℕ) → takes_input (account socket before) ≡ false) → has_waited before ≡ true }
 {
     let _sockets = &door.sockets;
@@ -160,12 +160,12 @@ pub fn turns_wait<S: System + Drop>(door: &SocketDoor<S>)
 /// before. A socket has to be closed if a write found that it takes no more, or 10 seconds are over by the clock read.
 /// By then each lingering socket that took all bytes taken for its peer was shut down, unless a write found that it
 /// takes no more.
-pub fn gone_are_closed<S: System + Drop>(door: &SocketDoor<S>)
+pub fn gone_are_closed<S: System>(door: &SocketDoor<S>)
     ensures closed { (before after : List Step) (most : Option ℕ) (count : ℕ) (ready : List Ready)
-        → S.trace door.now.sockets.system ≡ Some (before ++ Waits most count ready ∷ after)
+        → door.now.sockets.system.log.steps ≡ before ++ Waits most count ready ∷ after
         → nat_lt (closes before) 64 ≡ true → (socket : ℕ) → has_to_close (account socket before) ≡ false }
     ensures shut { (before after : List Step) (most : Option ℕ) (count : ℕ) (ready : List Ready)
-        → S.trace door.now.sockets.system ≡ Some (before ++ Waits most count ready ∷ after)
+        → door.now.sockets.system.log.steps ≡ before ++ Waits most count ready ∷ after
         → (socket : ℕ) → may_shut (account socket before) ≡ true → (account socket before).sent.lost ≡ true }
 {
     let _sockets = &door.sockets;
@@ -175,9 +175,9 @@ pub fn gone_are_closed<S: System + Drop>(door: &SocketDoor<S>)
 /// without a panel. Consider each socket that was not closed, and had not taken all bytes taken for its peer. The
 /// socket was written to since the door answered the call before; or a write had found that it takes nothing now, or no
 /// more.
-pub fn queued_is_offered<S: System + Drop>(door: &SocketDoor<S>)
+pub fn queued_is_offered<S: System>(door: &SocketDoor<S>)
     ensures { (before after : List Step) (most : Option ℕ) (count : ℕ) (ready : List Ready)
-        → S.trace door.now.sockets.system ≡ Some (before ++ Waits most count ready ∷ after)
+        → door.now.sockets.system.log.steps ≡ before ++ Waits most count ready ∷ after
         → is_calm door.now.sockets.turn.timekeeper.wall door.now.sockets.turn.timekeeper.start before ≡ true
         → (socket : ℕ) → (account socket before).lingering.kept ≡ true
         → is_owed (account socket before).sent ≡ true
@@ -190,9 +190,9 @@ pub fn queued_is_offered<S: System + Drop>(door: &SocketDoor<S>)
 /// States what a read did if input of the peer was held and the turn was not late. The read reported no end. If no line
 /// ends in the piece that the buffer takes, the read handed out all of the piece. Else the read handed out at least the
 /// lines at the start of the piece that weigh nothing.
-pub fn input_is_handed_out<S: System + Drop>(door: &SocketDoor<S>)
+pub fn input_is_handed_out<S: System>(door: &SocketDoor<S>)
     ensures { (before after : List Step) (socket : ℕ) (answer : Result Got DoorFault) (buffer : List ℕ)
-        → S.trace door.now.sockets.system ≡ Some (before ++ Answers (ReadCall socket answer buffer) ∷ after)
+        → door.now.sockets.system.log.steps ≡ before ++ Answers (ReadCall socket answer buffer) ∷ after
         → (account socket before).watched ≡ true → is_held (account socket before).received ≡ true
         → (let t = times door.now.sockets.turn.timekeeper.wall door.now.sockets.turn.timekeeper.start before in
         t.turn.late ≡ false → (reports_end answer ≡ false)
@@ -204,9 +204,9 @@ pub fn input_is_handed_out<S: System + Drop>(door: &SocketDoor<S>)
 
 /// States that a read of a peer that was not there reported a fault. So did a read of a peer with nothing held of which
 /// a read or a write had failed. The exceptions are a late turn, and a turn that had reported another end.
-pub fn faults_are_told<S: System + Drop>(door: &SocketDoor<S>)
+pub fn faults_are_told<S: System>(door: &SocketDoor<S>)
     ensures { (before after : List Step) (socket : ℕ) (answer : Result Got DoorFault) (buffer : List ℕ)
-        → S.trace door.now.sockets.system ≡ Some (before ++ Answers (ReadCall socket answer buffer) ∷ after)
+        → door.now.sockets.system.log.steps ≡ before ++ Answers (ReadCall socket answer buffer) ∷ after
         → is_failing (account socket before) ≡ true
         → (let t = times door.now.sockets.turn.timekeeper.wall door.now.sockets.turn.timekeeper.start before in
         t.turn.late ≡ false → t.turn.may_report_end ≡ true → is_fault answer ≡ true) }
@@ -218,9 +218,9 @@ pub fn faults_are_told<S: System + Drop>(door: &SocketDoor<S>)
 /// had found the end, all input before was handed out, and the socket had taken all bytes taken for the peer. A visit
 /// behind the end had no more for the peer: fewer than 300 writes, and no cut write. The exceptions are a late turn,
 /// and a turn that had reported another end.
-pub fn ends_are_told<S: System + Drop>(door: &SocketDoor<S>)
+pub fn ends_are_told<S: System>(door: &SocketDoor<S>)
     ensures { (before after : List Step) (socket : ℕ) (answer : Result Got DoorFault) (buffer : List ℕ)
-        → S.trace door.now.sockets.system ≡ Some (before ++ Answers (ReadCall socket answer buffer) ∷ after)
+        → door.now.sockets.system.log.steps ≡ before ++ Answers (ReadCall socket answer buffer) ∷ after
         → is_leaving socket before ≡ true
         → (let t = times door.now.sockets.turn.timekeeper.wall door.now.sockets.turn.timekeeper.start before in
         t.turn.late ≡ false → t.turn.may_report_end ≡ true → is_end answer ≡ true) }
@@ -233,9 +233,9 @@ pub fn ends_are_told<S: System + Drop>(door: &SocketDoor<S>)
 /// weight of a line, and the clock had gone on since the moment before. Then one read at most handed out lines that
 /// weigh something, and these weighed no more than a line can. Between two moments the end of at most one peer was
 /// reported.
-pub fn turns_are_paced<S: System + Drop>(door: &SocketDoor<S>)
-    ensures { (log : List Step) → S.trace door.now.sockets.system ≡ Some log
-        → ArePaced (times door.now.sockets.turn.timekeeper.wall door.now.sockets.turn.timekeeper.start log) }
+pub fn turns_are_paced<S: System>(door: &SocketDoor<S>)
+    ensures { ArePaced (times door.now.sockets.turn.timekeeper.wall door.now.sockets.turn.timekeeper.start
+        door.now.sockets.system.log.steps) }
 {
     let _sockets = &door.sockets;
 }
@@ -244,8 +244,8 @@ pub fn turns_are_paced<S: System + Drop>(door: &SocketDoor<S>)
 /// bring at most 160 changes. Second, with the lines that were handed out, of whose weight at most 11 count, these are
 /// within the slack that the door was given. The slack is 256 if there was no panel. The door's calls are those that
 /// some turns ask, no peer was accepted twice, and each answer is allowed to a door.
-pub fn panels_are_kept<S: System + Drop>(door: &SocketDoor<S>)
-    ensures { (log : List Step) → S.trace door.now.sockets.system ≡ Some log → PanelsAreKept log }
+pub fn panels_are_kept<S: System>(door: &SocketDoor<S>)
+    ensures { PanelsAreKept door.now.sockets.system.log.steps }
 {
     let _sockets = &door.sockets;
 }

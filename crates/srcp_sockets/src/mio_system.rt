@@ -1,16 +1,13 @@
-//! The system of the machine: mio's sockets and a clock, with a log that only clauses read. Each call finds the socket
-//! of a number and makes the system call. A wait that failed or was ended early is followed by a rest. The log has each
-//! call with its answer.
+//! The system of the machine: mio's sockets and a clock. Each call finds the socket of a number and makes the system
+//! call. A wait that failed or was ended early is followed by a rest.
 
-ghost use Rattle.std.specs.Prelude.{◌≡◌, ◌/◌, [], IfOk, ◌<◌, ◌≤◌, IfSome, Some, length, min};
+ghost use Rattle.std.specs.Prelude.{◌≡◌, ◌/◌, IfOk, ◌<◌, IfSome, length, min};
 ghost use Rattle.std.specs.Duration.{as_nanos};
 
 use crate::door::MOST_READY;
-use crate::log::{Log, Note};
 use crate::options::set_options;
 use mio::net::{TcpListener, TcpStream};
 use mio::{Events, Interest, Poll, Token};
-use srcp_door::{DoorFault, Got};
 use srcp_peers::{Ready, System};
 use std::alloc::Global;
 use std::io;
@@ -32,9 +29,15 @@ struct Socket {
     stream: TcpStream,
 }
 
-/// Makes the calls of the system, with the sockets of the machine and a clock.
+/// Makes the calls of a door, with the sockets of the machine and a clock.
 #[derive(Drop)]
-struct MioCalls<C: Clock + Drop> {
+pub struct MioSystem<C: Clock + Drop> {
+    /// The address of the listener.
+    pub address: SocketAddr,
+    /// What the wall clock showed before the listener was opened, in milliseconds; 0 if the clock could not be read.
+    pub wall: u64,
+    /// What the monotonic clock showed then, in milliseconds.
+    pub start: u64,
     listener: TcpListener,
     poll: Poll,
     events: Events<Global>,
@@ -45,20 +48,6 @@ struct MioCalls<C: Clock + Drop> {
     sockets: Vec<Socket>,
     // The index of the last socket that was asked.
     recent: usize,
-}
-
-/// Makes the calls of a door, with the sockets of the machine and a clock, and logs each call with the answer.
-#[derive(Drop)]
-pub struct MioSystem<C: Clock + Drop> {
-    /// The address of the listener.
-    pub address: SocketAddr,
-    /// What the wall clock showed before the listener was opened, in milliseconds; 0 if the clock could not be read.
-    pub wall: u64,
-    /// What the monotonic clock showed then, in milliseconds.
-    pub start: u64,
-    /// The calls and answers up to now.
-    pub log: Log,
-    calls: MioCalls<C>,
 }
 
 impl<C: Clock + Drop> MioSystem<C> {
@@ -72,35 +61,19 @@ impl<C: Clock + Drop> MioSystem<C> {
         address: SocketAddr,
         clock: C,
     ) -> io::Result<MioSystem<C>>
-        ensures address { IfOk result (λ system. system.address ≡ address) }
-        ensures log { IfOk result (λ system. system.log.steps ≡ []) }
+        ensures { IfOk result (λ system. system.address ≡ address) }
     {
         let wall = clock.since_1970().map_or(0, milliseconds);
         let start = clock.monotonic().map_or(0, milliseconds);
-        Ok(MioSystem {
-            address,
-            wall,
-            start,
-            log: Log::new(),
-            calls: MioCalls::listen(net, alloc, address, clock)?,
-        })
-    }
-}
-
-impl<C: Clock + Drop> MioCalls<C> {
-    /// Listens at an address.
-    fn listen<N: Net>(
-        net: &N,
-        alloc: Global,
-        address: SocketAddr,
-        clock: C,
-    ) -> io::Result<MioCalls<C>> {
         let mut listener = TcpListener::bind(net, address)?;
         set_options(&listener)?;
         let poll = Poll::new(net)?;
         poll.registry()
             .register(&mut listener, LISTENER, Interest::READABLE)?;
-        Ok(MioCalls {
+        Ok(MioSystem {
+            address,
+            wall,
+            start,
             listener,
             poll,
             events: Events::with_capacity(alloc, MOST_READY)?,
@@ -164,7 +137,9 @@ impl<C: Clock + Drop> MioCalls<C> {
             .binary_search_by_key(&number, |socket| socket.number)
             .ok()
     }
+}
 
+impl<C: Clock + Drop> System for MioSystem<C> {
     fn accept(&mut self, number: u32) -> Result<(), ErrorKind> {
         match self.accept_and_register(number) {
             Ok(()) => Ok(()),
@@ -172,9 +147,7 @@ impl<C: Clock + Drop> MioCalls<C> {
         }
     }
 
-    fn read(&mut self, socket: u32, buffer: &mut [u8]) -> Result<usize, ErrorKind>
-        ensures { IfOk result (λ count. count ≤ length buffer.new) }
-    {
+    fn read(&mut self, socket: u32, buffer: &mut [u8]) -> Result<usize, ErrorKind> {
         let socket = self.socket(socket)?;
         match socket.stream.read(buffer) {
             Ok(count) => Ok(count),
@@ -182,9 +155,7 @@ impl<C: Clock + Drop> MioCalls<C> {
         }
     }
 
-    fn write(&mut self, socket: u32, bytes: &[u8]) -> Result<usize, ErrorKind>
-        ensures { IfOk result (λ count. count ≤ length bytes.now) }
-    {
+    fn write(&mut self, socket: u32, bytes: &[u8]) -> Result<usize, ErrorKind> {
         let socket = self.socket(socket)?;
         match socket.stream.write(bytes) {
             Ok(count) => Ok(count),
@@ -202,9 +173,7 @@ impl<C: Clock + Drop> MioCalls<C> {
         self.sockets.retain(|one| one.number != socket);
     }
 
-    fn wait(&mut self, most: Option<u64>, ready: &mut [Ready]) -> usize
-        ensures { result ≤ length ready.new }
-    {
+    fn wait(&mut self, most: Option<u64>, ready: &mut [Ready]) -> usize {
         let waited = self
             .poll
             .poll(&mut self.events, most.map(Duration::from_millis));
@@ -233,74 +202,6 @@ impl<C: Clock + Drop> MioCalls<C> {
     fn clock(&mut self) -> Option<u64> {
         self.shown = self.read_clock()?;
         Some(self.shown)
-    }
-}
-
-impl<C: Clock + Drop> System for MioSystem<C> {
-    ghost trace = { λ s. Some s.log.steps };
-
-    fn accept(&mut self, number: u32) -> Result<(), ErrorKind> {
-        let answer = self.calls.accept(number);
-        self.log.note(&Note::Accepts(number, answer));
-        answer
-    }
-
-    fn read(&mut self, socket: u32, buffer: &mut [u8]) -> Result<usize, ErrorKind> {
-        let answer = self.calls.read(socket, buffer);
-        self.log.note(&Note::Reads(socket, buffer, answer));
-        answer
-    }
-
-    fn write(&mut self, socket: u32, bytes: &[u8]) -> Result<usize, ErrorKind> {
-        let answer = self.calls.write(socket, bytes);
-        self.log.note(&Note::Writes(socket, bytes, answer));
-        answer
-    }
-
-    fn shutdown(&mut self, socket: u32) {
-        self.calls.shutdown(socket);
-        self.log.note(&Note::Shuts(socket));
-    }
-
-    fn close(&mut self, socket: u32) {
-        self.calls.close(socket);
-        self.log.note(&Note::Closes(socket));
-    }
-
-    fn wait(&mut self, most: Option<u64>, ready: &mut [Ready]) -> usize {
-        let count = self.calls.wait(most, ready);
-        self.log.note(&Note::Waits(most, count, ready));
-        count
-    }
-
-    fn clock(&mut self) -> Option<u64> {
-        let answer = self.calls.clock();
-        self.log.note(&Note::Clocks(answer));
-        answer
-    }
-
-    fn note_expect(&mut self, due: Option<u64>, slack: Option<usize>) {
-        self.log.note(&Note::Expect(due, slack));
-    }
-
-    fn note_now(&mut self, answer: Result<u64, DoorFault>) {
-        self.log.note(&Note::Now(answer));
-    }
-
-    fn note_accept(&mut self, answer: Result<Option<u32>, DoorFault>) {
-        self.log.note(&Note::Accept(answer));
-    }
-
-    fn note_read(&mut self, peer: u32, answer: Result<Got, DoorFault>, buffer: &[u8]) {
-        self.log.note(&Note::Read(peer, answer, buffer));
-    }
-
-    fn note_write(&mut self, peer: u32, bytes: &[u8], answer: Result<usize, DoorFault>) {
-        self.log.note(&Note::Write(peer, bytes, answer));
-    }
-
-    fn note_close(&mut self, peer: u32, answer: Result<(), DoorFault>) {
-        self.log.note(&Note::Close(peer, answer));
     }
 }
 

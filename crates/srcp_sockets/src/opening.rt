@@ -27,10 +27,10 @@ impl<C: Clock + Drop> SocketDoor<MioSystem<C>> {
         clock: C,
     ) -> Result<SocketDoor<MioSystem<C>>, ListenFault>
         ensures faults { IfOk result (λ door. door.faults ≡ 0) }
-        ensures address { IfOk result (λ door. IsLocal door.sockets.system.address port) }
+        ensures address { IfOk result (λ door. IsLocal door.sockets.system.system.address port) }
         ensures log { IfOk result (λ door. door.sockets.system.log.steps ≡ []) }
         ensures moments { IfOk result (λ door. door.sockets.turn
-            ≡ first_turn door.sockets.system.wall door.sockets.system.start) }
+            ≡ first_turn door.sockets.system.system.wall door.sockets.system.system.start) }
     {
         match open(net, alloc, local_address(port), clock) {
             Ok(door) => Ok(door),
@@ -46,10 +46,10 @@ fn open<N: Net, C: Clock + Drop>(
     clock: C,
 ) -> io::Result<SocketDoor<MioSystem<C>>>
     ensures faults { IfOk result (λ door. door.faults ≡ 0) }
-    ensures address { IfOk result (λ door. door.sockets.system.address ≡ address) }
+    ensures address { IfOk result (λ door. door.sockets.system.system.address ≡ address) }
     ensures log { IfOk result (λ door. door.sockets.system.log.steps ≡ []) }
     ensures moments { IfOk result (λ door. door.sockets.turn
-        ≡ first_turn door.sockets.system.wall door.sockets.system.start) }
+        ≡ first_turn door.sockets.system.system.wall door.sockets.system.system.start) }
 {
     let system = MioSystem::listen(net, alloc, address, clock)?;
     let (wall, start) = (system.wall, system.start);

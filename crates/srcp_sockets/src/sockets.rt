@@ -1,14 +1,14 @@
 //! The system's sockets, with their peers.
 
-ghost use Rattle.std.specs.Prelude.{not, cond, vec_capacity, All, false, true, ◌≡◌, ◌<◌, ◌≤◌, ◌-◌, ◌&&◌, ℕ, ◌⊎◌, Some};
-ghost use Rattle.std.specs.Prelude.{◌||◌, ◌+◌, ◌*◌, Bool, None, Ok, Err};
+ghost use Rattle.std.specs.Prelude.{not, cond, vec_capacity, All, false, true, ◌≡◌, ◌<◌, ◌≤◌, ◌-◌, ◌&&◌, ℕ, Some};
+ghost use Rattle.std.specs.Prelude.{◌++◌, ◌∷◌, ◌||◌, ◌+◌, ◌*◌, Bool, None, Ok, Err};
 ghost use Rattle.std.specs.Prelude.{IfErr, IfNone, IfOk, IfSome, [], length, slice_index_or};
 ghost use Rattle.srcp_peers.specs.declared.peer.Peer.{Peer};
 ghost use Rattle.srcp_sockets.specs.Asked.{AreAsked, AreAsked-prop};
 ghost use Rattle.srcp_sockets.specs.Delivery.{HasEnded, HasWaited, linger_end};
-ghost use Rattle.srcp_sockets.specs.Duties.{AreDone, AreDone-prop, HasLooked, MayTell};
+ghost use Rattle.srcp_sockets.specs.Duties.{AreDone, AreDone-prop, MayTell, has_waited};
 ghost use Rattle.srcp_sockets.specs.Endings.{AreAsFar, AreAsFar-prop, AreVisited};
-ghost use Rattle.srcp_sockets.specs.Waits.{AreFlushed, MayWait};
+ghost use Rattle.srcp_sockets.specs.Waits.{AreFlushed, IsWaitDone};
 ghost use Rattle.srcp_sockets.specs.Work.{AreClosedUp, IsClocked, IsPeerRead, IsWaiting, goes_behind, goes_on};
 ghost use Rattle.srcp_sockets.specs.Work.{is_close};
 ghost use Rattle.srcp_sockets.specs.Facts.{Stands-prop};
@@ -23,7 +23,7 @@ ghost use Rattle.srcp_peers.specs.Turns.{after_wait, first_turn, got_bytes, flus
 ghost use Rattle.srcp_peers.specs.Turns.{time_left};
 ghost use Rattle.srcp_peers.specs.Waiting.{IsWithin, longest_wait};
 ghost use Rattle.srcp_door.specs.Calls.{ExpectCall, NowCall, ReadCall, WriteCall, CloseCall};
-ghost use Rattle.srcp_peers.specs.Steps.{Answers, Closes, GrowsBy, SaysNothing, SaysOne, Tells};
+ghost use Rattle.srcp_peers.specs.Steps.{Answers, Closes, GrowsBy, SaysNothing, SaysOne};
 ghost use Rattle.srcp_peers.specs.AllPeers.{AreShared, AreOffered};
 ghost use Rattle.srcp_sockets.specs.Doors.{AreRead, IsMissing, IsPresent, Stands, flushed_in};
 
@@ -34,15 +34,15 @@ use crate::delivering::deliver;
 use srcp_door::{DoorFault, Got, MOST_WRITES};
 use srcp_peers::peers::{begin_visits, flush, listen, wake};
 use srcp_peers::{
-    Flush, LINGER, Listening, MOST_LINGERING, Peer, Queues, Ready, System, Turn, first_gone,
-    longest_wait,
+    Answer, Flush, LINGER, Listening, Logged, MOST_LINGERING, Peer, Queues, Ready, System, Turn,
+    first_gone, longest_wait,
 };
 use std::alloc::{AllocError, Global};
 use std::vec::Vec;
 
 /// Holds the system's sockets, with their peers. Only `deliver` drops a value: the type is not `Drop`.
-pub(crate) struct Sockets<S: System + Drop> {
-    pub system: S,
+pub(crate) struct Sockets<S: System> {
+    pub system: Logged<S>,
     pub peers: Vec<Peer>,
     listening: Listening,
     // The number of the last peer that came.
@@ -58,23 +58,23 @@ pub(crate) struct Sockets<S: System + Drop> {
     starved: bool,
     // The queues made for a connection that was not accepted: the next connection has these.
     spare: Option<Queues>,
-    ghost stands: { Stands (S.trace system) peers.items listening last } by { Stands-prop _ _ _ _ },
-    ghost named: { IsNamed (S.trace system) last } by { IsNamed-prop (S.trace system) last },
-    ghost timed: { IsTimed (S.trace system) turn } by { IsTimed-prop (S.trace system) turn },
-    ghost asked: { AreAsked (S.trace system) } by { AreAsked-prop (S.trace system) },
-    ghost done: { AreDone turn.timekeeper.wall turn.timekeeper.start (S.trace system) } by { AreDone-prop _ _ _ },
-    ghost ending: { AreAsFar (S.trace system) peers.items } by { AreAsFar-prop (S.trace system) peers.items },
+    ghost stands: { Stands system.log.steps peers.items listening last } by { Stands-prop _ _ _ _ },
+    ghost named: { IsNamed system.log.steps last } by { IsNamed-prop system.log.steps _ },
+    ghost timed: { IsTimed system.log.steps turn } by { IsTimed-prop system.log.steps _ },
+    ghost asked: { AreAsked system.log.steps } by { AreAsked-prop _ },
+    ghost done: { AreDone turn.timekeeper.wall turn.timekeeper.start system.log.steps } by { AreDone-prop _ _ _ },
+    ghost ending: { AreAsFar system.log.steps peers.items } by { AreAsFar-prop system.log.steps _ },
     ghost places: { 129 ≤ vec_capacity peers },
 }
 
-impl<S: System + Drop> Sockets<S> {
+impl<S: System> Sockets<S> {
     /// Notes what falls due next, and how many changes the panels can still take.
     pub(crate) fn expect(&mut self, due: Option<u64>, slack: Option<usize>)
-        ensures trace { SaysOne (S.trace self.old.system) (ExpectCall due slack) (S.trace self.new.system) }
-        ensures one { Tells (S.trace self.old.system) (Answers (ExpectCall due slack)) (S.trace self.new.system) }
+        ensures trace { SaysOne self.old.system.log.steps (ExpectCall due slack) self.new.system.log.steps }
+        ensures log { self.new.system.log.steps ≡ self.old.system.log.steps ++ Answers (ExpectCall due slack) ∷ [] }
         ensures keeps { (self.new.flushed ≡ self.old.flushed) × (self.new.starved ≡ self.old.starved) }
     {
-        self.system.note_expect(due, slack);
+        self.system.answer(&Answer::Expect(due, slack));
         self.turn.expect(due, slack);
     }
 
@@ -92,16 +92,16 @@ impl<S: System + Drop> Sockets<S> {
     /// while input is held.
     pub(crate) fn begin_turn(&mut self, ready: &mut [Ready])
         requires ready { length ready.old ≡ 128 }
-        ensures calls { SaysNothing (S.trace self.old.system) (S.trace self.new.system) }
+        ensures calls { SaysNothing self.old.system.log.steps self.new.system.log.steps }
         ensures most { GrowsBy (3 * length self.old.peers.items + 129)
-            (S.trace self.old.system) (S.trace self.new.system) }
-        ensures read { AreRead (S.trace self.new.system) }
-        ensures may { MayTell (S.trace self.new.system) }
-        ensures visited { AreVisited (S.trace self.new.system) self.new.peers.items }
+            self.old.system.log.steps self.new.system.log.steps }
+        ensures read { AreRead self.new.system.log.steps }
+        ensures may { MayTell self.new.system.log.steps }
+        ensures visited { AreVisited self.new.system.log.steps self.new.peers.items }
         ensures offered { AreOffered (flushed_in self.old.turn self.old.flushed self.old.peers.items)
-            self.old.peers.items (S.trace self.old.system) (S.trace self.new.system) }
+            self.old.peers.items self.old.system.log.steps self.new.system.log.steps }
         ensures waits { HasWaited (cond (goes_on self.old.turn self.old.flushed self.old.peers.items) 0 1)
-            (S.trace self.old.system) (S.trace self.new.system) }
+            self.old.system.log.steps self.new.system.log.steps }
         ensures rooms { All (λ peer. peer.room ≡ room_of (list_any holds_input self.old.peers.items)
             self.old.turn.slack) self.new.peers.items }
         ensures flushed { self.new.flushed ≡ self.old.turn.clock }
@@ -167,16 +167,17 @@ impl<S: System + Drop> Sockets<S> {
     /// Waits unless `held` says that the turn goes on with held input.
     fn poll_unless_held(&mut self, held: bool, ready: &mut [Ready])
         requires ready { length ready.old ≡ 128 }
-        requires may { held ≡ false → MayWait self.old.turn (S.trace self.old.system) }
-        ensures calls { SaysNothing (S.trace self.old.system) (S.trace self.new.system) }
-        ensures most { GrowsBy 1 (S.trace self.old.system) (S.trace self.new.system) }
+        requires may { held ≡ false → IsWaitDone self.old.turn.timekeeper.wall self.old.turn.timekeeper.start
+            self.old.system.log.steps }
+        ensures calls { SaysNothing self.old.system.log.steps self.new.system.log.steps }
+        ensures most { GrowsBy 1 self.old.system.log.steps self.new.system.log.steps }
         ensures as_many { length self.new.peers.items ≡ length self.old.peers.items }
-        ensures waits { HasWaited (cond held 0 1) (S.trace self.old.system) (S.trace self.new.system) }
-        ensures looked { held ≡ false → HasLooked (S.trace self.new.system) }
+        ensures waits { HasWaited (cond held 0 1) self.old.system.log.steps self.new.system.log.steps }
+        ensures looked { held ≡ false → has_waited self.new.system.log.steps ≡ true }
         ensures rests { held ≡ true → self.new.listening ≡ self.old.listening }
         ensures heard { held ≡ false
             → IsWaiting (longest_wait self.old.peers.items self.old.listening self.old.turn self.old.most)
-            self.old.listening self.new.listening (S.trace self.old.system) (S.trace self.new.system) }
+            self.old.listening self.new.listening self.old.system.log.steps self.new.system.log.steps }
         ensures slack { self.new.turn.slack ≡ self.old.turn.slack }
         ensures flushed { self.new.flushed ≡ self.old.flushed }
         ensures starved { self.new.starved ≡ self.old.starved }
@@ -189,13 +190,13 @@ impl<S: System + Drop> Sockets<S> {
 
     /// Flushes each peer that is there, and goes on with the lingering peers.
     fn flush(&mut self, what: Flush)
-        ensures calls { SaysNothing (S.trace self.old.system) (S.trace self.new.system) }
+        ensures calls { SaysNothing self.old.system.log.steps self.new.system.log.steps }
         ensures most { GrowsBy (2 * length self.old.peers.items + 64)
-            (S.trace self.old.system) (S.trace self.new.system) }
+            self.old.system.log.steps self.new.system.log.steps }
         ensures as_many { length self.new.peers.items ≡ length self.old.peers.items }
-        ensures offered { AreOffered what self.old.peers.items (S.trace self.old.system) (S.trace self.new.system) }
-        ensures out { AreFlushed (flushes_all what) (S.trace self.new.system) }
-        ensures times { KeepsTimes (S.trace self.old.system) (S.trace self.new.system) }
+        ensures offered { AreOffered what self.old.peers.items self.old.system.log.steps self.new.system.log.steps }
+        ensures out { AreFlushed (flushes_all what) self.new.system.log.steps }
+        ensures times { KeepsTimes self.old.system.log.steps self.new.system.log.steps }
         ensures keeps { (self.new.turn ≡ self.old.turn) × (self.new.starved ≡ self.old.starved) }
         ensures flushed { self.new.flushed ≡ self.old.turn.clock }
     {
@@ -207,13 +208,14 @@ impl<S: System + Drop> Sockets<S> {
     /// ready.
     fn wait(&mut self, ready: &mut [Ready])
         requires ready { length ready.old ≡ 128 }
-        requires may { MayWait self.old.turn (S.trace self.old.system) }
-        ensures calls { SaysNothing (S.trace self.old.system) (S.trace self.new.system) }
-        ensures most { GrowsBy 1 (S.trace self.old.system) (S.trace self.new.system) }
+        requires may { IsWaitDone self.old.turn.timekeeper.wall self.old.turn.timekeeper.start
+            self.old.system.log.steps }
+        ensures calls { SaysNothing self.old.system.log.steps self.new.system.log.steps }
+        ensures most { GrowsBy 1 self.old.system.log.steps self.new.system.log.steps }
         ensures as_many { length self.new.peers.items ≡ length self.old.peers.items }
         ensures waits { IsWaiting (longest_wait self.old.peers.items self.old.listening self.old.turn self.old.most)
-            self.old.listening self.new.listening (S.trace self.old.system) (S.trace self.new.system) }
-        ensures looked { HasLooked (S.trace self.new.system) }
+            self.old.listening self.new.listening self.old.system.log.steps self.new.system.log.steps }
+        ensures looked { has_waited self.new.system.log.steps ≡ true }
         ensures turn { self.new.turn ≡ after_wait self.old.turn }
         ensures flushed { self.new.flushed ≡ self.old.flushed }
         ensures starved { self.new.starved ≡ self.old.starved }
@@ -236,14 +238,14 @@ impl<S: System + Drop> Sockets<S> {
     /// Begins the visit of each peer; `holds` says whether input was held as the turn began. The share of a silent peer
     /// always is a whole piece again.
     fn begin_visits(&mut self, holds: bool)
-        ensures calls { SaysNothing (S.trace self.old.system) (S.trace self.new.system) }
-        ensures most { GrowsBy (length self.old.peers.items) (S.trace self.old.system) (S.trace self.new.system) }
-        ensures read { AreRead (S.trace self.new.system) }
-        ensures visited { AreVisited (S.trace self.new.system) self.new.peers.items }
+        ensures calls { SaysNothing self.old.system.log.steps self.new.system.log.steps }
+        ensures most { GrowsBy (length self.old.peers.items) self.old.system.log.steps self.new.system.log.steps }
+        ensures read { AreRead self.new.system.log.steps }
+        ensures visited { AreVisited self.new.system.log.steps self.new.peers.items }
         ensures shares { AreShared (not (self.old.starved || self.old.turn.late)) self.old.turn.clock
             self.old.peers.items self.new.peers.items }
         ensures rooms { All (λ peer. peer.room ≡ room_of holds self.old.turn.slack) self.new.peers.items }
-        ensures times { KeepsTimes (S.trace self.old.system) (S.trace self.new.system) }
+        ensures times { KeepsTimes self.old.system.log.steps self.new.system.log.steps }
         ensures flushed { self.new.flushed ≡ self.old.flushed }
         ensures reset { self.new.starved ≡ false }
     {
@@ -274,10 +276,10 @@ impl<S: System + Drop> Sockets<S> {
     }
 
     /// Delivers the bytes that were taken, for 10 seconds at most, and returns the system.
-    pub(crate) fn deliver(self, ready: &mut [Ready]) -> S
+    pub(crate) fn deliver(self, ready: &mut [Ready]) -> Logged<S>
         requires ready { length ready.old ≡ 128 }
-        ensures ended { HasEnded (linger_end self.turn.clock) (S.trace self.system) (S.trace result) }
-        ensures offered { AreOffered Flush.All self.peers.items (S.trace self.system) (S.trace result) }
+        ensures ended { HasEnded (linger_end self.turn.clock) self.system.log.steps result.log.steps }
+        ensures offered { AreOffered Flush.All self.peers.items self.system.log.steps result.log.steps }
     {
         let Sockets {
             mut system,
@@ -296,7 +298,7 @@ impl<S: System + Drop> Sockets<S> {
         system
     }
 
-    /// Makes sockets without a peer, over a system with an empty trace.
+    /// Makes sockets without a peer, over a system, with an empty log.
     ///
     /// # Errors
     /// Returns an error if memory is refused.
@@ -306,14 +308,13 @@ impl<S: System + Drop> Sockets<S> {
         most: usize,
         turn: Turn,
     ) -> Result<Sockets<S>, AllocError>
-        requires trace { S.trace system ≡ Some [] ⊎ S.trace system ≡ None }
         requires turn { turn ≡ first_turn turn.timekeeper.wall turn.timekeeper.start }
         requires places { 129 ≤ most }
-        ensures { IfOk result (λ sockets. (sockets.system ≡ system) × (sockets.turn ≡ turn)
-            × (vec_capacity sockets.peers ≡ most)) }
+        ensures { IfOk result (λ sockets. (sockets.system.system ≡ system) × (sockets.system.log.steps ≡ [])
+            × (sockets.turn ≡ turn) × (vec_capacity sockets.peers ≡ most)) }
     {
         Ok(Sockets {
-            system,
+            system: Logged::new(system),
             peers: Vec::with_capacity(alloc, most)?,
             listening: Listening::Ready,
             last: 0,
@@ -329,35 +330,36 @@ impl<S: System + Drop> Sockets<S> {
     /// Closes a peer, or returns `Close` if the peer is not there. A closed peer lingers until its socket took the
     /// queued bytes and its input ended, for 10 seconds at most.
     pub(crate) fn close(&mut self, number: u32) -> Result<(), DoorFault>
-        ensures trace { SaysOne (S.trace self.old.system) (CloseCall number result) (S.trace self.new.system) }
-        ensures one { Tells (S.trace self.old.system) (Answers (CloseCall number result)) (S.trace self.new.system) }
+        ensures trace { SaysOne self.old.system.log.steps (CloseCall number result) self.new.system.log.steps }
+        ensures log { self.new.system.log.steps ≡ self.old.system.log.steps ++ Answers (CloseCall number result) ∷ [] }
         ensures keeps { (self.new.flushed ≡ self.old.flushed) × (self.new.starved ≡ self.old.starved) }
         ensures fault { IfErr result (λ fault. fault ≡ DoorFault.Close) }
     {
         let Some(index) = self.index_of(number) else {
-            self.system.note_close(number, Err(DoorFault::Close));
+            self.system
+                .answer(&Answer::Close(number, Err(DoorFault::Close)));
             self.turn.note_close();
             return Err(DoorFault::Close);
         };
         self.peers[index].linger(self.turn.clock);
-        self.system.note_close(number, Ok(()));
+        self.system.answer(&Answer::Close(number, Ok(())));
         self.turn.note_close();
         Ok(())
     }
 
     /// Closes the sockets of the lingering peers with nothing left to do, `MOST_LINGERING` sockets at most.
     fn close_gone(&mut self)
-        ensures calls { SaysNothing (S.trace self.old.system) (S.trace self.new.system) }
-        ensures most { GrowsBy 64 (S.trace self.old.system) (S.trace self.new.system) }
+        ensures calls { SaysNothing self.old.system.log.steps self.new.system.log.steps }
+        ensures most { GrowsBy 64 self.old.system.log.steps self.new.system.log.steps }
         ensures as_few { length self.new.peers.items ≤ length self.old.peers.items }
         ensures last { self.new.last ≡ self.old.last }
-        ensures times { KeepsTimes (S.trace self.old.system) (S.trace self.new.system) }
+        ensures times { KeepsTimes self.old.system.log.steps self.new.system.log.steps }
         ensures keeps { (self.new.turn ≡ self.old.turn) × (self.new.starved ≡ self.old.starved) }
         ensures flushed { self.new.flushed ≡ self.old.flushed }
         ensures closed { AreClosedUp self.old.turn.clock self.new.peers.items
-            (S.trace self.old.system) (S.trace self.new.system) }
-        ensures out { (all : Bool) → AreFlushed all (S.trace self.old.system)
-            → AreFlushed all (S.trace self.new.system) }
+            self.old.system.log.steps self.new.system.log.steps }
+        ensures out { (all : Bool) → AreFlushed all self.old.system.log.steps
+            → AreFlushed all self.new.system.log.steps }
     {
         for _ in 0..MOST_LINGERING {
             let Some(index) = first_gone(self.peers.as_slice(), self.turn.clock) else {
@@ -372,18 +374,18 @@ impl<S: System + Drop> Sockets<S> {
         requires within { index < length self.old.peers.items }
         requires closable { (d : Peer) → is_closable self.old.turn.clock
             (slice_index_or self.old.peers.items index d) ≡ true }
-        ensures calls { SaysNothing (S.trace self.old.system) (S.trace self.new.system) }
-        ensures most { GrowsBy 1 (S.trace self.old.system) (S.trace self.new.system) }
+        ensures calls { SaysNothing self.old.system.log.steps self.new.system.log.steps }
+        ensures most { GrowsBy 1 self.old.system.log.steps self.new.system.log.steps }
         ensures as_few { length self.new.peers.items ≤ length self.old.peers.items }
         ensures last { self.new.last ≡ self.old.last }
-        ensures times { KeepsTimes (S.trace self.old.system) (S.trace self.new.system) }
+        ensures times { KeepsTimes self.old.system.log.steps self.new.system.log.steps }
         ensures keeps { (self.new.turn ≡ self.old.turn) × (self.new.starved ≡ self.old.starved) }
         ensures heard { self.new.listening ≡ self.old.listening }
         ensures flushed { self.new.flushed ≡ self.old.flushed }
-        ensures closed { Makes is_close 1 (S.trace self.old.system) (S.trace self.new.system) }
-        ensures out { (all : Bool) → AreFlushed all (S.trace self.old.system)
-            → AreFlushed all (S.trace self.new.system) }
-        ensures one { (who : ℕ) × Tells (S.trace self.old.system) (Closes who) (S.trace self.new.system) }
+        ensures closed { Makes is_close 1 self.old.system.log.steps self.new.system.log.steps }
+        ensures out { (all : Bool) → AreFlushed all self.old.system.log.steps
+            → AreFlushed all self.new.system.log.steps }
+        ensures one { (who : ℕ) × (self.new.system.log.steps ≡ self.old.system.log.steps ++ Closes who ∷ []) }
     {
         let number = self.peers[index].number;
         self.peers.remove(index);
@@ -395,18 +397,18 @@ impl<S: System + Drop> Sockets<S> {
     /// # Errors
     /// Returns `Now` if the clock cannot be read.
     pub(crate) fn now(&mut self) -> Result<u64, DoorFault>
-        requires read { AreRead (S.trace self.old.system) }
-        requires may { MayTell (S.trace self.old.system) }
-        requires visited { AreVisited (S.trace self.old.system) self.old.peers.items }
-        ensures trace { SaysOne (S.trace self.old.system) (NowCall result) (S.trace self.new.system) }
+        requires read { AreRead self.old.system.log.steps }
+        requires may { MayTell self.old.system.log.steps }
+        requires visited { AreVisited self.old.system.log.steps self.old.peers.items }
+        ensures trace { SaysOne self.old.system.log.steps (NowCall result) self.new.system.log.steps }
         ensures fault { IfErr result (λ fault. fault ≡ DoorFault.Now) }
-        ensures clock { IsClocked self.old.turn result (S.trace self.old.system) (S.trace self.new.system) }
+        ensures clock { IsClocked self.old.turn result self.old.system.log.steps self.new.system.log.steps }
         ensures flushed { self.new.flushed ≡ self.old.flushed }
         ensures starved { self.new.starved ≡ self.old.starved }
     {
         let shown = self.system.clock();
         let answer = self.turn.report_moment(shown);
-        self.system.note_now(answer);
+        self.system.answer(&Answer::Now(answer));
         answer
     }
 
@@ -458,16 +460,17 @@ impl<S: System + Drop> Sockets<S> {
 
     /// Takes bytes for a peer, and returns how many, or `Write` if the peer is not there.
     pub(crate) fn write(&mut self, number: u32, bytes: &[u8]) -> Result<usize, DoorFault>
-        ensures trace { SaysOne (S.trace self.old.system) (WriteCall number bytes.now result)
-            (S.trace self.new.system) }
-        ensures one { Tells (S.trace self.old.system) (Answers (WriteCall number bytes.now result))
-            (S.trace self.new.system) }
+        ensures trace { SaysOne self.old.system.log.steps (WriteCall number bytes.now result)
+            self.new.system.log.steps }
+        ensures log { self.new.system.log.steps
+            ≡ self.old.system.log.steps ++ Answers (WriteCall number bytes.now result) ∷ [] }
         ensures count { IfOk result (λ n. n ≤ length bytes.now) }
         ensures fault { IfErr result (λ fault. fault ≡ DoorFault.Write) }
         ensures keeps { (self.new.flushed ≡ self.old.flushed) × (self.new.starved ≡ self.old.starved) }
     {
         let Some(index) = self.index_of(number) else {
-            self.system.note_write(number, bytes, Err(DoorFault::Write));
+            self.system
+                .answer(&Answer::Write(number, bytes, Err(DoorFault::Write)));
             self.turn.note_write(Err(DoorFault::Write));
             return Err(DoorFault::Write);
         };

@@ -1,42 +1,42 @@
 //! How a pending connection is accepted.
 
 ghost use Rattle.std.specs.Prelude.{false, true, ◌≡◌, ◌<◌, ◌+◌, ◌⊎◌, None, Ok, Err, IfErr, length, vec_capacity};
-ghost use Rattle.std.specs.Prelude.{ℕ, OnErr};
-ghost use Rattle.srcp_sockets.specs.Asked.{MayRefuse};
+ghost use Rattle.std.specs.Prelude.{◌++◌, ◌∷◌, [], ℕ, OnErr};
+ghost use Rattle.srcp_sockets.specs.Asked.{IsExcused};
 ghost use Rattle.srcp_sockets.specs.Doors.{is_quiet};
 ghost use Rattle.srcp_sockets.specs.Work.{IsAccepting, MakesRoom, is_crowded, may_accept};
 ghost use Rattle.srcp_peers.specs.Times.{refused_accept};
 ghost use Rattle.srcp_door.specs.Calls.{AcceptCall};
-ghost use Rattle.srcp_peers.specs.Steps.{Answers, Closes, SaysNothing, SaysOne, Tells};
+ghost use Rattle.srcp_peers.specs.Steps.{Answers, Closes, SaysNothing, SaysOne};
 
 use super::Sockets;
 use srcp_door::DoorFault;
 use srcp_peers::{
-    IoFailure, Listening, MOST_LINGERING, Peer, Queues, System, count_lingering, failure_of,
-    first_shut,
+    Answer, IoFailure, Listening, MOST_LINGERING, Peer, Queues, System, count_lingering,
+    failure_of, first_shut,
 };
 use std::alloc::{AllocError, Global};
 
-impl<S: System + Drop> Sockets<S> {
+impl<S: System> Sockets<S> {
     /// Accepts the next pending connection, if there is one. Its number is above those of all peers before it.
     ///
     /// # Errors
     /// `Accept` if the system failed to accept it, or if memory or the numbers ran out.
     pub(crate) fn accept(&mut self, alloc: Global) -> Result<Option<u32>, DoorFault>
-        ensures trace { SaysOne (S.trace self.old.system) (AcceptCall result) (S.trace self.new.system) }
+        ensures trace { SaysOne self.old.system.log.steps (AcceptCall result) self.new.system.log.steps }
         ensures fault { IfErr result (λ fault. fault ≡ DoorFault.Accept) }
         ensures rests { OnErr result (self.new.listening ≡ Listening.BackingOff) }
         ensures asks { may_accept self.old.listening (vec_capacity self.old.peers) self.old.peers.items ≡ true
             → (result ≡ Err DoorFault.Accept)
             ⊎ IsAccepting (self.old.last + 1) result self.old.listening self.new.listening
-            (S.trace self.old.system) (S.trace self.new.system) }
+            self.old.system.log.steps self.new.system.log.steps }
         ensures keeps { (self.new.flushed ≡ self.old.flushed) × (self.new.starved ≡ self.old.starved) }
         ensures quiet { is_quiet self.old.listening ≡ true → (self.new.listening ≡ self.old.listening)
-            × Tells (S.trace self.old.system) (Answers (AcceptCall (Ok None))) (S.trace self.new.system) }
+            × (self.new.system.log.steps ≡ self.old.system.log.steps ++ Answers (AcceptCall (Ok None)) ∷ []) }
         ensures makes { is_quiet self.old.listening ≡ false
             → is_crowded (vec_capacity self.old.peers) self.old.peers.items ≡ true
             → MakesRoom self.old.peers.items self.old.listening self.new.listening
-            (S.trace self.old.system) (S.trace self.new.system) }
+            self.old.system.log.steps self.new.system.log.steps }
     {
         if !self.may_accept() {
             return self.note_nobody(Ok(None));
@@ -53,19 +53,19 @@ impl<S: System + Drop> Sockets<S> {
     /// Returns whether the next pending connection may be accepted now. If too many linger, one of them is closed
     /// first.
     fn may_accept(&mut self) -> bool
-        ensures calls { SaysNothing (S.trace self.old.system) (S.trace self.new.system) }
+        ensures calls { SaysNothing self.old.system.log.steps self.new.system.log.steps }
         ensures room { result ≡ true → length self.new.peers.items < vec_capacity self.new.peers }
         ensures is { result ≡ may_accept self.old.listening (vec_capacity self.old.peers) self.old.peers.items }
-        ensures excused { result ≡ false → MayRefuse (S.trace self.new.system) }
+        ensures excused { result ≡ false → IsExcused self.new.system.log.steps }
         ensures keeps { (self.new.flushed ≡ self.old.flushed) × (self.new.starved ≡ self.old.starved) }
         ensures same { result ≡ true → (self.new.listening ≡ self.old.listening) × (self.new.last ≡ self.old.last)
-            × (S.trace self.new.system ≡ S.trace self.old.system) }
+            × (self.new.system.log.steps ≡ self.old.system.log.steps) }
         ensures quiet { is_quiet self.old.listening ≡ true → (self.new.listening ≡ self.old.listening)
-            × (S.trace self.new.system ≡ S.trace self.old.system) }
+            × (self.new.system.log.steps ≡ self.old.system.log.steps) }
         ensures makes { is_quiet self.old.listening ≡ false
             → is_crowded (vec_capacity self.old.peers) self.old.peers.items ≡ true
             → MakesRoom self.old.peers.items self.old.listening self.new.listening
-            (S.trace self.old.system) (S.trace self.new.system) }
+            self.old.system.log.steps self.new.system.log.steps }
     {
         if self.listening.is_quiet() {
             return false;
@@ -81,7 +81,7 @@ impl<S: System + Drop> Sockets<S> {
     /// some by then.
     fn put_off(&mut self) -> Result<Option<u32>, DoorFault>
         requires { is_quiet self.old.listening ≡ false }
-        ensures trace { Tells (S.trace self.old.system) (Answers (AcceptCall result)) (S.trace self.new.system) }
+        ensures log { self.new.system.log.steps ≡ self.old.system.log.steps ++ Answers (AcceptCall result) ∷ [] }
         ensures fault { result ≡ Err DoorFault.Accept }
         ensures keeps { (self.new.flushed ≡ self.old.flushed) × (self.new.starved ≡ self.old.starved) }
         ensures rests { self.new.listening ≡ Listening.BackingOff }
@@ -96,13 +96,13 @@ impl<S: System + Drop> Sockets<S> {
         answer: Result<Option<u32>, DoorFault>,
     ) -> Result<Option<u32>, DoorFault>
         requires nobody { (answer ≡ Ok None) ⊎ (answer ≡ Err DoorFault.Accept) }
-        requires excused { answer ≡ Ok None → MayRefuse (S.trace self.old.system) }
-        ensures trace { Tells (S.trace self.old.system) (Answers (AcceptCall result)) (S.trace self.new.system) }
+        requires excused { answer ≡ Ok None → IsExcused self.old.system.log.steps }
+        ensures log { self.new.system.log.steps ≡ self.old.system.log.steps ++ Answers (AcceptCall result) ∷ [] }
         ensures same { result ≡ answer }
         ensures listening { self.new.listening ≡ self.old.listening }
         ensures keeps { (self.new.flushed ≡ self.old.flushed) × (self.new.starved ≡ self.old.starved) }
     {
-        self.system.note_accept(answer);
+        self.system.answer(&Answer::Accept(answer));
         self.turn.note_accept(answer);
         answer
     }
@@ -112,11 +112,11 @@ impl<S: System + Drop> Sockets<S> {
         requires next { number ≡ self.old.last + 1 }
         requires room { length self.old.peers.items < vec_capacity self.old.peers }
         requires loud { is_quiet self.old.listening ≡ false }
-        ensures trace { SaysOne (S.trace self.old.system) (AcceptCall result) (S.trace self.new.system) }
+        ensures trace { SaysOne self.old.system.log.steps (AcceptCall result) self.new.system.log.steps }
         ensures fault { IfErr result (λ fault. fault ≡ DoorFault.Accept) }
         ensures rests { OnErr result (self.new.listening ≡ Listening.BackingOff) }
         ensures exact { IsAccepting number result self.old.listening self.new.listening
-            (S.trace self.old.system) (S.trace self.new.system) }
+            self.old.system.log.steps self.new.system.log.steps }
         ensures keeps { (self.new.flushed ≡ self.old.flushed) × (self.new.starved ≡ self.old.starved) }
     {
         match self.system.accept(number) {
@@ -125,7 +125,7 @@ impl<S: System + Drop> Sockets<S> {
                     .push(Peer::new(number, self.turn.clock, queues))
                     .unwrap();
                 self.last = number;
-                self.system.note_accept(Ok(Some(number)));
+                self.system.answer(&Answer::Accept(Ok(Some(number))));
                 self.turn.note_accept(Ok(Some(number)));
                 Ok(Some(number))
             }
@@ -134,7 +134,7 @@ impl<S: System + Drop> Sockets<S> {
                 let said = failure_of(fault);
                 self.listening = Listening::refused(said);
                 let answer = nobody(said);
-                self.system.note_accept(answer);
+                self.system.answer(&Answer::Accept(answer));
                 self.turn.note_accept(answer);
                 answer
             }
@@ -154,13 +154,13 @@ impl<S: System + Drop> Sockets<S> {
     /// closed.
     fn make_room(&mut self)
         requires { is_quiet self.old.listening ≡ false }
-        ensures calls { SaysNothing (S.trace self.old.system) (S.trace self.new.system) }
+        ensures calls { SaysNothing self.old.system.log.steps self.new.system.log.steps }
         ensures last { self.new.last ≡ self.old.last }
         ensures keeps { (self.new.flushed ≡ self.old.flushed) × (self.new.starved ≡ self.old.starved) }
-        ensures closes { (S.trace self.new.system ≡ S.trace self.old.system)
-            ⊎ ((who : ℕ) × Tells (S.trace self.old.system) (Closes who) (S.trace self.new.system)) }
+        ensures closes { (self.new.system.log.steps ≡ self.old.system.log.steps)
+            ⊎ ((who : ℕ) × (self.new.system.log.steps ≡ self.old.system.log.steps ++ Closes who ∷ [])) }
         ensures makes { MakesRoom self.old.peers.items self.old.listening self.new.listening
-            (S.trace self.old.system) (S.trace self.new.system) }
+            self.old.system.log.steps self.new.system.log.steps }
     {
         match first_shut(self.peers.as_slice()) {
             Some(index) => self.close_at(index),

@@ -1,19 +1,19 @@
 //! How a peer is read.
 
-ghost use Rattle.std.specs.Prelude.{◌≡◌, ◌<◌, ◌≤◌, ◌⊎◌, ℕ, false, true, Ok, Err, IfErr, length};
+ghost use Rattle.std.specs.Prelude.{◌≡◌, ◌<◌, ◌≤◌, ◌⊎◌, ◌++◌, ◌∷◌, [], ℕ, false, true, Ok, Err, IfErr, length};
 ghost use Rattle.std.specs.List.{list_any};
 ghost use Rattle.srcp_door.specs.Calls.{ReadCall};
 ghost use Rattle.srcp_peers.specs.Peers.{goes_first};
-ghost use Rattle.srcp_peers.specs.Steps.{Answers, SaysOne, Tells};
+ghost use Rattle.srcp_peers.specs.Steps.{Answers, SaysOne};
 ghost use Rattle.srcp_peers.specs.Turns.{got_bytes};
 ghost use Rattle.srcp_sockets.specs.Doors.{IsMissing};
 ghost use Rattle.srcp_sockets.specs.Work.{IsPeerRead, goes_behind};
 
 use super::Sockets;
 use srcp_door::{DoorFault, Got};
-use srcp_peers::{Peer, System};
+use srcp_peers::{Answer, Peer, System};
 
-impl<S: System + Drop> Sockets<S> {
+impl<S: System> Sockets<S> {
     /// Returns whether the turn is late: what fell due comes first, and no input is handed out.
     pub(crate) fn is_late(&self) -> bool
         ensures { result ≡ self.now.turn.late }
@@ -24,15 +24,15 @@ impl<S: System + Drop> Sockets<S> {
     /// Hands out nothing of a peer, in a late turn.
     pub(crate) fn hold_back(&mut self, number: u32, buffer: &[u8]) -> Result<Got, DoorFault>
         requires { self.old.turn.late ≡ true }
-        ensures trace { SaysOne (S.trace self.old.system) (ReadCall number result buffer.now)
-            (S.trace self.new.system) }
-        ensures one { Tells (S.trace self.old.system) (Answers (ReadCall number result buffer.now))
-            (S.trace self.new.system) }
+        ensures trace { SaysOne self.old.system.log.steps (ReadCall number result buffer.now)
+            self.new.system.log.steps }
+        ensures log { self.new.system.log.steps
+            ≡ self.old.system.log.steps ++ Answers (ReadCall number result buffer.now) ∷ [] }
         ensures nothing { result ≡ Ok Got.Nothing }
         ensures keeps { (self.new.flushed ≡ self.old.flushed) × (self.new.starved ≡ self.old.starved) }
     {
         let answer = Ok(Got::Nothing);
-        self.system.note_read(number, answer, buffer);
+        self.system.answer(&Answer::Read(number, answer, buffer));
         answer
     }
 
@@ -58,10 +58,10 @@ impl<S: System + Drop> Sockets<S> {
     /// Returns `Read` if the peer is lost or not there, unless the turn reported another end.
     pub(crate) fn read(&mut self, number: u32, buffer: &mut [u8]) -> Result<Got, DoorFault>
         requires { self.old.turn.late ≡ false }
-        ensures trace { SaysOne (S.trace self.old.system) (ReadCall number result buffer.new)
-            (S.trace self.new.system) }
-        ensures one { Tells (S.trace self.old.system) (Answers (ReadCall number result buffer.new))
-            (S.trace self.new.system) }
+        ensures trace { SaysOne self.old.system.log.steps (ReadCall number result buffer.new)
+            self.new.system.log.steps }
+        ensures log { self.new.system.log.steps
+            ≡ self.old.system.log.steps ++ Answers (ReadCall number result buffer.new) ∷ [] }
         ensures count { (n : ℕ) → result ≡ Ok (Got.Bytes n) → (0 < n) × (n ≤ length buffer.old) }
         ensures fault { IfErr result (λ fault. fault ≡ DoorFault.Read) }
         ensures answered { IsPeerRead self.old.turn self.old.peers.items number (length buffer.old) result
@@ -85,15 +85,15 @@ impl<S: System + Drop> Sockets<S> {
     /// Returns `Read` unless the turn reported another end.
     fn read_nobody(&mut self, number: u32, buffer: &[u8]) -> Result<Got, DoorFault>
         requires { IsMissing number self.old.peers.items }
-        ensures trace { SaysOne (S.trace self.old.system) (ReadCall number result buffer.now)
-            (S.trace self.new.system) }
-        ensures one { Tells (S.trace self.old.system) (Answers (ReadCall number result buffer.now))
-            (S.trace self.new.system) }
+        ensures trace { SaysOne self.old.system.log.steps (ReadCall number result buffer.now)
+            self.new.system.log.steps }
+        ensures log { self.new.system.log.steps
+            ≡ self.old.system.log.steps ++ Answers (ReadCall number result buffer.now) ∷ [] }
         ensures nothing { (result ≡ Ok Got.Nothing) ⊎ (result ≡ Err DoorFault.Read) }
         ensures keeps { (self.new.flushed ≡ self.old.flushed) × (self.new.starved ≡ self.old.starved) }
     {
         let answer = self.turn.report_fault();
-        self.system.note_read(number, answer, buffer);
+        self.system.answer(&Answer::Read(number, answer, buffer));
         answer
     }
 }

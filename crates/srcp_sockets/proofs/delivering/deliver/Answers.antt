@@ -20,17 +20,17 @@ loop-look-init g c = record {
   kept = c.requires.kept;
   apart = c.requires.apart;
   standing = λ stands. stands;
-  calls = says_none (g.S.System.trace c.args.system.now);
+  calls = says_none c.args.system.now.log.steps;
   first = λ e. (refl, refl);
   offered = λ some. absurd (omega (arith, some));
-  waited = waited_none (g.S.System.trace c.args.system.now);
+  waited = waited_none c.args.system.now.log.steps;
 }
 
 pub returns-then-are_delivered : goal.returns-then-are_delivered
 returns-then-are_delivered g c =
-    let first = g.S.System.trace c.args.system.now in
-    let old = g.S.System.trace c.loop-look.system in
-    let new = g.S.System.trace c.flush.new.system in
+    let first = c.args.system.now.log.steps in
+    let old = c.loop-look.system.log.steps in
+    let new = c.flush.new.system.log.steps in
     let peers = c.flush.new.peers in
     let f = c.flush.ensures in
     let ended : HaveEnded c.args.until first new peers =
@@ -52,15 +52,14 @@ returns-then-are_delivered g c =
 
 pub returns-then-is_over : goal.returns-then-is_over
 returns-then-is_over g c =
-    let first = g.S.System.trace c.args.system.now in
-    let old = g.S.System.trace c.loop-look.system in
-    let turned = g.S.System.trace c.flush.new.system in
-    let clocked = g.S.System.trace c.clock-clock.new.self in
+    let first = c.args.system.now.log.steps in
+    let old = c.loop-look.system.log.steps in
+    let turned = c.flush.new.system.log.steps in
+    let clocked = c.clock-clock.new.self.log.steps in
     let peers = c.flush.new.peers in
     let f = c.flush.ensures in
-    let ended : HaveEnded c.args.until first clocked peers = inr (inl
-    (λ log is. let t = c.clock-clock.ensures log is in
-    (t.0, c.clock-clock.result, t.2, sym c.is_over.ensures ∙ c.if-is_over.true))) in
+    let ended : HaveEnded c.args.until first clocked peers =
+    inr (inl (turned, c.clock-clock.result, c.clock-clock.ensures, sym c.is_over.ensures ∙ c.if-is_over.true)) in
     let stands : AreStanding first c.args.peers.now → AreStanding clocked peers = λ stood.
     let was = c.loop-look.invariant.standing stood in (
       was.0,
@@ -81,11 +80,11 @@ returns-then-is_over g c =
 
 pub loop-look-preserved : goal.loop-look-preserved
 loop-look-preserved g c =
-    let first = g.S.System.trace c.args.system.now in
-    let old = g.S.System.trace c.loop-look.system in
-    let turned = g.S.System.trace c.flush.new.system in
-    let clocked = g.S.System.trace c.clock-clock.new.self in
-    let waited = g.S.System.trace c.wait-count.new.self in
+    let first = c.args.system.now.log.steps in
+    let old = c.loop-look.system.log.steps in
+    let turned = c.flush.new.system.log.steps in
+    let clocked = c.clock-clock.new.self.log.steps in
+    let waited = c.wait-count.new.self.log.steps in
     let was = c.loop-look.invariant in
     let f = c.flush.ensures in
     let peers = c.flush.new.peers in
@@ -93,11 +92,11 @@ loop-look-preserved g c =
     let ready = c.wait-count.new.ready in
     let more : SaysNothing turned waited = says_then turned clocked waited
     (says_step turned clocked (Clocks c.clock-clock.result) c.clock-clock.ensures refl)
-    (says_step clocked waited (Waits (Some 8) count ready) c.wait-count.ensures.trace refl) in
+    (says_step clocked waited (Waits (Some 8) count ready) c.wait-count.ensures.log refl) in
     let apart : AreApart peers = apart_later c.loop-look.peers peers c.flush.auto.peers f.those was.apart in
     record {
       kept = waited_all clocked waited peers c.wake.new.peers (Some 8) count ready (λ e. absurd (true≢false e))
-          c.wait-count.ensures.trace c.wake.auto.peers c.wake.ensures
+          c.wait-count.ensures.log c.wake.auto.peers c.wake.ensures
           (clocked_all turned clocked peers c.clock-clock.result c.clock-clock.ensures f.kept);
       calls = says_then first turned waited (says_then first old turned was.calls f.calls) more;
       first = λ e. absurd (omega (arith, e));
@@ -110,11 +109,11 @@ loop-look-preserved g c =
             fold woken_listening stands.0 (take count ready),
             stands.1,
             stands_waited clocked waited peers c.wake.new.peers (Some 8) count ready stands.0 stands.1
-                (λ e. absurd (true≢false e)) (λ e. absurd (true≢false e)) c.wait-count.ensures.trace c.wake.auto.peers c.wake.ensures
+                (λ e. absurd (true≢false e)) (λ e. absurd (true≢false e)) c.wait-count.ensures.log c.wake.auto.peers c.wake.ensures
                 (stands_clocked turned clocked peers stands.0 stands.1 c.clock-clock.result c.clock-clock.ensures
                 (stands_turned old turned c.loop-look.peers peers stands.0 stands.1 c.flush.auto.peers f.kept f.those f.others stands.2)),
           );
-      waited = waited_more c.loop-look._look first clocked waited (Some 8) count ready c.wait-count.ensures.trace
+      waited = waited_more c.loop-look._look first clocked waited (Some 8) count ready c.wait-count.ensures.log
           (waited_clocked c.loop-look._look first turned clocked c.clock-clock.result c.clock-clock.ensures
           (waited_keeps c.loop-look._look first old turned was.waited f.times));
     }
@@ -122,7 +121,7 @@ loop-look-preserved g c =
 pub returns-clause-ended : goal.returns-clause-ended
 returns-clause-ended g c =
     let all : c.loop-look._look ≡ 1000000 = omega arith in
-    inr (inr (subst (λ (n : ℕ). HasWaited n (g.S.System.trace c.args.system.now) (g.S.System.trace c.loop-look.system)) all
+    inr (inr (subst (λ (n : ℕ). HasWaited n c.args.system.now.log.steps c.loop-look.system.log.steps) all
     c.loop-look.invariant.waited))
 
 pub returns-clause-offered : goal.returns-clause-offered

@@ -8,11 +8,11 @@ use Rattle.srcp_sockets.proofs.delivering.deliver.Given as goal
 
 abbrev pub invariant-loop-look : goal.invariant-loop-look
 invariant-loop-look g l = record {
-  kept : AreKept (g.S.System.trace l.system) l.peers;
+  kept : AreKept l.system.log.steps l.peers;
   apart : AreApart l.peers;
-  standing : AreStanding (g.S.System.trace l.fn.system) l.fn.peers → AreStanding (g.S.System.trace l.system) l.peers;
-  calls : SaysNothing (g.S.System.trace l.fn.system) (g.S.System.trace l.system);
-  first : l._look ≡ 0 → (l.peers ≡ l.fn.peers) × (g.S.System.trace l.system ≡ g.S.System.trace l.fn.system);
-  offered : 0 < l._look → AreOffered flush.All l.fn.peers (g.S.System.trace l.fn.system) (g.S.System.trace l.system);
-  waited : HasWaited l._look (g.S.System.trace l.fn.system) (g.S.System.trace l.system);
+  standing : AreStanding l.fn.system.log.steps l.fn.peers → AreStanding l.system.log.steps l.peers;
+  calls : SaysNothing l.fn.system.log.steps l.system.log.steps;
+  first : l._look ≡ 0 → (l.peers ≡ l.fn.peers) × (l.system.log.steps ≡ l.fn.system.log.steps);
+  offered : 0 < l._look → AreOffered flush.All l.fn.peers l.fn.system.log.steps l.system.log.steps;
+  waited : HasWaited l._look l.fn.system.log.steps l.system.log.steps;
 }

@@ -1,4 +1,4 @@
 use Rattle.srcp_sockets.proofs.laws.accepts_are_true.Goals as goal
 
 pub returns : goal.returns
-returns g c log is = (c.args.door.now.sockets.timed log is).honest
+returns g c = c.args.door.now.sockets.timed.honest

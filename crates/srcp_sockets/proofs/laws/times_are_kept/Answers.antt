@@ -1,4 +1,4 @@
 use Rattle.srcp_sockets.proofs.laws.times_are_kept.Goals as goal
 
 pub returns : goal.returns
-returns g c log is = (c.args.door.now.sockets.timed log is).kept
+returns g c = c.args.door.now.sockets.timed.kept

@@ -1,4 +1,4 @@
 use Rattle.srcp_sockets.proofs.laws.turns_are_paced.Goals as goal
 
 pub returns : goal.returns
-returns g c log is = (c.args.door.now.sockets.timed log is).paced
+returns g c = c.args.door.now.sockets.timed.paced

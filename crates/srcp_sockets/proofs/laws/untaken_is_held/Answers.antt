@@ -15,7 +15,8 @@ held_as sent outgoing written took_all output.Full w t h = inr (sym w âˆ™ h.0 âˆ
 held_as sent outgoing written took_all output.Lost w t h = inl h.1
 
 pub returns : goal.returns
-returns g c log is k d lt =
+returns g c k d lt =
+    let log = c.args.door.now.sockets.system.log.steps in
     let peer = slice_index_or c.args.door.now.sockets.peers.items k d in
     held_as (account peer.number log).sent peer.outgoing (taken peer.number log) (took peer.number log) peer.output
-    (taken_is peer.number log) (took_is peer.number log) (c.args.door.now.sockets.stands.kept k d lt log is).writes
+    (taken_is peer.number log) (took_is peer.number log) (c.args.door.now.sockets.stands.kept k d lt).writes

@@ -1,4 +1,5 @@
-use Rattle.std.proofs.Common.{◌≡◌, ◌∙◌, ◌+◌, ℕ, Bool, List, [], ◌∷◌, Option, ap, arith, inl, inr, not, refl, rules, subst, sym, true, false}
+use Rattle.std.proofs.Common.{◌≡◌, ◌∙◌, ◌+◌, ℕ, Bool, List, [], ◌∷◌, ◌++◌}
+use Rattle.std.proofs.Common.{Option, ap, arith, inl, inr, not, refl, rules, subst, sym, true, false}
 use Rattle.std.proofs.Common.{true≢false, vec_capacity, None, Ok}
 use Rattle.std.specs.Prelude.{Result, cond, count_by}
 use Rattle.std.proofs.lemmas.List.Sums.{sum_by-append}
@@ -7,7 +8,7 @@ use Rattle.srcp_door.specs.declared.door.DoorFault.{DoorFault}
 use Rattle.srcp_peers.specs.declared.peer.Peer.{Peer}
 use Rattle.srcp_peers.specs.declared.turn.Listening.{Listening}
 use Rattle.srcp_peers.specs.Peers.{Makes}
-use Rattle.srcp_peers.specs.Steps.{Answers, Step, Tells}
+use Rattle.srcp_peers.specs.Steps.{Answers, Step}
 use Rattle.srcp_peers.proofs.PeersRestByAccount.{and_left, and_right}
 use Rattle.srcp_peers.proofs.CallsAreOfTheDoor.{says_after, says_call}
 use Rattle.srcp_sockets.specs.Doors.{is_quiet}
@@ -15,33 +16,33 @@ use Rattle.srcp_sockets.specs.Work.{IsAccepting, is_close, is_crowded, may_accep
 use Rattle.srcp_sockets.proofs.sockets.Sockets.accept.Goals as goal
 
 pub returns-clause-trace : goal.returns-clause-trace
-returns-clause-trace g c = says_after (g.S.System.trace c.args.self.now.system) (g.S.System.trace c.may_accept.new.self.system)
-    (g.S.System.trace c.accept_next.new.self.system) (AcceptCall c.accept_next.result) c.may_accept.ensures.calls
+returns-clause-trace g c = says_after c.args.self.now.system.log.steps c.may_accept.new.self.system.log.steps
+    c.accept_next.new.self.system.log.steps (AcceptCall c.accept_next.result) c.may_accept.ensures.calls
     c.accept_next.ensures.trace
 
 pub returns-then-not-may_accept-clause-trace : goal.returns-then-not-may_accept-clause-trace
 returns-then-not-may_accept-clause-trace g c =
-    let mid = g.S.System.trace c.may_accept.new.self.system in
-    let new = g.S.System.trace c.note_nobody.new.self.system in
+    let mid = c.may_accept.new.self.system.log.steps in
+    let new = c.note_nobody.new.self.system.log.steps in
     let call = AcceptCall c.note_nobody.result in
-    says_after (g.S.System.trace c.args.self.now.system) mid new call c.may_accept.ensures.calls
-    (says_call mid new call c.note_nobody.ensures.trace)
+    says_after c.args.self.now.system.log.steps mid new call c.may_accept.ensures.calls
+    (says_call mid new call c.note_nobody.ensures.log)
 
 pub returns-in_default-clause-trace : goal.returns-in_default-clause-trace
 returns-in_default-clause-trace g c =
     let none = c.put_off in
-    let mid = g.S.System.trace c.may_accept.new.self.system in
-    let new = g.S.System.trace none.new.self.system in
-    says_after (g.S.System.trace c.args.self.now.system) mid new (AcceptCall none.result) c.may_accept.ensures.calls
-    (says_call mid new (AcceptCall none.result) none.ensures.trace)
+    let mid = c.may_accept.new.self.system.log.steps in
+    let new = none.new.self.system.log.steps in
+    says_after c.args.self.now.system.log.steps mid new (AcceptCall none.result) c.may_accept.ensures.calls
+    (says_call mid new (AcceptCall none.result) none.ensures.log)
 
 pub returns-in_default-spare_or_new-clause-trace : goal.returns-in_default-spare_or_new-clause-trace
 returns-in_default-spare_or_new-clause-trace g c =
     let none = c.put_off-in_default-spare_or_new in
-    let mid = g.S.System.trace c.may_accept.new.self.system in
-    let new = g.S.System.trace none.new.self.system in
-    says_after (g.S.System.trace c.args.self.now.system) mid new (AcceptCall none.result) c.may_accept.ensures.calls
-    (says_call mid new (AcceptCall none.result) none.ensures.trace)
+    let mid = c.may_accept.new.self.system.log.steps in
+    let new = none.new.self.system.log.steps in
+    says_after c.args.self.now.system.log.steps mid new (AcceptCall none.result) c.may_accept.ensures.calls
+    (says_call mid new (AcceptCall none.result) none.ensures.log)
 
 pub note_nobody-requires : goal.note_nobody-requires
 note_nobody-requires g c = record { nobody = inl refl; excused = λ e. c.may_accept.ensures.excused (search rules) }
@@ -78,12 +79,12 @@ accept_next-requires-clause-loud g c =
 
 -- an accept behind what changed nothing
 accepting_since : (number one : ℕ) (answer : Result (Option ℕ) DoorFault) (first before after : Listening)
-    (start old new : Option (List Step)) → number ≡ one → before ≡ first → old ≡ start
+    (start old new : List Step) → number ≡ one → before ≡ first → old ≡ start
     → IsAccepting number answer before after old new → IsAccepting one answer first after start new
 accepting_since number one answer first before after start old new n b o h =
     subst (λ (k : ℕ). IsAccepting k answer first after start new) n
     (subst (λ (l : Listening). IsAccepting number answer l after start new) b
-    (subst (λ (t : Option (List Step)). IsAccepting number answer before after t new) o h))
+    (subst (λ (t : List Step). IsAccepting number answer before after t new) o h))
 
 pub returns-clause-asks : goal.returns-clause-asks
 returns-clause-asks g c may =
@@ -92,43 +93,38 @@ returns-clause-asks g c may =
     let same = c.may_accept.ensures.same c.if-not-may_accept.false in
     let next : c.in-Some.number ≡ mid.last + 1 = search rules in
     inr (accepting_since c.in-Some.number (self.last + 1) c.accept_next.result self.listening mid.listening
-    c.accept_next.new.self.listening (g.S.System.trace self.system) (g.S.System.trace mid.system)
-    (g.S.System.trace c.accept_next.new.self.system) (next ∙ ap (λ n. n + 1) same.1) same.0 same.2 c.accept_next.ensures.exact)
+    c.accept_next.new.self.listening self.system.log.steps mid.system.log.steps
+    c.accept_next.new.self.system.log.steps (next ∙ ap (λ n. n + 1) same.1) same.0 same.2 c.accept_next.ensures.exact)
 
 -- as many as before an answer
-makes_still : (is_such : Step → Bool) (count : ℕ) (first old new : Option (List Step)) (step : Step)
-    → Makes is_such count first old → Tells old step new → is_such step ≡ false → Makes is_such count first new
-makes_still is_such count first old new step made tells such later is =
-    let t = tells later is in
-    let m = made t.0 t.1 in
-    let none : count_by is_such (step ∷ []) ≡ 0 = ap (λ (b : Bool). 0 + cond {A = ℕ} b 1 0) such in (
-      m.0,
-      m.1,
-      ap (count_by is_such) t.2 ∙ sum_by-append (λ x. cond (is_such x) 1 0) t.0 (step ∷ []) ∙ omega (arith, m.2, none),
-    )
+makes_still : (is_such : Step → Bool) (count : ℕ) (first old new : List Step) (step : Step)
+    → Makes is_such count first old → new ≡ old ++ step ∷ [] → is_such step ≡ false → Makes is_such count first new
+makes_still is_such count first old new step made tells such =
+    let none : count_by is_such (step ∷ []) ≡ 0 = ap (λ (b : Bool). 0 + cond {A = ℕ} b 1 0) such in
+    ap (count_by is_such) tells ∙ sum_by-append (λ x. cond (is_such x) 1 0) old (step ∷ []) ∙ omega (arith, made, none)
 
 pub returns-then-not-may_accept-clause-makes : goal.returns-then-not-may_accept-clause-makes
 returns-then-not-may_accept-clause-makes g c quiet crowded =
     let made = c.may_accept.ensures.makes quiet crowded in
-    let mid = g.S.System.trace c.may_accept.new.self.system in
-    let new = g.S.System.trace c.note_nobody.new.self.system in
+    let mid = c.may_accept.new.self.system.log.steps in
+    let new = c.note_nobody.new.self.system.log.steps in
     record {
       none = λ e. c.note_nobody.ensures.listening ∙ made.none e;
       one = λ index e. (
         c.note_nobody.ensures.listening ∙ (made.one index e).0,
-        makes_still is_close 1 (g.S.System.trace c.args.self.now.system) mid new (Answers (AcceptCall c.note_nobody.result))
-            (made.one index e).1 c.note_nobody.ensures.trace refl,
+        makes_still is_close 1 c.args.self.now.system.log.steps mid new (Answers (AcceptCall c.note_nobody.result))
+            (made.one index e).1 c.note_nobody.ensures.log refl,
       );
     }
 
 pub returns-then-not-may_accept-clause-quiet : goal.returns-then-not-may_accept-clause-quiet
 returns-then-not-may_accept-clause-quiet g c quiet =
     let same = c.may_accept.ensures.quiet quiet in
-    let new = g.S.System.trace c.note_nobody.new.self.system in (
+    let new = c.note_nobody.new.self.system.log.steps in (
       c.note_nobody.ensures.listening ∙ same.0,
-      subst (λ (t : Option (List Step)). Tells t (Answers (AcceptCall (Ok None))) new) same.1
-          (subst (λ (a : Result (Option ℕ) DoorFault). Tells (g.S.System.trace c.may_accept.new.self.system) (Answers (AcceptCall a)) new)
-          c.note_nobody.ensures.same c.note_nobody.ensures.trace),
+      subst (λ (t : List Step). new ≡ t ++ Answers (AcceptCall (Ok None)) ∷ []) same.1
+          (subst (λ (a : Result (Option ℕ) DoorFault). new ≡ c.may_accept.new.self.system.log.steps ++ Answers (AcceptCall a) ∷ [])
+          c.note_nobody.ensures.same c.note_nobody.ensures.log),
     )
 
 pub returns-clause-makes : goal.returns-clause-makes

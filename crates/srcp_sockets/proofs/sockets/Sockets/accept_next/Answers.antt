@@ -23,30 +23,30 @@ use Rattle.srcp_sockets.proofs.sockets.Sockets.accept_next.Goals as goal
 
 pub invariant_of-self : goal.invariant_of-self
 invariant_of-self g c =
-    let old = g.S.System.trace c.args.self.now.system in
-    let mid = g.S.System.trace c.accept.new.self in
-    let new = g.S.System.trace c.note_accept.new.self in
+    let old = c.args.self.now.system.log.steps in
+    let mid = c.accept.new.self.log.steps in
+    let new = c.answer.new.self.log.steps in
     let self = c.args.self.now in
     let number = c.args.number in
     let said : Result Unit ErrorKind = Ok c.in-Ok.field-0 in
     let call = AcceptCall (Ok (Some number)) in
     let pushed : c.push.new.self.items ≡ self.peers.items ++ c.new.result ∷ [] = search rules in
     record {
-      stands = stands_answered mid new c.push.new.self.items self.listening number call (λ s a. refl) c.note_accept.ensures
+      stands = stands_answered mid new c.push.new.self.items self.listening number call (λ s a. refl) c.answer.ensures
           (stands_came old mid self.peers.items c.push.new.self.items c.new.result self.listening self.turn.clock self.last number
           c.in-Ok.field-0 c.requires.next pushed c.new.ensures c.in-Ok.ensures self.stands);
-      named = named_come mid new self.last number (omega (arith, c.requires.next)) (says_call mid new call c.note_accept.ensures)
+      named = named_come mid new self.last number (omega (arith, c.requires.next)) (says_call mid new call c.answer.ensures)
           (named_silent old mid self.last (says_step old mid (Accepts number said) c.in-Ok.ensures refl) self.named);
-      timed = timed_asked old mid new self.turn c.note_accept-in-Ok.new.self number said (Ok (Some number)) c.note_accept-in-Ok.ensures
+      timed = timed_asked old mid new self.turn c.note_accept.new.self number said (Ok (Some number)) c.note_accept.ensures
           (own number)
-          c.in-Ok.ensures c.note_accept.ensures self.timed;
-      asked = asked_step mid new (Answers call) c.note_accept.ensures refl
+          c.in-Ok.ensures c.answer.ensures self.timed;
+      asked = asked_step mid new (Answers call) c.answer.ensures refl
           (asked_step old mid (Accepts number said) c.in-Ok.ensures refl self.asked);
-      done = done_turn new self.turn c.note_accept-in-Ok.new.self (after_call self.turn call) c.note_accept-in-Ok.ensures refl refl
-          (done_step self.turn.timekeeper.wall self.turn.timekeeper.start mid new (Answers call) c.note_accept.ensures (λ log is. tt)
-          (done_step self.turn.timekeeper.wall self.turn.timekeeper.start old mid (Accepts number said) c.in-Ok.ensures (λ log is. tt)
+      done = done_turn new self.turn c.note_accept.new.self (after_call self.turn call) c.note_accept.ensures refl refl
+          (done_step self.turn.timekeeper.wall self.turn.timekeeper.start mid new (Answers call) c.answer.ensures tt
+          (done_step self.turn.timekeeper.wall self.turn.timekeeper.start old mid (Accepts number said) c.in-Ok.ensures tt
           self.done));
-      ending = far_same mid new c.push.new.self.items (Answers call) c.note_accept.ensures (λ s x. refl)
+      ending = far_same mid new c.push.new.self.items (Answers call) c.answer.ensures (λ s x. refl)
           (far_pushed old mid self.peers.items c.push.new.self.items c.new.result self.turn.clock number c.in-Ok.field-0 pushed
           c.new.ensures c.in-Ok.ensures self.ending);
       places = le_trans self.places c.push.ensures.capacity;
@@ -54,12 +54,12 @@ invariant_of-self g c =
 
 pub returns-in-Ok-clause-trace : goal.returns-in-Ok-clause-trace
 returns-in-Ok-clause-trace g c =
-    let old = g.S.System.trace c.args.self.now.system in
-    let mid = g.S.System.trace c.accept.new.self in
-    let new = g.S.System.trace c.note_accept.new.self in
+    let old = c.args.self.now.system.log.steps in
+    let mid = c.accept.new.self.log.steps in
+    let new = c.answer.new.self.log.steps in
     let call = AcceptCall (Ok (Some c.args.number)) in
     says_after old mid new call (says_step old mid (Accepts c.args.number (Ok c.in-Ok.field-0)) c.in-Ok.ensures refl)
-    (says_call mid new call c.note_accept.ensures)
+    (says_call mid new call c.answer.ensures)
 
 -- what is answered is what the system said
 answered_so : (said : IoFailure) → is_as_heard (Some (refused_accept said)) (refused_accept said) ≡ true
@@ -69,9 +69,9 @@ answered_so Fatal = refl
 
 pub invariant_of-self-in-Err : goal.invariant_of-self-in-Err
 invariant_of-self-in-Err g c =
-    let old = g.S.System.trace c.args.self.now.system in
-    let mid = g.S.System.trace c.accept.new.self in
-    let new = g.S.System.trace c.note_accept-in-Err.new.self in
+    let old = c.args.self.now.system.log.steps in
+    let mid = c.accept.new.self.log.steps in
+    let new = c.answer-in-Err.new.self.log.steps in
     let self = c.args.self.now in
     let number = c.args.number in
     let said : Result Unit ErrorKind = Err c.in-Err.fault in
@@ -79,61 +79,61 @@ invariant_of-self-in-Err g c =
     let call = AcceptCall answer in
     let is : answer ≡ refused_accept c.failure_of-said.result = c.nobody-answer.ensures.answer in
     record {
-      stands = stands_answered mid new self.peers.items c.refused-self.result self.last call (λ s a. refl) c.note_accept-in-Err.ensures
+      stands = stands_answered mid new self.peers.items c.refused-self.result self.last call (λ s a. refl) c.answer-in-Err.ensures
           (subst (λ (l : Listening). Stands mid self.peers.items l self.last)
           (sym (c.refused-self.ensures ∙ ap refused_listening c.failure_of-said.ensures))
           (stands_refused old mid self.peers.items self.listening self.last number c.in-Err.fault c.requires.loud
           c.in-Err.ensures self.stands));
-      named = named_call mid new self.last call (says_call mid new call c.note_accept-in-Err.ensures)
+      named = named_call mid new self.last call (says_call mid new call c.answer-in-Err.ensures)
           (ap (λ a. filter_map peer_of (AcceptCall a ∷ [])) is ∙ nobody_named c.failure_of-said.result)
           (named_silent old mid self.last (says_step old mid (Accepts number said) c.in-Err.ensures refl) self.named);
-      timed = timed_asked old mid new self.turn c.note_accept-in-Err-2.new.self number said answer c.note_accept-in-Err-2.ensures
+      timed = timed_asked old mid new self.turn c.note_accept-in-Err.new.self number said answer c.note_accept-in-Err.ensures
           (ap (λ a. is_as_heard (Some a) answer) (ap refused_accept (sym c.failure_of-said.ensures))
           ∙ ap (is_as_heard (Some (refused_accept c.failure_of-said.result))) is ∙ answered_so c.failure_of-said.result)
-          c.in-Err.ensures c.note_accept-in-Err.ensures self.timed;
-      asked = asked_accept mid new answer c.note_accept-in-Err.ensures (λ e. was_asked old mid number said c.in-Err.ensures)
+          c.in-Err.ensures c.answer-in-Err.ensures self.timed;
+      asked = asked_accept mid new answer c.answer-in-Err.ensures (λ e. was_asked old mid number said c.in-Err.ensures)
           (asked_step old mid (Accepts number said) c.in-Err.ensures refl self.asked);
-      done = done_turn new self.turn c.note_accept-in-Err-2.new.self (after_call self.turn call) c.note_accept-in-Err-2.ensures refl refl
-          (done_step self.turn.timekeeper.wall self.turn.timekeeper.start mid new (Answers call) c.note_accept-in-Err.ensures
-          (λ log is. tt)
-          (done_step self.turn.timekeeper.wall self.turn.timekeeper.start old mid (Accepts number said) c.in-Err.ensures (λ log is. tt)
+      done = done_turn new self.turn c.note_accept-in-Err.new.self (after_call self.turn call) c.note_accept-in-Err.ensures refl refl
+          (done_step self.turn.timekeeper.wall self.turn.timekeeper.start mid new (Answers call) c.answer-in-Err.ensures
+          tt
+          (done_step self.turn.timekeeper.wall self.turn.timekeeper.start old mid (Accepts number said) c.in-Err.ensures tt
           self.done));
-      ending = far_same mid new self.peers.items (Answers call) c.note_accept-in-Err.ensures (λ s x. refl)
+      ending = far_same mid new self.peers.items (Answers call) c.answer-in-Err.ensures (λ s x. refl)
           (far_same old mid self.peers.items (Accepts number said) c.in-Err.ensures (λ s x. refl) self.ending);
       places = self.places;
     }
 
 pub returns-in-Err-clause-trace : goal.returns-in-Err-clause-trace
 returns-in-Err-clause-trace g c =
-    let old = g.S.System.trace c.args.self.now.system in
-    let mid = g.S.System.trace c.accept.new.self in
-    let new = g.S.System.trace c.note_accept-in-Err.new.self in
+    let old = c.args.self.now.system.log.steps in
+    let mid = c.accept.new.self.log.steps in
+    let new = c.answer-in-Err.new.self.log.steps in
     let call = AcceptCall c.nobody-answer.result in
     says_after old mid new call (says_step old mid (Accepts c.args.number (Err c.in-Err.fault)) c.in-Err.ensures refl)
-    (says_call mid new call c.note_accept-in-Err.ensures)
+    (says_call mid new call c.answer-in-Err.ensures)
 
 pub returns-in-Ok-clause-exact : goal.returns-in-Ok-clause-exact
 returns-in-Ok-clause-exact g c =
-    let old = g.S.System.trace c.args.self.now.system in
-    let mid = g.S.System.trace c.accept.new.self in
-    let new = g.S.System.trace c.note_accept.new.self in
+    let old = c.args.self.now.system.log.steps in
+    let mid = c.accept.new.self.log.steps in
+    let new = c.answer.new.self.log.steps in
     let said : Result Unit ErrorKind = Ok c.in-Ok.field-0 in (
       said,
       refl,
       refl,
       tells_two old mid new (Accepts c.args.number said) (Answers (AcceptCall (Ok (Some c.args.number)))) c.in-Ok.ensures
-          c.note_accept.ensures,
+          c.answer.ensures,
     )
 
 pub returns-in-Err-clause-exact : goal.returns-in-Err-clause-exact
 returns-in-Err-clause-exact g c =
-    let old = g.S.System.trace c.args.self.now.system in
-    let mid = g.S.System.trace c.accept.new.self in
-    let new = g.S.System.trace c.note_accept-in-Err.new.self in
+    let old = c.args.self.now.system.log.steps in
+    let mid = c.accept.new.self.log.steps in
+    let new = c.answer-in-Err.new.self.log.steps in
     let said : Result Unit ErrorKind = Err c.in-Err.fault in (
       said,
       c.nobody-answer.ensures.answer ∙ ap refused_accept c.failure_of-said.ensures,
       c.refused-self.ensures ∙ ap refused_listening c.failure_of-said.ensures,
       tells_two old mid new (Accepts c.args.number said) (Answers (AcceptCall c.nobody-answer.result)) c.in-Err.ensures
-          c.note_accept-in-Err.ensures,
+          c.answer-in-Err.ensures,
     )

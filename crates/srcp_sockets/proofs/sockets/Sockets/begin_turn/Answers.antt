@@ -15,28 +15,27 @@ use Rattle.srcp_sockets.specs.Work.{AreClosedUp, goes_on}
 use Rattle.srcp_sockets.proofs.EndsAreDelivered.{waited_after, waited_keeps}
 use Rattle.srcp_sockets.proofs.WorkIsDone.{looked_silent, may_tell}
 use Rattle.srcp_sockets.proofs.WaitsAreFlushed.{all_closed, may_wait}
-use Rattle.srcp_peers.proofs.StepsAreCounted.{grows_more, grows_then}
-use Rattle.std.proofs.Common.{◌+◌, ◌*◌, arith, length}
+use Rattle.std.proofs.Common.{arith}
 use Rattle.srcp_sockets.proofs.sockets.Sockets.begin_turn.Goals as goal
 
 pub returns-clause-calls : goal.returns-clause-calls
 returns-clause-calls g c =
-    let old = g.S.System.trace c.args.self.now.system in
-    let flushed = g.S.System.trace c.flush.new.self.system in
-    let gone = g.S.System.trace c.close_gone.new.self.system in
-    let looked = g.S.System.trace c.poll_unless_held.new.self.system in
-    let new = g.S.System.trace c.begin_visits.new.self.system in
+    let old = c.args.self.now.system.log.steps in
+    let flushed = c.flush.new.self.system.log.steps in
+    let gone = c.close_gone.new.self.system.log.steps in
+    let looked = c.poll_unless_held.new.self.system.log.steps in
+    let new = c.begin_visits.new.self.system.log.steps in
     says_then old gone new (says_then old flushed gone c.flush.ensures.calls c.close_gone.ensures.calls)
     (says_then gone looked new c.poll_unless_held.ensures.calls c.begin_visits.ensures.calls)
 
 pub returns-clause-offered : goal.returns-clause-offered
 returns-clause-offered g c =
     let was = c.args.self.now in
-    let old = g.S.System.trace was.system in
-    let flushed = g.S.System.trace c.flush.new.self.system in
-    let gone = g.S.System.trace c.close_gone.new.self.system in
-    let looked = g.S.System.trace c.poll_unless_held.new.self.system in
-    let new = g.S.System.trace c.begin_visits.new.self.system in
+    let old = was.system.log.steps in
+    let flushed = c.flush.new.self.system.log.steps in
+    let gone = c.close_gone.new.self.system.log.steps in
+    let looked = c.poll_unless_held.new.self.system.log.steps in
+    let new = c.begin_visits.new.self.system.log.steps in
     let what = flushed_in was.turn was.flushed was.peers.items in
     let ticked = has_ticked was.turn was.flushed in
     let same : c.flushing-what.result ≡ what = c.flushing-what.ensures
@@ -49,11 +48,11 @@ returns-clause-offered g c =
 pub returns-clause-waits : goal.returns-clause-waits
 returns-clause-waits g c =
     let was = c.args.self.now in
-    let old = g.S.System.trace was.system in
-    let flushed = g.S.System.trace c.flush.new.self.system in
-    let gone = g.S.System.trace c.close_gone.new.self.system in
-    let looked = g.S.System.trace c.poll_unless_held.new.self.system in
-    let new = g.S.System.trace c.begin_visits.new.self.system in
+    let old = was.system.log.steps in
+    let flushed = c.flush.new.self.system.log.steps in
+    let gone = c.close_gone.new.self.system.log.steps in
+    let looked = c.poll_unless_held.new.self.system.log.steps in
+    let new = c.begin_visits.new.self.system.log.steps in
     let ticked = has_ticked was.turn was.flushed in
     let held : c.goes_on-held.result ≡ goes_on was.turn was.flushed was.peers.items = c.goes_on-held.ensures
     ∙ ap (λ holds. not ticked && holds) c.holds_input-holds.ensures in
@@ -66,11 +65,11 @@ returns-clause-waits g c =
 pub returns-clause-may : goal.returns-clause-may
 returns-clause-may g c =
     let was = c.args.self.now in
-    let old = g.S.System.trace was.system in
-    let flushed = g.S.System.trace c.flush.new.self.system in
-    let gone = g.S.System.trace c.close_gone.new.self.system in
-    let looked = g.S.System.trace c.poll_unless_held.new.self.system in
-    let new = g.S.System.trace c.begin_visits.new.self.system in
+    let old = was.system.log.steps in
+    let flushed = c.flush.new.self.system.log.steps in
+    let gone = c.close_gone.new.self.system.log.steps in
+    let looked = c.poll_unless_held.new.self.system.log.steps in
+    let new = c.begin_visits.new.self.system.log.steps in
     may_tell old new was.peers.items was.listening was.last c.goes_on-held.result was.stands
     (says_then old gone new (says_then old flushed gone c.flush.ensures.calls c.close_gone.ensures.calls)
     (says_then gone looked new c.poll_unless_held.ensures.calls c.begin_visits.ensures.calls))
@@ -82,8 +81,8 @@ pub poll_unless_held-requires-clause-may : goal.poll_unless_held-requires-clause
 poll_unless_held-requires-clause-may g c none =
     let was = c.args.self.now in
     let at = c.close_gone.new.self in
-    let flushed = g.S.System.trace c.flush.new.self.system in
-    let gone = g.S.System.trace at.system in
+    let flushed = c.flush.new.self.system.log.steps in
+    let gone = at.system.log.steps in
     let ticked = has_ticked was.turn was.flushed in
     let kept : at.turn ≡ was.turn = c.close_gone.ensures.keeps.0 ∙ c.flush.ensures.keeps.0 in
     let what : c.flushing-what.result ≡ flushing ticked false at.turn = c.flushing-what.ensures
@@ -96,17 +95,11 @@ poll_unless_held-requires-clause-may g c none =
 
 pub returns-clause-most : goal.returns-clause-most
 returns-clause-most g c =
-    let old = g.S.System.trace c.args.self.now.system in
-    let flushed = g.S.System.trace c.flush.new.self.system in
-    let gone = g.S.System.trace c.close_gone.new.self.system in
-    let looked = g.S.System.trace c.poll_unless_held.new.self.system in
-    let new = g.S.System.trace c.begin_visits.new.self.system in
-    let many = length c.args.self.now.peers.items in
-    let left = length c.poll_unless_held.new.self.peers.items in
     let a = c.flush.ensures.as_many in
     let b = c.close_gone.ensures.as_few in
     let d = c.poll_unless_held.ensures.as_many in
-    grows_more (2 * many + 64 + 64 + (1 + left)) (3 * many + 129) old new (omega (arith, a, b, d))
-    (grows_then (2 * many + 64 + 64) (1 + left) old gone new
-    (grows_then (2 * many + 64) 64 old flushed gone c.flush.ensures.most c.close_gone.ensures.most)
-    (grows_then 1 left gone looked new c.poll_unless_held.ensures.most c.begin_visits.ensures.most))
+    let flushed = c.flush.ensures.most in
+    let gone = c.close_gone.ensures.most in
+    let looked = c.poll_unless_held.ensures.most in
+    let begun = c.begin_visits.ensures.most in
+    omega (arith, a, b, d, flushed, gone, looked, begun)

@@ -19,8 +19,8 @@ use Rattle.srcp_sockets.proofs.sockets.Sockets.begin_visits.Goals as goal
 
 pub invariant_of-self : goal.invariant_of-self
 invariant_of-self g c =
-    let old = g.S.System.trace c.args.self.now.system in
-    let new = g.S.System.trace c.begin_visits.new.system in
+    let old = c.args.self.now.system.log.steps in
+    let new = c.begin_visits.new.system.log.steps in
     let listening = c.args.self.now.listening in
     let last = c.args.self.now.last in
     record {
@@ -44,8 +44,8 @@ invariant_of-self g c =
 
 pub returns-clause-read : goal.returns-clause-read
 returns-clause-read g c =
-    let old = g.S.System.trace c.args.self.now.system in
-    let new = g.S.System.trace c.begin_visits.new.system in
+    let old = c.args.self.now.system.log.steps in
+    let new = c.begin_visits.new.system.log.steps in
     let listening = c.args.self.now.listening in
     let last = c.args.self.now.last in
     all_read new c.begin_visits.new.peers listening last
@@ -56,8 +56,8 @@ returns-clause-read g c =
 
 pub returns-clause-visited : goal.returns-clause-visited
 returns-clause-visited g c =
-    let old = g.S.System.trace c.args.self.now.system in
-    let new = g.S.System.trace c.begin_visits.new.system in
+    let old = c.args.self.now.system.log.steps in
+    let new = c.begin_visits.new.system.log.steps in
     subst (AreVisited new)
     (sym (with_items_is c.args.self.now.peers c.begin_visits.new.peers (c.begin_visits.auto.peers ∙ search rules)))
     (visited_all old new c.as_mut_slice.result.now c.begin_visits.new.peers c.begin_visits.auto.peers c.begin_visits.ensures.calls
@@ -82,5 +82,5 @@ returns-clause-rooms g c =
 
 pub returns-clause-most : goal.returns-clause-most
 returns-clause-most g c =
-    subst (λ (ps : List Peer). GrowsBy (length ps) (g.S.System.trace c.args.self.now.system) (g.S.System.trace c.begin_visits.new.system))
+    subst (λ (ps : List Peer). GrowsBy (length ps) c.args.self.now.system.log.steps c.begin_visits.new.system.log.steps)
     c.as_mut_slice.ensures.value c.begin_visits.ensures.most

@@ -15,34 +15,34 @@ use Rattle.srcp_sockets.proofs.EndsAreTold.{far_left, far_same, slackens_step}
 use Rattle.srcp_sockets.proofs.sockets.Sockets.close.Goals as goal
 
 pub returns-in_default-clause-trace : goal.returns-in_default-clause-trace
-returns-in_default-clause-trace g c = says_call (g.S.System.trace c.args.self.now.system) (g.S.System.trace c.note_close.new.self)
-    (CloseCall c.args.number (Err Close)) c.note_close.ensures
+returns-in_default-clause-trace g c = says_call c.args.self.now.system.log.steps c.answer.new.self.log.steps
+    (CloseCall c.args.number (Err Close)) c.answer.ensures
 
 pub invariant_of-self : goal.invariant_of-self
 invariant_of-self g c =
-    let old = g.S.System.trace c.args.self.now.system in
-    let new = g.S.System.trace c.note_close.new.self in
+    let old = c.args.self.now.system.log.steps in
+    let new = c.answer.new.self.log.steps in
     let call = CloseCall c.args.number (Err Close) in
     record {
       stands = stands_missing old new c.args.self.now.peers.items c.args.self.now.listening c.args.self.now.last c.args.number (Err Close)
-          c.in_default.ensures.none c.note_close.ensures c.args.self.now.stands;
-      named = named_call old new c.args.self.now.last call (says_call old new call c.note_close.ensures) refl c.args.self.now.named;
-      timed = timed_close old new c.args.self.now.turn c.note_close-in_default.new.self c.args.number (Err Close)
-          (λ peer. c.note_close-in_default.ensures peer (Err Close))
-          c.note_close.ensures c.args.self.now.timed;
-      asked = asked_step old new (Answers call) c.note_close.ensures refl c.args.self.now.asked;
-      done = done_turn new c.args.self.now.turn c.note_close-in_default.new.self (after_call c.args.self.now.turn call)
-          (c.note_close-in_default.ensures c.args.number (Err Close)) refl refl
-          (done_step c.args.self.now.turn.timekeeper.wall c.args.self.now.turn.timekeeper.start old new (Answers call) c.note_close.ensures
-          (λ log is. tt) c.args.self.now.done);
-      ending = far_same old new c.args.self.now.peers.items (Answers call) c.note_close.ensures (λ s x. refl) c.args.self.now.ending;
+          c.in_default.ensures.none c.answer.ensures c.args.self.now.stands;
+      named = named_call old new c.args.self.now.last call (says_call old new call c.answer.ensures) refl c.args.self.now.named;
+      timed = timed_close old new c.args.self.now.turn c.note_close.new.self c.args.number (Err Close)
+          (λ peer. c.note_close.ensures peer (Err Close))
+          c.answer.ensures c.args.self.now.timed;
+      asked = asked_step old new (Answers call) c.answer.ensures refl c.args.self.now.asked;
+      done = done_turn new c.args.self.now.turn c.note_close.new.self (after_call c.args.self.now.turn call)
+          (c.note_close.ensures c.args.number (Err Close)) refl refl
+          (done_step c.args.self.now.turn.timekeeper.wall c.args.self.now.turn.timekeeper.start old new (Answers call) c.answer.ensures
+          tt c.args.self.now.done);
+      ending = far_same old new c.args.self.now.peers.items (Answers call) c.answer.ensures (λ s x. refl) c.args.self.now.ending;
       places = c.args.self.now.places;
     }
 
 pub invariant_of-self-2 : goal.invariant_of-self-2
 invariant_of-self-2 g c =
-    let old = g.S.System.trace c.args.self.now.system in
-    let new = g.S.System.trace c.note_close-2.new.self in
+    let old = c.args.self.now.system.log.steps in
+    let new = c.answer-2.new.self.log.steps in
     let call = CloseCall c.args.number (Ok tt) in
     let x = c.index_mut.result.now in
     let at = c.index_mut.ensures.value in
@@ -51,22 +51,22 @@ invariant_of-self-2 g c =
       stands = stands_left old new c.args.self.now.peers.items c.in-Some.index x c.linger.new.self c.args.self.now.listening
           c.args.self.now.last c.args.number c.args.self.now.turn.clock (Ok tt) there.0 (sym at)
           (ap (λ (p : Peer). p.number) at ∙ (there.1 x).0) (ap (λ (p : Peer). p.stay) at ∙ (there.1 x).1) c.linger.ensures
-          (clock_is old c.args.self.now.turn c.args.number c.args.self.now.timed) c.note_close-2.ensures c.args.self.now.stands;
-      named = named_call old new c.args.self.now.last call (says_call old new call c.note_close-2.ensures) refl c.args.self.now.named;
-      timed = timed_close old new c.args.self.now.turn c.note_close-3.new.self c.args.number (Ok tt)
-          (λ peer. c.note_close-3.ensures peer (Ok tt))
-          c.note_close-2.ensures c.args.self.now.timed;
-      asked = asked_step old new (Answers call) c.note_close-2.ensures refl c.args.self.now.asked;
-      done = done_turn new c.args.self.now.turn c.note_close-3.new.self (after_call c.args.self.now.turn call)
-          (c.note_close-3.ensures c.args.number (Ok tt)) refl refl
+          (clock_is old c.args.self.now.turn c.args.number c.args.self.now.timed) c.answer-2.ensures c.args.self.now.stands;
+      named = named_call old new c.args.self.now.last call (says_call old new call c.answer-2.ensures) refl c.args.self.now.named;
+      timed = timed_close old new c.args.self.now.turn c.note_close-2.new.self c.args.number (Ok tt)
+          (λ peer. c.note_close-2.ensures peer (Ok tt))
+          c.answer-2.ensures c.args.self.now.timed;
+      asked = asked_step old new (Answers call) c.answer-2.ensures refl c.args.self.now.asked;
+      done = done_turn new c.args.self.now.turn c.note_close-2.new.self (after_call c.args.self.now.turn call)
+          (c.note_close-2.ensures c.args.number (Ok tt)) refl refl
           (done_step c.args.self.now.turn.timekeeper.wall c.args.self.now.turn.timekeeper.start old new
-          (Answers call) c.note_close-2.ensures
-          (λ log is. tt) c.args.self.now.done);
+          (Answers call) c.answer-2.ensures
+          tt c.args.self.now.done);
       ending = far_left old new c.args.self.now.peers.items c.in-Some.index x c.linger.new.self c.args.self.now.turn.clock there.0
-          c.linger.ensures (slackens_step old new (Answers call) c.note_close-2.ensures (λ s x. refl)) c.args.self.now.ending;
+          c.linger.ensures (slackens_step old new (Answers call) c.answer-2.ensures (λ s x. refl)) c.args.self.now.ending;
       places = c.args.self.now.places;
     }
 
 pub returns-clause-trace : goal.returns-clause-trace
-returns-clause-trace g c = says_call (g.S.System.trace c.args.self.now.system) (g.S.System.trace c.note_close-2.new.self)
-    (CloseCall c.args.number (Ok tt)) c.note_close-2.ensures
+returns-clause-trace g c = says_call c.args.self.now.system.log.steps c.answer-2.new.self.log.steps
+    (CloseCall c.args.number (Ok tt)) c.answer-2.ensures

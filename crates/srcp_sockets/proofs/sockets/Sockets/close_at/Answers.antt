@@ -7,7 +7,7 @@ use Rattle.srcp_sockets.proofs.AcceptsAreAsked.{asked_step}
 use Rattle.srcp_sockets.proofs.WorkIsDone.{done_step}
 use Rattle.srcp_sockets.proofs.WaitsAreFlushed.{flushed_close}
 use Rattle.srcp_sockets.proofs.AccountsReadTheClock.{clock_is}
-use Rattle.srcp_peers.proofs.StepsAreCounted.{makes_more, makes_none}
+use Rattle.srcp_peers.proofs.StepsAreCounted.{makes_more}
 use Rattle.srcp_peers.proofs.CallsAreOfTheDoor.{says_step, keeps_step}
 use Rattle.srcp_sockets.proofs.NumbersDiffer.{named_silent}
 use Rattle.srcp_sockets.proofs.SocketsLingerAndClose.{stands_closed_at}
@@ -17,13 +17,13 @@ use Rattle.srcp_sockets.specs.Endings.{AreAsFar}
 use Rattle.srcp_sockets.proofs.EndsAreTold.{far_goes, removed_of, slackens_step}
 use Rattle.srcp_peers.proofs.StepsAreCounted.{grows_step}
 use Rattle.std.proofs.lemmas.List.Edits.{length-remove}
-use Rattle.std.proofs.Common.{◌≤◌, ap, arith, length}
+use Rattle.std.proofs.Common.{ap, arith, length}
 use Rattle.srcp_sockets.proofs.sockets.Sockets.close_at.Goals as goal
 
 pub invariant_of-self : goal.invariant_of-self
 invariant_of-self g c =
-    let old = g.S.System.trace c.args.self.now.system in
-    let new = g.S.System.trace c.close.new.self in
+    let old = c.args.self.now.system.log.steps in
+    let new = c.close.new.self.log.steps in
     let self = c.args.self.now in
     let peer = c.index.result.now in
     record {
@@ -34,7 +34,7 @@ invariant_of-self g c =
       named = named_silent old new self.last (says_step old new (Closes peer.number) c.close.ensures refl) self.named;
       timed = timed_kept old new self.turn (keeps_step old new (Closes peer.number) c.close.ensures (λ t. refl)) self.timed;
       asked = asked_step old new (Closes peer.number) c.close.ensures refl self.asked;
-      done = done_step self.turn.timekeeper.wall self.turn.timekeeper.start old new (Closes peer.number) c.close.ensures (λ log is. tt)
+      done = done_step self.turn.timekeeper.wall self.turn.timekeeper.start old new (Closes peer.number) c.close.ensures tt
           self.done;
       ending = subst (AreAsFar new) (sym c.remove.ensures.items)
           (far_goes old new self.peers.items (remove self.peers.items c.args.index)
@@ -45,32 +45,32 @@ invariant_of-self g c =
 
 pub returns-clause-calls : goal.returns-clause-calls
 returns-clause-calls g c =
-    let old = g.S.System.trace c.args.self.now.system in
-    let new = g.S.System.trace c.close.new.self in
+    let old = c.args.self.now.system.log.steps in
+    let new = c.close.new.self.log.steps in
     says_step old new (Closes c.index.result.now.number) c.close.ensures refl
 
 pub returns-clause-times : goal.returns-clause-times
 returns-clause-times g c =
-    let old = g.S.System.trace c.args.self.now.system in
-    let new = g.S.System.trace c.close.new.self in
+    let old = c.args.self.now.system.log.steps in
+    let new = c.close.new.self.log.steps in
     keeps_step old new (Closes c.index.result.now.number) c.close.ensures (λ t. refl)
 
 pub returns-clause-closed : goal.returns-clause-closed
 returns-clause-closed g c =
-    let old = g.S.System.trace c.args.self.now.system in
-    let new = g.S.System.trace c.close.new.self in
-    makes_more is_close 0 old old new (Closes c.index.result.now.number) (makes_none is_close old) c.close.ensures refl
+    let old = c.args.self.now.system.log.steps in
+    let new = c.close.new.self.log.steps in
+    makes_more is_close 0 old old new (Closes c.index.result.now.number) (omega arith) c.close.ensures refl
 
 pub returns-clause-one : goal.returns-clause-one
 returns-clause-one g c = (c.index.result.now.number, c.close.ensures)
 
 pub returns-clause-out : goal.returns-clause-out
 returns-clause-out g c all flushed =
-    flushed_close all (g.S.System.trace c.args.self.now.system) (g.S.System.trace c.close.new.self) c.index.result.now.number
+    flushed_close all c.args.self.now.system.log.steps c.close.new.self.log.steps c.index.result.now.number
     c.close.ensures flushed
 
 pub returns-clause-most : goal.returns-clause-most
-returns-clause-most g c = grows_step (g.S.System.trace c.args.self.now.system) (g.S.System.trace c.close.new.self)
+returns-clause-most g c = grows_step c.args.self.now.system.log.steps c.close.new.self.log.steps
     (Closes c.index.result.now.number) c.close.ensures
 
 pub returns-clause-as_few : goal.returns-clause-as_few

@@ -1,32 +1,30 @@
-use Rattle.std.proofs.Common.{◌≡◌, ◌∙◌, ◌+◌, ℕ, arith, inr, refl, subst}
+use Rattle.std.proofs.Common.{◌≡◌, ◌∙◌, ℕ, arith, inr, refl, subst}
 use Rattle.srcp_peers.specs.Peers.{Makes}
-use Rattle.srcp_peers.proofs.StepsAreCounted.{makes_none, makes_then}
-use Rattle.srcp_peers.proofs.CallsAreOfTheDoor.{keeps_none, keeps_then, says_none, says_then}
+use Rattle.srcp_peers.proofs.CallsAreOfTheDoor.{keeps_then, says_none, says_then}
 use Rattle.srcp_sockets.specs.Work.{is_close}
-use Rattle.srcp_peers.proofs.StepsAreCounted.{grows_more, grows_none, grows_then}
 use Rattle.srcp_sockets.proofs.sockets.Sockets.close_gone.Goals as goal
 
 pub loop-init : goal.loop-init
 loop-init g c =
-    let old = g.S.System.trace c.args.self.now.system in
+    let old = c.args.self.now.system.log.steps in
     record {
       calls = says_none old;
       last = refl;
-      times = keeps_none old;
+      times = λ wall start. refl;
       turn = refl;
       starved = refl;
       flushed = refl;
-      made = makes_none is_close old;
-      most = λ n le. grows_more 0 n old old le (grows_none old);
+      made = omega arith;
+      most = λ n le. omega arith;
       as_few = omega arith;
       out = λ all flushed. flushed;
     }
 
 pub loop-preserved : goal.loop-preserved
 loop-preserved g c =
-    let first = g.S.System.trace c.args.self.now.system in
-    let old = g.S.System.trace c.loop.self.system in
-    let new = g.S.System.trace c.close_at.new.self.system in
+    let first = c.args.self.now.system.log.steps in
+    let old = c.loop.self.system.log.steps in
+    let new = c.close_at.new.self.system.log.steps in
     let was = c.loop.invariant in
     let now = c.close_at.ensures in
     record {
@@ -36,9 +34,8 @@ loop-preserved g c =
       turn = now.keeps.0 ∙ was.turn;
       starved = now.keeps.1 ∙ was.starved;
       flushed = now.flushed ∙ was.flushed;
-      made = makes_then is_close c.loop.counter 1 first old new was.made now.closed;
-      most = λ n le. grows_more (c.loop.counter + 1) n first new le
-          (grows_then c.loop.counter 1 first old new (was.most c.loop.counter (omega arith)) now.most);
+      made = (let a = now.closed in let b = was.made in omega (arith, a, b));
+      most = λ n le. (let a = now.most in let b = was.most c.loop.counter (omega arith) in omega (arith, le, a, b));
       as_few = (let a = now.as_few in let b = was.as_few in omega (arith, a, b));
       out = λ all flushed. now.out all (was.out all flushed);
     }
@@ -46,5 +43,5 @@ loop-preserved g c =
 pub returns-clause-closed : goal.returns-clause-closed
 returns-clause-closed g c =
     let all : c.loop.counter ≡ 64 = omega arith in
-    inr (subst (λ (n : ℕ). Makes is_close n (g.S.System.trace c.args.self.now.system) (g.S.System.trace c.loop.self.system)) all
+    inr (subst (λ (n : ℕ). Makes is_close n c.args.self.now.system.log.steps c.loop.self.system.log.steps) all
     c.loop.invariant.made)

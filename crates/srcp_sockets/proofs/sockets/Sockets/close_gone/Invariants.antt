@@ -8,14 +8,14 @@ use Rattle.srcp_sockets.proofs.sockets.Sockets.close_gone.Given as goal
 
 abbrev pub invariant-loop : goal.invariant-loop
 invariant-loop g l = record {
-  calls : SaysNothing (g.S.System.trace l.fn.self.system) (g.S.System.trace l.self.system);
+  calls : SaysNothing l.fn.self.system.log.steps l.self.system.log.steps;
   last : l.self.last ≡ l.fn.self.last;
-  times : KeepsTimes (g.S.System.trace l.fn.self.system) (g.S.System.trace l.self.system);
+  times : KeepsTimes l.fn.self.system.log.steps l.self.system.log.steps;
   turn : l.self.turn ≡ l.fn.self.turn;
   starved : l.self.starved ≡ l.fn.self.starved;
   flushed : l.self.flushed ≡ l.fn.self.flushed;
-  made : Makes is_close l.counter (g.S.System.trace l.fn.self.system) (g.S.System.trace l.self.system);
-  most : (n : ℕ) → l.counter ≤ n → GrowsBy n (g.S.System.trace l.fn.self.system) (g.S.System.trace l.self.system);
+  made : Makes is_close l.counter l.fn.self.system.log.steps l.self.system.log.steps;
+  most : (n : ℕ) → l.counter ≤ n → GrowsBy n l.fn.self.system.log.steps l.self.system.log.steps;
   as_few : length l.self.peers.items ≤ length l.fn.self.peers.items;
-  out : (all : Bool) → AreFlushed all (g.S.System.trace l.fn.self.system) → AreFlushed all (g.S.System.trace l.self.system);
+  out : (all : Bool) → AreFlushed all l.fn.self.system.log.steps → AreFlushed all l.self.system.log.steps;
 }

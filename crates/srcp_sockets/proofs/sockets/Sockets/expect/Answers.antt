@@ -13,27 +13,27 @@ use Rattle.srcp_sockets.proofs.sockets.Sockets.expect.Goals as goal
 
 pub invariant_of-self : goal.invariant_of-self
 invariant_of-self g c =
-    let old = g.S.System.trace c.args.self.now.system in
-    let new = g.S.System.trace c.note_expect.new.self in
+    let old = c.args.self.now.system.log.steps in
+    let new = c.answer.new.self.log.steps in
     let call = ExpectCall c.args.due c.args.slack in
     record {
       stands = stands_step old new c.args.self.now.peers.items c.args.self.now.listening c.args.self.now.last (Answers call)
-          (λ s a. refl) c.note_expect.ensures
+          (λ s a. refl) c.answer.ensures
           c.args.self.now.stands;
-      named = named_call old new c.args.self.now.last call (says_call old new call c.note_expect.ensures) refl c.args.self.now.named;
-      timed = timed_expect old new c.args.self.now.turn c.expect.new.self c.args.due c.args.slack c.expect.ensures c.note_expect.ensures
+      named = named_call old new c.args.self.now.last call (says_call old new call c.answer.ensures) refl c.args.self.now.named;
+      timed = timed_expect old new c.args.self.now.turn c.expect.new.self c.args.due c.args.slack c.expect.ensures c.answer.ensures
           c.args.self.now.timed;
-      asked = asked_step old new (Answers call) c.note_expect.ensures refl c.args.self.now.asked;
+      asked = asked_step old new (Answers call) c.answer.ensures refl c.args.self.now.asked;
       done = done_turn new c.args.self.now.turn c.expect.new.self (after_call c.args.self.now.turn call) c.expect.ensures refl refl
-          (done_step c.args.self.now.turn.timekeeper.wall c.args.self.now.turn.timekeeper.start old new (Answers call) c.note_expect.ensures
-          (λ log is. tt) c.args.self.now.done);
-      ending = far_same old new c.args.self.now.peers.items (Answers call) c.note_expect.ensures (λ s x. refl) c.args.self.now.ending;
+          (done_step c.args.self.now.turn.timekeeper.wall c.args.self.now.turn.timekeeper.start old new (Answers call) c.answer.ensures
+          tt c.args.self.now.done);
+      ending = far_same old new c.args.self.now.peers.items (Answers call) c.answer.ensures (λ s x. refl) c.args.self.now.ending;
       places = c.args.self.now.places;
     }
 
 pub returns-clause-trace : goal.returns-clause-trace
-returns-clause-trace g c = says_call (g.S.System.trace c.args.self.now.system) (g.S.System.trace c.note_expect.new.self)
-    (ExpectCall c.args.due c.args.slack) c.note_expect.ensures
+returns-clause-trace g c = says_call c.args.self.now.system.log.steps c.answer.new.self.log.steps
+    (ExpectCall c.args.due c.args.slack) c.answer.ensures
 
 pub returns-clause-keeps : goal.returns-clause-keeps
 returns-clause-keeps g c = (refl, refl)

@@ -11,16 +11,15 @@ use Rattle.srcp_sockets.proofs.SocketsStayStanding.{stands_turned}
 use Rattle.srcp_sockets.proofs.TimesGoOn.{timed_kept}
 use Rattle.srcp_sockets.specs.Endings.{AreAsFar}
 use Rattle.srcp_sockets.proofs.EndsAreTold.{far_goes, flushed_of, slackens_silent}
-use Rattle.srcp_peers.proofs.StepsAreCounted.{grows_more}
-use Rattle.std.proofs.Common.{◌+◌, ◌*◌, ap, arith, length}
+use Rattle.std.proofs.Common.{◌+◌, ◌*◌, length}
 use Rattle.srcp_peers.specs.Steps.{GrowsBy}
 use Rattle.srcp_sockets.proofs.SocketsStayStanding.{as_many}
 use Rattle.srcp_sockets.proofs.sockets.Sockets.flush.Goals as goal
 
 pub invariant_of-self : goal.invariant_of-self
 invariant_of-self g c =
-    let old = g.S.System.trace c.args.self.now.system in
-    let new = g.S.System.trace c.flush.new.system in
+    let old = c.args.self.now.system.log.steps in
+    let new = c.flush.new.system.log.steps in
     let listening = c.args.self.now.listening in
     let last = c.args.self.now.last in
     record {
@@ -45,15 +44,15 @@ invariant_of-self g c =
 
 pub returns-clause-offered : goal.returns-clause-offered
 returns-clause-offered g c =
-    let old = g.S.System.trace c.args.self.now.system in
-    let new = g.S.System.trace c.flush.new.system in
+    let old = c.args.self.now.system.log.steps in
+    let new = c.flush.new.system.log.steps in
     subst (λ (ps : List Peer). AreOffered c.args.what ps old new) c.as_mut_slice.ensures.value c.flush.ensures.offered
 
 pub returns-clause-out : goal.returns-clause-out
 returns-clause-out g c =
     let self = c.args.self.now in
-    let old = g.S.System.trace self.system in
-    let new = g.S.System.trace c.flush.new.system in
+    let old = self.system.log.steps in
+    let new = c.flush.new.system.log.steps in
     let before = c.as_mut_slice.result.now in
     let after = c.flush.new.peers in
     let now = c.flush.ensures in
@@ -61,11 +60,11 @@ returns-clause-out g c =
     subst (λ (ps : List Peer). Stands old ps self.listening self.last) (sym c.as_mut_slice.ensures.value) self.stands in
     all_flushed c.args.what old new before after self.listening self.last self.turn.timekeeper.wall self.turn.timekeeper.start stood
     (stands_turned old new before after self.listening self.last c.flush.auto.peers now.kept now.those now.others stood)
-    c.flush.auto.peers now.offered now.shut now.others now.calls now.times (λ log is. (self.timed log is).heard)
+    c.flush.auto.peers now.offered now.shut now.others now.calls now.times self.timed.heard
 
 pub returns-clause-most : goal.returns-clause-most
 returns-clause-most g c =
-    subst (λ (ps : List Peer). GrowsBy (2 * length ps + 64) (g.S.System.trace c.args.self.now.system) (g.S.System.trace c.flush.new.system))
+    subst (λ (ps : List Peer). GrowsBy (2 * length ps + 64) c.args.self.now.system.log.steps c.flush.new.system.log.steps)
     c.as_mut_slice.ensures.value c.flush.ensures.most
 
 pub returns-clause-as_many : goal.returns-clause-as_many

@@ -18,4 +18,4 @@ close_at-requires g c =
 pub invariant_of-self-clause-stands : goal.invariant_of-self-clause-stands
 invariant_of-self-clause-stands g c =
     let self = c.args.self.now in
-    stands_later (g.S.System.trace self.system) self.peers.items self.listening self.last c.requires self.stands
+    stands_later self.system.log.steps self.peers.items self.listening self.last c.requires self.stands

@@ -6,19 +6,19 @@ use Rattle.std.proofs.Common.{◌≡◌, [], ap, arith, length}
 use Rattle.srcp_sockets.proofs.sockets.Sockets.new.Goals as goal
 
 pub invariant_of-result-clause-named : goal.invariant_of-result-clause-named
-invariant_of-result-clause-named g c = named_first (g.S.System.trace c.args.system) 0 c.requires.trace
+invariant_of-result-clause-named g c = named_first c.new.result.log.steps 0 c.new.ensures.log
 
 pub invariant_of-result-clause-timed : goal.invariant_of-result-clause-timed
-invariant_of-result-clause-timed g c = timed_first (g.S.System.trace c.args.system) c.args.turn c.requires.turn c.requires.trace
+invariant_of-result-clause-timed g c = timed_first c.new.result.log.steps c.args.turn c.requires.turn c.new.ensures.log
 
 pub invariant_of-result-clause-asked : goal.invariant_of-result-clause-asked
-invariant_of-result-clause-asked g c = asked_first (g.S.System.trace c.args.system) c.requires.trace
+invariant_of-result-clause-asked g c = asked_first c.new.result.log.steps c.new.ensures.log
 
 pub invariant_of-result-clause-ending : goal.invariant_of-result-clause-ending
-invariant_of-result-clause-ending g c log is k d lt =
+invariant_of-result-clause-ending g c k d lt =
     let none : c.in_ok-with_capacity.field-0.items ≡ [] = c.in_ok-with_capacity.ensures.items in
     absurd (omega (arith, ap length none, lt))
 
 pub invariant_of-result-clause-done : goal.invariant_of-result-clause-done
-invariant_of-result-clause-done g c = done_first c.args.turn.timekeeper.wall c.args.turn.timekeeper.start (g.S.System.trace c.args.system)
-    c.requires.trace
+invariant_of-result-clause-done g c = done_first c.args.turn.timekeeper.wall c.args.turn.timekeeper.start c.new.result.log.steps
+    c.new.ensures.log

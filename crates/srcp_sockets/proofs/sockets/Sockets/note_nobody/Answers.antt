@@ -15,8 +15,8 @@ use Rattle.srcp_sockets.proofs.sockets.Sockets.note_nobody.Goals as goal
 
 pub invariant_of-self : goal.invariant_of-self
 invariant_of-self g c =
-    let old = g.S.System.trace c.args.self.now.system in
-    let new = g.S.System.trace c.note_accept.new.self in
+    let old = c.args.self.now.system.log.steps in
+    let new = c.answer.new.self.log.steps in
     let answer = c.args.answer in
     let self = c.args.self.now in
     let none : filter_map peer_of (AcceptCall answer ∷ []) ≡ [] = ⊎_elim
@@ -25,16 +25,16 @@ invariant_of-self g c =
     (λ e. ap (is_as_heard None) e) (λ e. ap (is_as_heard None) e) c.requires.nobody in
     record {
       stands =
-          stands_answered old new self.peers.items self.listening self.last (AcceptCall answer) (λ s a. refl) c.note_accept.ensures
+          stands_answered old new self.peers.items self.listening self.last (AcceptCall answer) (λ s a. refl) c.answer.ensures
           self.stands;
       named =
-          named_call old new self.last (AcceptCall answer) (says_call old new (AcceptCall answer) c.note_accept.ensures) none self.named;
-      timed = timed_unasked old new self.turn c.note_accept-2.new.self answer c.note_accept-2.ensures as_heard
-          c.note_accept.ensures self.timed;
-      asked = asked_accept old new answer c.note_accept.ensures c.requires.excused self.asked;
-      done = done_turn new self.turn c.note_accept-2.new.self (after_call self.turn (AcceptCall answer)) c.note_accept-2.ensures refl refl
-          (done_step self.turn.timekeeper.wall self.turn.timekeeper.start old new (Answers (AcceptCall answer)) c.note_accept.ensures
-          (λ log is. tt) self.done);
-      ending = far_same old new self.peers.items (Answers (AcceptCall answer)) c.note_accept.ensures (λ s x. refl) self.ending;
+          named_call old new self.last (AcceptCall answer) (says_call old new (AcceptCall answer) c.answer.ensures) none self.named;
+      timed = timed_unasked old new self.turn c.note_accept.new.self answer c.note_accept.ensures as_heard
+          c.answer.ensures self.timed;
+      asked = asked_accept old new answer c.answer.ensures c.requires.excused self.asked;
+      done = done_turn new self.turn c.note_accept.new.self (after_call self.turn (AcceptCall answer)) c.note_accept.ensures refl refl
+          (done_step self.turn.timekeeper.wall self.turn.timekeeper.start old new (Answers (AcceptCall answer)) c.answer.ensures
+          tt self.done);
+      ending = far_same old new self.peers.items (Answers (AcceptCall answer)) c.answer.ensures (λ s x. refl) self.ending;
       places = self.places;
     }

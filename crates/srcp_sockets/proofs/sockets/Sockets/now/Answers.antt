@@ -1,4 +1,4 @@
-use Rattle.std.proofs.Common.{◌≡◌, ◌∙◌, ℕ, List, Err, None, Ok, Option, Some, true, false, ap, refl}
+use Rattle.std.proofs.Common.{◌≡◌, ℕ, List, Err, None, Ok, Option, Some, true, false, ap, refl}
 use Rattle.std.specs.Prelude.{Result}
 use Rattle.srcp_door.specs.declared.door.DoorFault.{DoorFault}
 use Rattle.srcp_door.specs.declared.door.DoorFault.TheVariants.{Now}
@@ -30,68 +30,68 @@ moment_shown turn answer None e = ap (is_shown (Some None)) e
 moment_shown turn answer (Some time) e = ap (is_shown (Some (Some time))) e
 
 -- the turn went on, by the moment
-done_moment : (trace : Option (List Step)) (before after : Turn) (shown : Option ℕ) (answer : Result ℕ DoorFault)
+done_moment : (log : List Step) (before after : Turn) (shown : Option ℕ) (answer : Result ℕ DoorFault)
     → (shown ≡ None → (answer ≡ Err Now) × (after ≡ begun before false))
     → ((time : ℕ) → shown ≡ Some time → (answer ≡ Ok (moment_at before time)) × (after ≡ reported_at before time (moment_at before time)))
-    → AreDone before.timekeeper.wall before.timekeeper.start trace → AreDone after.timekeeper.wall after.timekeeper.start trace
-done_moment trace before after None answer none some done =
-    done_turn trace before after (begun before false) (none refl).1 refl refl done
-done_moment trace before after (Some time) answer none some done =
-    done_turn trace before after (reported_at before time (moment_at before time)) (some time refl).1 refl refl done
+    → AreDone before.timekeeper.wall before.timekeeper.start log → AreDone after.timekeeper.wall after.timekeeper.start log
+done_moment log before after None answer none some done =
+    done_turn log before after (begun before false) (none refl).1 refl refl done
+done_moment log before after (Some time) answer none some done =
+    done_turn log before after (reported_at before time (moment_at before time)) (some time refl).1 refl refl done
 
 pub invariant_of-self : goal.invariant_of-self
 invariant_of-self g c =
-    let old = g.S.System.trace c.args.self.now.system in
-    let mid = g.S.System.trace c.clock-shown.new.self in
-    let new = g.S.System.trace c.note_now.new.self in
+    let old = c.args.self.now.system.log.steps in
+    let mid = c.clock-shown.new.self.log.steps in
+    let new = c.answer.new.self.log.steps in
     let answer = c.report_moment-answer.result in
     let turn = c.args.self.now.turn in
     record {
       stands = stands_now mid new c.args.self.now.peers.items c.args.self.now.listening c.args.self.now.last answer
-          (read_clocked old mid c.clock-shown.result c.clock-shown.ensures c.requires.read) c.note_now.ensures
+          (read_clocked old mid c.clock-shown.result c.clock-shown.ensures c.requires.read) c.answer.ensures
           (stands_clocked old mid c.args.self.now.peers.items c.args.self.now.listening c.args.self.now.last c.clock-shown.result
           c.clock-shown.ensures c.args.self.now.stands);
-      named = named_call mid new c.args.self.now.last (NowCall answer) (says_call mid new (NowCall answer) c.note_now.ensures) refl
+      named = named_call mid new c.args.self.now.last (NowCall answer) (says_call mid new (NowCall answer) c.answer.ensures) refl
           (named_silent old mid c.args.self.now.last (says_step old mid (Clocks c.clock-shown.result) c.clock-shown.ensures refl)
           c.args.self.now.named);
       timed = timed_moment old mid new c.args.self.now.turn c.report_moment-answer.new.self c.clock-shown.result answer
           c.report_moment-answer.ensures.none c.report_moment-answer.ensures.some c.clock-shown.ensures
-          c.note_now.ensures c.args.self.now.timed;
-      asked = asked_step mid new (Answers (NowCall answer)) c.note_now.ensures refl
+          c.answer.ensures c.args.self.now.timed;
+      asked = asked_step mid new (Answers (NowCall answer)) c.answer.ensures refl
           (asked_step old mid (Clocks c.clock-shown.result) c.clock-shown.ensures refl c.args.self.now.asked);
       done = done_moment new turn c.report_moment-answer.new.self c.clock-shown.result answer
           c.report_moment-answer.ensures.none c.report_moment-answer.ensures.some
-          (done_step turn.timekeeper.wall turn.timekeeper.start mid new (Answers (NowCall answer)) c.note_now.ensures
+          (done_step turn.timekeeper.wall turn.timekeeper.start mid new (Answers (NowCall answer)) c.answer.ensures
           (moment_done turn.timekeeper.wall turn.timekeeper.start old mid c.clock-shown.result answer c.clock-shown.ensures
           (moment_shown turn answer c.clock-shown.result
           (moment_is turn answer c.clock-shown.result (λ e. (c.report_moment-answer.ensures.none e).0)
           (λ time e. (c.report_moment-answer.ensures.some time e).0)))
           c.requires.may)
           (done_step turn.timekeeper.wall turn.timekeeper.start old mid (Clocks c.clock-shown.result) c.clock-shown.ensures
-          (λ log is. tt) c.args.self.now.done));
-      ending = far_told old mid new c.args.self.now.peers.items c.clock-shown.result answer c.clock-shown.ensures c.note_now.ensures
+          tt c.args.self.now.done));
+      ending = far_told old mid new c.args.self.now.peers.items c.clock-shown.result answer c.clock-shown.ensures c.answer.ensures
           c.requires.visited;
       places = c.args.self.now.places;
     }
 
 pub returns-clause-trace : goal.returns-clause-trace
 returns-clause-trace g c =
-    let old = g.S.System.trace c.args.self.now.system in
-    let mid = g.S.System.trace c.clock-shown.new.self in
-    let new = g.S.System.trace c.note_now.new.self in
+    let old = c.args.self.now.system.log.steps in
+    let mid = c.clock-shown.new.self.log.steps in
+    let new = c.answer.new.self.log.steps in
     let answer = c.report_moment-answer.result in
     says_after old mid new (NowCall answer) (says_step old mid (Clocks c.clock-shown.result) c.clock-shown.ensures refl)
-    (says_call mid new (NowCall answer) c.note_now.ensures)
+    (says_call mid new (NowCall answer) c.answer.ensures)
 
 pub returns-clause-clock : goal.returns-clause-clock
 returns-clause-clock g c =
-    let old = g.S.System.trace c.args.self.now.system in
-    let mid = g.S.System.trace c.clock-shown.new.self in
-    let new = g.S.System.trace c.note_now.new.self in
+    let old = c.args.self.now.system.log.steps in
+    let mid = c.clock-shown.new.self.log.steps in
+    let new = c.answer.new.self.log.steps in
     let answer = c.report_moment-answer.result in
     let shown = c.clock-shown.result in (
       shown,
       moment_is c.args.self.now.turn answer shown (λ e. (c.report_moment-answer.ensures.none e).0)
           (λ time e. (c.report_moment-answer.ensures.some time e).0),
-      tells_two old mid new (Clocks shown) (Answers (NowCall answer)) c.clock-shown.ensures c.note_now.ensures,
+      tells_two old mid new (Clocks shown) (Answers (NowCall answer)) c.clock-shown.ensures c.answer.ensures,
     )

@@ -4,22 +4,21 @@ use Rattle.srcp_peers.specs.Waiting.{longest_wait}
 use Rattle.srcp_peers.proofs.CallsAreOfTheDoor.{says_none}
 use Rattle.srcp_sockets.specs.Delivery.{HasWaited}
 use Rattle.srcp_sockets.proofs.EndsAreDelivered.{waited_more, waited_none}
-use Rattle.srcp_peers.proofs.StepsAreCounted.{grows_more, grows_none}
 use Rattle.std.proofs.Common.{arith}
 use Rattle.srcp_sockets.proofs.sockets.Sockets.poll_unless_held.Goals as goal
 
 pub returns-then-held-clause-calls : goal.returns-then-held-clause-calls
-returns-then-held-clause-calls g c = says_none (g.S.System.trace c.args.self.now.system)
+returns-then-held-clause-calls g c = says_none c.args.self.now.system.log.steps
 
 pub returns-then-held-clause-waits : goal.returns-then-held-clause-waits
 returns-then-held-clause-waits g c =
-    let old = g.S.System.trace c.args.self.now.system in
+    let old = c.args.self.now.system.log.steps in
     subst (λ (held : Bool). HasWaited (cond held 0 1) old old) (sym c.if-held.true) (waited_none old)
 
 pub returns-clause-waits : goal.returns-clause-waits
 returns-clause-waits g c =
-    let old = g.S.System.trace c.args.self.now.system in
-    let new = g.S.System.trace c.wait.new.self.system in
+    let old = c.args.self.now.system.log.steps in
+    let new = c.wait.new.self.system.log.steps in
     let self = c.args.self.now in
     let w = c.wait.ensures.waits in
     subst (λ (held : Bool). HasWaited (cond held 0 1) old new) (sym c.if-held.false)
@@ -38,6 +37,4 @@ pub returns-clause-rests : goal.returns-clause-rests
 returns-clause-rests g c held = absurd (true≢false (sym held ∙ c.if-held.false))
 
 pub returns-then-held-clause-most : goal.returns-then-held-clause-most
-returns-then-held-clause-most g c =
-    let old = g.S.System.trace c.args.self.now.system in
-    grows_more 0 1 old old (omega arith) (grows_none old)
+returns-then-held-clause-most g c = omega arith

@@ -4,4 +4,4 @@ use Rattle.srcp_sockets.proofs.sockets.Sockets.put_off.Goals as goal
 pub invariant_of-self-clause-stands : goal.invariant_of-self-clause-stands
 invariant_of-self-clause-stands g c =
     let self = c.args.self.now in
-    stands_later (g.S.System.trace self.system) self.peers.items self.listening self.last c.requires self.stands
+    stands_later self.system.log.steps self.peers.items self.listening self.last c.requires self.stands

@@ -1,4 +1,4 @@
-use Rattle.std.proofs.Common.{◌≡◌, ◌∙◌, ◌<◌, ℕ, List, length, ap, refl, rules, sym, subst, true≢false, ⊎_elim}
+use Rattle.std.proofs.Common.{◌++◌, ◌∷◌, [], ◌≡◌, ◌∙◌, ◌<◌, ℕ, List, length, ap, refl, rules, sym, subst, true≢false, ⊎_elim}
 use Rattle.std.specs.Prelude.{slice_index_or}
 use Rattle.std.proofs.lemmas.Bool.{cases_eq}
 use Rattle.std.proofs.lemmas.List.{get_or_default}
@@ -8,7 +8,7 @@ use Rattle.srcp_peers.specs.Turns.{after_read, got_bytes}
 use Rattle.srcp_peers.specs.declared.peer.Peer.{Peer}
 use Rattle.srcp_door.specs.Calls.{ReadCall}
 use Rattle.srcp_peers.specs.Peers.{IsKept}
-use Rattle.srcp_peers.specs.Steps.{Answers, SaysOne, Tells}
+use Rattle.srcp_peers.specs.Steps.{Answers, SaysOne}
 use Rattle.srcp_peers.proofs.CallsAreOfTheDoor.{says_call}
 use Rattle.srcp_sockets.proofs.AcceptsAreAsked.{asked_step}
 use Rattle.srcp_sockets.proofs.WorkIsDone.{done_step, done_turn}
@@ -25,8 +25,8 @@ use Rattle.srcp_sockets.proofs.sockets.Sockets.read.Goals as goal
 
 pub invariant_of-self : goal.invariant_of-self
 invariant_of-self g c =
-    let old = g.S.System.trace c.args.self.now.system in
-    let new = g.S.System.trace c.read-handed.new.system in
+    let old = c.args.self.now.system.log.steps in
+    let new = c.read-handed.new.system.log.steps in
     let x = c.index_mut.result.now in
     let is = c.index_mut.ensures.value in
     let e = ap (λ (p : Peer). p.number) is in
@@ -41,30 +41,29 @@ invariant_of-self g c =
           (c.read-handed.ensures.number ∙ e) (λ other differ. c.read-handed.ensures.others other (λ same. differ (same ∙ e)))
           c.args.self.now.stands;
       named = named_call old new c.args.self.now.last (ReadCall x.number answer buffer)
-          (says_call old new (ReadCall x.number answer buffer) c.read-handed.ensures.trace) refl c.args.self.now.named;
+          (says_call old new (ReadCall x.number answer buffer) c.read-handed.ensures.log) refl c.args.self.now.named;
       timed = timed_read old new c.args.self.now.turn c.read-handed.new.turn x.share.line x.number answer buffer
           c.read-handed.ensures.turn
-          (λ wall start log logged. line_kept old wall start x log
-          (subst (IsKept old) (sym is) (c.args.self.now.stands.kept c.in-Some.index x within)) logged)
+          (λ wall start. line_kept old wall start x (subst (IsKept old) (sym is) (c.args.self.now.stands.kept c.in-Some.index x within)))
           (record {
             prompt = λ late. absurd (true≢false (sym late ∙ c.requires));
             light = c.read-handed.ensures.fits;
             single = c.read-handed.ensures.ends;
-          }) c.read-handed.ensures.trace c.args.self.now.timed;
-      asked = asked_step old new (Answers (ReadCall x.number answer buffer)) c.read-handed.ensures.trace refl c.args.self.now.asked;
+          }) c.read-handed.ensures.log c.args.self.now.timed;
+      asked = asked_step old new (Answers (ReadCall x.number answer buffer)) c.read-handed.ensures.log refl c.args.self.now.asked;
       done = done_turn new turn c.read-handed.new.turn (after_read turn x.share.line answer buffer) c.read-handed.ensures.turn
           (ap (λ m. m.wall) (read_time turn x.share.line answer buffer)) (ap (λ m. m.start) (read_time turn x.share.line answer buffer))
           (done_step turn.timekeeper.wall turn.timekeeper.start old new (Answers (ReadCall x.number answer buffer))
-          c.read-handed.ensures.trace
-          (λ log logged early. read_done turn.timekeeper.wall turn.timekeeper.start old turn c.goes_behind-waits.result x answer
-          buffer (length c.args.buffer.now) c.read-handed.result.starved log logged c.args.self.now.timed
+          c.read-handed.ensures.log
+          (λ early. read_done turn.timekeeper.wall turn.timekeeper.start old turn c.goes_behind-waits.result x answer
+          buffer (length c.args.buffer.now) c.read-handed.result.starved c.args.self.now.timed
           (subst (IsKept old) (sym is) (c.args.self.now.stands.kept c.in-Some.index x within))
-          here (subst (λ (p : Peer). is_as_far (ending_of p.number log) p.ending ≡ true) (sym is)
-          (c.args.self.now.ending log logged c.in-Some.index x within (c.in-Some.ensures.found.1 x).1))
+          here (subst (λ (p : Peer). is_as_far (ending_of p.number old) p.ending ≡ true) (sym is)
+          (c.args.self.now.ending c.in-Some.index x within (c.in-Some.ensures.found.1 x).1))
           c.read-handed.auto.buffer c.read-handed.ensures.answered)
           c.args.self.now.done);
       ending = far_goes old new c.args.self.now.peers.items (set c.args.self.now.peers.items c.in-Some.index c.read-handed.new.self)
-          (slackens_step old new (Answers (ReadCall x.number answer buffer)) c.read-handed.ensures.trace (λ s e. refl))
+          (slackens_step old new (Answers (ReadCall x.number answer buffer)) c.read-handed.ensures.log (λ s e. refl))
           (set_one c.args.self.now.peers.items c.in-Some.index x c.read-handed.new.self within
           (λ here. (
             ap (λ (p : Peer). p.stay) (sym is) ∙ sym (ap (λ (p : Peer). p.stay) c.read-handed.ensures.same) ∙ here,
@@ -79,10 +78,10 @@ pub returns-clause-trace : goal.returns-clause-trace
 returns-clause-trace g c =
     let x = c.index_mut.result.now in
     let e = ap (λ (p : Peer). p.number) c.index_mut.ensures.value ∙ (c.in-Some.ensures.found.1 x).0 in
-    subst (λ (n : ℕ). SaysOne (g.S.System.trace c.args.self.now.system) (ReadCall n c.read-handed.result.got c.read-handed.new.buffer)
-    (g.S.System.trace c.read-handed.new.system)) e
-    (says_call (g.S.System.trace c.args.self.now.system) (g.S.System.trace c.read-handed.new.system)
-    (ReadCall x.number c.read-handed.result.got c.read-handed.new.buffer) c.read-handed.ensures.trace)
+    subst (λ (n : ℕ). SaysOne c.args.self.now.system.log.steps (ReadCall n c.read-handed.result.got c.read-handed.new.buffer)
+    c.read-handed.new.system.log.steps) e
+    (says_call c.args.self.now.system.log.steps c.read-handed.new.system.log.steps
+    (ReadCall x.number c.read-handed.result.got c.read-handed.new.buffer) c.read-handed.ensures.log)
 
 -- a peer of the list that has the number of another is that one
 the_one : (peers : List Peer) (i k : ℕ) (x d : Peer) → x ≡ slice_index_or peers i x → i < length peers → AreApart peers
@@ -113,10 +112,10 @@ returns-clause-answered g c k d lt there =
       search rules,
     )
 
-pub returns-clause-one : goal.returns-clause-one
-returns-clause-one g c =
+pub returns-clause-log : goal.returns-clause-log
+returns-clause-log g c =
     let x = c.index_mut.result.now in
     let e = ap (λ (p : Peer). p.number) c.index_mut.ensures.value ∙ (c.in-Some.ensures.found.1 x).0 in
-    subst (λ (n : ℕ). Tells (g.S.System.trace c.args.self.now.system)
-    (Answers (ReadCall n c.read-handed.result.got c.read-handed.new.buffer))
-    (g.S.System.trace c.read-handed.new.system)) e c.read-handed.ensures.trace
+    subst (λ (n : ℕ). c.read-handed.new.system.log.steps
+    ≡ c.args.self.now.system.log.steps ++ Answers (ReadCall n c.read-handed.result.got c.read-handed.new.buffer) ∷ [])
+    e c.read-handed.ensures.log

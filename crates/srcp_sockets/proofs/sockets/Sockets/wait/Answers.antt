@@ -1,4 +1,4 @@
-use Rattle.std.proofs.Common.{◌≡◌, ◌∙◌, ℕ, List, Option, rules, refl, sym, subst, false, true}
+use Rattle.std.proofs.Common.{◌++◌, ◌∷◌, [], ◌≡◌, ◌∙◌, ℕ, List, Option, rules, refl, sym, subst, false, true}
 use Rattle.std.specs.Prelude.{All}
 use Rattle.std.proofs.lemmas.List.{with_items_is}
 use Rattle.srcp_peers.specs.declared.peer.Peer.{Peer}
@@ -7,7 +7,7 @@ use Rattle.srcp_peers.specs.declared.turn.Listening.{Listening}
 use Rattle.srcp_peers.specs.Accounts.{is_short_wait}
 use Rattle.srcp_sockets.specs.Doors.{Stands}
 use Rattle.srcp_peers.specs.Peers.{is_resting}
-use Rattle.srcp_peers.specs.Steps.{Tells, Waits}
+use Rattle.srcp_peers.specs.Steps.{Waits}
 use Rattle.srcp_peers.specs.Turns.{after_wait}
 use Rattle.srcp_sockets.specs.KeptTimes.{IsTimed}
 use Rattle.srcp_peers.proofs.CallsAreOfTheDoor.{says_step}
@@ -25,8 +25,8 @@ use Rattle.srcp_sockets.proofs.sockets.Sockets.wait.Goals as goal
 
 pub invariant_of-self : goal.invariant_of-self
 invariant_of-self g c =
-    let old = g.S.System.trace c.args.self.now.system in
-    let new = g.S.System.trace c.wait-count.new.self in
+    let old = c.args.self.now.system.log.steps in
+    let new = c.wait-count.new.self.log.steps in
     let most = c.longest_wait-most.result in
     let count = c.wait-count.result in
     let ready = c.wait-count.new.ready in
@@ -41,45 +41,46 @@ invariant_of-self g c =
           (stands_waited old new before c.wake.new.peers most count ready listening last
           (subst (λ (ps : List Peer). is_short_wait most ≡ false → All (λ peer. is_resting peer ≡ true) ps) same
           c.longest_wait-most.ensures.rest)
-          c.longest_wait-most.ensures.accepts c.wait-count.ensures.trace c.wake.auto.peers c.wake.ensures
+          c.longest_wait-most.ensures.accepts c.wait-count.ensures.log c.wake.auto.peers c.wake.ensures
           (subst (λ (ps : List Peer). Stands old ps listening last) same c.args.self.now.stands)));
-      named = named_silent old new last (says_step old new (Waits most count ready) c.wait-count.ensures.trace refl) c.args.self.now.named;
+      named = named_silent old new last (says_step old new (Waits most count ready) c.wait-count.ensures.log refl) c.args.self.now.named;
       timed = subst (λ (t : Turn). IsTimed new t) (sym c.wait.ensures)
           (timed_wait old new c.args.self.now.turn most count ready c.longest_wait-most.ensures.due c.longest_wait-most.ensures.panels
-          c.wait-count.ensures.trace c.args.self.now.timed);
-      asked = asked_step old new (Waits most count ready) c.wait-count.ensures.trace refl c.args.self.now.asked;
+          c.wait-count.ensures.log c.args.self.now.timed);
+      asked = asked_step old new (Waits most count ready) c.wait-count.ensures.log refl c.args.self.now.asked;
       done = done_turn new c.args.self.now.turn c.wait.new.self (after_wait c.args.self.now.turn) c.wait.ensures refl refl
           (done_step c.args.self.now.turn.timekeeper.wall c.args.self.now.turn.timekeeper.start old new (Waits most count ready)
-          c.wait-count.ensures.trace c.requires.may c.args.self.now.done);
+          c.wait-count.ensures.log c.requires.may c.args.self.now.done);
       ending = subst (AreAsFar new)
           (sym (with_items_is c.args.self.now.peers c.wake.new.peers (c.wake.auto.peers ∙ search rules)))
           (far_goes old new before c.wake.new.peers
-          (slackens_step old new (Waits most count ready) c.wait-count.ensures.trace (λ s x. refl))
+          (slackens_step old new (Waits most count ready) c.wait-count.ensures.log (λ s x. refl))
           (woken_of before c.wake.new.peers (take count ready) c.wake.auto.peers c.wake.ensures)
           (subst (AreAsFar old) same c.args.self.now.ending));
       places = c.args.self.now.places;
     }
 
 pub returns-clause-calls : goal.returns-clause-calls
-returns-clause-calls g c = says_step (g.S.System.trace c.args.self.now.system) (g.S.System.trace c.wait-count.new.self)
-    (Waits c.longest_wait-most.result c.wait-count.result c.wait-count.new.ready) c.wait-count.ensures.trace refl
+returns-clause-calls g c = says_step c.args.self.now.system.log.steps c.wait-count.new.self.log.steps
+    (Waits c.longest_wait-most.result c.wait-count.result c.wait-count.new.ready) c.wait-count.ensures.log refl
 
 pub returns-clause-waits : goal.returns-clause-waits
 returns-clause-waits g c = (
   c.wait-count.result,
   c.wait-count.new.ready,
-  subst (λ (most : Option ℕ). Tells (g.S.System.trace c.args.self.now.system) (Waits most c.wait-count.result c.wait-count.new.ready)
-      (g.S.System.trace c.wait-count.new.self)) c.longest_wait-most.ensures.exact c.wait-count.ensures.trace,
+  subst (λ (most : Option ℕ). c.wait-count.new.self.log.steps
+      ≡ c.args.self.now.system.log.steps ++ Waits most c.wait-count.result c.wait-count.new.ready ∷ [])
+      c.longest_wait-most.ensures.exact c.wait-count.ensures.log,
   c.listen-self.ensures,
 )
 
 pub returns-clause-looked : goal.returns-clause-looked
-returns-clause-looked g c = looked_wait (g.S.System.trace c.args.self.now.system) (g.S.System.trace c.wait-count.new.self)
-    c.longest_wait-most.result c.wait-count.result c.wait-count.new.ready c.wait-count.ensures.trace
+returns-clause-looked g c = looked_wait c.args.self.now.system.log.steps c.wait-count.new.self.log.steps
+    c.longest_wait-most.result c.wait-count.result c.wait-count.new.ready c.wait-count.ensures.log
 
 pub returns-clause-most : goal.returns-clause-most
-returns-clause-most g c = grows_step (g.S.System.trace c.args.self.now.system) (g.S.System.trace c.wait-count.new.self)
-    (Waits c.longest_wait-most.result c.wait-count.result c.wait-count.new.ready) c.wait-count.ensures.trace
+returns-clause-most g c = grows_step c.args.self.now.system.log.steps c.wait-count.new.self.log.steps
+    (Waits c.longest_wait-most.result c.wait-count.result c.wait-count.new.ready) c.wait-count.ensures.log
 
 pub returns-clause-as_many : goal.returns-clause-as_many
 returns-clause-as_many g c = as_many c.as_mut_slice.result.now c.wake.new.peers c.args.self.now.peers.items _

@@ -1,5 +1,5 @@
 use Rattle.std.proofs.Common.{◌≤◌, length}
-use Rattle.srcp_sockets.proofs.mio_system.MioCalls.wait.Given as goal
+use Rattle.srcp_sockets.proofs.mio_system.MioSystemSystem.wait.Given as goal
 
 abbrev pub invariant-loop-event : goal.invariant-loop-event
 invariant-loop-event g l =
