@@ -314,7 +314,7 @@ not_twice false = refl
 pub over_as : (received : Received) (incoming : List ℕ) (state : Input) → ReadsAs received incoming state
     → is_over incoming state ≡ is_all_read received
 over_as received incoming input.Ready h = sym (ap (λ e. e && (not received.failed && not (is_held received))) h.2)
-over_as received incoming input.Draining h = sym (ap (λ e. e && (not received.failed && not (is_held received))) h.2)
+over_as received incoming input.Emptying h = sym (ap (λ e. e && (not received.failed && not (is_held received))) h.2)
 over_as received incoming input.Quiet h = sym (ap (λ e. e && (not received.failed && not (is_held received))) h.2)
 over_as received incoming input.Ended h =
     let held : is_held received ≡ not (length incoming == 0) = held_is received incoming h.0 in

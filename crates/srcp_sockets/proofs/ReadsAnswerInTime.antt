@@ -71,7 +71,7 @@ lost_as sent outgoing output.Lost h = sym h.1
 failed_as : (received : Received) (incoming : List ℕ) (state : Input) → ReadsAs received incoming state
     → has_failed state ≡ received.failed
 failed_as received incoming input.Ready h = sym h.1
-failed_as received incoming input.Draining h = sym h.1
+failed_as received incoming input.Emptying h = sym h.1
 failed_as received incoming input.Quiet h = sym h.1
 failed_as received incoming input.Ended h = sym h.1
 failed_as received incoming input.Failed h = sym h.1

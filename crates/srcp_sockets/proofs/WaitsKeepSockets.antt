@@ -66,7 +66,7 @@ woken_hears a l one h = by (one.socket == 0) (one.readable || (one.closed || one
   where
     by : (b c : Bool) → Hears (if b then record a {
       sent = woken_sent a.sent one.writable;
-      received = record a.received { quiet = a.received.quiet && not c; draining = a.received.draining || (one.closed || one.urgent) };
+      received = record a.received { quiet = a.received.quiet && not c; emptying = a.received.emptying || (one.closed || one.urgent) };
     } else a) (if b && c then listening.Ready else l)
     by true true = record {
       fresh = record { written = h.fresh.written; took = h.fresh.took; gave = h.fresh.gave; handed = h.fresh.handed };
@@ -93,15 +93,15 @@ all_heard a l (one ∷ more) h = all_heard (woken 0 a one) (woken_listening l on
 -- a listener that is quiet is at rest
 rest_of_none : (cut lost full quiet ended failed : Bool) (written took gave handed : List ℕ) → written ≡ [] → took ≡ [] → gave ≡ []
     → handed ≡ []
-    → cut ≡ false → lost ≡ false → quiet ≡ true → ended ≡ false → failed ≡ false → (draining : Bool)
+    → cut ≡ false → lost ≡ false → quiet ≡ true → ended ≡ false → failed ≡ false → (emptying : Bool)
     → is_at_rest (record { written = written; took = took; full = full; lost = lost; cut = cut })
-    (record { gave = gave; handed = handed; quiet = quiet; draining = draining; ended = ended; failed = failed }) ≡ true
-rest_of_none cut lost full quiet ended failed written took gave handed w t g d c l q e f draining = rw (w, t, g, d, c, l, q, e, f) refl
+    (record { gave = gave; handed = handed; quiet = quiet; emptying = emptying; ended = ended; failed = failed }) ≡ true
+rest_of_none cut lost full quiet ended failed written took gave handed w t g d c l q e f emptying = rw (w, t, g, d, c, l, q, e, f) refl
 
 listener_rests : (a : Account) → Hears a listening.Quiet → is_at_rest a.sent a.received ≡ true
 listener_rests a h = rest_of_none a.sent.cut a.sent.lost a.sent.full a.received.quiet a.received.ended a.received.failed a.sent.written
     a.sent.took a.received.gave a.received.handed
-    h.fresh.written h.fresh.took h.fresh.gave h.fresh.handed h.cut h.lost h.heard h.ended h.failed a.received.draining
+    h.fresh.written h.fresh.took h.fresh.gave h.fresh.handed h.cut h.lost h.heard h.ended h.failed a.received.emptying
 
 -- an account as a wait is over
 noted_sound : (a : Account) → Sound a → Sound (noted a)

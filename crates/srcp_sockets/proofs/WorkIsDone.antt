@@ -264,7 +264,7 @@ held_peer (p ∷ peers) e = ⊎_elim
 pub gave_as : (received : Received) (incoming : List ℕ) (state : Input) → ReadsAs received incoming state
     → received.gave ≡ received.handed ++ incoming
 gave_as received incoming input.Ready h = h.0
-gave_as received incoming input.Draining h = h.0
+gave_as received incoming input.Emptying h = h.0
 gave_as received incoming input.Quiet h = h.0
 gave_as received incoming input.Ended h = h.0
 gave_as received incoming input.Failed h = h.0

@@ -16,7 +16,7 @@ use Rattle.srcp_sockets.specs.Doors.{Stands}
 
 ReadsAs-prop : (received : Received) (incoming : List ℕ) (state : Input) → IsProp (ReadsAs received incoming state)
 ReadsAs-prop received incoming input.Ready = hlevel props
-ReadsAs-prop received incoming input.Draining = hlevel props
+ReadsAs-prop received incoming input.Emptying = hlevel props
 ReadsAs-prop received incoming input.Quiet = hlevel props
 ReadsAs-prop received incoming input.Ended = hlevel props
 ReadsAs-prop received incoming input.Failed = hlevel props
