@@ -1,2 +1,1 @@
-pub mod FreshCores
 pub mod ServedHere

@@ -1,31 +1,32 @@
 -- What serving at any opener says, at the machine.
-use Rattle.std.proofs.Common.{ℕ, List, Some, Ok, Err, Result, refl, ap}
+use Rattle.std.proofs.Common.{ℕ, List, Ok, Err, Result}
 use Rattle.std.specs.Prelude.{IfOk, IfErr}
+use Rattle.srcp_peers.specs.declared.log.Logged.{Logged}
 use Rattle.srcp_serve.specs.declared.serving.Served.{Served}
 use Rattle.srcp_sockets.specs.declared.mio_system.MioSystem.{MioSystem}
-use Rattle.srcp_host.specs.Here.{IsOpen, RefusesHere, ServesHere}
+use Rattle.srcp_sockets.specs.Faults.{IsLocal}
+use Rattle.srcp_host.specs.Here.{RefusesHere, ServesHere}
 use Rattle.srcp_host.specs.Hosting.{Answers, Refuses, Serves}
 use Rattle.srcp_host.specs.declared.fault.HostFault.{HostFault}
 use Rattle.srcp_host.specs.declared.fault.HostFault.TheVariants as host
 
 -- what the machine may answer for a port
 abbrev pub opens : {Clock Opener : Type 0} → Answers Opener (MioSystem Clock)
-opens _ port answer _ = IfOk answer (λ system. IsOpen system.address port system.log)
+opens _ port answer _ = IfOk answer (λ system. IsLocal system.address port)
 
 pub served_here : {Clock Opener X : Type 0} (result : Result X HostFault) (file : List ℕ) (turns : ℕ)
-    (old new : Opener) (served : X → Served) (system : X → MioSystem Clock)
-    → IfOk result (λ hosted. Serves opens (λ s. Some s.log.steps) file turns old new (served hosted) (system hosted))
+    (old new : Opener) (served : X → Served) (system : X → Logged (MioSystem Clock))
+    → IfOk result (λ hosted. Serves (opens {Clock = Clock}) file turns old new (served hosted) (system hosted).log.steps)
     → IfOk result (λ hosted. ServesHere file turns (served hosted) (system hosted))
-served_here (Ok hosted) file turns old new served system s =
-    let is = s.hosted (system hosted).log.steps (ap Some s.asked.answered.empty) refl in record {
-      config = s.config;
-      opened = s.opened;
-      held = is.0;
-      says = s.asked.says;
-      is_open = s.asked.answered;
-      counted = s.counted;
-      followed = is.1;
-    }
+served_here (Ok hosted) file turns old new served system s = record {
+  config = s.config;
+  opened = s.opened;
+  held = s.held;
+  says = s.asked.says;
+  is_open = s.asked.answered;
+  counted = s.counted;
+  followed = s.followed;
+}
 served_here (Err fault) file turns old new served system s = tt
 
 pub refused_here : {Opener System X : Type 0} (answers : Answers Opener System) (result : Result X HostFault)

@@ -1,32 +1,26 @@
 -- What is served at the sockets of the machine.
-use Rattle.std.specs.Prelude.{⊤, ◌≡◌, ℕ, List, [], Ok, Err}
-use Rattle.std.specs.declared.net.socket_addr.SocketAddr.{SocketAddr}
+use Rattle.std.specs.Prelude.{⊤, ◌≡◌, ℕ, List, Ok, Err}
 use Rattle.srcp_core.specs.Held.{Held}
 use Rattle.srcp_core.specs.Machine.{opening_held}
 use Rattle.srcp_layout_file.specs.Document.{config_of}
 use Rattle.srcp_layout_file.specs.declared.config.Config.{Config}
+use Rattle.srcp_peers.specs.declared.log.Logged.{Logged}
 use Rattle.srcp_serve.specs.declared.serving.Served.{Served}
 use Rattle.srcp_host.specs.declared.fault.HostFault.{HostFault}
 use Rattle.srcp_host.specs.declared.fault.HostFault.TheVariants as host
 use Rattle.srcp_sockets.specs.Faults.{IsLocal}
 use Rattle.srcp_sockets.specs.Follows.{IsFollowed}
-use Rattle.srcp_sockets.specs.declared.log.Log.{Log}
 use Rattle.srcp_sockets.specs.declared.mio_system.MioSystem.{MioSystem}
 
--- a door was opened at that port of the machine itself, and nothing was asked of its system yet
-pub record IsOpen (address : SocketAddr) (port : ℕ) (log : Log) : Type 0 where
-  pub here : IsLocal address port
-  pub empty : log.steps ≡ []
-
 -- the file's layout was served at the file's port of the machine itself: a core that begins with the layout's buses, at
--- moment 0 and with no id given, was served for that many turns over the calls that the system's log has
-pub record ServesHere {Clock : Type 0} (file : List ℕ) (turns : ℕ) (served : Served) (system : MioSystem Clock)
-    : Type 0 where
+-- moment 0 and with no id given, was served for that many turns over the calls that the door's log has
+pub record ServesHere {Clock : Type 0} (file : List ℕ) (turns : ℕ) (served : Served)
+    (system : Logged (MioSystem Clock)) : Type 0 where
   pub config : Config
   pub opened : MioSystem Clock
   pub held : Held
   pub says : config_of file ≡ Ok config
-  pub is_open : IsOpen opened.address config.port opened.log
+  pub is_open : IsLocal opened.address config.port
   pub counted : served.turns ≡ turns
   pub followed : IsFollowed config.layout turns served.opened system.log.steps (opening_held config.layout 0 0) held
 

@@ -1,6 +1,5 @@
 -- What is served of a file, or why nothing is.
-use Rattle.std.specs.Prelude.{◌≡◌, ◌≢◌, ◌⊎◌, ℕ, List, [], Option, Some, Result, Ok, Err}
-use Rattle.srcp_grammar.specs.declared.layout.Bus.{Bus}
+use Rattle.std.specs.Prelude.{◌≡◌, ◌≢◌, ◌⊎◌, ℕ, List, Result, Ok, Err}
 use Rattle.srcp_core.specs.Held.{Held}
 use Rattle.srcp_core.specs.Machine.{opening_held}
 use Rattle.srcp_layout_file.specs.Document.{config_of}
@@ -13,12 +12,6 @@ use Rattle.srcp_sockets.specs.declared.fault.ListenFault.TheVariants as listen
 use Rattle.srcp_host.specs.declared.fault.HostFault.{HostFault}
 use Rattle.srcp_host.specs.declared.fault.HostFault.TheVariants as host
 
--- a core that begins with these buses, at moment 0 and with no id given, was served for that many turns, if the system
--- keeps its list of calls, and that was empty as the door was opened
-abbrev pub IsHosted : List Bus → (turns opens : ℕ) → (before after : Option (List Step)) → Type 0
-IsHosted buses turns opens before after = (log : List Step) → before ≡ Some [] → after ≡ Some log
-    → (held : Held) × IsFollowed buses turns opens log (opening_held buses 0 0) held
-
 -- what may be answered for a port, from one state of an opener to the next
 abbrev pub Answers : (Opener System : Type 0) → Type 1
 Answers Opener System = Opener → (port : ℕ) → Result System ListenFault → Opener → Type 0
@@ -29,14 +22,16 @@ pub record IsAsked {Opener System : Type 0} (answers : Answers Opener System) (f
   pub says : config_of file ≡ Ok config
   pub answered : answers old config.port answer new
 
--- a door was opened at the file's port, and the file's layout was served at it
-pub record Serves {Opener System : Type 0} (answers : Answers Opener System) (trace : System → Option (List Step))
-    (file : List ℕ) (turns : ℕ) (old new : Opener) (served : Served) (system : System) : Type 0 where
+-- a door was opened at the file's port, and the file's layout was served at it: a core that begins with the layout's
+-- buses, at moment 0 and with no id given, was served for that many turns over the calls that the door's log has
+pub record Serves {Opener System : Type 0} (answers : Answers Opener System) (file : List ℕ) (turns : ℕ)
+    (old new : Opener) (served : Served) (log : List Step) : Type 0 where
   pub config : Config
   pub opened : System
+  pub held : Held
   pub asked : IsAsked answers file old new config (Ok opened)
   pub counted : served.turns ≡ turns
-  pub hosted : IsHosted config.layout turns served.opened (trace opened) (trace system)
+  pub followed : IsFollowed config.layout turns served.opened log (opening_held config.layout 0 0) held
 
 -- why nothing is served: the file is at fault, and the opener was not asked; the file's port cannot be had; or memory
 -- was refused, before the opener was asked, by it, or when it had opened the port

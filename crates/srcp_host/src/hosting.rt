@@ -18,7 +18,7 @@ const LONGEST_TURN: u64 = 8;
 
 /// Holds what is left once all turns were served.
 #[derive(Drop)]
-pub struct Hosted<S: System + Drop> {
+pub struct Hosted<S: System> {
     /// The counts of the turns.
     pub served: Served,
     /// The door. Dropping the door delivers what was taken.
@@ -38,8 +38,8 @@ pub fn serve_file<R: Rows, O: Opener>(
     file: &[u8],
     turns: u64,
 ) -> Result<Hosted<O::System>, HostFault>
-    ensures served { IfOk result (λ hosted. Serves O.answers O.System.trace file.now turns opener.old opener.new
-        hosted.served hosted.door.sockets.system) }
+    ensures served { IfOk result (λ hosted. Serves O.answers file.now turns opener.old opener.new hosted.served
+        hosted.door.sockets.system.log.steps) }
     ensures faults { IfOk result (λ hosted. hosted.door.faults < greatest_u64
         → hosted.served.faults ≡ hosted.door.faults) }
     ensures refused { IfErr result (λ fault. Refuses O.answers file.now opener.old opener.new fault) }
@@ -55,7 +55,7 @@ pub fn serve_file<R: Rows, O: Opener>(
 }
 
 /// Limits how long a turn waits, if turns are counted.
-fn limit_waits<S: System + Drop>(door: &mut SocketDoor<S>, turns: u64)
+fn limit_waits<S: System>(door: &mut SocketDoor<S>, turns: u64)
     ensures system { door.new.sockets.system ≡ door.old.sockets.system }
     ensures faults { door.new.faults ≡ door.old.faults }
 {

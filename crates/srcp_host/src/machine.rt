@@ -2,7 +2,8 @@
 
 ghost use Rattle.std.specs.Prelude.{◌≡◌, ◌<◌, IfErr, IfOk};
 ghost use Rattle.srcp_info.specs.Limits.{greatest_u64};
-ghost use Rattle.srcp_host.specs.Here.{IsOpen, RefusesHere, ServesHere};
+ghost use Rattle.srcp_host.specs.Here.{RefusesHere, ServesHere};
+ghost use Rattle.srcp_sockets.specs.Faults.{IsLocal};
 
 use crate::fault::HostFault;
 use crate::hosting::{Hosted, serve_file};
@@ -13,8 +14,7 @@ use std::alloc::Global;
 use std::net::Net;
 use std::time::Clock;
 
-/// Opens a door at a port of the machine itself, as `SocketDoor::listen` does. The log of the door's system is empty
-/// then.
+/// Opens a door at a port of the machine itself, as `SocketDoor::listen` does.
 #[derive(Drop)]
 pub struct Machine<'a, R: Net + Clock> {
     /// What has the sockets and the clocks.
@@ -24,7 +24,7 @@ pub struct Machine<'a, R: Net + Clock> {
 impl<'a, R: Net + Clock> Opener for Machine<'a, R> {
     type System = MioSystem<&'a R>;
 
-    ghost answers = { λ _ port answer _. IfOk answer (λ system. IsOpen system.address port system.log) };
+    ghost answers = { λ _ port answer _. IfOk answer (λ system. IsLocal system.address port) };
 
     fn open(
         &mut self,
@@ -36,7 +36,7 @@ impl<'a, R: Net + Clock> Opener for Machine<'a, R> {
 }
 
 /// Serves the layout of a file for `turns` turns, to the peers at the file's port of the machine itself, as
-/// `serve_file` does. The log of the system's calls says what was served.
+/// `serve_file` does. The log of the door says what was served.
 ///
 /// # Errors
 /// Returns the first fault, as `serve_file` does.
