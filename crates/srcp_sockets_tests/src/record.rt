@@ -1,65 +1,19 @@
-//! The calls of a system with their answers, and those of the system's door.
+//! The calls of a system, and what they say of the sockets.
 
-use srcp_serve::{DoorFault, Got};
-use srcp_sockets::Ready;
 use std::alloc::{AllocError, Global};
-use std::io::ErrorKind;
 use std::vec::Vec;
 
-/// Holds a call of the system with the answer, or a call of the door.
+/// Holds a call of the system.
 #[derive(Drop)]
 pub(crate) enum Entry {
-    Accepts {
-        number: u32,
-        answer: Result<(), ErrorKind>,
-    },
-    /// The buffer after the call.
-    Reads {
-        socket: u32,
-        buffer: Vec<u8>,
-        answer: Result<usize, ErrorKind>,
-    },
-    /// The bytes to write.
-    Writes {
-        socket: u32,
-        bytes: Vec<u8>,
-        answer: Result<usize, ErrorKind>,
-    },
-    Shuts {
-        socket: u32,
-    },
-    Closes {
-        socket: u32,
-    },
-    /// All of `ready` after the call.
-    Waits {
-        most: Option<u64>,
-        count: usize,
-        ready: Vec<Ready>,
-    },
-    Clocks(Option<u64>),
-    Expect {
-        due: Option<u64>,
-        slack: Option<usize>,
-    },
-    Now(Result<u64, DoorFault>),
-    Accept(Result<Option<u32>, DoorFault>),
-    /// The buffer after the call.
-    Read {
-        peer: u32,
-        answer: Result<Got, DoorFault>,
-        buffer: Vec<u8>,
-    },
-    /// The bytes to write.
-    Write {
-        peer: u32,
-        bytes: Vec<u8>,
-        answer: Result<usize, DoorFault>,
-    },
-    Close {
-        peer: u32,
-        answer: Result<(), DoorFault>,
-    },
+    /// The bytes that the socket took.
+    Writes { socket: u32, bytes: Vec<u8> },
+    Shuts(u32),
+    Closes(u32),
+    /// The longest time that the wait may take.
+    Waits(Option<u64>),
+    /// What the clock showed.
+    Clocks(u64),
 }
 
 /// Returns the bytes taken by a socket, all writes joined.
@@ -70,14 +24,10 @@ pub(crate) fn took_of(
 ) -> Result<Vec<u8>, AllocError> {
     let mut took = Vec::new(alloc);
     for entry in entries {
-        if let Entry::Writes {
-            socket,
-            bytes,
-            answer: Ok(count),
-        } = entry
+        if let Entry::Writes { socket, bytes } = entry
             && *socket == number
         {
-            took.extend_from_slice(bytes.get(..*count).unwrap_or(&[]))?;
+            took.extend_from_slice(bytes)?;
         }
     }
     Ok(took)
@@ -89,8 +39,8 @@ pub(crate) fn time_of(entries: &[Entry], number: u32, line: &[u8]) -> Option<u64
     let mut time = None;
     for entry in entries {
         match entry {
-            Entry::Clocks(answer) => shown = *answer,
-            Entry::Writes { socket, bytes, .. } if *socket == number => {
+            Entry::Clocks(now) => shown = Some(*now),
+            Entry::Writes { socket, bytes } if *socket == number => {
                 if has_line(bytes, line) {
                     time = shown;
                 }
@@ -108,21 +58,15 @@ fn has_line(bytes: &[u8], end: &[u8]) -> bool {
         .any(|line| line.ends_with(end))
 }
 
-/// Returns the most lines handed out in a turn.
-pub(crate) fn most_lines(entries: &[Entry]) -> usize {
+/// Returns the most lines that a socket took in one write.
+pub(crate) fn most_lines(entries: &[Entry], number: u32) -> usize {
     let mut most = 0;
-    let mut lines = 0usize;
     for entry in entries {
-        match entry {
-            Entry::Expect { .. } => lines = 0,
-            Entry::Read {
-                answer: Ok(Got::Bytes(count)),
-                buffer,
-                ..
-            } => lines = lines.saturating_add(lines_in(buffer.get(..*count).unwrap_or(&[]))),
-            _ => (),
+        if let Entry::Writes { socket, bytes } = entry
+            && *socket == number
+        {
+            most = lines_in(bytes).max(most);
         }
-        most = lines.max(most);
     }
     most
 }
@@ -137,21 +81,8 @@ pub(crate) fn closed_at(entries: &[Entry], number: u32) -> Option<u64> {
     let mut shown = None;
     for entry in entries {
         match entry {
-            Entry::Clocks(answer) => shown = *answer,
-            Entry::Closes { socket } if *socket == number => return shown,
-            _ => (),
-        }
-    }
-    None
-}
-
-/// Returns what the clock showed last when the core closed a peer, or `None` if the core did not.
-pub(crate) fn parted_at(entries: &[Entry], number: u32) -> Option<u64> {
-    let mut shown = None;
-    for entry in entries {
-        match entry {
-            Entry::Clocks(answer) => shown = *answer,
-            Entry::Close { peer, .. } if *peer == number => return shown,
+            Entry::Clocks(now) => shown = Some(*now),
+            Entry::Closes(socket) if *socket == number => return shown,
             _ => (),
         }
     }
@@ -162,7 +93,7 @@ pub(crate) fn parted_at(entries: &[Entry], number: u32) -> Option<u64> {
 pub(crate) fn shuts(entries: &[Entry], number: u32) -> usize {
     entries
         .iter()
-        .filter(|entry| matches!(entry, Entry::Shuts { socket } if *socket == number))
+        .filter(|entry| matches!(entry, Entry::Shuts(socket) if *socket == number))
         .count()
 }
 
@@ -170,6 +101,6 @@ pub(crate) fn shuts(entries: &[Entry], number: u32) -> usize {
 pub(crate) fn sleeps(entries: &[Entry]) -> usize {
     entries
         .iter()
-        .filter(|entry| matches!(entry, Entry::Waits { most: None, .. }))
+        .filter(|entry| matches!(entry, Entry::Waits(None)))
         .count()
 }

@@ -145,28 +145,28 @@ fn turns_away_who_finds_no_slot(rt: HostRuntime) -> Result<(), Fail> {
 #[test]
 fn hands_out_as_many_lines_as_panels_take(rt: HostRuntime) -> Result<(), Fail> {
     let mut commands = Vec::new(rt.alloc());
-    // Lines of 16 bytes: no piece of 256 bytes ends within a line.
-    for _ in 0..96 {
-        commands.extend_from_slice(b"SET 1 FB 1 1   \n")?;
+    // Lines of 32 bytes: no piece of 256 bytes ends within a line. What 96 of them tell a panel is written at once.
+    for _ in 0..32 {
+        commands.extend_from_slice(b"SET 1 POWER ON 1234567890123456\n")?;
     }
     let mut events = Vec::new(rt.alloc());
     events.push(at(0, 1, Happens::Connects))?;
     events.push(at(0, 1, Happens::Receives(AMPLE)))?;
     events.push(at(0, 1, Happens::Sends(b"SET CONNECTIONMODE SRCP INFO\nGO\n")))?;
-    for number in 2..10 {
+    for number in 2..26 {
         events.push(at(20, number, Happens::Connects))?;
         events.push(at(20, number, Happens::Receives(AMPLE)))?;
         events.push(at(20, number, Happens::Sends(b"GO\n")))?;
     }
-    for number in 2..10 {
+    for number in 2..26 {
         events.push(at(50, number, Happens::Sends(&commands)))?;
     }
     let (served, door) = serve_events(rt.alloc(), Network::new(rt.alloc(), &events, false))?;
-    assert_eq!(rt; served, all_served(9));
+    assert_eq!(rt; served, all_served(25));
     let entries = door.system().entries()?;
     // Three lines of the handshake, and the rows of the panel's session, of POWER and of the sensor. Then a row of
     // each other session, and each change.
-    assert_eq!(rt; lines_in(&took_of(rt.alloc(), entries, 1)?), 782);
-    assert_eq!(rt; most_lines(entries), 96);
+    assert_eq!(rt; lines_in(&took_of(rt.alloc(), entries, 1)?), 798);
+    assert_eq!(rt; most_lines(entries, 1), 96);
     Ok(())
 }
