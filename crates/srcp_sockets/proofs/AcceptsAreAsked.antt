@@ -227,7 +227,7 @@ stays_kept watched lingering outgoing (stay.Shut since) h = h.1
 abbrev is_kept : Account → Bool
 is_kept a = a.lingering.kept
 
-crowded_is : (log : List Step) (peers : List Peer) (l : Listening) (last : ℕ) → Stands log peers l last → is_crowded 129 peers ≡ true
+crowded_is : (log : List Step) (peers : List Peer) (l : Listening) (last : ℕ) → Stands log peers l last → is_crowded peers ≡ true
     → (kept lingering : List ℕ) → Covers is_kept log kept
     → Covers is_lingering log lingering → (nat_le 129 (length kept) || nat_le 64 (length lingering)) ≡ true
 crowded_is log peers l last stands crowded kept lingering all_kept all_lingering = ⊎_elim
@@ -261,18 +261,6 @@ crowded_is log peers l last stands crowded kept lingering all_kept all_lingering
     at_least : (least n m : ℕ) → nat_le least n ≡ true → n ≤ m → nat_le least m ≡ true
     at_least least n m e le = grind (arith, nat_tests)
 
--- as crowded as with fewer places
-pub fewer_places : (places : ℕ) (peers : List Peer) → 129 ≤ places → is_crowded places peers ≡ true → is_crowded 129 peers ≡ true
-fewer_places places peers more crowded = ⊎_elim
-    (λ (full : nat_le places (length peers) ≡ true).
-    ap (λ b. b || nat_le 64 (length (filter (λ (p : Peer). not (is_here p.stay)) peers))) (fewer places (length peers) more full))
-    (λ (many : nat_le 64 (length (filter (λ (p : Peer). not (is_here p.stay)) peers)) ≡ true).
-    ap (λ b. nat_le 129 (length peers) || b) many ∙ or_last (nat_le 129 (length peers)))
-    (or_cases (nat_le places (length peers)) (nat_le 64 (length (filter (λ (p : Peer). not (is_here p.stay)) peers))) crowded)
-  where
-    fewer : (places n : ℕ) → 129 ≤ places → nat_le places n ≡ true → nat_le 129 n ≡ true
-    fewer places n more full = grind (arith, nat_tests)
-
 -- one less than so many
 one_less : (kept lingering : ℕ) → (nat_le 129 (suc kept) || nat_le 64 (suc lingering)) ≡ true
     → (nat_le 128 kept || nat_le 63 lingering) ≡ true
@@ -297,7 +285,7 @@ covers_more is_such log later one sockets same covers socket such = ⊎_elim
     equal n m e = grind (arith, nat_tests)
 
 pub may_crowded : (log : List Step) (peers : List Peer) (l : Listening) (last : ℕ) → Stands log peers l last
-    → is_crowded 129 peers ≡ true → IsExcused log
+    → is_crowded peers ≡ true → IsExcused log
 may_crowded log peers l last stands crowded wall start none loud kept lingering all_kept all_lingering =
     one_less (length kept) (length lingering)
     (crowded_is log peers l last stands crowded (0 ∷ kept) (0 ∷ lingering)
@@ -306,7 +294,7 @@ may_crowded log peers l last stands crowded wall start none loud kept lingering 
 
 -- one was closed to make a place
 pub may_closed : (old new : List Step) (peers : List Peer) (l : Listening) (last who : ℕ) → Stands old peers l last
-    → is_crowded 129 peers ≡ true → new ≡ old ++ Closes who ∷ [] → IsExcused new
+    → is_crowded peers ≡ true → new ≡ old ++ Closes who ∷ [] → IsExcused new
 may_closed old new peers l last who stands crowded tells wall start none loud kept lingering all_kept all_lingering =
     one_less (length kept) (length lingering)
     (crowded_is old peers l last stands crowded (who ∷ kept) (who ∷ lingering)

@@ -15,3 +15,4 @@ pub mod WorkIsDone
 pub mod EndsAreTold
 pub mod ReadsAnswerInTime
 pub mod WaitsAreFlushed
+pub mod AnswersAreBounded

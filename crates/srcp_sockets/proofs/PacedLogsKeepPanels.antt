@@ -2,6 +2,7 @@
 use Rattle.std.proofs.Common.{◌≡◌, ◌∙◌, ℕ, ◌-◌, ◌==◌, Bool, true, false, List, [], ◌∷◌, ◌++◌, map, refl, ap, sym, subst, arith}
 use Rattle.std.proofs.Common.{Option, Some, None, Ok, Err, append-nil, if◌then◌else◌}
 use Rattle.std.specs.Prelude.{Result, fold}
+use Rattle.std.specs.List.{AllByRecursion}
 use Rattle.std.proofs.lemmas.Bool.{and_parts}
 use Rattle.std.proofs.lemmas.Bool.Decides.{nat_tests}
 use Rattle.std.proofs.lemmas.Grind.{flat_map-append}
@@ -18,6 +19,7 @@ use Rattle.srcp_serve.specs.Given.{Call, door_call, ExpectCall, NowCall, AcceptC
 use Rattle.srcp_serve.specs.Pacing.{weighed_in}
 use Rattle.srcp_serve.specs.Serving.{handed_out, handed_out_in}
 use Rattle.srcp_serve.proofs.PacesLeaveReserve.{ReadsFit, fit_reads_spare}
+use Rattle.srcp_serve.proofs.TurnsFollow.{fair_given}
 use Rattle.srcp_peers.specs.Steps.{Accepts, Answers, Clocks, Closes, Reads, Shuts, Step, Waits, Writes, calls}
 use Rattle.srcp_peers.specs.Times.{Times, answered_times, first_times, lines_after, times, times_step}
 use Rattle.srcp_peers.specs.Turns.{after_read, got_bytes, ticks}
@@ -169,7 +171,9 @@ reads_fit (Writes who bytes answer ∷ log) t past trace are e paced = reads_fit
 reads_fit (Shuts who ∷ log) t past trace are e paced = reads_fit log t past trace are e paced
 reads_fit (Closes who ∷ log) t past trace are e paced = reads_fit log t past trace are e paced
 
-pub panels_kept : (wall start : ℕ) (log : List Step) → ArePaced (times wall start log) → PanelsAreKept log
-panels_kept wall start log paced buses layout count trace served differ fair are fits =
-    fit_reads_spare buses layout count trace served differ fair
+pub panels_kept : (wall start : ℕ) (log : List Step) → ArePaced (times wall start log) → door.PeersDiffer [] (calls log)
+    → AllByRecursion door.IsFair (calls log) → PanelsAreKept log
+panels_kept wall start log paced differ fair buses layout count trace served are fits =
+    fit_reads_spare buses layout count trace served
+    (subst (door.PeersDiffer []) (sym are) differ) (fair_given trace (subst (AllByRecursion door.IsFair) (sym are) fair))
     (reads_fit log (first_times wall start) [] trace (λ socket. refl) are paced.light) fits

@@ -39,11 +39,11 @@ use Rattle.srcp_sockets.proofs.SocketsStayStanding.{nobody}
 
 -- ---- one step came
 
-not_none : (x : Step) (mid after : List Step) → [] ≡ mid ++ x ∷ after → ⊥
+pub not_none : (x : Step) (mid after : List Step) → [] ≡ mid ++ x ∷ after → ⊥
 not_none x [] after e = cc
 not_none x (y ∷ mid) after e = cc
 
-one_only : (step x : Step) (mid after : List Step) → step ∷ [] ≡ mid ++ x ∷ after → (mid ≡ []) × (x ≡ step)
+pub one_only : (step x : Step) (mid after : List Step) → step ∷ [] ≡ mid ++ x ∷ after → (mid ≡ []) × (x ≡ step)
 one_only step x [] after e = (refl, (let same : step ≡ x = cc in sym same))
 one_only step x (y ∷ mid) after e =
     let none : [] ≡ mid ++ x ∷ after = cc in

@@ -7,6 +7,8 @@ pub mod Facts
 pub mod Faults
 pub mod Follows
 pub mod KeptTimes
+pub mod Limits
+pub mod Loads
 pub mod Names
 pub mod Panels
 pub mod Waits

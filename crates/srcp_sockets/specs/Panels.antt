@@ -5,13 +5,13 @@ use Rattle.srcp_grammar.specs.declared.layout.Bus.{Bus}
 use Rattle.srcp_core.specs.Connection.{Connection}
 use Rattle.srcp_core.specs.Course.{course}
 use Rattle.srcp_core.specs.Waits.{IsOverrun}
-use Rattle.srcp_serve.specs.Given.{door_call}
+use Rattle.srcp_serve.specs.Given.{Call, door_call}
 use Rattle.srcp_serve.specs.Pacing.{FitsReserve, OfEachTurnAfter}
-use Rattle.srcp_serve.specs.Serving.{OfEachServed, empty_stand, events_of, turns}
+use Rattle.srcp_serve.specs.Serving.{IsServed, empty_stand, events_of, turns}
 use Rattle.srcp_peers.specs.Steps.{Step, calls}
 
--- if the door's calls are served, and moments and ends of sessions fit the reserve in each turn, no panel ever overran
+-- if some turns ask these calls, and moments and ends of sessions fit the reserve in each, no panel ever overran
 abbrev pub PanelsAreKept : List Step → Type 0
-PanelsAreKept log = (buses : List Bus) → IsLayout buses → OfEachServed buses (λ trace. map door_call trace ≡ calls log
-    → OfEachTurnAfter buses (FitsReserve buses) [] empty_stand (turns trace)
-    → (number : ℕ) (later : Connection) → IsOverrun buses (course buses (events_of buses trace)) number later → ⊥)
+PanelsAreKept log = (buses : List Bus) → IsLayout buses → (count : ℕ) (trace : List Call) → IsServed buses count trace
+    → map door_call trace ≡ calls log → OfEachTurnAfter buses (FitsReserve buses) [] empty_stand (turns trace)
+    → (number : ℕ) (later : Connection) → IsOverrun buses (course buses (events_of buses trace)) number later → ⊥

@@ -19,6 +19,7 @@ use Rattle.srcp_peers.specs.Steps.{Accepts, Answers, Clocks, Closes, Step, Waits
 use Rattle.srcp_peers.specs.Times.{accept_answer}
 use Rattle.srcp_peers.specs.Turns.{has_ticked, is_short_pace, moment_at}
 use Rattle.srcp_sockets.specs.Doors.{IsPresent, is_quiet}
+use Rattle.srcp_sockets.specs.Limits.{most_lingering, most_peers}
 
 -- ---- who is closed
 
@@ -55,9 +56,9 @@ IsClocked turn answer old new = (shown : Option ℕ) × (answer ≡ moment_of tu
 -- ---- who is accepted
 
 -- one that lingers has to be closed first: there is no place for one more, or 64 linger
-abbrev pub is_crowded : (places : ℕ) → List Peer → Bool
-is_crowded places peers = nat_le places (length peers)
-    || nat_le 64 (length (filter (λ peer. not (is_here peer.stay)) peers))
+abbrev pub is_crowded : List Peer → Bool
+is_crowded peers = nat_le most_peers (length peers)
+    || nat_le most_lingering (length (filter (λ peer. not (is_here peer.stay)) peers))
 
 -- how the listener is heard after an accept of the system that answered so
 abbrev pub after_accept : Listening → Result Unit ErrorKind → Listening
@@ -73,10 +74,10 @@ IsAccepting number answer before after old new = (said : Result Unit ErrorKind)
     × (new ≡ old ++ Accepts number said ∷ Answers (AcceptCall answer) ∷ [])
 
 -- the next pending connection may be accepted
-abbrev pub may_accept : Listening → (places : ℕ) → List Peer → Bool
-may_accept heard places peers = not (is_quiet heard) && not (is_crowded places peers)
+abbrev pub may_accept : Listening → List Peer → Bool
+may_accept heard peers = not (is_quiet heard) && not (is_crowded peers)
 
--- a place is made: the first peer that lingers and is owed nothing is closed. Without one nobody comes in for now
+-- a place is made: the first peer that lingers and is owed nothing is closed. Without one the listener rests
 pub record MakesRoom (peers : List Peer) (before after : Listening) (old new : List Step) : Type 0 where
   pub none : position (λ peer. is_shut peer.stay) peers ≡ None → after ≡ listening.BackingOff
   pub one : (index : ℕ) → position (λ peer. is_shut peer.stay) peers ≡ Some index

@@ -5,17 +5,15 @@ ghost use Rattle.std.specs.Prelude.{IfOk, OnOk, OnErr, length, vec_capacity};
 ghost use Rattle.srcp_door.specs.Calls.{ReadCall, one_more};
 ghost use Rattle.srcp_peers.specs.Steps.{SaysOne};
 ghost use Rattle.srcp_peers.specs.Turns.{first_turn, got_bytes};
+ghost use Rattle.srcp_sockets.specs.Limits.{most_peers};
+ghost use Rattle.srcp_sockets.specs.Loads.{AnswersFairly, AnswersFairly-prop};
 ghost use Rattle.srcp_sockets.specs.Work.{IsPeerRead};
 
 use crate::sockets::Sockets;
-use srcp_core::MOST_CONNECTIONS;
 use srcp_door::{Door, DoorFault, Got};
-use srcp_peers::{MOST_LINGERING, Ready, System, Turn};
+use srcp_peers::{Ready, System, Turn};
 use std::alloc::{AllocError, Global};
 use std::vec::Vec;
-
-/// The most peers at once: 64 connected, a 65th that is turned away, and 64 that linger.
-const MOST_PEERS: usize = MOST_CONNECTIONS + 1 + MOST_LINGERING;
 
 /// The most sockets that may be found ready at once.
 pub(crate) const MOST_READY: usize = 128;
@@ -27,6 +25,7 @@ pub struct SocketDoor<S: System> {
     ready: Vec<Ready>,
     faults: u64,
     ghost most: { length ready.items ≡ 128 },
+    ghost fair: { AnswersFairly sockets.system.log.steps } by { AnswersFairly-prop _ },
 }
 
 impl<S: System> SocketDoor<S> {
@@ -45,7 +44,7 @@ impl<S: System> SocketDoor<S> {
         ensures system { IfOk result (λ door. door.sockets.system.system ≡ system) }
         ensures log { IfOk result (λ door. door.sockets.system.log.steps ≡ []) }
         ensures turn { IfOk result (λ door. door.sockets.turn ≡ first_turn wall start) }
-        ensures places { IfOk result (λ door. vec_capacity door.sockets.peers ≡ 129) }
+        ensures places { IfOk result (λ door. vec_capacity door.sockets.peers ≡ most_peers) }
     {
         let nothing = Ready {
             socket: 0,
@@ -57,7 +56,7 @@ impl<S: System> SocketDoor<S> {
         let mut ready = Vec::new(alloc);
         ready.resize(MOST_READY, nothing)?;
         Ok(SocketDoor {
-            sockets: Sockets::new(system, alloc, MOST_PEERS, Turn::new(wall, start))?,
+            sockets: Sockets::new(system, alloc, Turn::new(wall, start))?,
             alloc,
             ready,
             faults: 0,

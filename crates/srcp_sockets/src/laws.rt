@@ -18,6 +18,7 @@ ghost use Rattle.srcp_sockets.specs.Duties.{is_leaving, is_shown, last_shown, ta
 ghost use Rattle.srcp_sockets.specs.Doors.{IsThere};
 ghost use Rattle.srcp_sockets.specs.Waits.{closes, has_to_close, is_calm, is_written};
 ghost use Rattle.srcp_sockets.specs.KeptTimes.{AreKeptTimes, ArePaced};
+ghost use Rattle.srcp_sockets.specs.Loads.{AreBounded, load};
 ghost use Rattle.srcp_sockets.specs.Panels.{PanelsAreKept};
 ghost use Rattle.srcp_peers.specs.Times.{times};
 ghost use Rattle.srcp_peers.specs.Turns.{got_bytes, reports_end};
@@ -243,9 +244,20 @@ pub fn turns_are_paced<S: System>(door: &SocketDoor<S>)
 /// States that no panel ever overran if two bounds hold in each turn. First, the turn's moment and the ends of sessions
 /// bring at most 160 changes. Second, with the lines that were handed out, of whose weight at most 11 count, these are
 /// within the slack that the door was given. The slack is 256 if there was no panel. The door's calls are those that
-/// some turns ask, no peer was accepted twice, and each answer is allowed to a door.
+/// some turns ask.
 pub fn panels_are_kept<S: System>(door: &SocketDoor<S>)
     ensures { PanelsAreKept door.now.sockets.system.log.steps }
+{
+    let _sockets = &door.sockets;
+}
+
+/// States how many calls of the system the door made for an answer, counted from the answer before. For a moment there
+/// were at most 517. These are a write, a shutdown and a read of each of 129 peers, 64 reads and 64 closes of those that
+/// linger, a wait, and a look at the clock. For an accept there was one at most, and for each other answer none. After
+/// the last answer there was none.
+pub fn turns_are_bounded<S: System>(door: &SocketDoor<S>)
+    ensures few { AreBounded door.now.sockets.system.log.steps }
+    ensures idle { load door.now.sockets.system.log.steps ≡ 0 }
 {
     let _sockets = &door.sockets;
 }

@@ -13,6 +13,7 @@ ghost use Rattle.srcp_sockets.specs.Work.{AreClosedUp, IsClocked, IsPeerRead, Is
 ghost use Rattle.srcp_sockets.specs.Work.{is_close};
 ghost use Rattle.srcp_sockets.specs.Facts.{Stands-prop};
 ghost use Rattle.std.specs.List.{list_any};
+ghost use Rattle.srcp_sockets.specs.Limits.{most_peers};
 ghost use Rattle.srcp_sockets.specs.Names.{IsNamed, IsNamed-prop};
 ghost use Rattle.srcp_sockets.specs.KeptTimes.{IsTimed, IsTimed-prop};
 ghost use Rattle.srcp_peers.specs.Accounts.{is_short_wait};
@@ -31,6 +32,7 @@ mod accepting;
 mod reading;
 
 use crate::delivering::deliver;
+use srcp_core::MOST_CONNECTIONS;
 use srcp_door::{DoorFault, Got, MOST_WRITES};
 use srcp_peers::peers::{begin_visits, flush, listen, wake};
 use srcp_peers::{
@@ -39,6 +41,9 @@ use srcp_peers::{
 };
 use std::alloc::{AllocError, Global};
 use std::vec::Vec;
+
+/// The most peers at once: 64 connected, a 65th that is turned away, and 64 that linger.
+const MOST_PEERS: usize = MOST_CONNECTIONS + 1 + MOST_LINGERING;
 
 /// Holds the system's sockets, with their peers. Only `deliver` drops a value: the type is not `Drop`.
 pub(crate) struct Sockets<S: System> {
@@ -64,7 +69,7 @@ pub(crate) struct Sockets<S: System> {
     ghost asked: { AreAsked system.log.steps } by { AreAsked-prop _ },
     ghost done: { AreDone turn.timekeeper.wall turn.timekeeper.start system.log.steps } by { AreDone-prop _ _ _ },
     ghost ending: { AreAsFar system.log.steps peers.items } by { AreAsFar-prop system.log.steps _ },
-    ghost places: { 129 ≤ vec_capacity peers },
+    ghost places: { (length peers.items ≤ most_peers) × (most_peers ≤ vec_capacity peers) },
 }
 
 impl<S: System> Sockets<S> {
@@ -302,20 +307,14 @@ impl<S: System> Sockets<S> {
     ///
     /// # Errors
     /// Returns an error if memory is refused.
-    pub(crate) fn new(
-        system: S,
-        alloc: Global,
-        most: usize,
-        turn: Turn,
-    ) -> Result<Sockets<S>, AllocError>
+    pub(crate) fn new(system: S, alloc: Global, turn: Turn) -> Result<Sockets<S>, AllocError>
         requires turn { turn ≡ first_turn turn.timekeeper.wall turn.timekeeper.start }
-        requires places { 129 ≤ most }
         ensures { IfOk result (λ sockets. (sockets.system.system ≡ system) × (sockets.system.log.steps ≡ [])
-            × (sockets.turn ≡ turn) × (vec_capacity sockets.peers ≡ most)) }
+            × (sockets.turn ≡ turn) × (vec_capacity sockets.peers ≡ most_peers)) }
     {
         Ok(Sockets {
             system: Logged::new(system),
-            peers: Vec::with_capacity(alloc, most)?,
+            peers: Vec::with_capacity(alloc, MOST_PEERS)?,
             listening: Listening::Ready,
             last: 0,
             recent: 0,

@@ -1,15 +1,17 @@
 //! How a pending connection is accepted.
 
-ghost use Rattle.std.specs.Prelude.{false, true, ◌≡◌, ◌<◌, ◌+◌, ◌⊎◌, None, Ok, Err, IfErr, length, vec_capacity};
+ghost use Rattle.std.specs.Prelude.{false, true, ◌≡◌, ◌<◌, ◌+◌, ◌⊎◌, None, Ok, Err, IfErr, length};
 ghost use Rattle.std.specs.Prelude.{◌++◌, ◌∷◌, [], ℕ, OnErr};
 ghost use Rattle.srcp_sockets.specs.Asked.{IsExcused};
 ghost use Rattle.srcp_sockets.specs.Doors.{is_quiet};
+ghost use Rattle.srcp_sockets.specs.Limits.{most_peers};
+ghost use Rattle.srcp_sockets.specs.Loads.{AnswersWithin};
 ghost use Rattle.srcp_sockets.specs.Work.{IsAccepting, MakesRoom, is_crowded, may_accept};
 ghost use Rattle.srcp_peers.specs.Times.{refused_accept};
 ghost use Rattle.srcp_door.specs.Calls.{AcceptCall};
-ghost use Rattle.srcp_peers.specs.Steps.{Answers, Closes, SaysNothing, SaysOne};
+ghost use Rattle.srcp_peers.specs.Steps.{Answers, Closes, GrowsBy, SaysNothing};
 
-use super::Sockets;
+use super::{MOST_PEERS, Sockets};
 use srcp_door::DoorFault;
 use srcp_peers::{
     Answer, IoFailure, Listening, MOST_LINGERING, Peer, Queues, System, count_lingering,
@@ -23,10 +25,10 @@ impl<S: System> Sockets<S> {
     /// # Errors
     /// `Accept` if the system failed to accept it, or if memory or the numbers ran out.
     pub(crate) fn accept(&mut self, alloc: Global) -> Result<Option<u32>, DoorFault>
-        ensures trace { SaysOne self.old.system.log.steps (AcceptCall result) self.new.system.log.steps }
+        ensures answers { AnswersWithin self.old.system.log.steps (AcceptCall result) self.new.system.log.steps }
         ensures fault { IfErr result (λ fault. fault ≡ DoorFault.Accept) }
         ensures rests { OnErr result (self.new.listening ≡ Listening.BackingOff) }
-        ensures asks { may_accept self.old.listening (vec_capacity self.old.peers) self.old.peers.items ≡ true
+        ensures asks { may_accept self.old.listening self.old.peers.items ≡ true
             → (result ≡ Err DoorFault.Accept)
             ⊎ IsAccepting (self.old.last + 1) result self.old.listening self.new.listening
             self.old.system.log.steps self.new.system.log.steps }
@@ -34,7 +36,7 @@ impl<S: System> Sockets<S> {
         ensures quiet { is_quiet self.old.listening ≡ true → (self.new.listening ≡ self.old.listening)
             × (self.new.system.log.steps ≡ self.old.system.log.steps ++ Answers (AcceptCall (Ok None)) ∷ []) }
         ensures makes { is_quiet self.old.listening ≡ false
-            → is_crowded (vec_capacity self.old.peers) self.old.peers.items ≡ true
+            → is_crowded self.old.peers.items ≡ true
             → MakesRoom self.old.peers.items self.old.listening self.new.listening
             self.old.system.log.steps self.new.system.log.steps }
     {
@@ -54,8 +56,9 @@ impl<S: System> Sockets<S> {
     /// first.
     fn may_accept(&mut self) -> bool
         ensures calls { SaysNothing self.old.system.log.steps self.new.system.log.steps }
-        ensures room { result ≡ true → length self.new.peers.items < vec_capacity self.new.peers }
-        ensures is { result ≡ may_accept self.old.listening (vec_capacity self.old.peers) self.old.peers.items }
+        ensures few { GrowsBy 1 self.old.system.log.steps self.new.system.log.steps }
+        ensures room { result ≡ true → length self.new.peers.items < most_peers }
+        ensures is { result ≡ may_accept self.old.listening self.old.peers.items }
         ensures excused { result ≡ false → IsExcused self.new.system.log.steps }
         ensures keeps { (self.new.flushed ≡ self.old.flushed) × (self.new.starved ≡ self.old.starved) }
         ensures same { result ≡ true → (self.new.listening ≡ self.old.listening) × (self.new.last ≡ self.old.last)
@@ -63,7 +66,7 @@ impl<S: System> Sockets<S> {
         ensures quiet { is_quiet self.old.listening ≡ true → (self.new.listening ≡ self.old.listening)
             × (self.new.system.log.steps ≡ self.old.system.log.steps) }
         ensures makes { is_quiet self.old.listening ≡ false
-            → is_crowded (vec_capacity self.old.peers) self.old.peers.items ≡ true
+            → is_crowded self.old.peers.items ≡ true
             → MakesRoom self.old.peers.items self.old.listening self.new.listening
             self.old.system.log.steps self.new.system.log.steps }
     {
@@ -110,9 +113,8 @@ impl<S: System> Sockets<S> {
     /// Accepts the next pending connection under that number, if there is one.
     fn accept_next(&mut self, number: u32, queues: Queues) -> Result<Option<u32>, DoorFault>
         requires next { number ≡ self.old.last + 1 }
-        requires room { length self.old.peers.items < vec_capacity self.old.peers }
+        requires room { length self.old.peers.items < most_peers }
         requires loud { is_quiet self.old.listening ≡ false }
-        ensures trace { SaysOne self.old.system.log.steps (AcceptCall result) self.new.system.log.steps }
         ensures fault { IfErr result (λ fault. fault ≡ DoorFault.Accept) }
         ensures rests { OnErr result (self.new.listening ≡ Listening.BackingOff) }
         ensures exact { IsAccepting number result self.old.listening self.new.listening
@@ -143,11 +145,10 @@ impl<S: System> Sockets<S> {
 
     /// Returns whether one that lingers has to be closed before a connection is accepted.
     fn is_crowded(&self) -> bool
-        ensures is { result ≡ is_crowded (vec_capacity self.now.peers) self.now.peers.items }
-        ensures room { result ≡ false → length self.now.peers.items < vec_capacity self.now.peers }
+        ensures is { result ≡ is_crowded self.now.peers.items }
+        ensures room { result ≡ false → length self.now.peers.items < most_peers }
     {
-        self.peers.len() >= self.peers.capacity()
-            || count_lingering(self.peers.as_slice()) >= MOST_LINGERING
+        self.peers.len() >= MOST_PEERS || count_lingering(self.peers.as_slice()) >= MOST_LINGERING
     }
 
     /// Closes the first peer that lingers and is owed nothing. If there is none, no connection is accepted until one is

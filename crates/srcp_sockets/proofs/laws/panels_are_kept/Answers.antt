@@ -2,4 +2,6 @@ use Rattle.srcp_sockets.proofs.PacedLogsKeepPanels.{panels_kept}
 use Rattle.srcp_sockets.proofs.laws.panels_are_kept.Goals as goal
 
 pub returns : goal.returns
-returns g c = panels_kept _ _ c.args.door.now.sockets.system.log.steps c.args.door.now.sockets.timed.paced
+returns g c =
+    let door = c.args.door.now in
+    panels_kept _ _ door.sockets.system.log.steps door.sockets.timed.paced door.sockets.named.differ door.fair.fair

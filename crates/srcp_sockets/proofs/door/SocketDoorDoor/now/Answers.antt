@@ -1,7 +1,8 @@
-use Rattle.std.proofs.Common.{List, ap, subst, sym}
+use Rattle.std.proofs.Common.{List, length, ap, subst, sym}
 use Rattle.srcp_door.specs.Calls.{NowCall}
 use Rattle.srcp_peers.specs.Steps.{SaysOne, Step}
 use Rattle.srcp_peers.proofs.CallsAreOfTheDoor.{says_after}
+use Rattle.srcp_sockets.proofs.AnswersAreBounded.{answered_more, answered_now}
 use Rattle.srcp_sockets.proofs.door.SocketDoorDoor.now.Goals as goal
 
 pub returns-else-is_err-clause-trace : goal.returns-else-is_err-clause-trace
@@ -20,3 +21,13 @@ returns-then-is_err-clause-trace g c =
     subst (λ (log : List Step). SaysOne old call log)
     (sym (ap (λ sockets. sockets.system.log.steps) c.failed.ensures.sockets))
     (says_after old begun new call c.begin_turn.ensures.calls c.now-answer.ensures.trace)
+
+pub invariant_of-self-clause-fair : goal.invariant_of-self-clause-fair
+invariant_of-self-clause-fair g c =
+    let sockets = c.args.self.now.sockets in
+    let begun = c.begin_turn.new.self.system.log.steps in
+    let new = c.now-answer.new.self.system.log.steps in
+    let clock = c.now-answer.ensures.clock in
+    answered_more sockets.system.log.steps new (NowCall c.now-answer.result)
+    (answered_now (length sockets.peers.items) sockets.system.log.steps begun new clock.0 c.now-answer.result sockets.places.0
+    c.begin_turn.ensures.calls c.begin_turn.ensures.most clock.2) tt c.args.self.now.fair

@@ -1,6 +1,6 @@
 use Rattle.std.proofs.Common.{◌≡◌, ◌∙◌, ◌+◌, ℕ, Bool, List, [], ◌∷◌, ◌++◌}
 use Rattle.std.proofs.Common.{Option, ap, arith, inl, inr, not, refl, rules, subst, sym, true, false}
-use Rattle.std.proofs.Common.{true≢false, vec_capacity, None, Ok}
+use Rattle.std.proofs.Common.{true≢false, None, Ok}
 use Rattle.std.specs.Prelude.{Result, cond, count_by}
 use Rattle.std.proofs.lemmas.List.Sums.{sum_by-append}
 use Rattle.srcp_door.specs.Calls.{AcceptCall}
@@ -8,73 +8,71 @@ use Rattle.srcp_door.specs.declared.door.DoorFault.{DoorFault}
 use Rattle.srcp_peers.specs.declared.peer.Peer.{Peer}
 use Rattle.srcp_peers.specs.declared.turn.Listening.{Listening}
 use Rattle.srcp_peers.specs.Peers.{Makes}
-use Rattle.srcp_peers.specs.Steps.{Answers, Step}
+use Rattle.srcp_peers.specs.Steps.{Accepts, Answers, Step}
 use Rattle.srcp_peers.proofs.PeersRestByAccount.{and_left, and_right}
-use Rattle.srcp_peers.proofs.CallsAreOfTheDoor.{says_after, says_call}
 use Rattle.srcp_sockets.specs.Doors.{is_quiet}
 use Rattle.srcp_sockets.specs.Work.{IsAccepting, is_close, is_crowded, may_accept}
+use Rattle.srcp_sockets.proofs.AnswersAreBounded.{answered_after}
 use Rattle.srcp_sockets.proofs.sockets.Sockets.accept.Goals as goal
 
-pub returns-clause-trace : goal.returns-clause-trace
-returns-clause-trace g c = says_after c.args.self.now.system.log.steps c.may_accept.new.self.system.log.steps
-    c.accept_next.new.self.system.log.steps (AcceptCall c.accept_next.result) c.may_accept.ensures.calls
-    c.accept_next.ensures.trace
+pub returns-clause-answers : goal.returns-clause-answers
+returns-clause-answers g c =
+    let came = c.accept_next.ensures.exact in
+    let step = Accepts c.in-Some.number came.0 in
+    let same = (c.may_accept.ensures.same c.if-not-may_accept.false).2 in (
+      step ∷ [],
+      came.3 ∙ ap (λ (log : List Step). log ++ step ∷ Answers (AcceptCall c.accept_next.result) ∷ []) same,
+      refl,
+      omega arith,
+    )
 
-pub returns-then-not-may_accept-clause-trace : goal.returns-then-not-may_accept-clause-trace
-returns-then-not-may_accept-clause-trace g c =
-    let mid = c.may_accept.new.self.system.log.steps in
-    let new = c.note_nobody.new.self.system.log.steps in
-    let call = AcceptCall c.note_nobody.result in
-    says_after c.args.self.now.system.log.steps mid new call c.may_accept.ensures.calls
-    (says_call mid new call c.note_nobody.ensures.log)
+pub returns-then-not-may_accept-clause-answers : goal.returns-then-not-may_accept-clause-answers
+returns-then-not-may_accept-clause-answers g c = answered_after c.args.self.now.system.log.steps
+    c.may_accept.new.self.system.log.steps c.note_nobody.new.self.system.log.steps (AcceptCall c.note_nobody.result)
+    c.may_accept.ensures.calls c.may_accept.ensures.few c.note_nobody.ensures.log
 
-pub returns-in_default-clause-trace : goal.returns-in_default-clause-trace
-returns-in_default-clause-trace g c =
-    let none = c.put_off in
-    let mid = c.may_accept.new.self.system.log.steps in
-    let new = none.new.self.system.log.steps in
-    says_after c.args.self.now.system.log.steps mid new (AcceptCall none.result) c.may_accept.ensures.calls
-    (says_call mid new (AcceptCall none.result) none.ensures.log)
+pub returns-in_default-clause-answers : goal.returns-in_default-clause-answers
+returns-in_default-clause-answers g c = answered_after c.args.self.now.system.log.steps
+    c.may_accept.new.self.system.log.steps c.put_off.new.self.system.log.steps (AcceptCall c.put_off.result)
+    c.may_accept.ensures.calls c.may_accept.ensures.few c.put_off.ensures.log
 
-pub returns-in_default-spare_or_new-clause-trace : goal.returns-in_default-spare_or_new-clause-trace
-returns-in_default-spare_or_new-clause-trace g c =
+pub returns-in_default-spare_or_new-clause-answers : goal.returns-in_default-spare_or_new-clause-answers
+returns-in_default-spare_or_new-clause-answers g c =
     let none = c.put_off-in_default-spare_or_new in
-    let mid = c.may_accept.new.self.system.log.steps in
-    let new = none.new.self.system.log.steps in
-    says_after c.args.self.now.system.log.steps mid new (AcceptCall none.result) c.may_accept.ensures.calls
-    (says_call mid new (AcceptCall none.result) none.ensures.log)
+    answered_after c.args.self.now.system.log.steps c.may_accept.new.self.system.log.steps none.new.self.system.log.steps
+    (AcceptCall none.result) c.may_accept.ensures.calls c.may_accept.ensures.few none.ensures.log
 
 pub note_nobody-requires : goal.note_nobody-requires
 note_nobody-requires g c = record { nobody = inl refl; excused = λ e. c.may_accept.ensures.excused (search rules) }
 
 -- there is a place for one that may be accepted
-has_place : (heard : Listening) (places : ℕ) (peers : List Peer) → may_accept heard places peers ≡ true
-    → is_crowded places peers ≡ true → ⊥
-has_place heard places peers may crowded =
-    true≢false (sym (and_right (not (is_quiet heard)) (not (is_crowded places peers)) may) ∙ ap not crowded)
+has_place : (heard : Listening) (peers : List Peer) → may_accept heard peers ≡ true
+    → is_crowded peers ≡ true → ⊥
+has_place heard peers may crowded =
+    true≢false (sym (and_right (not (is_quiet heard)) (not (is_crowded peers)) may) ∙ ap not crowded)
 
 -- and one may be pending
-is_loud : (heard : Listening) (places : ℕ) (peers : List Peer) → may_accept heard places peers ≡ true → is_quiet heard ≡ false
-is_loud heard places peers may = by (is_quiet heard) (and_left (not (is_quiet heard)) (not (is_crowded places peers)) may)
+is_loud : (heard : Listening) (peers : List Peer) → may_accept heard peers ≡ true → is_quiet heard ≡ false
+is_loud heard peers may = by (is_quiet heard) (and_left (not (is_quiet heard)) (not (is_crowded peers)) may)
   where
     by : (b : Bool) → not b ≡ true → b ≡ false
     by true e = absurd (true≢false (sym e))
     by false e = refl
 
-loud_after : (heard before : Listening) (places : ℕ) (peers : List Peer) → heard ≡ before → may_accept before places peers ≡ true
+loud_after : (heard before : Listening) (peers : List Peer) → heard ≡ before → may_accept before peers ≡ true
     → is_quiet heard ≡ false
-loud_after heard before places peers same may = ap is_quiet same ∙ is_loud before places peers may
+loud_after heard before peers same may = ap is_quiet same ∙ is_loud before peers may
 
 pub put_off-requires : goal.put_off-requires
 put_off-requires g c =
     let self = c.args.self.now in
-    loud_after c.may_accept.new.self.listening self.listening (vec_capacity self.peers) self.peers.items
+    loud_after c.may_accept.new.self.listening self.listening self.peers.items
     (c.may_accept.ensures.same c.if-not-may_accept.false).0 (sym c.may_accept.ensures.is ∙ c.if-not-may_accept.false)
 
 pub accept_next-requires-clause-loud : goal.accept_next-requires-clause-loud
 accept_next-requires-clause-loud g c =
     let self = c.args.self.now in
-    loud_after c.may_accept.new.self.listening self.listening (vec_capacity self.peers) self.peers.items
+    loud_after c.may_accept.new.self.listening self.listening self.peers.items
     (c.may_accept.ensures.same c.if-not-may_accept.false).0 (sym c.may_accept.ensures.is ∙ c.if-not-may_accept.false)
 
 -- an accept behind what changed nothing
@@ -130,35 +128,35 @@ returns-then-not-may_accept-clause-quiet g c quiet =
 pub returns-clause-makes : goal.returns-clause-makes
 returns-clause-makes g c quiet crowded =
     let self = c.args.self.now in
-    absurd (has_place self.listening (vec_capacity self.peers) self.peers.items
+    absurd (has_place self.listening self.peers.items
     (sym c.may_accept.ensures.is ∙ c.if-not-may_accept.false) crowded)
 
 pub returns-clause-quiet : goal.returns-clause-quiet
 returns-clause-quiet g c quiet =
     let self = c.args.self.now in
-    absurd (true≢false (sym quiet ∙ is_loud self.listening (vec_capacity self.peers) self.peers.items
+    absurd (true≢false (sym quiet ∙ is_loud self.listening self.peers.items
     (sym c.may_accept.ensures.is ∙ c.if-not-may_accept.false)))
 
 pub returns-in_default-clause-makes : goal.returns-in_default-clause-makes
 returns-in_default-clause-makes g c quiet crowded =
     let self = c.args.self.now in
-    absurd (has_place self.listening (vec_capacity self.peers) self.peers.items
+    absurd (has_place self.listening self.peers.items
     (sym c.may_accept.ensures.is ∙ c.if-not-may_accept.false) crowded)
 
 pub returns-in_default-clause-quiet : goal.returns-in_default-clause-quiet
 returns-in_default-clause-quiet g c quiet =
     let self = c.args.self.now in
-    absurd (true≢false (sym quiet ∙ is_loud self.listening (vec_capacity self.peers) self.peers.items
+    absurd (true≢false (sym quiet ∙ is_loud self.listening self.peers.items
     (sym c.may_accept.ensures.is ∙ c.if-not-may_accept.false)))
 
 pub returns-in_default-spare_or_new-clause-makes : goal.returns-in_default-spare_or_new-clause-makes
 returns-in_default-spare_or_new-clause-makes g c quiet crowded =
     let self = c.args.self.now in
-    absurd (has_place self.listening (vec_capacity self.peers) self.peers.items
+    absurd (has_place self.listening self.peers.items
     (sym c.may_accept.ensures.is ∙ c.if-not-may_accept.false) crowded)
 
 pub returns-in_default-spare_or_new-clause-quiet : goal.returns-in_default-spare_or_new-clause-quiet
 returns-in_default-spare_or_new-clause-quiet g c quiet =
     let self = c.args.self.now in
-    absurd (true≢false (sym quiet ∙ is_loud self.listening (vec_capacity self.peers) self.peers.items
+    absurd (true≢false (sym quiet ∙ is_loud self.listening self.peers.items
     (sym c.may_accept.ensures.is ∙ c.if-not-may_accept.false)))

@@ -11,7 +11,7 @@ use Rattle.srcp_peers.specs.Steps.{Accepts, Answers}
 use Rattle.srcp_peers.specs.Times.{is_as_heard, refused_accept}
 use Rattle.srcp_peers.specs.Turns.{after_call}
 use Rattle.srcp_peers.proofs.PeersStayKept.{own}
-use Rattle.srcp_peers.proofs.CallsAreOfTheDoor.{says_after, says_call, says_step}
+use Rattle.srcp_peers.proofs.CallsAreOfTheDoor.{says_call, says_step}
 use Rattle.srcp_sockets.proofs.AcceptsAreAsked.{asked_accept, asked_step, was_asked}
 use Rattle.srcp_sockets.proofs.WorkIsDone.{done_step, done_turn, tells_two}
 use Rattle.srcp_sockets.proofs.NumbersDiffer.{named_call, named_come, named_silent, nobody_named}
@@ -49,17 +49,8 @@ invariant_of-self g c =
       ending = far_same mid new c.push.new.self.items (Answers call) c.answer.ensures (λ s x. refl)
           (far_pushed old mid self.peers.items c.push.new.self.items c.new.result self.turn.clock number c.in-Ok.field-0 pushed
           c.new.ensures c.in-Ok.ensures self.ending);
-      places = le_trans self.places c.push.ensures.capacity;
+      places = (search rules, le_trans self.places.1 c.push.ensures.capacity);
     }
-
-pub returns-in-Ok-clause-trace : goal.returns-in-Ok-clause-trace
-returns-in-Ok-clause-trace g c =
-    let old = c.args.self.now.system.log.steps in
-    let mid = c.accept.new.self.log.steps in
-    let new = c.answer.new.self.log.steps in
-    let call = AcceptCall (Ok (Some c.args.number)) in
-    says_after old mid new call (says_step old mid (Accepts c.args.number (Ok c.in-Ok.field-0)) c.in-Ok.ensures refl)
-    (says_call mid new call c.answer.ensures)
 
 -- what is answered is what the system said
 answered_so : (said : IoFailure) → is_as_heard (Some (refused_accept said)) (refused_accept said) ≡ true
@@ -102,15 +93,6 @@ invariant_of-self-in-Err g c =
           (far_same old mid self.peers.items (Accepts number said) c.in-Err.ensures (λ s x. refl) self.ending);
       places = self.places;
     }
-
-pub returns-in-Err-clause-trace : goal.returns-in-Err-clause-trace
-returns-in-Err-clause-trace g c =
-    let old = c.args.self.now.system.log.steps in
-    let mid = c.accept.new.self.log.steps in
-    let new = c.answer-in-Err.new.self.log.steps in
-    let call = AcceptCall c.nobody-answer.result in
-    says_after old mid new call (says_step old mid (Accepts c.args.number (Err c.in-Err.fault)) c.in-Err.ensures refl)
-    (says_call mid new call c.answer-in-Err.ensures)
 
 pub returns-in-Ok-clause-exact : goal.returns-in-Ok-clause-exact
 returns-in-Ok-clause-exact g c =

@@ -1,4 +1,4 @@
-use Rattle.std.proofs.Common.{◌≡◌, ◌∙◌, ℕ, not, List, rules, subst, sym}
+use Rattle.std.proofs.Common.{◌≡◌, ◌∙◌, ℕ, not, List, rules, subst, sym, arith}
 use Rattle.std.specs.Prelude.{◌||◌, Bool, All}
 use Rattle.std.proofs.lemmas.List.{with_items_is}
 use Rattle.srcp_peers.specs.declared.peer.Peer.{Peer}
@@ -9,7 +9,7 @@ use Rattle.srcp_sockets.proofs.AcceptsAreAsked.{asked_silent}
 use Rattle.srcp_sockets.proofs.WorkIsDone.{done_silent}
 use Rattle.srcp_sockets.proofs.NumbersDiffer.{named_silent}
 use Rattle.srcp_sockets.proofs.NoMomentWhileUnread.{all_read}
-use Rattle.srcp_sockets.proofs.SocketsStayStanding.{stands_turned}
+use Rattle.srcp_sockets.proofs.SocketsStayStanding.{as_many, stands_turned}
 use Rattle.srcp_sockets.proofs.TimesGoOn.{timed_kept}
 use Rattle.srcp_sockets.specs.Endings.{AreAsFar, AreVisited}
 use Rattle.srcp_sockets.proofs.EndsAreTold.{far_visited, visited_all}
@@ -39,7 +39,16 @@ invariant_of-self g c =
           (far_visited old new c.as_mut_slice.result.now c.begin_visits.new.peers c.begin_visits.auto.peers c.begin_visits.ensures.calls
           c.begin_visits.ensures.those c.begin_visits.ensures.begun
           (subst (AreAsFar old) (sym c.as_mut_slice.ensures.value) c.args.self.now.ending));
-      places = c.args.self.now.places;
+      places = (
+        omega (
+          arith,
+          c.args.self.now.places.0,
+          as_many c.as_mut_slice.result.now c.begin_visits.new.peers c.args.self.now.peers.items _
+              (with_items_is c.args.self.now.peers c.begin_visits.new.peers (c.begin_visits.auto.peers ∙ search rules)) c.begin_visits.auto.peers
+              c.as_mut_slice.ensures.value,
+        ),
+        c.args.self.now.places.1,
+      );
     }
 
 pub returns-clause-read : goal.returns-clause-read

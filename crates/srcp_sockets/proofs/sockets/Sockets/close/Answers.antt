@@ -1,4 +1,4 @@
-use Rattle.std.proofs.Common.{◌∙◌, ap, refl, sym, Ok, Err}
+use Rattle.std.proofs.Common.{◌∙◌, ap, refl, sym, Ok, Err, rules}
 use Rattle.srcp_peers.specs.declared.peer.Peer.{Peer}
 use Rattle.srcp_door.specs.declared.door.DoorFault.TheVariants.{Close}
 use Rattle.srcp_door.specs.Calls.{CloseCall}
@@ -64,7 +64,7 @@ invariant_of-self-2 g c =
           tt c.args.self.now.done);
       ending = far_left old new c.args.self.now.peers.items c.in-Some.index x c.linger.new.self c.args.self.now.turn.clock there.0
           c.linger.ensures (slackens_step old new (Answers call) c.answer-2.ensures (λ s x. refl)) c.args.self.now.ending;
-      places = c.args.self.now.places;
+      places = search rules;
     }
 
 pub returns-clause-trace : goal.returns-clause-trace

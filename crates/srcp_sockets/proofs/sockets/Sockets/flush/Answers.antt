@@ -1,4 +1,4 @@
-use Rattle.std.proofs.Common.{◌∙◌, List, rules, subst, sym}
+use Rattle.std.proofs.Common.{◌∙◌, List, rules, subst, sym, arith}
 use Rattle.std.proofs.lemmas.List.{with_items_is}
 use Rattle.srcp_peers.specs.declared.peer.Peer.{Peer}
 use Rattle.srcp_peers.specs.AllPeers.{AreOffered}
@@ -39,7 +39,16 @@ invariant_of-self g c =
           (flushed_of c.as_mut_slice.result.now c.flush.new.peers c.flush.auto.peers c.flush.ensures.those c.flush.ensures.shut
           c.flush.ensures.endings)
           (subst (AreAsFar old) (sym c.as_mut_slice.ensures.value) c.args.self.now.ending));
-      places = c.args.self.now.places;
+      places = (
+        omega (
+          arith,
+          c.args.self.now.places.0,
+          as_many c.as_mut_slice.result.now c.flush.new.peers c.args.self.now.peers.items _
+              (with_items_is c.args.self.now.peers c.flush.new.peers (c.flush.auto.peers ∙ search rules)) c.flush.auto.peers
+              c.as_mut_slice.ensures.value,
+        ),
+        c.args.self.now.places.1,
+      );
     }
 
 pub returns-clause-offered : goal.returns-clause-offered

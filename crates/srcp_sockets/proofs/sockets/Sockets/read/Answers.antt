@@ -71,7 +71,7 @@ invariant_of-self g c =
             ap (λ (p : Peer). p.ending) c.read-handed.ensures.same ∙ ap (λ (p : Peer). p.ending) is,
           )))
           c.args.self.now.ending;
-      places = c.args.self.now.places;
+      places = search rules;
     }
 
 pub returns-clause-trace : goal.returns-clause-trace

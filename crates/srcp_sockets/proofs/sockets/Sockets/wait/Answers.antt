@@ -1,4 +1,4 @@
-use Rattle.std.proofs.Common.{◌++◌, ◌∷◌, [], ◌≡◌, ◌∙◌, ℕ, List, Option, rules, refl, sym, subst, false, true}
+use Rattle.std.proofs.Common.{◌++◌, ◌∷◌, [], ◌≡◌, ◌∙◌, ℕ, List, Option, rules, refl, sym, subst, false, true, arith}
 use Rattle.std.specs.Prelude.{All}
 use Rattle.std.proofs.lemmas.List.{with_items_is}
 use Rattle.srcp_peers.specs.declared.peer.Peer.{Peer}
@@ -57,7 +57,16 @@ invariant_of-self g c =
           (slackens_step old new (Waits most count ready) c.wait-count.ensures.log (λ s x. refl))
           (woken_of before c.wake.new.peers (take count ready) c.wake.auto.peers c.wake.ensures)
           (subst (AreAsFar old) same c.args.self.now.ending));
-      places = c.args.self.now.places;
+      places = (
+        omega (
+          arith,
+          c.args.self.now.places.0,
+          as_many c.as_mut_slice.result.now c.wake.new.peers c.args.self.now.peers.items _
+              (with_items_is c.args.self.now.peers c.wake.new.peers (c.wake.auto.peers ∙ search rules)) c.wake.auto.peers
+              c.as_mut_slice.ensures.value,
+        ),
+        c.args.self.now.places.1,
+      );
     }
 
 pub returns-clause-calls : goal.returns-clause-calls

@@ -1,4 +1,4 @@
-use Rattle.std.proofs.Common.{◌++◌, ◌∷◌, [], ◌≡◌, ◌∙◌, ℕ, ap, refl, subst, Ok, Err}
+use Rattle.std.proofs.Common.{◌++◌, ◌∷◌, [], ◌≡◌, ◌∙◌, ℕ, ap, refl, subst, Ok, Err, rules}
 use Rattle.srcp_peers.specs.declared.peer.Peer.{Peer}
 use Rattle.srcp_door.specs.declared.door.DoorFault.TheVariants.{Write}
 use Rattle.srcp_door.specs.Calls.{WriteCall}
@@ -48,7 +48,7 @@ invariant_of-self-2 g c =
           c.index_mut.ensures.value c.args.self.now.stands.apart c.write-count.ensures.number
           (ap (λ (p : Peer). p.stay) c.write-count.ensures.same) (ap (λ (p : Peer). p.ending) c.write-count.ensures.same)
           c.write-count.ensures.log c.args.self.now.ending;
-      places = c.args.self.now.places;
+      places = search rules;
     }
 
 pub returns-clause-trace : goal.returns-clause-trace

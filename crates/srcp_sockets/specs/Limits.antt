@@ -1,0 +1,10 @@
+-- The limits of a door over sockets, each a number here and a name elsewhere.
+use Rattle.std.specs.Prelude.{ℕ}
+
+-- the most peers at once: 64 are connected, a 65th is turned away, and 64 linger
+abbrev pub most_peers : ℕ
+most_peers = 129
+
+-- the most of them that linger, and the most sockets that are closed in a turn
+abbrev pub most_lingering : ℕ
+most_lingering = 64
