@@ -1,5 +1,5 @@
 -- When nobody is accepted though the system was not asked.
-use Rattle.std.specs.Prelude.{◌≡◌, ℕ, ◌==◌, ◌∷◌, ◌++◌, ◌||◌, nat_le, Bool, true, false, List, length}
+use Rattle.std.specs.Prelude.{◌≡◌, ℕ, ◌==◌, ◌∷◌, ◌++◌, ◌-◌, ◌||◌, nat_le, Bool, true, false, List, length}
 use Rattle.std.specs.Prelude.{None, Ok}
 use Rattle.std.specs.List.{list_any}
 use Rattle.std.proofs.Props.{props}
@@ -7,6 +7,7 @@ use Rattle.srcp_door.specs.Calls.{AcceptCall}
 use Rattle.srcp_peers.specs.Accounts.{Account, account, is_lingering}
 use Rattle.srcp_peers.specs.Steps.{Answers, Step}
 use Rattle.srcp_peers.specs.Times.{times}
+use Rattle.srcp_sockets.specs.Limits.{most_lingering, most_peers}
 
 -- a list that has all such sockets
 abbrev pub Covers : (is_such : Account → Bool) → List Step → List ℕ → Type 0
@@ -17,7 +18,7 @@ Covers is_such log sockets = (socket : ℕ) → is_such (account socket log) ≡
 -- Without a place there are 129, or 64 linger; but one of them may have been closed just now to make a place
 abbrev pub IsCrowded : List Step → Type 0
 IsCrowded log = (kept lingering : List ℕ) → Covers (λ a. a.lingering.kept) log kept → Covers is_lingering log lingering
-    → (nat_le 128 (length kept) || nat_le 63 (length lingering)) ≡ true
+    → (nat_le (most_peers - 1) (length kept) || nat_le (most_lingering - 1) (length lingering)) ≡ true
 
 -- nobody need be accepted: the system was asked since `accept` was answered last, or the listener was found quiet, or
 -- there is no place

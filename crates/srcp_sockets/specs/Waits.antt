@@ -5,6 +5,7 @@ use Rattle.srcp_peers.specs.Accounts.{Account, account, is_lingering, is_overdue
 use Rattle.srcp_peers.specs.Steps.{Answers, Closes, Step, Writes}
 use Rattle.srcp_peers.specs.Times.{times}
 use Rattle.srcp_peers.specs.Turns.{is_pending}
+use Rattle.srcp_sockets.specs.Limits.{most_lingering}
 
 -- how many sockets were closed since a moment was reported
 abbrev pub closes_after : ℕ → Step → ℕ
@@ -46,5 +47,5 @@ is_calm wall start log = let turn = (times wall start log).turn in not (is_pendi
 -- nobody is left that has to be closed, or 64 were since a moment was reported; and each was shut down and offered what
 -- is queued
 pub record IsWaitDone (wall start : ℕ) (log : List Step) : Type 0 where
-  pub closed : nat_lt (closes log) 64 ≡ true → (socket : ℕ) → has_to_close (account socket log) ≡ false
+  pub closed : nat_lt (closes log) most_lingering ≡ true → (socket : ℕ) → has_to_close (account socket log) ≡ false
   pub flushed : (socket : ℕ) → IsFlushedOut (is_calm wall start log) (account socket log) (is_written socket log)

@@ -30,7 +30,7 @@ is_close other = false
 
 -- of those that linger nobody is left for whom nothing is left to do, or 64 sockets were closed
 abbrev pub AreClosedUp : (clock : ℕ) → List Peer → (old new : List Step) → Type 0
-AreClosedUp clock peers old new = (position (is_gone clock) peers ≡ None) ⊎ Makes is_close 64 old new
+AreClosedUp clock peers old new = (position (is_gone clock) peers ≡ None) ⊎ Makes is_close most_lingering old new
 
 -- ---- when the door waits, and what time it is
 

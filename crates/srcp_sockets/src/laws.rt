@@ -18,6 +18,7 @@ ghost use Rattle.srcp_sockets.specs.Duties.{is_leaving, is_shown, last_shown, ta
 ghost use Rattle.srcp_sockets.specs.Doors.{IsThere};
 ghost use Rattle.srcp_sockets.specs.Waits.{closes, has_to_close, is_calm, is_written};
 ghost use Rattle.srcp_sockets.specs.KeptTimes.{AreKeptTimes, ArePaced};
+ghost use Rattle.srcp_sockets.specs.Limits.{most_lingering};
 ghost use Rattle.srcp_sockets.specs.Loads.{AreBounded, load};
 ghost use Rattle.srcp_sockets.specs.Panels.{PanelsAreKept};
 ghost use Rattle.srcp_peers.specs.Times.{times};
@@ -164,7 +165,7 @@ pub fn turns_wait<S: System>(door: &SocketDoor<S>)
 pub fn gone_are_closed<S: System>(door: &SocketDoor<S>)
     ensures closed { (before after : List Step) (most : Option ℕ) (count : ℕ) (ready : List Ready)
         → door.now.sockets.system.log.steps ≡ before ++ Waits most count ready ∷ after
-        → nat_lt (closes before) 64 ≡ true → (socket : ℕ) → has_to_close (account socket before) ≡ false }
+        → nat_lt (closes before) most_lingering ≡ true → (socket : ℕ) → has_to_close (account socket before) ≡ false }
     ensures shut { (before after : List Step) (most : Option ℕ) (count : ℕ) (ready : List Ready)
         → door.now.sockets.system.log.steps ≡ before ++ Waits most count ready ∷ after
         → (socket : ℕ) → may_shut (account socket before) ≡ true → (account socket before).sent.lost ≡ true }
