@@ -101,7 +101,8 @@ impl<S: System> Logged<S> {
     /// # Errors
     /// Returns the error of the system.
     pub fn accept(&mut self, number: u32) -> Result<(), ErrorKind>
-        ensures { self.new.log.steps ≡ self.old.log.steps ++ Accepts number result ∷ [] }
+        ensures log { self.new.log.steps ≡ self.old.log.steps ++ Accepts number result ∷ [] }
+        ensures made { S.Made self.old.system (Accepts number result) self.new.system }
     {
         let answer = self.system.accept(number);
         self.log.note(&Note::Accepts(number, answer));
@@ -116,6 +117,7 @@ impl<S: System> Logged<S> {
         requires { 0 < length buffer.old }
         ensures count { IfOk result (λ count. count ≤ length buffer.new) }
         ensures log { self.new.log.steps ≡ self.old.log.steps ++ Reads socket buffer.new result ∷ [] }
+        ensures made { S.Made self.old.system (Reads socket buffer.new result) self.new.system }
     {
         let answer = self.system.read(socket, buffer);
         self.log.note(&Note::Reads(socket, buffer, answer));
@@ -129,6 +131,7 @@ impl<S: System> Logged<S> {
     pub fn write(&mut self, socket: u32, bytes: &[u8]) -> Result<usize, ErrorKind>
         ensures count { IfOk result (λ count. count ≤ length bytes.now) }
         ensures log { self.new.log.steps ≡ self.old.log.steps ++ Writes socket bytes.now result ∷ [] }
+        ensures made { S.Made self.old.system (Writes socket bytes.now result) self.new.system }
     {
         let answer = self.system.write(socket, bytes);
         self.log.note(&Note::Writes(socket, bytes, answer));
@@ -137,7 +140,8 @@ impl<S: System> Logged<S> {
 
     /// Shuts down the writing side of a socket.
     pub fn shutdown(&mut self, socket: u32)
-        ensures { self.new.log.steps ≡ self.old.log.steps ++ Shuts socket ∷ [] }
+        ensures log { self.new.log.steps ≡ self.old.log.steps ++ Shuts socket ∷ [] }
+        ensures made { S.Made self.old.system (Shuts socket) self.new.system }
     {
         self.system.shutdown(socket);
         self.log.note(&Note::Shuts(socket));
@@ -145,7 +149,8 @@ impl<S: System> Logged<S> {
 
     /// Closes a socket. From then on no socket has the number.
     pub fn close(&mut self, socket: u32)
-        ensures { self.new.log.steps ≡ self.old.log.steps ++ Closes socket ∷ [] }
+        ensures log { self.new.log.steps ≡ self.old.log.steps ++ Closes socket ∷ [] }
+        ensures made { S.Made self.old.system (Closes socket) self.new.system }
     {
         self.system.close(socket);
         self.log.note(&Note::Closes(socket));
@@ -156,6 +161,7 @@ impl<S: System> Logged<S> {
     pub fn wait(&mut self, most: Option<u64>, ready: &mut [Ready]) -> usize
         ensures count { result ≤ length ready.new }
         ensures log { self.new.log.steps ≡ self.old.log.steps ++ Waits most result ready.new ∷ [] }
+        ensures made { S.Made self.old.system (Waits most result ready.new) self.new.system }
     {
         let count = self.system.wait(most, ready);
         self.log.note(&Note::Waits(most, count, ready));
@@ -164,7 +170,8 @@ impl<S: System> Logged<S> {
 
     /// Returns what the monotonic clock shows, in milliseconds, or `None` if the clock cannot be read.
     pub fn clock(&mut self) -> Option<u64>
-        ensures { self.new.log.steps ≡ self.old.log.steps ++ Clocks result ∷ [] }
+        ensures log { self.new.log.steps ≡ self.old.log.steps ++ Clocks result ∷ [] }
+        ensures made { S.Made self.old.system (Clocks result) self.new.system }
     {
         let answer = self.system.clock();
         self.log.note(&Note::Clocks(answer));

@@ -1,7 +1,7 @@
 //! What a door asks of the system.
 
-ghost use Rattle.std.specs.Prelude.{◌≡◌, ◌<◌, ◌≤◌, IfOk, length};
-ghost use Rattle.srcp_peers.specs.Steps.{failure_of};
+ghost use Rattle.std.specs.Prelude.{⊤, ◌≡◌, ◌<◌, ◌≤◌, IfOk, length};
+ghost use Rattle.srcp_peers.specs.Steps.{Step, Accepts, Clocks, Closes, Reads, Shuts, Waits, Writes, failure_of};
 
 use std::io::ErrorKind;
 
@@ -44,11 +44,16 @@ pub fn failure_of(fault: ErrorKind) -> IoFailure
 
 /// Makes the calls of the system.
 pub trait System: Drop {
+    /// The call with its answer led from the first system to the second. Only the call itself tells so, and a log that
+    /// has the call can rest on it. An implementation may say what its calls do.
+    ghost Made: { Self → Step → Self → Type 0 } = { λ _ _ _. ⊤ };
+
     /// Accepts the next pending connection. From then on its socket has this number.
     ///
     /// # Errors
     /// Returns the error of the system.
-    fn accept(&mut self, number: u32) -> Result<(), ErrorKind>;
+    fn accept(&mut self, number: u32) -> Result<(), ErrorKind>
+        ensures { Made self.old (Accepts number result) self.new };
 
     /// Reads once from a socket, and returns how many bytes came.
     ///
@@ -56,26 +61,32 @@ pub trait System: Drop {
     /// Returns the error of the system.
     fn read(&mut self, socket: u32, buffer: &mut [u8]) -> Result<usize, ErrorKind>
         requires { 0 < length buffer.old }
-        ensures { IfOk result (λ count. count ≤ length buffer.new) };
+        ensures count { IfOk result (λ count. count ≤ length buffer.new) }
+        ensures made { Made self.old (Reads socket buffer.new result) self.new };
 
     /// Writes once to a socket, and returns how many bytes the socket took.
     ///
     /// # Errors
     /// Returns the error of the system.
     fn write(&mut self, socket: u32, bytes: &[u8]) -> Result<usize, ErrorKind>
-        ensures { IfOk result (λ count. count ≤ length bytes.now) };
+        ensures count { IfOk result (λ count. count ≤ length bytes.now) }
+        ensures made { Made self.old (Writes socket bytes.now result) self.new };
 
     /// Shuts down the writing side of a socket.
-    fn shutdown(&mut self, socket: u32);
+    fn shutdown(&mut self, socket: u32)
+        ensures { Made self.old (Shuts socket) self.new };
 
     /// Closes a socket. From then on no socket has the number.
-    fn close(&mut self, socket: u32);
+    fn close(&mut self, socket: u32)
+        ensures { Made self.old (Closes socket) self.new };
 
     /// Waits until a socket is ready, for at most `most` milliseconds if given. Returns how many were found ready,
     /// which are the first of `ready`. Returns 0 if the system refuses to wait.
     fn wait(&mut self, most: Option<u64>, ready: &mut [Ready]) -> usize
-        ensures { result ≤ length ready.new };
+        ensures count { result ≤ length ready.new }
+        ensures made { Made self.old (Waits most result ready.new) self.new };
 
     /// Returns what the monotonic clock shows, in milliseconds, or `None` if the clock cannot be read.
-    fn clock(&mut self) -> Option<u64>;
+    fn clock(&mut self) -> Option<u64>
+        ensures { Made self.old (Clocks result) self.new };
 }
