@@ -152,11 +152,11 @@ def limits_that_stand_once(_):
     names = [name for _, name, _ in pins]
     if twice := sorted({name for name in names if names.count(name) > 1}):
         return f"defined twice: {twice}"
-    numbers = {number for _, _, number in pins if number > 99 and number not in OTHER_NUMBERS}
+    numbers = {number for _, _, number in pins if number > 9 and number not in OTHER_NUMBERS}
     for file in CRATES.glob("*/specs/**/*.antt"):
         place = file.relative_to(CRATES)
         for line in file.read_text().splitlines():
-            said = re.sub(r'--.*|codes "[^"]*"|^\w+ = \d+$', "", line)
+            said = re.sub(r'--.*|codes "[^"]*"|^\w+ = \d+$|\^ \d+', "", line)
             for number in numbers & {int(word) for word in re.findall(r"(?<![\w.])\d+", said)}:
                 if (str(place), number) not in NO_LIMITS:
                     return f"{place}: {number} has a name: {[name for _, name, value in pins if value == number]}"

@@ -21,6 +21,18 @@ silence = 50
 abbrev pub most_outgoing : ℕ
 most_outgoing = 40960
 
+-- the bytes queued beyond which a peer is written to at once, so that the lines of a visit fit behind them
+abbrev pub flush_threshold : ℕ
+flush_threshold = 3160
+
+-- the milliseconds of the clock that a turn behind a late one counts twice, at most
+abbrev pub most_twice : ℕ
+most_twice = 500
+
+-- the milliseconds of a wait for what falls due, at most
+abbrev pub longest_sleep : ℕ
+longest_sleep = 3600000
+
 -- the reads of all sockets that linger in a turn, at most, if they are no more
 abbrev pub most_drained : ℕ
 most_drained = 64

@@ -22,7 +22,7 @@ use Rattle.srcp_peers.specs.declared.ending.Ending.TheVariants as ending
 use Rattle.srcp_door.specs.declared.pacing.LineBoundary.TheVariants as boundary
 use Rattle.srcp_peers.specs.Steps.{Step, Reads, Writes, failure_of}
 use Rattle.srcp_peers.specs.Accounts.{Account, Lingering, Sent, Received, account, is_overdue}
-use Rattle.srcp_peers.specs.Limits.{most_drained, most_outgoing, silence}
+use Rattle.srcp_peers.specs.Limits.{flush_threshold, most_drained, most_outgoing, silence}
 
 -- what a state of the input means, if `incoming` is held of it
 abbrev pub ReadsAs : Received → List ℕ → Input → Type 0
@@ -207,7 +207,7 @@ tries_again other = false
 -- what is queued is flushed: an answer, unless input of the peer is held that the core takes; and much
 abbrev pub is_due : Flush → Peer → Bool
 is_due what p = flushes_all what
-    || (nat_lt 3160 (length p.outgoing) || (p.awaits_reply && (p.backpressured || (length p.incoming == 0))))
+    || (nat_lt flush_threshold (length p.outgoing) || (p.awaits_reply && (p.backpressured || (length p.incoming == 0))))
 
 -- what is flushed of a peer that stays so, in a turn that flushes `what`: all, if it lingers
 abbrev pub flush_of : Flush → Stay → Flush

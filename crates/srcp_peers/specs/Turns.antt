@@ -1,10 +1,11 @@
 -- What a turn is after a call of the door.
-use Rattle.std.specs.Prelude.{ℕ, ◌+◌, ◌-◌, ◌*◌, ◌^◌, ◌/◌, ◌==◌, ◌||◌, ◌&&◌, nat_le, nat_lt}
+use Rattle.std.specs.Prelude.{ℕ, ◌+◌, ◌-◌, ◌*◌, ◌/◌, ◌==◌, ◌||◌, ◌&&◌, nat_le, nat_lt}
 use Rattle.std.specs.Prelude.{Bool, true, false, not, cond, min, max}
 use Rattle.std.specs.Prelude.{List, [], take, Option, Some, None, Result, Ok, Err}
 use Rattle.std.specs.Option.{option_map}
 use Rattle.srcp_grammar.specs.Weight.{most_changes}
 use Rattle.srcp_door.specs.Limits.{most_writes, reserve}
+use Rattle.srcp_info.specs.Limits.{greatest_u64}
 use Rattle.srcp_door.specs.Moments.{next_moment, passed, target, ten_minutes}
 use Rattle.srcp_door.specs.Pacing.{pace_of, spent, weight_of}
 use Rattle.srcp_door.specs.declared.pacing.LineBoundary.{LineBoundary}
@@ -17,7 +18,7 @@ use Rattle.srcp_door.specs.Calls.{Call, ExpectCall, NowCall, AcceptCall, ReadCal
 use Rattle.srcp_peers.specs.declared.readiness.Flush.{Flush}
 use Rattle.srcp_peers.specs.declared.readiness.Flush.TheVariants.{Again, All, Answers}
 use Rattle.srcp_peers.specs.declared.turn.Turn.{Turn}
-use Rattle.srcp_peers.specs.Limits.{tick}
+use Rattle.srcp_peers.specs.Limits.{most_twice, tick}
 
 -- the turn that follows nothing, if the wall clock and the monotonic clock showed this at the start
 abbrev pub first_turn : (wall start : ℕ) → Turn
@@ -79,7 +80,7 @@ ended turn = record turn { busy = true; may_report_end = false }
 -- the clock let them through, which showed this, as many milliseconds more as they weigh
 abbrev pub next_after : (clock next : ℕ) → Pace → (weight : ℕ) → ℕ
 next_after clock next (Paced left) weight = next
-next_after clock next OneLine weight = cond (weight == 0) next (min (clock + weight) (2 ^ 64 - 1))
+next_after clock next OneLine weight = cond (weight == 0) next (min (clock + weight) greatest_u64)
 
 -- after bytes were handed out of a peer whose line was that: what they weigh, no more may weigh
 abbrev pub handed_out : Turn → LineBoundary → List ℕ → Turn
@@ -105,7 +106,7 @@ after_wait turn = record turn { busy = false }
 -- it is the moment at which that falls due; in a turn behind a late one twice as many as the clock, of which half a
 -- second counts at most
 abbrev pub step_at : Turn → (time : ℕ) → ℕ
-step_at turn time = cond turn.late (max (2 * min (time - turn.clock) 500) 1) 1
+step_at turn time = cond turn.late (max (2 * min (time - turn.clock) most_twice) 1) 1
 
 -- the moment that is to be reported, if the monotonic clock shows this time: what this stands for, or a step if
 -- something falls due meanwhile; at most 10 minutes are made up in such steps

@@ -348,7 +348,7 @@ fn earlier(left: u64) -> u64
 pub const RETRY_DELAY: u64 = 8;
 
 /// The longest wait for what falls due, in milliseconds: an hour.
-const LONGEST_WAIT: u64 = 3_600_000;
+const LONGEST_SLEEP: u64 = 3_600_000;
 
 /// Says whether a pending connection may be accepted.
 ///
@@ -411,7 +411,7 @@ pub fn longest_wait(
     }
     match listening {
         Listening::Ready => Some(0),
-        Listening::Quiet if are_resting(peers) => left.map(|left| left.min(LONGEST_WAIT)),
+        Listening::Quiet if are_resting(peers) => left.map(|left| left.min(LONGEST_SLEEP)),
         Listening::Quiet | Listening::BackingOff => sooner(left, Some(RETRY_DELAY)),
     }
 }

@@ -7,6 +7,7 @@ use Rattle.srcp_peers.specs.declared.readiness.Output.{Output}
 use Rattle.srcp_peers.specs.declared.readiness.Output.TheVariants as output
 use Rattle.srcp_peers.specs.declared.system.Ready.{Ready}
 use Rattle.srcp_peers.specs.Accounts.{Sent, account, is_owed}
+use Rattle.srcp_sockets.specs.Limits.{most_last_waits}
 use Rattle.srcp_sockets.specs.Delivery.{AreDelivered, HasEnded, HasWaited, HaveEnded, IsAllDelivered, IsOver}
 use Rattle.srcp_sockets.specs.Doors.{AreStanding, IsThere}
 use Rattle.srcp_peers.specs.AllPeers.{AreKept, IsAbsent}
@@ -51,7 +52,7 @@ pub has_ended : (until : ℕ) (old new : List Step) (peers : List Peer) → AreS
     → HasEnded until old new
 has_ended until old new peers standing ended = ⊎_elim
     (λ (delivered : AreDelivered new peers). inl (is_all_delivered new peers standing delivered))
-    (λ (other : IsOver until new ⊎ HasWaited 1000000 old new). inr other)
+    (λ (other : IsOver until new ⊎ HasWaited most_last_waits old new). inr other)
     ended
 
 -- ---- how often it waited

@@ -20,6 +20,7 @@ use Rattle.srcp_peers.specs.declared.turn.Turn.{Turn}
 use Rattle.srcp_peers.specs.Accounts.{Account, Sent, account, account_step, closed, is_lingering, is_overdue, is_owed, may_shut}
 use Rattle.srcp_peers.specs.Accounts.{untouched, wrote}
 use Rattle.srcp_peers.specs.AllPeers.{AreOffered, AreShutDown, IsAbsent}
+use Rattle.srcp_peers.specs.Limits.{flush_threshold}
 use Rattle.srcp_peers.specs.Peers.{Agrees, IsFlushed, IsKept, IsOffered, Makes, OffersDue, Spares, StaysAs, WritesAs}
 use Rattle.srcp_peers.specs.Peers.{flush_of, flushes_all, gone_as, is_gone}
 use Rattle.srcp_peers.specs.Peers.{has_ended, is_due, is_lost, stay_after, tries_again, woken_output}
@@ -266,7 +267,7 @@ due_or_none a p what h all = by p.output refl h.writes
     flushes (stay.Shut since) = refl
 
     due : is_due (flush_of what p.stay) p ≡ true
-    due = ap (λ b. b || (nat_lt 3160 (length p.outgoing) || (p.awaits_reply && (p.backpressured || (length p.incoming == 0)))))
+    due = ap (λ b. b || (nat_lt flush_threshold (length p.outgoing) || (p.awaits_reply && (p.backpressured || (length p.incoming == 0)))))
         (flushes p.stay)
 
     queued : (outgoing : List ℕ) → p.outgoing ≡ outgoing → p.output ≡ output.Open → a.sent.written ≡ a.sent.took ++ p.outgoing

@@ -5,6 +5,7 @@ use Rattle.srcp_info.specs.Limits.{greatest_u64}
 use Rattle.srcp_peers.specs.declared.peer.Peer.{Peer}
 use Rattle.srcp_peers.specs.Accounts.{account, is_owed}
 use Rattle.srcp_peers.specs.Limits.{linger}
+use Rattle.srcp_sockets.specs.Limits.{most_last_waits}
 use Rattle.srcp_peers.specs.Steps.{Clocks, Step}
 use Rattle.srcp_peers.specs.Times.{times}
 
@@ -38,8 +39,8 @@ HasWaited count old new = (wall start : ℕ) → (times wall start new).waits �
 
 -- these peers are delivered, or the time is over, or a million waits were made
 abbrev pub HaveEnded : (until : ℕ) (old new : List Step) → List Peer → Type 0
-HaveEnded until old new peers = AreDelivered new peers ⊎ (IsOver until new ⊎ HasWaited 1000000 old new)
+HaveEnded until old new peers = AreDelivered new peers ⊎ (IsOver until new ⊎ HasWaited most_last_waits old new)
 
 -- every socket is delivered, or the time is over, or a million waits were made
 abbrev pub HasEnded : (until : ℕ) (old new : List Step) → Type 0
-HasEnded until old new = IsAllDelivered new ⊎ (IsOver until new ⊎ HasWaited 1000000 old new)
+HasEnded until old new = IsAllDelivered new ⊎ (IsOver until new ⊎ HasWaited most_last_waits old new)

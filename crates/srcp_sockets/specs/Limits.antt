@@ -8,3 +8,7 @@ most_peers = 129
 -- the most of them that linger, and the most sockets that are closed in a turn
 abbrev pub most_lingering : ℕ
 most_lingering = 64
+
+-- the most waits in which a door delivers at its end
+abbrev pub most_last_waits : ℕ
+most_last_waits = 1000000

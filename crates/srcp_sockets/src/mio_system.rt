@@ -3,6 +3,7 @@
 
 ghost use Rattle.std.specs.Prelude.{◌≡◌, ◌/◌, IfOk, ◌<◌, IfSome, length, min};
 ghost use Rattle.std.specs.Duration.{as_nanos};
+ghost use Rattle.srcp_info.specs.Limits.{greatest_u64};
 
 use crate::door::MOST_READY;
 use crate::options::set_options;
@@ -207,7 +208,7 @@ impl<C: Clock + Drop> System for MioSystem<C> {
 
 /// Returns a time in milliseconds.
 fn milliseconds(time: Duration) -> u64
-    ensures { result ≡ min (as_nanos time / 1000000) 18446744073709551615 }
+    ensures { result ≡ min (as_nanos time / 1000000) greatest_u64 }
 {
     u64::try_from(time.as_millis()).unwrap_or(u64::MAX)
 }

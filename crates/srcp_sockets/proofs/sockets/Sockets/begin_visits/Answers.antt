@@ -44,8 +44,8 @@ invariant_of-self g c =
           arith,
           c.args.self.now.places.0,
           as_many c.as_mut_slice.result.now c.begin_visits.new.peers c.args.self.now.peers.items _
-              (with_items_is c.args.self.now.peers c.begin_visits.new.peers (c.begin_visits.auto.peers ∙ search rules)) c.begin_visits.auto.peers
-              c.as_mut_slice.ensures.value,
+              (with_items_is c.args.self.now.peers c.begin_visits.new.peers (c.begin_visits.auto.peers ∙ search rules))
+              c.begin_visits.auto.peers c.as_mut_slice.ensures.value,
         ),
         c.args.self.now.places.1,
       );
