@@ -59,23 +59,23 @@ returns-then-is_over g c =
     let peers = c.flush.new.peers in
     let f = c.flush.ensures in
     let ended : HaveEnded c.args.until first clocked peers =
-    inr (inl (turned, c.clock-clock.result, c.clock-clock.ensures, sym c.is_over.ensures ∙ c.if-is_over.true)) in
+    inr (inl (turned, c.clock-clock.result, c.clock-clock.ensures.log, sym c.is_over.ensures ∙ c.if-is_over.true)) in
     let stands : AreStanding first c.args.peers.now → AreStanding clocked peers = λ stood.
     let was = c.loop-look.invariant.standing stood in (
       was.0,
       was.1,
-      stands_clocked turned clocked peers was.0 was.1 c.clock-clock.result c.clock-clock.ensures
+      stands_clocked turned clocked peers was.0 was.1 c.clock-clock.result c.clock-clock.ensures.log
           (stands_turned old turned c.loop-look.peers peers was.0 was.1 c.flush.auto.peers f.kept f.those f.others was.2),
     ) in
     record {
-      kept = clocked_all turned clocked peers c.clock-clock.result c.clock-clock.ensures f.kept;
+      kept = clocked_all turned clocked peers c.clock-clock.result c.clock-clock.ensures.log f.kept;
       ended = ended;
       standing = stands;
       all = λ stood. has_ended c.args.until first clocked peers (stands stood) ended;
       offered = all_offered_then flush.All c.args.peers.now first turned clocked
           (offered_first c.loop-look._look flush.All c.args.peers.now c.loop-look.peers first old turned c.loop-look.invariant.first
           c.loop-look.invariant.offered f.calls f.offered)
-          (says_step turned clocked (Clocks c.clock-clock.result) c.clock-clock.ensures refl);
+          (says_step turned clocked (Clocks c.clock-clock.result) c.clock-clock.ensures.log refl);
     }
 
 pub loop-look-preserved : goal.loop-look-preserved
@@ -91,13 +91,13 @@ loop-look-preserved g c =
     let count = c.wait-count.result in
     let ready = c.wait-count.new.ready in
     let more : SaysNothing turned waited = says_then turned clocked waited
-    (says_step turned clocked (Clocks c.clock-clock.result) c.clock-clock.ensures refl)
+    (says_step turned clocked (Clocks c.clock-clock.result) c.clock-clock.ensures.log refl)
     (says_step clocked waited (Waits (Some 8) count ready) c.wait-count.ensures.log refl) in
     let apart : AreApart peers = apart_later c.loop-look.peers peers c.flush.auto.peers f.those was.apart in
     record {
       kept = waited_all clocked waited peers c.wake.new.peers (Some 8) count ready (λ e. absurd (true≢false e))
           c.wait-count.ensures.log c.wake.auto.peers c.wake.ensures
-          (clocked_all turned clocked peers c.clock-clock.result c.clock-clock.ensures f.kept);
+          (clocked_all turned clocked peers c.clock-clock.result c.clock-clock.ensures.log f.kept);
       calls = says_then first turned waited (says_then first old turned was.calls f.calls) more;
       first = λ e. absurd (omega (arith, e));
       offered = λ some. all_offered_then flush.All c.args.peers.now first turned waited
@@ -110,11 +110,11 @@ loop-look-preserved g c =
             stands.1,
             stands_waited clocked waited peers c.wake.new.peers (Some 8) count ready stands.0 stands.1
                 (λ e. absurd (true≢false e)) (λ e. absurd (true≢false e)) c.wait-count.ensures.log c.wake.auto.peers c.wake.ensures
-                (stands_clocked turned clocked peers stands.0 stands.1 c.clock-clock.result c.clock-clock.ensures
+                (stands_clocked turned clocked peers stands.0 stands.1 c.clock-clock.result c.clock-clock.ensures.log
                 (stands_turned old turned c.loop-look.peers peers stands.0 stands.1 c.flush.auto.peers f.kept f.those f.others stands.2)),
           );
       waited = waited_more c.loop-look._look first clocked waited (Some 8) count ready c.wait-count.ensures.log
-          (waited_clocked c.loop-look._look first turned clocked c.clock-clock.result c.clock-clock.ensures
+          (waited_clocked c.loop-look._look first turned clocked c.clock-clock.result c.clock-clock.ensures.log
           (waited_keeps c.loop-look._look first old turned was.waited f.times));
     }
 

@@ -34,21 +34,21 @@ invariant_of-self g c =
     record {
       stands = stands_answered mid new c.push.new.self.items self.listening number call (λ s a. refl) c.answer.ensures
           (stands_came old mid self.peers.items c.push.new.self.items c.new.result self.listening self.turn.clock self.last number
-          c.in-Ok.field-0 c.requires.next pushed c.new.ensures c.in-Ok.ensures self.stands);
+          c.in-Ok.field-0 c.requires.next pushed c.new.ensures c.in-Ok.ensures.log self.stands);
       named = named_come mid new self.last number (omega (arith, c.requires.next)) (says_call mid new call c.answer.ensures)
-          (named_silent old mid self.last (says_step old mid (Accepts number said) c.in-Ok.ensures refl) self.named);
+          (named_silent old mid self.last (says_step old mid (Accepts number said) c.in-Ok.ensures.log refl) self.named);
       timed = timed_asked old mid new self.turn c.note_accept.new.self number said (Ok (Some number)) c.note_accept.ensures
           (own number)
-          c.in-Ok.ensures c.answer.ensures self.timed;
+          c.in-Ok.ensures.log c.answer.ensures self.timed;
       asked = asked_step mid new (Answers call) c.answer.ensures refl
-          (asked_step old mid (Accepts number said) c.in-Ok.ensures refl self.asked);
+          (asked_step old mid (Accepts number said) c.in-Ok.ensures.log refl self.asked);
       done = done_turn new self.turn c.note_accept.new.self (after_call self.turn call) c.note_accept.ensures refl refl
           (done_step self.turn.timekeeper.wall self.turn.timekeeper.start mid new (Answers call) c.answer.ensures tt
-          (done_step self.turn.timekeeper.wall self.turn.timekeeper.start old mid (Accepts number said) c.in-Ok.ensures tt
+          (done_step self.turn.timekeeper.wall self.turn.timekeeper.start old mid (Accepts number said) c.in-Ok.ensures.log tt
           self.done));
       ending = far_same mid new c.push.new.self.items (Answers call) c.answer.ensures (λ s x. refl)
           (far_pushed old mid self.peers.items c.push.new.self.items c.new.result self.turn.clock number c.in-Ok.field-0 pushed
-          c.new.ensures c.in-Ok.ensures self.ending);
+          c.new.ensures c.in-Ok.ensures.log self.ending);
       places = (search rules, le_trans self.places.1 c.push.ensures.capacity);
     }
 
@@ -74,23 +74,23 @@ invariant_of-self-in-Err g c =
           (subst (λ (l : Listening). Stands mid self.peers.items l self.last)
           (sym (c.refused-self.ensures ∙ ap refused_listening c.failure_of-said.ensures))
           (stands_refused old mid self.peers.items self.listening self.last number c.in-Err.fault c.requires.loud
-          c.in-Err.ensures self.stands));
+          c.in-Err.ensures.log self.stands));
       named = named_call mid new self.last call (says_call mid new call c.answer-in-Err.ensures)
           (ap (λ a. filter_map peer_of (AcceptCall a ∷ [])) is ∙ nobody_named c.failure_of-said.result)
-          (named_silent old mid self.last (says_step old mid (Accepts number said) c.in-Err.ensures refl) self.named);
+          (named_silent old mid self.last (says_step old mid (Accepts number said) c.in-Err.ensures.log refl) self.named);
       timed = timed_asked old mid new self.turn c.note_accept-in-Err.new.self number said answer c.note_accept-in-Err.ensures
           (ap (λ a. is_as_heard (Some a) answer) (ap refused_accept (sym c.failure_of-said.ensures))
           ∙ ap (is_as_heard (Some (refused_accept c.failure_of-said.result))) is ∙ answered_so c.failure_of-said.result)
-          c.in-Err.ensures c.answer-in-Err.ensures self.timed;
-      asked = asked_accept mid new answer c.answer-in-Err.ensures (λ e. was_asked old mid number said c.in-Err.ensures)
-          (asked_step old mid (Accepts number said) c.in-Err.ensures refl self.asked);
+          c.in-Err.ensures.log c.answer-in-Err.ensures self.timed;
+      asked = asked_accept mid new answer c.answer-in-Err.ensures (λ e. was_asked old mid number said c.in-Err.ensures.log)
+          (asked_step old mid (Accepts number said) c.in-Err.ensures.log refl self.asked);
       done = done_turn new self.turn c.note_accept-in-Err.new.self (after_call self.turn call) c.note_accept-in-Err.ensures refl refl
           (done_step self.turn.timekeeper.wall self.turn.timekeeper.start mid new (Answers call) c.answer-in-Err.ensures
           tt
-          (done_step self.turn.timekeeper.wall self.turn.timekeeper.start old mid (Accepts number said) c.in-Err.ensures tt
+          (done_step self.turn.timekeeper.wall self.turn.timekeeper.start old mid (Accepts number said) c.in-Err.ensures.log tt
           self.done));
       ending = far_same mid new self.peers.items (Answers call) c.answer-in-Err.ensures (λ s x. refl)
-          (far_same old mid self.peers.items (Accepts number said) c.in-Err.ensures (λ s x. refl) self.ending);
+          (far_same old mid self.peers.items (Accepts number said) c.in-Err.ensures.log (λ s x. refl) self.ending);
       places = self.places;
     }
 
@@ -103,7 +103,7 @@ returns-in-Ok-clause-exact g c =
       said,
       refl,
       refl,
-      tells_two old mid new (Accepts c.args.number said) (Answers (AcceptCall (Ok (Some c.args.number)))) c.in-Ok.ensures
+      tells_two old mid new (Accepts c.args.number said) (Answers (AcceptCall (Ok (Some c.args.number)))) c.in-Ok.ensures.log
           c.answer.ensures,
     )
 
@@ -116,6 +116,6 @@ returns-in-Err-clause-exact g c =
       said,
       c.nobody-answer.ensures.answer ∙ ap refused_accept c.failure_of-said.ensures,
       c.refused-self.ensures ∙ ap refused_listening c.failure_of-said.ensures,
-      tells_two old mid new (Accepts c.args.number said) (Answers (AcceptCall c.nobody-answer.result)) c.in-Err.ensures
+      tells_two old mid new (Accepts c.args.number said) (Answers (AcceptCall c.nobody-answer.result)) c.in-Err.ensures.log
           c.answer-in-Err.ensures,
     )

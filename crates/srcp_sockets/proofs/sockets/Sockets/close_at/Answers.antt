@@ -30,15 +30,15 @@ invariant_of-self g c =
       stands = subst (λ (ps : List Peer). Stands new ps self.listening self.last) (sym c.remove.ensures.items)
           (stands_closed_at old new self.peers.items c.args.index peer self.listening self.last self.turn.clock c.requires.within
           (sym c.index.ensures) (c.requires.closable peer)
-          (clock_is old self.turn peer.number self.timed) c.close.ensures self.stands);
-      named = named_silent old new self.last (says_step old new (Closes peer.number) c.close.ensures refl) self.named;
-      timed = timed_kept old new self.turn (keeps_step old new (Closes peer.number) c.close.ensures (λ t. refl)) self.timed;
-      asked = asked_step old new (Closes peer.number) c.close.ensures refl self.asked;
-      done = done_step self.turn.timekeeper.wall self.turn.timekeeper.start old new (Closes peer.number) c.close.ensures tt
+          (clock_is old self.turn peer.number self.timed) c.close.ensures.log self.stands);
+      named = named_silent old new self.last (says_step old new (Closes peer.number) c.close.ensures.log refl) self.named;
+      timed = timed_kept old new self.turn (keeps_step old new (Closes peer.number) c.close.ensures.log (λ t. refl)) self.timed;
+      asked = asked_step old new (Closes peer.number) c.close.ensures.log refl self.asked;
+      done = done_step self.turn.timekeeper.wall self.turn.timekeeper.start old new (Closes peer.number) c.close.ensures.log tt
           self.done;
       ending = subst (AreAsFar new) (sym c.remove.ensures.items)
           (far_goes old new self.peers.items (remove self.peers.items c.args.index)
-          (slackens_step old new (Closes peer.number) c.close.ensures (λ s x. refl))
+          (slackens_step old new (Closes peer.number) c.close.ensures.log (λ s x. refl))
           (removed_of self.peers.items c.args.index peer c.requires.within (sym c.index.ensures) self.stands.apart) self.ending);
       places = search rules;
     }
@@ -47,31 +47,31 @@ pub returns-clause-calls : goal.returns-clause-calls
 returns-clause-calls g c =
     let old = c.args.self.now.system.log.steps in
     let new = c.close.new.self.log.steps in
-    says_step old new (Closes c.index.result.now.number) c.close.ensures refl
+    says_step old new (Closes c.index.result.now.number) c.close.ensures.log refl
 
 pub returns-clause-times : goal.returns-clause-times
 returns-clause-times g c =
     let old = c.args.self.now.system.log.steps in
     let new = c.close.new.self.log.steps in
-    keeps_step old new (Closes c.index.result.now.number) c.close.ensures (λ t. refl)
+    keeps_step old new (Closes c.index.result.now.number) c.close.ensures.log (λ t. refl)
 
 pub returns-clause-closed : goal.returns-clause-closed
 returns-clause-closed g c =
     let old = c.args.self.now.system.log.steps in
     let new = c.close.new.self.log.steps in
-    makes_more is_close 0 old old new (Closes c.index.result.now.number) (omega arith) c.close.ensures refl
+    makes_more is_close 0 old old new (Closes c.index.result.now.number) (omega arith) c.close.ensures.log refl
 
 pub returns-clause-one : goal.returns-clause-one
-returns-clause-one g c = (c.index.result.now.number, c.close.ensures)
+returns-clause-one g c = (c.index.result.now.number, c.close.ensures.log)
 
 pub returns-clause-out : goal.returns-clause-out
 returns-clause-out g c all flushed =
     flushed_close all c.args.self.now.system.log.steps c.close.new.self.log.steps c.index.result.now.number
-    c.close.ensures flushed
+    c.close.ensures.log flushed
 
 pub returns-clause-most : goal.returns-clause-most
 returns-clause-most g c = grows_step c.args.self.now.system.log.steps c.close.new.self.log.steps
-    (Closes c.index.result.now.number) c.close.ensures
+    (Closes c.index.result.now.number) c.close.ensures.log
 
 pub returns-clause-as_few : goal.returns-clause-as_few
 returns-clause-as_few g c =
