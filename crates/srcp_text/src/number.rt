@@ -8,7 +8,19 @@ ghost use Rattle.srcp_text.specs.Words.{number_of, plain_number_of, has_leading_
 pub fn read_number(word: &[u8], max: u32) -> Option<u32>
     ensures { result ≡ number_of max word.now }
 {
-    let number = number_within(word, u64::from(max))?;
+    if word.is_empty() {
+        return None;
+    }
+    let mut number: u64 = 0;
+    for byte in word {
+        if !byte.is_ascii_digit() {
+            return None;
+        }
+        number = 10 * number + u64::from(byte - b'0');
+        if number > u64::from(max) {
+            return None;
+        }
+    }
     Some(number as u32)
 }
 
