@@ -32,9 +32,12 @@ impl<'a> ChangeLine<'a> {
         requires { IsWellFormed change.now }
         ensures { result ≡ change.now }
     {
-        let mut line = InfoLine::new();
-        write_change(change, &mut line);
-        ChangeLine { change, line }
+        let mut told = ChangeLine {
+            change,
+            line: InfoLine::new(),
+        };
+        write_change(change, &mut told.line);
+        told
     }
 
     /// Lends a change whose line is not written.

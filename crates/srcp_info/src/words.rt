@@ -7,7 +7,7 @@ use crate::change::Code;
 use crate::value::{Letter, Mode, Value};
 
 /// Returns the word for a decoder protocol.
-pub(crate) fn letter_word(letter: Letter) -> &'static [u8]
+pub(crate) fn letter_word(letter: Letter) -> &'static [u8; 1]
     ensures { result.now ≡ letter_word letter }
 {
     match letter {

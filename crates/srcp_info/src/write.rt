@@ -3,19 +3,22 @@
 ghost use Rattle.std.specs.Prelude.{◌≡◌, ◌+◌, ◌≤◌, [], ◌∷◌, ◌++◌, length, map, decimal};
 ghost use Rattle.std.specs.List.{join_with_byte};
 ghost use Rattle.srcp_text.specs.Stamp.{stamp as stamp_of};
-ghost use Rattle.srcp_info.specs.Line.{after_spaces, bit_word, switch_word, group_words, value_words, info_words};
-ghost use Rattle.srcp_info.specs.Line.{spaced, line, reply_line};
+ghost use Rattle.srcp_info.specs.Line.{after_spaces, bit_word, letter_word, switch_word, group_words, value_words};
+ghost use Rattle.srcp_info.specs.Line.{info_words, spaced, line, reply_line};
 ghost use Rattle.srcp_info.specs.WellFormed.{IsWellFormed, IsWellFormedShown, IsWellFormedReply, ShowsNoRow, IsValueAt};
 
 use crate::change::{Change, Reply, Shown};
 use crate::key::{Device, Group, Key};
 use crate::limits::{LONGEST_LINE, LONGEST_SHORT_REPLY};
-use crate::value::{Bits, Text, Value};
+use crate::value::{Bits, Letter, Text, Value};
 use crate::words::{code_text, letter_word, mode_word, switch_word, value_code};
 use srcp_text::{WrittenLine, put_bytes, put_number, put_stamp};
 
-/// Holds a line of at most `LONGEST_LINE` bytes.
-pub type InfoLine = WrittenLine<LONGEST_LINE>;
+/// The bytes of a line in memory: `LONGEST_LINE` up to a multiple of 16, since a copy of so many bytes needs no call.
+pub const LINE_CAPACITY: usize = 128;
+
+/// Holds a line of a change or of a reply.
+pub type InfoLine = WrittenLine<LINE_CAPACITY>;
 
 /// Appends a fixed number of bytes by a push of each, which costs less than a copy.
 #[inline(always)]
@@ -35,6 +38,15 @@ fn put_word<const N: usize>(word: &[u8], buffer: &mut WrittenLine<N>)
 {
     buffer.push(b' ');
     put_bytes(word, buffer);
+}
+
+/// Appends a space and the word for a decoder protocol.
+fn put_letter<const N: usize>(letter: Letter, buffer: &mut WrittenLine<N>)
+    requires { length buffer.old + 1 + length (letter_word letter) ≤ N }
+    ensures { buffer.new ≡ buffer.old ++ 32 ∷ letter_word letter }
+{
+    buffer.push(b' ');
+    put_fixed(letter_word(letter), buffer);
 }
 
 /// Appends a space and a bit: 1 for on, 0 for off.
@@ -136,7 +148,7 @@ fn put_value<const N: usize>(key: &Key, value: &Value, buffer: &mut WrittenLine<
             functions,
         } => {
             put_numeral(address, buffer);
-            put_word(letter_word(*letter), buffer);
+            put_letter(*letter, buffer);
             put_numerals(&[*version, *steps, *functions], buffer);
         }
         Value::GlState {
@@ -150,7 +162,7 @@ fn put_value<const N: usize>(key: &Key, value: &Value, buffer: &mut WrittenLine<
         }
         Value::GaInit { letter } => {
             put_numeral(address, buffer);
-            put_word(letter_word(*letter), buffer);
+            put_letter(*letter, buffer);
         }
         Value::GaPort { on } => {
             put_numerals(&[address, u32::from(key.port - 1)], buffer);

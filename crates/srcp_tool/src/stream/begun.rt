@@ -3,12 +3,13 @@
 ghost use Rattle.std.specs.Prelude.{◌≡◌, ◌<◌, ◌++◌, ℕ, List, [], length, MatchOption};
 ghost use Rattle.srcp_tool.specs.Mirroring.{IsBegun};
 
-use srcp_info::{InfoLine, LONGEST_LINE};
+use srcp_info::LONGEST_LINE;
+use srcp_text::WrittenLine;
 
 /// Holds the bytes of a line without an LF yet, as far as they may be those of an information line.
 #[derive(Drop)]
 pub(super) struct BegunLine {
-    bytes: InfoLine,
+    bytes: WrittenLine<LONGEST_LINE>,
     too_long: bool,
 }
 
@@ -18,7 +19,7 @@ impl BegunLine {
         ensures { IsBegun result [] }
     {
         BegunLine {
-            bytes: InfoLine::new(),
+            bytes: WrittenLine::new(),
             too_long: false,
         }
     }
