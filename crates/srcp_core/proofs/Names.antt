@@ -14,8 +14,9 @@ pub use Rattle.srcp_core.specs.Held.{AreSessions, Held, IsLive, IsSessionAt, IsS
 pub use Rattle.srcp_core.specs.Laws.{AddsUp, AllMoments, HasMoment, IsRecordOf, IsSession, has_key, last_line, listed, listed_row, rows_at}
 pub use Rattle.srcp_core.specs.Machine.{CountsEach, AnswersFit, IsAdmitted, IsNotAdmitted, advanced, request_of, bytes_fault}
 pub use Rattle.srcp_core.specs.Machine.{bytes_fault_from}
-pub use Rattle.srcp_core.specs.Machine.{carried, changed_at, changed_in, changed_places, denied_line, entered_place, feed_in, filled}
-pub use Rattle.srcp_core.specs.Machine.{finish_at, freed_of, freed_place, has_overrun, heard_at, heard_from, hung_up, hung_up_from}
+pub use Rattle.srcp_core.specs.Machine.{carried, changed_at, changed_in, changed_places, denied_line, begun_place, feed_in, filled}
+pub use Rattle.srcp_core.specs.Machine.{finish_at, freed_of, freed_place, has_overrun, next_request_at, next_request_from, hung_up}
+pub use Rattle.srcp_core.specs.Machine.{hung_up_from}
 pub use Rattle.srcp_core.specs.Machine.{is_panel, item_at, item_from, item_of, let_out, line_answered, lines_answered, live_session}
 pub use Rattle.srcp_core.specs.Machine.{longest, longest_answer, one_denied, opening_held, panel_for, panel_keys, session_begun, slack_at}
 pub use Rattle.srcp_core.specs.Machine.{slack_in, steps_answered, steps_in, steps_of_line, told_all, told_each, told_feed, told_place}

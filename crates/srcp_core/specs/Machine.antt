@@ -107,8 +107,8 @@ feed_in (Listening feed) = Some feed
 feed_in _ = None
 
 -- the session begins under the id
-abbrev pub entered_place : ℕ → Panel → Place → Place
-entered_place id panel p = record p { session = id; panel = panel }
+abbrev pub begun_place : ℕ → Panel → Place → Place
+begun_place id panel p = record p { session = id; panel = panel }
 
 -- a change is told: if the queue is full, what waits, the listing and the unsent bytes are dropped
 abbrev pub told_feed : Change → Place → Option Feed → Place
@@ -153,16 +153,16 @@ request_of buses p mark =
     else (if p.session == 0 then Greets p.mode (greets mark) else Commands p.session (command_of buses mark))
 
 -- what the reader found: the offset after the line and what it asks for, or nothing
-abbrev pub heard_from : List Bus → Place → Fed × Reading → Option (ℕ × Request) × Place
-heard_from _ p (More, reading) = (None, record p { reader = reading })
-heard_from buses p (FoundLine stop, reading) =
+abbrev pub next_request_from : List Bus → Place → Fed × Reading → Option (ℕ × Request) × Place
+next_request_from _ p (More, reading) = (None, record p { reader = reading })
+next_request_from buses p (FoundLine stop, reading) =
     (Some (stop, request_of buses p (Line reading.line)), record p { reader = reading })
-heard_from buses p (FoundTooLong stop, reading) =
+next_request_from buses p (FoundTooLong stop, reading) =
     (Some (stop, request_of buses p TooLong), record p { reader = reading })
 
 -- the piece is read on from there by the reader of the connection
-abbrev pub heard : List Bus → List ℕ → ℕ → Place → Option (ℕ × Request) × Place
-heard buses piece start p = heard_from buses p (feed_of p.reader piece start)
+abbrev pub next_request : List Bus → List ℕ → ℕ → Place → Option (ℕ × Request) × Place
+next_request buses piece start p = next_request_from buses p (feed_of p.reader piece start)
 
 -- what is known of the line that has begun on the connection of that key
 abbrev pub line_begun_at : ℕ → Held → Option (List ℕ)
@@ -224,7 +224,7 @@ denied_line key held = replied key (Refused C500) (one_denied held)
 -- a session begins under the id: its row is told to all, and then it is one of them
 abbrev pub session_begun : ℕ → ℕ → Mode → Held → Held
 session_begun key id mode held =
-    changed_at key (entered_place id (panel_for mode))
+    changed_at key (begun_place id (panel_for mode))
     (carried (began id held.moment mode ∷ []) (record held { last_id = id }))
 
 -- GO, by whether memory was given to it
@@ -357,12 +357,12 @@ pub record IsRequest (key : ℕ) (request : Request) (held : Held) : Type 0 wher
 
 -- a piece is read on from that offset by the connection of that key: the offset after the next line with what that
 -- asks for, or none if no line ends
-abbrev pub heard_at : ℕ → List ℕ → ℕ → Held → Option (ℕ × Request) × Held
-heard_at key piece start held =
+abbrev pub next_request_at : ℕ → List ℕ → ℕ → Held → Option (ℕ × Request) × Held
+next_request_at key piece start held =
     option_map_or
     (λ p. (
-      (heard held.buses piece start p).0,
-      record held { places = slice_set held.places key (Some (heard held.buses piece start p).1) },
+      (next_request held.buses piece start p).0,
+      record held { places = slice_set held.places key (Some (next_request held.buses piece start p).1) },
     ))
     (at held key) (None, held)
 
@@ -380,7 +380,8 @@ steps_of_line granted (Some (_, request), held) = steps_answered granted request
 -- lines of the piece are answered in turn, each by whether memory was given to it
 abbrev pub lines_answered : ℕ → List ℕ → List Bool → Held → ℕ × Held
 lines_answered key piece grants held =
-    fold (λ before granted. line_answered key granted before (heard_at key piece before.0 before.1)) (0, held) grants
+    fold (λ before granted. line_answered key granted before (next_request_at key piece before.0 before.1)) (0, held)
+    grants
 
 -- the lines up to an offset in the piece are answered. Then a short reply at most is unsent for each byte before
 -- the offset, and what a reply that shows a row has more; and no line has begun
@@ -394,15 +395,15 @@ pub record AnswersFit (key : ℕ) (piece : List ℕ) (start : ℕ) (held : Held)
 pub record IsLineAnswered (key : ℕ) (piece : List ℕ) (start stop : ℕ) (did : LineRecord) (old new : Held) : Type 0 where
   pub onward : start < stop
   pub fits : AnswersFit key piece stop new
-  pub is : (stop, new) ≡ line_answered key did.granted (start, old) (heard_at key piece start old)
-  pub steps : steps_in did ≡ steps_of_line did.granted (heard_at key piece start old)
+  pub is : (stop, new) ≡ line_answered key did.granted (start, old) (next_request_at key piece start old)
+  pub steps : steps_in did ≡ steps_of_line did.granted (next_request_at key piece start old)
   pub counted : new.denied ≡ denied_by old.denied (did.granted ∷ [])
 
 -- each answer to the lines that follow is counted if it refuses
 abbrev pub CountsEach : ℕ → List ℕ → ℕ × Held → List Bool → Type 0
 CountsEach _ _ _ [] = ⊤
 CountsEach key piece before (granted ∷ grants) =
-    let after = line_answered key granted before (heard_at key piece before.0 before.1) in
+    let after = line_answered key granted before (next_request_at key piece before.0 before.1) in
     (after.1.denied ≡ denied_by before.1.denied (granted ∷ [])) × CountsEach key piece after grants
 
 -- each line that ends in the piece is answered in turn, by whether memory was given
@@ -411,7 +412,7 @@ pub record IsReceived (key : ℕ) (piece : List ℕ) (old new : Held) : Type 0 w
   pub grants : List Bool
   pub counted : CountsEach key piece (0, old) grants
   pub rest : (None, new)
-      ≡ heard_at key piece (lines_answered key piece grants old).0 (lines_answered key piece grants old).1
+      ≡ next_request_at key piece (lines_answered key piece grants old).0 (lines_answered key piece grants old).1
 
 -- the session of a connection, if it has one that did not end
 abbrev pub live_session_of : Option Place → Option ℕ

@@ -8,9 +8,9 @@ ghost use Rattle.srcp_info.specs.WellFormed.{IsWellFormed, IsWellFormedReply, Is
 ghost use Rattle.srcp_feed.specs.Feed.{next_of, after_next};
 ghost use Rattle.srcp_text.specs.Marks.{Line, TooLong};
 ghost use Rattle.srcp_core.specs.Connection.{is_nil, line_of};
-ghost use Rattle.srcp_core.specs.Machine.{queue_of, fresh_place, with_unsent, without_sent, entered_place, panel_for};
+ghost use Rattle.srcp_core.specs.Machine.{queue_of, fresh_place, with_unsent, without_sent, begun_place, panel_for};
 ghost use Rattle.srcp_core.specs.Machine.{feed_in, has_overrun, is_panel, told_place, filled, item_from};
-ghost use Rattle.srcp_core.specs.Machine.{request_of, heard, live_session_of, longest, slack_in};
+ghost use Rattle.srcp_core.specs.Machine.{request_of, next_request, live_session_of, longest, slack_in};
 
 use crate::accepted::Accepted;
 use crate::handshake::{Greeting, greet};
@@ -227,7 +227,7 @@ impl Connection {
     ) -> Option<usize>
         requires { start ≤ length piece.now }
         ensures { (option_map (λ stop. (stop, request.new)) result, self.new)
-            ≡ heard layout.now piece.now start self.old }
+            ≡ next_request layout.now piece.now start self.old }
     {
         match self.reader.feed(piece, start) {
             Fed::More => None,
@@ -313,7 +313,7 @@ impl Connection {
     /// Begins the session under the id.
     pub(crate) fn begin_session(&mut self, id: u32, panel: Panel)
         requires { queue_of panel ≡ [] }
-        ensures { self.new ≡ entered_place id panel self.old }
+        ensures { self.new ≡ begun_place id panel self.old }
     {
         self.session = id;
         self.panel = panel;

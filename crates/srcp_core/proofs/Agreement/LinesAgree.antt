@@ -5,7 +5,7 @@ use Rattle.srcp_core.proofs.Names.{Code, C500, Reply, Protocol, Go, Refused, Mar
 use Rattle.srcp_core.proofs.Names.{shown_rows, key_at, IsRisingBy, Obeyed, Began, Ended, Order, greeting_under, wants_memory, Connection}
 use Rattle.srcp_core.proofs.Names.{is_open, given, untold, World, numbered, at_connection, did, is_info, state, history, command_of}
 use Rattle.srcp_core.proofs.Names.{ordered, entered, open_connection, Greeting, Speaks, Chooses, Goes, Refuses, Place, Held, at}
-use Rattle.srcp_core.proofs.Names.{with_unsent, entered_place, carried, changed_at, session_begun, freed_of, one_denied, denied_line}
+use Rattle.srcp_core.proofs.Names.{with_unsent, begun_place, carried, changed_at, session_begun, freed_of, one_denied, denied_line}
 use Rattle.srcp_core.proofs.Names.{request_of, panel_for, key_of, StandsBy, place_of, Request, Dropped, Greets, Commands, if_two}
 use Rattle.srcp_info.specs.declared.change.Reply.TheVariants.{Mode as ModeReply}
 use Rattle.srcp_rules.specs.Effect.{effect as effect_of}
@@ -14,7 +14,7 @@ use Rattle.srcp_core.specs.Course.{replied as course_replied, goes as course_goe
 use Rattle.srcp_core.specs.Course.{obeyed as course_obeyed, commanded as course_commanded, answered as course_answered}
 use Rattle.srcp_core.specs.Handshake.{greets as greets_of}
 use Rattle.srcp_core.specs.Machine.{replied, goes, greeted, obeyed, commanded, answered}
-use Rattle.srcp_core.proofs.Agreement.PlacesChange.{replied_still, entered_place_of, is_over_place, untold_shut, place_info}
+use Rattle.srcp_core.proofs.Agreement.PlacesChange.{replied_still, begun_place_of, is_over_place, untold_shut, place_info}
 use Rattle.srcp_core.proofs.CourseLaws.SessionsOfACourse.{anything, at_number}
 use Rattle.srcp_core.proofs.Agreement.NumbersAndKeys.{numbered_with}
 use Rattle.srcp_core.proofs.Agreement.StandsAfterAChange.{stands_as, Anything, AllFine, found_at, stands_at, stands_did}
@@ -122,8 +122,8 @@ module _ (buses : List Bus) (order : IsRisingBy key_at (shown_rows (opening buse
       let e : StandsBy buses read keys (session_begun key id conn.mode held) (entered buses n id w2) =
       stands_of (carried (updates held) (record held { last_id = id })) w2 conn
       (λ conn. record conn { session = id; info = is_info conn.mode; go_step = length w2.steps })
-      (entered_place id (panel_for conn.mode)) d there refl refl
-      (λ reader up. entered_place_of reader (history buses w2) conn id (length w2.steps) shut plain p.0 p.1) in
+      (begun_place id (panel_for conn.mode)) d there refl refl
+      (λ reader up. begun_place_of reader (history buses w2) conn id (length w2.steps) shut plain p.0 p.1) in
       let begins : Connection = record conn { session = id; info = is_info conn.mode; go_step = length w2.steps } in
       let nothing : untold begins (history buses w2) ≡ [] =
       cc (untold_shut begins (history buses w2) shut, p.0, p.1, concerning_start (length w2.steps) 0 (history buses w2)) in

@@ -4,7 +4,8 @@ use Rattle.srcp_core.proofs.Names.{ap, sym, ◌∙◌, subst, arith, append-nil,
 use Rattle.srcp_core.proofs.Names.{le_refl, fold, option_map, Option, Some, None, ◌==◌, slice_set, if◌then◌else◌, Mark, Line, TooLong}
 use Rattle.srcp_core.proofs.Names.{Reading, StandsAt, Bus, opening, shown_rows, key_at, IsRisingBy, Heard, lines_under, Connection, World}
 use Rattle.srcp_core.proofs.Names.{numbered, at_connection, history, entered, open_connection, new_marks, wants_as, denied_lines, Place}
-use Rattle.srcp_core.proofs.Names.{Held, at, place_at, request_of, heard_from, heard_at, line_answered, steps_of_line, steps_answered}
+use Rattle.srcp_core.proofs.Names.{Held, at, place_at, request_of, next_request_from, next_request_at, line_answered, steps_of_line}
+use Rattle.srcp_core.proofs.Names.{steps_answered}
 use Rattle.srcp_core.proofs.Names.{Recording, key_of, noted, StandsBy, StandsFor, place_of, Request, IsAt, is_open, ne_eqb}
 use Rattle.std.proofs.lemmas.Bool.{eq-eqb}
 use Rattle.std.specs.Prelude.{slice_range}
@@ -172,13 +173,14 @@ module _ (buses : List Bus) (order : IsRisingBy key_at (shown_rows (opening buse
   -- after one more line of the piece
   pub record IsLined (grants : List Bool) (start stop : ℕ) (granted : Bool) (held new : Held) (r : Recording) : Type 0 where
     pub upto : IsUpTo (grants ++ granted ∷ []) stop new
-    pub tells : Records (noted n (steps_of_line granted (heard_at key piece start held)) r) (world_upto (grants ++ granted ∷ []) stop)
+    pub tells : Records (noted n (steps_of_line granted (next_request_at key piece start held)) r)
+      (world_upto (grants ++ granted ∷ []) stop)
 
   -- what the reader finds
   abbrev finds : Held → Place → Fed → Reading → Option (ℕ × Request) × Held
   finds held p result reading = (
-    (heard_from held.buses p (result, reading)).0,
-    record held { places = slice_set held.places key (Some (heard_from held.buses p (result, reading)).1) },
+    (next_request_from held.buses p (result, reading)).0,
+    record held { places = slice_set held.places key (Some (next_request_from held.buses p (result, reading)).1) },
   )
 
   lined_at : (grants : List Bool) (start stop : ℕ) (granted : Bool) (held new : Held) (r : Recording) (p : Place) (mark : Mark) (s : ℕ)
@@ -191,7 +193,7 @@ module _ (buses : List Bus) (order : IsRisingBy key_at (shown_rows (opening buse
         answered granted key (request_of held.buses p mark)
             (record held { places = slice_set held.places key (Some (record p { reader = reading })) }),
       )
-      → ◌≡◌ {A = Option (ℕ × Request) × Held} (heard_at key piece start held)
+      → ◌≡◌ {A = Option (ℕ × Request) × Held} (next_request_at key piece start held)
       (Some (s, request_of held.buses p mark), record held { places = slice_set held.places key (Some (record p { reader = reading })) })
       → IsUpTo grants start held → Records r (world_upto grants start) → IsLined grants start stop granted held new r
   lined_at grants start stop granted held new r p mark s reading onward here adds moves is finding u t =
@@ -206,7 +208,7 @@ module _ (buses : List Bus) (order : IsRisingBy key_at (shown_rows (opening buse
       stop_is = ap (λ (x : ℕ × Held). x.0) is
 
   pub lined : (grants : List Bool) (start stop : ℕ) (granted : Bool) (held new : Held) (r : Recording) → start < stop
-      → ◌≡◌ {A = ℕ × Held} (stop, new) (line_answered key granted (start, held) (heard_at key piece start held))
+      → ◌≡◌ {A = ℕ × Held} (stop, new) (line_answered key granted (start, held) (next_request_at key piece start held))
       → IsUpTo grants start held → Records r (world_upto grants start) → IsLined grants start stop granted held new r
   lined grants start stop granted held new r onward is u t =
       let h = found_at buses _ keys held _ n key u.stands named in
@@ -220,7 +222,7 @@ module _ (buses : List Bus) (order : IsRisingBy key_at (shown_rows (opening buse
           (cc)
         where
           by : (result : Fed) (reading : Reading) → ◌≡◌ {A = Fed × Reading} (feed_of p.reader piece start) (result, reading)
-              → ◌≡◌ {A = Option (ℕ × Request) × Held} (heard_at key piece start held) (finds held p result reading)
+              → ◌≡◌ {A = Option (ℕ × Request) × Held} (next_request_at key piece start held) (finds held p result reading)
               → IsLined grants start stop granted held new r
           by More reading e finding =
               let both : ◌≡◌ {A = ℕ × Held} (stop, new) (start, held) = cc in
@@ -263,7 +265,7 @@ module _ (buses : List Bus) (order : IsRisingBy key_at (shown_rows (opening buse
     pub counts : new.denied ≡ denied_lines buses n w before (lines_under grants (new_marks buses fed piece))
 
   pub lines_ended : (grants : List Bool) (start : ℕ) (held new : Held)
-      → ◌≡◌ {A = Option (ℕ × Request) × Held} (None, new) (heard_at key piece start held) → IsUpTo grants start held
+      → ◌≡◌ {A = Option (ℕ × Request) × Held} (None, new) (next_request_at key piece start held) → IsUpTo grants start held
       → IsEnded grants new (world_upto grants start)
   lines_ended grants start held new is u =
       let h = found_at buses _ keys held _ n key u.stands named in

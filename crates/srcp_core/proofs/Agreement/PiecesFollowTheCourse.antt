@@ -1,11 +1,12 @@
 -- A piece leads from the course of any events to that with its bytes.
 use Rattle.srcp_core.proofs.Names.{◌≡◌, ℕ, ◌+◌, Bool, List, [], ◌∷◌, ◌++◌, length, refl, ap, sym, ◌∙◌, fold, Option, Some, None, Bytes}
-use Rattle.srcp_core.proofs.Names.{Piece, giving, denied_by, counted, course, Held, at, CountsEach, bytes_fault, heard_at, line_answered}
+use Rattle.srcp_core.proofs.Names.{Piece, giving, denied_by, counted, course, Held, at, CountsEach, bytes_fault, next_request_at}
+use Rattle.srcp_core.proofs.Names.{line_answered}
 use Rattle.srcp_core.proofs.Names.{lines_answered, steps_of_line, Recording, key_of, noted, Request, CoreFault}
 use Rattle.srcp_core.specs.declared.event.Event.TheVariants as plain
 use Rattle.srcp_core.specs.Machine.{IsReceived, answered}
 use Rattle.srcp_core.specs.Run.{LeadsOn}
-use Rattle.srcp_core.proofs.Invariants.LinesAreFound.{line_found, heard_denied}
+use Rattle.srcp_core.proofs.Invariants.LinesAreFound.{line_found, next_request_denied}
 use Rattle.srcp_core.proofs.Agreement.CallsFollowTheCourse.{telling, runs_telling}
 use Rattle.srcp_core.proofs.Agreement.RecordIsOfTheCourse.{runs_on}
 use Rattle.srcp_core.proofs.Agreement.MemoryAnswers.{counted_more}
@@ -15,7 +16,7 @@ use Rattle.srcp_core.proofs.Agreement.RunsBytes.{noted_keys}
 
 -- a line of a piece, taken at a place of it
 abbrev line_on : ℕ → List ℕ → ℕ × Held → Bool → ℕ × Held
-line_on key piece before granted = line_answered key granted before (heard_at key piece before.0 before.1)
+line_on key piece before granted = line_answered key granted before (next_request_at key piece before.0 before.1)
 
 -- ---- the lines of a piece, with what a run would have told of them
 
@@ -34,10 +35,10 @@ line_read : (key : ℕ) (piece : List ℕ) (first : Held) (before : ℕ × Held)
     → (line_on key piece before granted).1.denied ≡ denied_by before.1.denied (granted ∷ []) → AreRead key piece first before
     → AreRead key piece first (line_on key piece before granted)
 line_read key piece first before granted counted a =
-    by (heard_at key piece before.0 before.1).0 (heard_at key piece before.0 before.1).1 refl
+    by (next_request_at key piece before.0 before.1).0 (next_request_at key piece before.0 before.1).1 refl
   where
     by : (found : Option (ℕ × Request)) (mid : Held)
-        → ◌≡◌ {A = Option (ℕ × Request) × Held} (heard_at key piece before.0 before.1) (found, mid)
+        → ◌≡◌ {A = Option (ℕ × Request) × Held} (next_request_at key piece before.0 before.1) (found, mid)
         → AreRead key piece first (line_on key piece before granted)
     by None mid e =
         let same : ◌≡◌ {A = ℕ × Held} (line_on key piece before granted) before = cc in
@@ -45,7 +46,7 @@ line_read key piece first before granted counted a =
     by (Some (stop, request)) mid e =
         let new : Held = answered granted key request mid in
         let is : ◌≡◌ {A = ℕ × Held} (stop, new) (line_on key piece before granted) = cc in
-        let steps = steps_of_line granted (heard_at key piece before.0 before.1) in
+        let steps = steps_of_line granted (next_request_at key piece before.0 before.1) in
         rw (← is)
         (record {
           grants = a.grants ++ granted ∷ [];
@@ -85,7 +86,8 @@ accepted_leads key piece old new free received =
           record { told = first_r; keys = refl; reads = reads_with_none n key piece first_r old named free };
     }) in
     let counted : new.denied ≡ denied_by old.denied a.grants =
-    ap (λ (x : Option (ℕ × Request) × Held). x.1.denied) received.rest ∙ heard_denied key piece reached.0 reached.1 (at reached.1 key)
+    ap (λ (x : Option (ℕ × Request) × Held). x.1.denied) received.rest
+    ∙ next_request_denied key piece reached.0 reached.1 (at reached.1 key)
     ∙ a.counted in
     record {
       grants = a.grants;

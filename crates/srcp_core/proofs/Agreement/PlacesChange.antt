@@ -3,7 +3,7 @@ use Rattle.srcp_core.proofs.Names.{◌≡◌, ℕ, ◌+◌, ◌≤◌, Bool, tru
 use Rattle.srcp_core.proofs.Names.{◌∙◌, arith, append-nil, append_assoc, nat_tests, length_push, drop-append-le, filter, fold, option_map}
 use Rattle.srcp_core.proofs.Names.{◌&&◌, nat_lt, Option, Some, None, Change, Cursor, Start, Shown, Mode, Info, Reading, concerns}
 use Rattle.srcp_core.proofs.Names.{Connection, History, cursor_at, untold, unsent, text, given, is_info, Place, place_at, told_place}
-use Rattle.srcp_core.proofs.Names.{told_all, told_each, with_unsent, entered_place, panel_for, has_overrun, is_panel, Absent, if◌then◌else◌}
+use Rattle.srcp_core.proofs.Names.{told_all, told_each, with_unsent, begun_place, panel_for, has_overrun, is_panel, Absent, if◌then◌else◌}
 use Rattle.srcp_core.proofs.Names.{place_of, panel_at, cond_both, Overran, Listening}
 use Rattle.srcp_info.specs.declared.value.Mode.TheVariants.{Command as CommandMode}
 use Rattle.srcp_core.proofs.CourseLaws.Histories.{concerning_push, cursor_by, cursor_later}
@@ -153,17 +153,17 @@ given_reply conn line none =
 
 -- a session begins
 entered_plain : (reader : Reading) (mode : Mode) (session id : ℕ) (ended : Bool) (bytes : List ℕ)
-    → entered_place id (panel_for mode) (plain_place reader mode session ended bytes)
+    → begun_place id (panel_for mode) (plain_place reader mode session ended bytes)
     ≡ placed reader mode id (is_info mode) ended bytes Start []
 entered_plain reader CommandMode session id ended bytes = refl
 entered_plain reader Info session id ended bytes = refl
 
-pub entered_place_of : (reader : Reading) (history : History) (conn : Connection) (id go : ℕ) → conn.shut ≡ None → conn.info ≡ false
+pub begun_place_of : (reader : Reading) (history : History) (conn : Connection) (id go : ℕ) → conn.shut ≡ None → conn.info ≡ false
     → conn.items ≡ [] → conn.done ≡ None
-    → entered_place id (panel_for conn.mode) (place_of reader history conn)
+    → begun_place id (panel_for conn.mode) (place_of reader history conn)
     ≡ place_of reader history (record conn { session = id; info = is_info conn.mode; go_step = go })
-entered_place_of reader history conn id go shut plain none undone =
-    ap (entered_place id (panel_for conn.mode)) (plain_is reader history conn plain)
+begun_place_of reader history conn id go shut plain none undone =
+    ap (begun_place id (panel_for conn.mode)) (plain_is reader history conn plain)
     ∙ entered_plain reader _ conn.session id _ _
     ∙ ap (λ c. placed reader conn.mode id (is_info conn.mode) conn.ended (unsent conn) c [])
     (sym (ap (λ d. cursor_by d conn.items (length history)) undone ∙ ap (λ is. cursor_by None is (length history)) none))

@@ -2,14 +2,14 @@
 use Rattle.srcp_core.proofs.Names.{◌≡◌, ℕ, ◌<◌, ◌≤◌, Bool, true, false, List, [], ◌∷◌, ◌++◌, length, refl, ap, sym, ◌∙◌, subst, ltb-false}
 use Rattle.srcp_core.proofs.Names.{fold, Option, Some, None, not, nat_lt, if◌then◌else◌, Bus, IsLayout, Event, Bytes, Piece, lines_under}
 use Rattle.srcp_core.proofs.Names.{denied_by, Connection, is_nil, World, open_connection, counted, accepted, fed_to, new_marks, course}
-use Rattle.srcp_core.proofs.Names.{denied_fed, Place, Held, at, AnswersFit, bytes_fault, bytes_fault_from, heard_at, line_answered}
+use Rattle.srcp_core.proofs.Names.{denied_fed, Place, Held, at, AnswersFit, bytes_fault, bytes_fault_from, next_request_at, line_answered}
 use Rattle.srcp_core.proofs.Names.{steps_of_line, Recording, key_of, noted, Records, Runs, Happened, Request, CoreFault, Busy, PieceTooLong}
 use Rattle.srcp_core.proofs.Names.{Closing}
 use Rattle.srcp_core.specs.declared.record.Step.{Step as PlainStep}
 use Rattle.srcp_core.specs.Course.{bytes_fault as course_fault, answered as course_answered}
 use Rattle.srcp_core.proofs.Agreement.EventsAgree.{fault_same}
 use Rattle.srcp_core.proofs.Agreement.MemoryAnswers.{counted_more}
-use Rattle.srcp_core.proofs.Invariants.LinesAreFound.{nothing_begun, heard_denied}
+use Rattle.srcp_core.proofs.Invariants.LinesAreFound.{nothing_begun, next_request_denied}
 use Rattle.srcp_core.proofs.Agreement.LinesAreNoted.{tells_same}
 use Rattle.srcp_core.proofs.Agreement.PiecesAgree.{accepting, IsUpTo, world_upto, lined, lines_ended, piece_begun}
 use Rattle.srcp_core.proofs.CourseLaws.SessionsOfACourse.{opening_in_order, nil_is}
@@ -103,8 +103,8 @@ noted_keys n (recorded.Ended session moment ∷ steps) r = noted_keys n steps _
 pub reads_with_more : (grants : List Bool) (n key : ℕ) (piece : List ℕ) (first_r : Recording) (first : Held) (start stop : ℕ)
     (granted : Bool) (steps : List PlainStep) (r : Recording) (held new : Held)
     → start < stop
-    → ◌≡◌ {A = ℕ × Held} (stop, new) (line_answered key granted (start, held) (heard_at key piece start held))
-    → steps ≡ steps_of_line granted (heard_at key piece start held)
+    → ◌≡◌ {A = ℕ × Held} (stop, new) (line_answered key granted (start, held) (next_request_at key piece start held))
+    → steps ≡ steps_of_line granted (next_request_at key piece start held)
     → ReadsWith grants n key piece first_r first start r held
     → ReadsWith (grants ++ granted ∷ []) n key piece first_r first stop (noted n steps r) new
 reads_with_more grants n key piece first_r first start stop granted steps r held new onward is steps_are reads buses events layout s =
@@ -131,8 +131,8 @@ reads_with_more grants n key piece first_r first start stop granted steps r held
 pub reads_more : (n key : ℕ) (piece : List ℕ) (first_r : Recording) (first : Held) (start stop : ℕ) (granted : Bool)
     (steps : List PlainStep) (r : Recording) (held new : Held)
     → start < stop
-    → ◌≡◌ {A = ℕ × Held} (stop, new) (line_answered key granted (start, held) (heard_at key piece start held))
-    → steps ≡ steps_of_line granted (heard_at key piece start held)
+    → ◌≡◌ {A = ℕ × Held} (stop, new) (line_answered key granted (start, held) (next_request_at key piece start held))
+    → steps ≡ steps_of_line granted (next_request_at key piece start held)
     → new.denied ≡ denied_by held.denied (granted ∷ []) → ReadsOn n key piece first_r first start r held
     → ReadsOn n key piece first_r first stop (noted n steps r) new
 reads_more n key piece first_r first start stop granted steps r held new onward is steps_are counted reads = record {
@@ -143,7 +143,7 @@ reads_more n key piece first_r first start stop granted steps r held new onward 
 
 pub bytes_with : (grants : List Bool) (n key : ℕ) (piece : List ℕ) (first_r : Recording) (first : Held) (start : ℕ) (r : Recording)
     (held new : Held)
-    → ◌≡◌ {A = Option (ℕ × Request) × Held} (None, new) (heard_at key piece start held)
+    → ◌≡◌ {A = Option (ℕ × Request) × Held} (None, new) (next_request_at key piece start held)
     → ReadsWith grants n key piece first_r first start r held
     → (buses : List Bus) (events : List Event) → IsLayout buses → Runs buses first_r first (course buses events)
     → Happened buses (Bytes n (record { bytes = piece; grants = grants })) None r new (counted (course buses events))
@@ -166,7 +166,7 @@ bytes_with grants n key piece first_r first start r held new is reads buses even
 -- what was refused to its lines was asked for
 pub bytes_asked : (grants : List Bool) (n key : ℕ) (piece : List ℕ) (first_r : Recording) (first : Held) (start : ℕ) (r : Recording)
     (held new : Held)
-    → ◌≡◌ {A = Option (ℕ × Request) × Held} (None, new) (heard_at key piece start held)
+    → ◌≡◌ {A = Option (ℕ × Request) × Held} (None, new) (next_request_at key piece start held)
     → ReadsWith grants n key piece first_r first start r held
     → CountsAsked first_r first new (Bytes n (record { bytes = piece; grants = grants }))
 bytes_asked grants n key piece first_r first start r held new is reads buses events layout s =
@@ -178,10 +178,11 @@ bytes_asked grants n key piece first_r first start r held new is reads buses eve
     ∙ ap (denied_fed buses n p w first.denied None) i.opened)
 
 pub bytes_happens : (n key : ℕ) (piece : List ℕ) (first_r : Recording) (first : Held) (start : ℕ) (r : Recording) (held new : Held)
-    → ◌≡◌ {A = Option (ℕ × Request) × Held} (None, new) (heard_at key piece start held) → ReadsOn n key piece first_r first start r held
+    → ◌≡◌ {A = Option (ℕ × Request) × Held} (None, new) (next_request_at key piece start held)
+    → ReadsOn n key piece first_r first start r held
     → HappensAs (plain.Bytes n piece) None first_r first r new
 bytes_happens n key piece first_r first start r held new is reads =
     happens_by (plain.Bytes n piece) None first_r first r new reads.grants
-    (ap (λ (x : Option (ℕ × Request) × Held). x.1.denied) is ∙ heard_denied key piece start held (at held key) ∙ reads.counted)
+    (ap (λ (x : Option (ℕ × Request) × Held). x.1.denied) is ∙ next_request_denied key piece start held (at held key) ∙ reads.counted)
     (bytes_asked reads.grants n key piece first_r first start r held new is reads.reads)
     (bytes_with reads.grants n key piece first_r first start r held new is reads.reads)

@@ -4,7 +4,7 @@ use Rattle.srcp_core.proofs.Names.{◌∙◌, subst, arith, option_map, nat_lt, 
 use Rattle.srcp_core.proofs.Names.{Change, C500, Reply, Accepted, Protocol, Go, Refused, Shows, Mode, began, freed, Effect, effect}
 use Rattle.srcp_core.proofs.Names.{session_device, is_there, Mark, Greeting, Speaks, Chooses, Goes, Refuses, Place, Held, place_at, at}
 use Rattle.srcp_core.proofs.Names.{IsSound, told_place, told_all, told_each, carried, unsent_of, changed_in, changed_places, changed_at}
-use Rattle.srcp_core.proofs.Names.{with_unsent, longest, longest_answer, entered_place, session_begun, denied_line, one_denied, request_of}
+use Rattle.srcp_core.proofs.Names.{with_unsent, longest, longest_answer, begun_place, session_begun, denied_line, one_denied, request_of}
 use Rattle.srcp_core.proofs.Names.{panel_for, Request, Dropped, Greets, Commands, option_map_or, ltb-true, ap}
 use Rattle.srcp_info.specs.WellFormed.{IsWellFormedReply}
 use Rattle.srcp_info.specs.declared.change.Reply.TheVariants.{Mode as ModeReply}
@@ -89,7 +89,7 @@ begun_gains key id mode held =
     let mid = carried (began id held.moment mode ∷ []) (record held { last_id = id }) in
     both 0 0 (at held key) (at mid key) (at (session_begun key id mode held) key)
     (told_gains key (map change_in (began id held.moment mode ∷ [])) held.places)
-    (changed_gains 0 key (entered_place id (panel_for mode)) mid.places (λ p. record { few = omega arith; begun = refl }))
+    (changed_gains 0 key (begun_place id (panel_for mode)) mid.places (λ p. record { few = omega arith; begun = refl }))
 
 goes_gains : (granted : Bool) (key : ℕ) (mode : Mode) (held : Held) → IsMoment held.moment
     → Gains 64 (at held key) (at (goes granted key mode held) key)

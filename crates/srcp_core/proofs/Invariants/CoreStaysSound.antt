@@ -7,7 +7,7 @@ use Rattle.srcp_core.proofs.Names.{Command, IsCommandOf, due, freed, began, effe
 use Rattle.srcp_core.proofs.Names.{freed_kept, effect_kept, session_row-updated_all, effect_elsewhere, due_elsewhere, freed_others}
 use Rattle.srcp_core.proofs.Names.{row_at-put_same, row_at-put_other, same_key-true, eqb-false, pos_of_ne-zero, Panel}
 use Rattle.srcp_core.proofs.Names.{Absent, Listening, Overran, changed_at, changed_in, changed_places, carried, told_all, told_each}
-use Rattle.srcp_core.proofs.Names.{freed_of, freed_place, entered_place, session_begun, filled, feed_in, panel_for, Shown, opening_whole}
+use Rattle.srcp_core.proofs.Names.{freed_of, freed_place, begun_place, session_begun, filled, feed_in, panel_for, Shown, opening_whole}
 use Rattle.srcp_info.specs.declared.value.Value.TheVariants as value
 use Rattle.srcp_rules.proofs.EachStepLaws.{step_whole}
 use Rattle.srcp_core.specs.Machine.{filled_from, live_session_of}
@@ -156,22 +156,22 @@ abbrev IsOneOf : List (Option Place) → ℕ → ℕ → ℕ → Place → Type 
 IsOneOf places key id m q = ((m ≡ key) × (q.session ≡ id)) ⊎ (place_at places m ≡ Some q)
 
 entered_from : (places : List (Option Place)) (key id : ℕ) (mode : Mode) (m : ℕ) (q : Place)
-    → place_at (changed_places key (entered_place id (panel_for mode)) places) m ≡ Some q → IsOneOf places key id m q
+    → place_at (changed_places key (begun_place id (panel_for mode)) places) m ≡ Some q → IsOneOf places key id m q
 entered_from places key id mode m q e = by (place_at places key) refl e
   where
-    by : (o : Option Place) → place_at places key ≡ o → place_at (changed_in key (entered_place id (panel_for mode)) places o) m ≡ Some q
+    by : (o : Option Place) → place_at places key ≡ o → place_at (changed_in key (begun_place id (panel_for mode)) places o) m ≡ Some q
         → IsOneOf places key id m q
     by None at e = inr e
     by (Some p) at e = place (where_is m key)
       where
         place : Where m key → IsOneOf places key id m q
         place (Here s) =
-            let here : place_at (slice_set places key (Some (entered_place id (panel_for mode) p))) m
-            ≡ Some (entered_place id (panel_for mode) p) =
-            rw s (place_set_here places key p (Some (entered_place id (panel_for mode) p)) at) in
-            let same : entered_place id (panel_for mode) p ≡ q = cc in
+            let here : place_at (slice_set places key (Some (begun_place id (panel_for mode) p))) m
+            ≡ Some (begun_place id (panel_for mode) p) =
+            rw s (place_set_here places key p (Some (begun_place id (panel_for mode) p)) at) in
+            let same : begun_place id (panel_for mode) p ≡ q = cc in
             inl (s, cc)
-        place (Away f) = inr (sym (place_set places key m (Some (entered_place id (panel_for mode) p)) f) ∙ e)
+        place (Away f) = inr (sym (place_set places key m (Some (begun_place id (panel_for mode) p)) f) ∙ e)
 
 sessions_begun : (last id key : ℕ) (rows new : State) (old places : List (Option Place)) → id ≡ last + 1
     → ((other : ℕ) → other ≢ id → is_there (session_device other) new ≡ is_there (session_device other) rows)
@@ -207,7 +207,7 @@ sound_begun key id mode held now next high s =
     sessions_covered held.last_id held.rows held.places mid.places
     (covers_told_each (map change_in (update ∷ [])) held.places) s.sessions in
     let told = told_each_count (map change_in (update ∷ [])) held.places in
-    let count = changed_count key (entered_place id (panel_for mode)) mid.places in
+    let count = changed_count key (begun_place id (panel_for mode)) mid.places in
     record {
       moment = s.moment;
       few = omega (arith, s.few, told, count);
@@ -215,7 +215,7 @@ sound_begun key id mode held now next high s =
           step_whole held.buses held.rows (Began id held.moment mode) s.whole (omega (arith, next), high) now;
       sessions =
           sessions_begun held.last_id id key held.rows mid.rows mid.places
-          (changed_places key (entered_place id (panel_for mode)) mid.places) next
+          (changed_places key (begun_place id (panel_for mode)) mid.places) next
           (λ other apart. other_row id other held.moment mode held.rows apart) (own_row id held.moment mode held.rows)
           (entered_from mid.places key id mode) covered;
     }
@@ -246,7 +246,7 @@ over_ended key held p e began ended s m q f live same =
 
 pub begun_is : (held : Held) (key id : ℕ) (mode : Mode) (panel : Panel) (rows : State) (change : Change) (told places : List (Option Place))
     → panel ≡ panel_for mode → rows ≡ updated (began id held.moment mode) held.rows → change ≡ (began id held.moment mode).change
-    → told ≡ told_all change held.places → places ≡ changed_places key (entered_place id panel) told
+    → told ≡ told_all change held.places → places ≡ changed_places key (begun_place id panel) told
     → record held { rows = rows; last_id = id; places = places } ≡ session_begun key id mode held
 begun_is held key id mode panel rows change told places e r c t p = cc
 

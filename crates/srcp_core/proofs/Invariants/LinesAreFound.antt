@@ -1,8 +1,10 @@
 -- What a line that was found in a piece asks for, and what it leaves of its connection.
 use Rattle.srcp_core.proofs.Names.{◌≡◌, ℕ, zero, suc, ◌+◌, ◌-◌, ◌<◌, ◌≤◌, Bool, true, false, List, [], ◌∷◌, ◌++◌, drop, take, length, inl}
 use Rattle.srcp_core.proofs.Names.{inr, refl, ap, sym, ◌∙◌, subst, arith, if◌then◌else◌, Option, Some, None, Ok, Err, slice_set, Code, Bus}
-use Rattle.srcp_core.proofs.Names.{Mark, Line, TooLong, is_lf, nothing_read, fold-append, Place, Held, IsSound, at, request_of, heard_from}
-use Rattle.srcp_core.proofs.Names.{heard_at, longest_answer, unsent_at, line_answered, lines_answered, steps_answered, steps_in, AnswersFit}
+use Rattle.srcp_core.proofs.Names.{Mark, Line, TooLong, is_lf, nothing_read, fold-append, Place, Held, IsSound, at, request_of}
+use Rattle.srcp_core.proofs.Names.{next_request_from}
+use Rattle.srcp_core.proofs.Names.{next_request_at, longest_answer, unsent_at, line_answered, lines_answered, steps_answered, steps_in}
+use Rattle.srcp_core.proofs.Names.{AnswersFit}
 use Rattle.srcp_core.proofs.Names.{CountsEach, denied_by, LineRecord, Request, Dropped, Greets, Commands, option_map_or, cases_lt, Reading}
 use Rattle.std.proofs.Common.{◌*◌}
 use Rattle.std.specs.Prelude.{fold, position}
@@ -13,7 +15,7 @@ use Rattle.srcp_text.proofs.ScanLaws.{position_some}
 use Rattle.std.proofs.lemmas.List.{length-drop}
 use Rattle.srcp_info.specs.Limits.{longest_line, longest_short_reply, most_in_piece}
 use Rattle.srcp_core.specs.Handshake.{greets}
-use Rattle.srcp_core.specs.Machine.{heard, line_begun_at, answered, IsRequest, IsLineAnswered}
+use Rattle.srcp_core.specs.Machine.{next_request, line_begun_at, answered, IsRequest, IsLineAnswered}
 use Rattle.srcp_core.proofs.Invariants.PlacesCover.{IsMild, place_set_here, where_is, Here, Away}
 use Rattle.srcp_core.proofs.Invariants.AnswersGainBytes.{answered_gains}
 
@@ -63,7 +65,7 @@ are_same stop s request a new n e =
     }
 
 module _ (buses : List Bus) (p new : Place) (piece : List ℕ) (start stop : ℕ) (request : Request) where
-  pub found : ◌≡◌ {A = Option (ℕ × Request) × Place} (Some (stop, request), new) (heard buses piece start p)
+  pub found : ◌≡◌ {A = Option (ℕ × Request) × Place} (Some (stop, request), new) (next_request buses piece start p)
       → IsFound buses p new piece start stop request
   found e = by _ refl e
     where
@@ -89,7 +91,7 @@ module _ (buses : List Bus) (p new : Place) (piece : List ℕ) (start stop : ℕ
       ends : (len : ℕ) → len < length (drop start piece) → (whole : Option (List ℕ))
           → extended p.reader.begun (take len (drop start piece)) ≡ whole
           → ◌≡◌ {A = Option (ℕ × Request) × Place} (Some (stop, request), new)
-          (heard_from buses p (fed_at whole (start + len + 1), after_lf whole))
+          (next_request_from buses p (fed_at whole (start + len + 1), after_lf whole))
           → IsFound buses p new piece start stop request
       ends len low None w e =
           found_as TooLong nothing_read len low refl
@@ -111,7 +113,7 @@ module _ (buses : List Bus) (p new : Place) (piece : List ℕ) (start stop : ℕ
 
       by : (o : Option ℕ) → position is_lf (drop start piece) ≡ o
           → ◌≡◌ {A = Option (ℕ × Request) × Place} (Some (stop, request), new)
-          (heard_from buses p (feed_at p.reader.begun start (drop start piece) o))
+          (next_request_from buses p (feed_at p.reader.begun start (drop start piece) o))
           → IsFound buses p new piece start stop request
       by None f e =
           let bad : ◌≡◌ {A = Option (ℕ × Request)} (Some (stop, request)) None = ap (λ (r : Option (ℕ × Request) × Place). r.0) e in
@@ -121,14 +123,14 @@ module _ (buses : List Bus) (p new : Place) (piece : List ℕ) (start stop : ℕ
           ends len s.1 (extended p.reader.begun (take len (drop start piece))) refl e
 
 -- hearing leaves the session as it is
-pub heard_mild : (buses : List Bus) (piece : List ℕ) (start : ℕ) (p : Place) → IsMild p (heard buses piece start p).1
-heard_mild buses piece start p = by _
+pub next_request_mild : (buses : List Bus) (piece : List ℕ) (start : ℕ) (p : Place) → IsMild p (next_request buses piece start p).1
+next_request_mild buses piece start p = by _
   where
-    ends : (whole : Option (List ℕ)) (stop : ℕ) → IsMild p (heard_from buses p (fed_at whole stop, after_lf whole)).1
+    ends : (whole : Option (List ℕ)) (stop : ℕ) → IsMild p (next_request_from buses p (fed_at whole stop, after_lf whole)).1
     ends None stop = record { session = refl; ended = λ h. h; panel = refl }
     ends (Some bytes) stop = record { session = refl; ended = λ h. h; panel = refl }
 
-    by : (o : Option ℕ) → IsMild p (heard_from buses p (feed_at p.reader.begun start (drop start piece) o)).1
+    by : (o : Option ℕ) → IsMild p (next_request_from buses p (feed_at p.reader.begun start (drop start piece) o)).1
     by None = record { session = refl; ended = λ h. h; panel = refl }
     by (Some len) = ends _ _
 
@@ -141,8 +143,8 @@ abbrev heard_in : ℕ → List ℕ → ℕ → Held → Option Place → Option 
 heard_in key piece start held place =
     option_map_or
     (λ p. (
-      (heard held.buses piece start p).0,
-      record held { places = slice_set held.places key (Some (heard held.buses piece start p).1) },
+      (next_request held.buses piece start p).0,
+      record held { places = slice_set held.places key (Some (next_request held.buses piece start p).1) },
     ))
     place (None, held)
 
@@ -159,7 +161,7 @@ pub record IsLineFound (key : ℕ) (piece : List ℕ) (start stop : ℕ) (reques
   pub few : line_begun_at key old ≡ Some [] → longest_answer request ≤ longest_short_reply * (stop - start)
 
 pub line_found : (key : ℕ) (piece : List ℕ) (start stop : ℕ) (request : Request) (old new : Held)
-    → ◌≡◌ {A = Option (ℕ × Request) × Held} (Some (stop, request), new) (heard_at key piece start old)
+    → ◌≡◌ {A = Option (ℕ × Request) × Held} (Some (stop, request), new) (next_request_at key piece start old)
     → IsLineFound key piece start stop request old new
 line_found key piece start stop request old new e = by _ refl e
   where
@@ -170,8 +172,8 @@ line_found key piece start stop request old new e = by _ refl e
         let bad : ◌≡◌ {A = Option (ℕ × Request)} (Some (stop, request)) None = ap (λ (r : Option (ℕ × Request) × Held). r.0) e in
         absurd (let f : ⊥ = cc in f)
     by (Some p) there e =
-        let after : Place = (heard _ piece start p).1 in
-        let answer : ◌≡◌ {A = Option (ℕ × Request)} (Some (stop, request)) (heard old.buses piece start p).0 =
+        let after : Place = (next_request _ piece start p).1 in
+        let answer : ◌≡◌ {A = Option (ℕ × Request)} (Some (stop, request)) (next_request old.buses piece start p).0 =
         ap (λ (r : Option (ℕ × Request) × Held). r.0) e in
         let held : new ≡ record old { places = slice_set old.places key (Some after) } = ap (λ (r : Option (ℕ × Request) × Held). r.1) e in
         let f =
@@ -191,14 +193,14 @@ line_found key piece start stop request old new e = by _ refl e
         }
 
 -- reading refuses nothing
-pub heard_denied : (key : ℕ) (piece : List ℕ) (from : ℕ) (held : Held) (o : Option Place)
+pub next_request_denied : (key : ℕ) (piece : List ℕ) (from : ℕ) (held : Held) (o : Option Place)
     → (heard_in key piece from held o).1.denied ≡ held.denied
-heard_denied key piece from held None = refl
-heard_denied key piece from held (Some p) = refl
+next_request_denied key piece from held None = refl
+next_request_denied key piece from held (Some p) = refl
 
 -- the line was found on the connection of that key
 pub line_asks : (key : ℕ) (piece : List ℕ) (start stop : ℕ) (request : Request) (old new : Held)
-    → ◌≡◌ {A = Option (ℕ × Request) × Held} (Some (stop, request), new) (heard_at key piece start old) → IsRequest key request new
+    → ◌≡◌ {A = Option (ℕ × Request) × Held} (Some (stop, request), new) (next_request_at key piece start old) → IsRequest key request new
 line_asks key piece start stop request old new e =
     let f = line_found key piece start stop request old new e in
     record { place = f.place; mark = f.mark; here = f.here; is = f.asks }
@@ -211,7 +213,7 @@ nothing_begun key piece held idle =
     record { far = omega arith; idle = λ e. none; fits = omega (arith, none); begun = λ low. absurd (omega (arith, low)) }
 
 module _ (key : ℕ) (piece : List ℕ) (start stop : ℕ) (request : Request) (held mid : Held)
-    (e : ◌≡◌ {A = Option (ℕ × Request) × Held} (Some (stop, request), mid) (heard_at key piece start held)) where
+    (e : ◌≡◌ {A = Option (ℕ × Request) × Held} (Some (stop, request), mid) (next_request_at key piece start held)) where
   -- the answer of the line fits
   pub line_fits : length piece ≤ most_in_piece → AnswersFit key piece start held
       → length (unsent_at key mid) + longest_answer request ≤ 16640
@@ -258,7 +260,7 @@ module _ (key : ℕ) (piece : List ℕ) (start stop : ℕ) (request : Request) (
     counted =
         counted
         ∙ ap (λ k. denied_by k (did.granted ∷ []))
-        (ap (λ (r : Option (ℕ × Request) × Held). r.1.denied) e ∙ heard_denied key piece start held (at held key));
+        (ap (λ (r : Option (ℕ × Request) × Held). r.1.denied) e ∙ next_request_denied key piece start held (at held key));
   }
 
 -- the lines up to a place of the piece are answered
@@ -269,7 +271,8 @@ pub record AreAnswered (key : ℕ) (piece : List ℕ) (first : Held) (start : �
   pub is : ◌≡◌ {A = ℕ × Held} (start, held) (lines_answered key piece grants first)
 
 counts_push : (key : ℕ) (piece : List ℕ) (grants : List Bool) (before : ℕ × Held) (granted : Bool) → CountsEach key piece before grants
-    → CountsEach key piece (fold (λ before granted. line_answered key granted before (heard_at key piece before.0 before.1)) before grants)
+    → CountsEach key piece
+      (fold (λ before granted. line_answered key granted before (next_request_at key piece before.0 before.1)) before grants)
     (granted ∷ [])
     → CountsEach key piece before (grants ++ granted ∷ [])
 counts_push key piece [] before granted a e = e
@@ -288,7 +291,7 @@ line_added key piece first start stop did held new l t = record {
       cc (
         l.is,
         t.is,
-        fold-append (λ before granted. line_answered key granted before (heard_at key piece before.0 before.1)) (0, first) t.grants
+        fold-append (λ before granted. line_answered key granted before (next_request_at key piece before.0 before.1)) (0, first) t.grants
             _,
       );
 }

@@ -2,7 +2,8 @@
 ghost use Rattle.std.specs.Prelude.{◌≡◌, ◌≤◌, [], length, Some, None, IfNone, IfSome, OnOk, OnErr, MatchResult};
 ghost use Rattle.std.specs.Prelude.{option_map};
 ghost use Rattle.srcp_core.specs.Held.{IsSound};
-ghost use Rattle.srcp_core.specs.Machine.{unsent_at, bytes_fault, heard_at, IsReceived, AnswersFit, IsLineAnswered};
+ghost use Rattle.srcp_core.specs.Machine.{unsent_at, bytes_fault, next_request_at, IsReceived, AnswersFit};
+ghost use Rattle.srcp_core.specs.Machine.{IsLineAnswered};
 
 use super::Core;
 use crate::line::{LineRecord, Request};
@@ -74,7 +75,7 @@ impl<'a, R: Rows> Core<'a, R> {
     ) -> Option<(usize, LineRecord)>
         requires few { length piece.now ≤ MOST_IN_PIECE }
         requires fits { AnswersFit conn piece.now start self.old }
-        ensures none { IfNone result ((None, self.new) ≡ heard_at conn piece.now start self.old) }
+        ensures none { IfNone result ((None, self.new) ≡ next_request_at conn piece.now start self.old) }
         ensures line { IfSome result (λ r. IsLineAnswered conn piece.now start r.0 r.1 self.old self.new) }
     {
         let mut request = Request::Dropped;
@@ -92,8 +93,8 @@ impl<'a, R: Rows> Core<'a, R> {
         request: &mut Request,
     ) -> Option<usize>
         requires { start ≤ length piece.now }
-        ensures heard { (option_map (λ stop. (stop, request.new)) result, self.new)
-            ≡ heard_at conn piece.now start self.old }
+        ensures found { (option_map (λ stop. (stop, request.new)) result, self.new)
+            ≡ next_request_at conn piece.now start self.old }
         ensures sound { IsSound self.new }
     {
         let connection = self.connections.get_mut(conn)?;
