@@ -44,15 +44,15 @@ impl<S: System> Sockets<S> {
         self.peers.iter().any(|peer| peer.goes_first(clock))
     }
 
-    /// Returns whether the lines of a peer go behind those of others: not every line may go now, the peer is not
-    /// silent, and input is held of one that is.
+    /// Returns whether the lines of a peer are delivered after those of others: not every line may be delivered now, the
+    /// peer is not silent, and input is held of one that is.
     fn goes_behind(&self, peer: &Peer) -> bool
         ensures { result ≡ goes_behind self.now.turn self.now.peers.items peer.now }
     {
         self.turn.is_slow() && !peer.is_silent(self.turn.clock) && self.has_silent()
     }
 
-    /// Reads the bytes that came from a peer. The lines of a silent peer go first.
+    /// Reads the bytes that came from a peer. The lines of a silent peer are delivered first.
     ///
     /// # Errors
     /// Returns `Read` if the peer is lost or not there, unless the turn reported another end.
