@@ -8,19 +8,7 @@ ghost use Rattle.srcp_text.specs.Words.{number_of, plain_number_of, has_leading_
 pub fn read_number(word: &[u8], max: u32) -> Option<u32>
     ensures { result ≡ number_of max word.now }
 {
-    if word.is_empty() {
-        return None;
-    }
-    let mut number: u64 = 0;
-    for byte in word {
-        if !byte.is_ascii_digit() {
-            return None;
-        }
-        number = 10 * number + u64::from(byte - b'0');
-        if number > u64::from(max) {
-            return None;
-        }
-    }
+    let number = number_within(word, u64::from(max))?;
     Some(number as u32)
 }
 
@@ -48,7 +36,10 @@ fn number_within(word: &[u8], max: u64) -> Option<u64>
             return None;
         }
         let digit = u64::from(byte - b'0');
-        number = number.checked_mul(10)?.checked_add(digit)?;
+        if number > max / 10 || digit > max - 10 * number {
+            return None;
+        }
+        number = 10 * number + digit;
     }
-    if number <= max { Some(number) } else { None }
+    Some(number)
 }
