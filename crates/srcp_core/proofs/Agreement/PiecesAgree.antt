@@ -174,7 +174,7 @@ module _ (buses : List Bus) (order : IsRisingBy key_at (shown_rows (opening buse
   pub record IsLined (grants : List Bool) (start stop : ℕ) (granted : Bool) (held new : Held) (r : Recording) : Type 0 where
     pub upto : IsUpTo (grants ++ granted ∷ []) stop new
     pub tells : Records (noted n (steps_of_line granted (next_request_at key piece start held)) r)
-      (world_upto (grants ++ granted ∷ []) stop)
+        (world_upto (grants ++ granted ∷ []) stop)
 
   -- what the reader finds
   abbrev finds : Held → Place → Fed → Reading → Option (ℕ × Request) × Held

@@ -272,7 +272,7 @@ pub record AreAnswered (key : ℕ) (piece : List ℕ) (first : Held) (start : �
 
 counts_push : (key : ℕ) (piece : List ℕ) (grants : List Bool) (before : ℕ × Held) (granted : Bool) → CountsEach key piece before grants
     → CountsEach key piece
-      (fold (λ before granted. line_answered key granted before (next_request_at key piece before.0 before.1)) before grants)
+    (fold (λ before granted. line_answered key granted before (next_request_at key piece before.0 before.1)) before grants)
     (granted ∷ [])
     → CountsEach key piece before (grants ++ granted ∷ [])
 counts_push key piece [] before granted a e = e

@@ -1,7 +1,8 @@
 use Rattle.std.proofs.Common.{◌∙◌, sym, ◌+◌, ◌<◌, take, refl, arith}
 use Rattle.std.specs.Str.Parse.{digits_value}
 use Rattle.srcp_text.proofs.NumberLaws.{number_of_other, number_of_large, digits_value_next, all_ascii_digits_more}
-use Rattle.srcp_text.proofs.number.number_within.Goals.{then-number-max-via-then-number-max, then-number-max-via-else-number-max+then-digit-max}
+use Rattle.srcp_text.proofs.number.number_within.Goals.{then-number-max-via-then-number-max}
+use Rattle.srcp_text.proofs.number.number_within.Goals.{then-number-max-via-else-number-max+then-digit-max}
 use Rattle.srcp_text.proofs.number.number_within.Goals as goal
 
 pub returns-then-not-is_ascii_digit : goal.returns-then-not-is_ascii_digit
@@ -17,7 +18,7 @@ returns-then-number-max c =
     let next = digits_value_next word i c.loop-byte-test.true digit in
     let large : c.args.max < digits_value 10 (take (i + 1) word) =
     elim c.then-number-max.branch [
-      then-number-max-via-then-number-max w ↦ omega (arith, next, c.loop-byte.invariant.value, w.if-number-max.true)
+      | then-number-max-via-then-number-max w ↦ omega (arith, next, c.loop-byte.invariant.value, w.if-number-max.true)
       | then-number-max-via-else-number-max+then-digit-max w ↦
           omega (
             arith,
