@@ -20,17 +20,6 @@ pub const LINE_CAPACITY: usize = 128;
 /// Holds a line of a change or of a reply.
 pub type InfoLine = WrittenLine<LINE_CAPACITY>;
 
-/// Appends a fixed number of bytes by a push of each, which costs less than a copy.
-#[inline(always)]
-fn put_fixed<const M: usize, const N: usize>(bytes: &[u8; M], buffer: &mut WrittenLine<N>)
-    requires { length buffer.old + length bytes.now ≤ N }
-    ensures { buffer.new ≡ buffer.old ++ bytes.now }
-{
-    for byte in bytes {
-        buffer.push(*byte);
-    }
-}
-
 /// Appends a space and a word.
 fn put_word<const N: usize>(word: &[u8], buffer: &mut WrittenLine<N>)
     requires { length buffer.old + 1 + length word.now ≤ N }
@@ -46,7 +35,7 @@ fn put_letter<const N: usize>(letter: Letter, buffer: &mut WrittenLine<N>)
     ensures { buffer.new ≡ buffer.old ++ 32 ∷ letter_word letter }
 {
     buffer.push(b' ');
-    put_fixed(letter_word(letter), buffer);
+    buffer.push_all(letter_word(letter));
 }
 
 /// Appends a space and a bit: 1 for on, 0 for off.
@@ -87,13 +76,13 @@ fn put_group<const N: usize>(group: Group, buffer: &mut WrittenLine<N>)
     ensures { buffer.new ≡ buffer.old ++ after_spaces (group_words group) }
 {
     match group {
-        Group::Session => put_fixed(b" SESSION", buffer),
-        Group::Power => put_fixed(b" POWER", buffer),
-        Group::Gl => put_fixed(b" GL", buffer),
-        Group::Ga => put_fixed(b" GA", buffer),
-        Group::Fb => put_fixed(b" FB", buffer),
-        Group::LockGl => put_fixed(b" LOCK GL", buffer),
-        Group::LockGa => put_fixed(b" LOCK GA", buffer),
+        Group::Session => buffer.push_all(b" SESSION"),
+        Group::Power => buffer.push_all(b" POWER"),
+        Group::Gl => buffer.push_all(b" GL"),
+        Group::Ga => buffer.push_all(b" GA"),
+        Group::Fb => buffer.push_all(b" FB"),
+        Group::LockGl => buffer.push_all(b" LOCK GL"),
+        Group::LockGa => buffer.push_all(b" LOCK GA"),
     }
 }
 
@@ -192,8 +181,8 @@ fn put_info<const N: usize>(
 {
     put_stamp(moment, buffer);
     buffer.push(b' ');
-    put_fixed(code, buffer);
-    put_fixed(b" INFO", buffer);
+    buffer.push_all(code);
+    buffer.push_all(b" INFO");
     put_numeral(u32::from(bus), buffer);
     put_group(group, buffer);
 }

@@ -28,12 +28,13 @@ pub fn put_number<const N: usize>(number: u64, line: &mut WrittenLine<N>)
     if number < 10 {
         line.push(b'0' + number as u8);
     } else if number < 100 {
-        line.push(b'0' + (number / 10) as u8);
-        line.push(b'0' + (number % 10) as u8);
+        line.push_all(&[b'0' + (number / 10) as u8, b'0' + (number % 10) as u8]);
     } else if number < 1000 {
-        line.push(b'0' + (number / 100) as u8);
-        line.push(b'0' + (number / 10 % 10) as u8);
-        line.push(b'0' + (number % 10) as u8);
+        line.push_all(&[
+            b'0' + (number / 100) as u8,
+            b'0' + (number / 10 % 10) as u8,
+            b'0' + (number % 10) as u8,
+        ]);
     } else if number < 10_000 {
         put_four_digits(number, line);
     } else {
@@ -48,10 +49,12 @@ fn put_four_digits<const N: usize>(number: u64, line: &mut WrittenLine<N>)
     requires fits { length line.old + length (decimal number) ≤ N }
     ensures { line.new ≡ line.old ++ decimal number }
 {
-    line.push(b'0' + (number / 1000) as u8);
-    line.push(b'0' + (number / 100 % 10) as u8);
-    line.push(b'0' + (number / 10 % 10) as u8);
-    line.push(b'0' + (number % 10) as u8);
+    line.push_all(&[
+        b'0' + (number / 1000) as u8,
+        b'0' + (number / 100 % 10) as u8,
+        b'0' + (number / 10 % 10) as u8,
+        b'0' + (number % 10) as u8,
+    ]);
 }
 
 /// Appends a number of five digits or more. A call of its own spares shorter numbers the buffer.
@@ -72,10 +75,12 @@ pub fn put_stamp<const N: usize>(moment: u64, line: &mut WrittenLine<N>)
     requires { length line.old + length (stamp moment) ≤ N }
     ensures { line.new ≡ line.old ++ stamp moment }
 {
-    put_number(moment / 1000, line);
+    let mut text = [0; 24];
     let thousandths = moment % 1000;
-    line.push(b'.');
-    line.push(b'0' + (thousandths / 100) as u8);
-    line.push(b'0' + (thousandths / 10 % 10) as u8);
-    line.push(b'0' + (thousandths % 10) as u8);
+    text[20] = b'.';
+    text[21] = b'0' + (thousandths / 100) as u8;
+    text[22] = b'0' + (thousandths / 10 % 10) as u8;
+    text[23] = b'0' + (thousandths % 10) as u8;
+    let start = itoa::write_digits(moment / 1000, &mut text, 20);
+    put_bytes(&text[start..], line);
 }

@@ -46,6 +46,20 @@ impl<const N: usize> WrittenLine<N> {
         self.len += 1;
     }
 
+    /// Appends a fixed number of bytes, which costs less than `extend`. The line must have capacity for these bytes.
+    #[inline(always)]
+    pub fn push_all<const M: usize>(&mut self, bytes: &[u8; M])
+        requires { length self.old + length bytes.now ≤ N }
+        ensures line { self.new ≡ self.old ++ bytes.now }
+        ensures len { length self.new ≡ length self.old + length bytes.now }
+    {
+        let start = self.len;
+        for index in 0..M {
+            self.bytes[start + index] = bytes[index];
+        }
+        self.len = start + M;
+    }
+
     /// Appends bytes as they are. The line must have capacity for these bytes.
     #[inline(always)]
     pub fn extend(&mut self, bytes: &[u8])

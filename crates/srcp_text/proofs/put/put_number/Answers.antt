@@ -7,22 +7,11 @@ use Rattle.srcp_text.proofs.put.put_number.Goals as goal
 pub push-requires : goal.push-requires
 push-requires g c = let room = rw (decimal_digit c.args.number (omega arith)) at c.requires in search rules
 
-pub push-requires-then-number-lt100 : goal.push-requires-then-number-lt100
-push-requires-then-number-lt100 g c = let room = rw (decimal_two c.args.number (omega arith) (omega arith)) at c.requires in search rules
+pub push_all-requires : goal.push_all-requires
+push_all-requires g c = let room = rw (decimal_two c.args.number (omega arith) (omega arith)) at c.requires in search rules
 
-pub push-requires-then-number-lt100-2 : goal.push-requires-then-number-lt100-2
-push-requires-then-number-lt100-2 g c = let room = rw (decimal_two c.args.number (omega arith) (omega arith)) at c.requires in search rules
-
-pub push-requires-then-number-lt1000 : goal.push-requires-then-number-lt1000
-push-requires-then-number-lt1000 g c =
-    let room = rw (decimal_three c.args.number (omega arith) (omega arith)) at c.requires in search rules
-
-pub push-requires-then-number-lt1000-2 : goal.push-requires-then-number-lt1000-2
-push-requires-then-number-lt1000-2 g c =
-    let room = rw (decimal_three c.args.number (omega arith) (omega arith)) at c.requires in search rules
-
-pub push-requires-then-number-lt1000-3 : goal.push-requires-then-number-lt1000-3
-push-requires-then-number-lt1000-3 g c =
+pub push_all-requires-then-number-lt1000 : goal.push_all-requires-then-number-lt1000
+push_all-requires-then-number-lt1000 g c =
     let room = rw (decimal_three c.args.number (omega arith) (omega arith)) at c.requires in search rules
 
 pub returns-then-number-lt10 : goal.returns-then-number-lt10
