@@ -29,6 +29,10 @@ flush_threshold = 3160
 abbrev pub most_twice : ℕ
 most_twice = 500
 
+-- the part by which a wait for what falls due ends early: a 128th
+abbrev pub early_part : ℕ
+early_part = 128
+
 -- the milliseconds of a wait for what falls due, at most
 abbrev pub longest_sleep : ℕ
 longest_sleep = 3600000

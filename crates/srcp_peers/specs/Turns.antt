@@ -18,7 +18,7 @@ use Rattle.srcp_door.specs.Calls.{Call, ExpectCall, NowCall, AcceptCall, ReadCal
 use Rattle.srcp_peers.specs.declared.readiness.Flush.{Flush}
 use Rattle.srcp_peers.specs.declared.readiness.Flush.TheVariants.{Again, All, Answers}
 use Rattle.srcp_peers.specs.declared.turn.Turn.{Turn}
-use Rattle.srcp_peers.specs.Limits.{most_twice, tick}
+use Rattle.srcp_peers.specs.Limits.{early_part, most_twice, tick}
 
 -- the turn that follows nothing, if the wall clock and the monotonic clock showed this at the start
 abbrev pub first_turn : (wall start : ℕ) → Turn
@@ -135,7 +135,7 @@ reported_at turn time moment = record (begun turn (ticks turn time)) {
 
 -- a wait for what falls due ends earlier by a 128th
 abbrev pub earlier : ℕ → ℕ
-earlier left = left - left / 128
+earlier left = left - left / early_part
 
 -- how long the next wait may be, if something falls due: not at all in a turn that is late
 abbrev pub time_left : Turn → Option ℕ

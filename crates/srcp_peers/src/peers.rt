@@ -7,6 +7,7 @@ ghost use Rattle.srcp_peers.specs.Times.{KeepsTimes};
 ghost use Rattle.srcp_peers.specs.Peers.{Spares, IsRead, after_wake};
 ghost use Rattle.srcp_peers.specs.AllPeers.{AreApart, AreBegun, AreKept, AreShared, AreOffered, AreShutDown, AreThose};
 ghost use Rattle.srcp_peers.specs.AllPeers.{IsAbsent, KeepEndings};
+ghost use Rattle.srcp_peers.specs.Limits.{most_drained};
 ghost use Rattle.srcp_peers.specs.Listeners.{woken_listening};
 
 use crate::lingering::reads_each;
@@ -24,7 +25,7 @@ pub fn flush<S: System>(system: &mut Logged<S>, peers: &mut [Peer], what: Flush)
     ensures those { AreThose peers.old peers.new }
     ensures others { (other : ℕ) → IsAbsent other peers.old → Spares other system.old.log.steps system.new.log.steps }
     ensures calls { SaysNothing system.old.log.steps system.new.log.steps }
-    ensures most { GrowsBy (2 * length peers.old + 64) system.old.log.steps system.new.log.steps }
+    ensures most { GrowsBy (2 * length peers.old + most_drained) system.old.log.steps system.new.log.steps }
     ensures times { KeepsTimes system.old.log.steps system.new.log.steps }
     ensures offered { AreOffered what peers.old system.old.log.steps system.new.log.steps }
     ensures shut { AreShutDown peers.old peers.new }

@@ -27,7 +27,7 @@ const TICK: u64 = 1;
 
 /// A wait for a due moment ends early by this part of the wait. The system may end a wait late by a thousandth of the
 /// wait, or a two-hundredth for a process of low priority. The turns behind the wait spend the rest.
-const EARLIER: u64 = 128;
+const EARLY_PART: u64 = 128;
 
 /// In a turn behind a late turn, the moment goes on at twice the clock's speed, for this many milliseconds at most.
 const MOST_TWICE: u64 = 500;
@@ -341,7 +341,7 @@ fn is_behind(slack: Option<usize>) -> bool
 fn earlier(left: u64) -> u64
     ensures { result ≡ earlier left }
 {
-    left - left / EARLIER
+    left - left / EARLY_PART
 }
 
 /// The longest wait in milliseconds if a call of the system is to be made again, or a peer lingers.

@@ -9,6 +9,10 @@ most_peers = 129
 abbrev pub most_lingering : ℕ
 most_lingering = 64
 
+-- the most sockets that a wait finds ready
+abbrev pub most_ready : ℕ
+most_ready = 128
+
 -- the most waits in which a door delivers at its end
 abbrev pub most_last_waits : ℕ
 most_last_waits = 1000000

@@ -1,6 +1,7 @@
 //! Serves real sockets: the theorem from the core to the system call.
 
 ghost use Rattle.std.specs.Prelude.{◌≡◌, ◌<◌, ◌+◌};
+ghost use Rattle.srcp_info.specs.Limits.{greatest_u64};
 ghost use Rattle.srcp_sockets.specs.Follows.{Follows};
 
 use crate::door::SocketDoor;
@@ -19,7 +20,7 @@ pub fn serve_sockets<R: Rows, S: System>(
     turns: u64,
 ) -> Served
     ensures turns { result.turns ≡ turns }
-    ensures faults { door.new.faults < 18446744073709551615 → door.old.faults + result.faults ≡ door.new.faults }
+    ensures faults { door.new.faults < greatest_u64 → door.old.faults + result.faults ≡ door.new.faults }
     ensures course { Follows turns result.opened core.old door.old.sockets.system.log.steps
         core.new door.new.sockets.system.log.steps }
 {

@@ -3,6 +3,7 @@
 ghost use Rattle.std.specs.Prelude.{◌≡◌, length, All, true, false};
 ghost use Rattle.srcp_sockets.specs.Delivery.{HasEnded, HaveEnded, is_over};
 ghost use Rattle.srcp_sockets.specs.Doors.{AreStanding};
+ghost use Rattle.srcp_sockets.specs.Limits.{most_ready};
 ghost use Rattle.srcp_peers.specs.AllPeers.{AreApart, AreKept, AreOffered};
 ghost use Rattle.srcp_peers.specs.Peers.{is_waiting};
 
@@ -22,7 +23,7 @@ pub(crate) fn deliver<S: System>(
 )
     requires kept { AreKept system.old.log.steps peers.old }
     requires apart { AreApart peers.old }
-    requires ready { length ready.old ≡ 128 }
+    requires ready { length ready.old ≡ most_ready }
     ensures kept { AreKept system.new.log.steps peers.new }
     ensures ended { HaveEnded until system.old.log.steps system.new.log.steps peers.new }
     ensures standing { AreStanding system.old.log.steps peers.old → AreStanding system.new.log.steps peers.new }

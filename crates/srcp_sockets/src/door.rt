@@ -5,7 +5,7 @@ ghost use Rattle.std.specs.Prelude.{IfOk, OnOk, OnErr, length, vec_capacity};
 ghost use Rattle.srcp_door.specs.Calls.{ReadCall, one_more};
 ghost use Rattle.srcp_peers.specs.Steps.{SaysOne};
 ghost use Rattle.srcp_peers.specs.Turns.{first_turn, got_bytes};
-ghost use Rattle.srcp_sockets.specs.Limits.{most_peers};
+ghost use Rattle.srcp_sockets.specs.Limits.{most_peers, most_ready};
 ghost use Rattle.srcp_sockets.specs.Loads.{AnswersFairly, AnswersFairly-prop};
 ghost use Rattle.srcp_sockets.specs.Work.{IsPeerRead};
 
@@ -24,7 +24,7 @@ pub struct SocketDoor<S: System> {
     alloc: Global,
     ready: Vec<Ready>,
     faults: u64,
-    ghost most: { length ready.items ≡ 128 },
+    ghost most: { length ready.items ≡ most_ready },
     ghost fair: { AnswersFairly sockets.system.log.steps } by { AnswersFairly-prop _ },
 }
 

@@ -13,10 +13,11 @@ ghost use Rattle.srcp_sockets.specs.Work.{AreClosedUp, IsClocked, IsPeerRead, Is
 ghost use Rattle.srcp_sockets.specs.Work.{is_close};
 ghost use Rattle.srcp_sockets.specs.Facts.{Stands-prop};
 ghost use Rattle.std.specs.List.{list_any};
-ghost use Rattle.srcp_sockets.specs.Limits.{most_peers};
+ghost use Rattle.srcp_sockets.specs.Limits.{most_lingering, most_peers, most_ready};
 ghost use Rattle.srcp_sockets.specs.Names.{IsNamed, IsNamed-prop};
 ghost use Rattle.srcp_sockets.specs.KeptTimes.{IsTimed, IsTimed-prop};
 ghost use Rattle.srcp_peers.specs.Accounts.{is_short_wait};
+ghost use Rattle.srcp_peers.specs.Limits.{most_drained};
 ghost use Rattle.srcp_peers.specs.Peers.{goes_first};
 ghost use Rattle.srcp_peers.specs.Peers.{Makes, flushes_all, is_resting, holds_input, is_closable, is_here};
 ghost use Rattle.srcp_peers.specs.Times.{KeepsTimes};
@@ -96,9 +97,9 @@ impl<S: System> Sockets<S> {
     /// bytes are flushed once the clock went on, or before a wait. Until then the system is not asked who is ready
     /// while input is held.
     pub(crate) fn begin_turn(&mut self, ready: &mut [Ready])
-        requires ready { length ready.old ≡ 128 }
+        requires ready { length ready.old ≡ most_ready }
         ensures calls { SaysNothing self.old.system.log.steps self.new.system.log.steps }
-        ensures most { GrowsBy (3 * length self.old.peers.items + 129)
+        ensures most { GrowsBy (3 * length self.old.peers.items + (most_drained + most_lingering + 1))
             self.old.system.log.steps self.new.system.log.steps }
         ensures read { AreRead self.new.system.log.steps }
         ensures may { MayTell self.new.system.log.steps }
@@ -171,7 +172,7 @@ impl<S: System> Sockets<S> {
 
     /// Waits unless `held` says that the turn goes on with held input.
     fn poll_unless_held(&mut self, held: bool, ready: &mut [Ready])
-        requires ready { length ready.old ≡ 128 }
+        requires ready { length ready.old ≡ most_ready }
         requires may { held ≡ false → IsWaitDone self.old.turn.timekeeper.wall self.old.turn.timekeeper.start
             self.old.system.log.steps }
         ensures calls { SaysNothing self.old.system.log.steps self.new.system.log.steps }
@@ -196,7 +197,7 @@ impl<S: System> Sockets<S> {
     /// Flushes each peer that is there, and goes on with the lingering peers.
     fn flush(&mut self, what: Flush)
         ensures calls { SaysNothing self.old.system.log.steps self.new.system.log.steps }
-        ensures most { GrowsBy (2 * length self.old.peers.items + 64)
+        ensures most { GrowsBy (2 * length self.old.peers.items + most_drained)
             self.old.system.log.steps self.new.system.log.steps }
         ensures as_many { length self.new.peers.items ≡ length self.old.peers.items }
         ensures offered { AreOffered what self.old.peers.items self.old.system.log.steps self.new.system.log.steps }
@@ -212,7 +213,7 @@ impl<S: System> Sockets<S> {
     /// Waits until a socket is ready, but no longer than until there is other work to do. Notes which sockets are
     /// ready.
     fn wait(&mut self, ready: &mut [Ready])
-        requires ready { length ready.old ≡ 128 }
+        requires ready { length ready.old ≡ most_ready }
         requires may { IsWaitDone self.old.turn.timekeeper.wall self.old.turn.timekeeper.start
             self.old.system.log.steps }
         ensures calls { SaysNothing self.old.system.log.steps self.new.system.log.steps }
@@ -282,7 +283,7 @@ impl<S: System> Sockets<S> {
 
     /// Delivers the bytes that were taken, for 10 seconds at most, and returns the system.
     pub(crate) fn deliver(self, ready: &mut [Ready]) -> Logged<S>
-        requires ready { length ready.old ≡ 128 }
+        requires ready { length ready.old ≡ most_ready }
         ensures ended { HasEnded (linger_end self.turn.clock) self.system.log.steps result.log.steps }
         ensures offered { AreOffered Flush.All self.peers.items self.system.log.steps result.log.steps }
     {
@@ -349,7 +350,7 @@ impl<S: System> Sockets<S> {
     /// Closes the sockets of the lingering peers with nothing left to do, `MOST_LINGERING` sockets at most.
     fn close_gone(&mut self)
         ensures calls { SaysNothing self.old.system.log.steps self.new.system.log.steps }
-        ensures most { GrowsBy 64 self.old.system.log.steps self.new.system.log.steps }
+        ensures most { GrowsBy most_lingering self.old.system.log.steps self.new.system.log.steps }
         ensures as_few { length self.new.peers.items ≤ length self.old.peers.items }
         ensures last { self.new.last ≡ self.old.last }
         ensures times { KeepsTimes self.old.system.log.steps self.new.system.log.steps }
