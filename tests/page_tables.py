@@ -10,8 +10,11 @@ KEYS = {"port": (1, "GREATEST_PORT", "DEFAULT_PORT"), "number": (1, "GREATEST_BU
         "fb_ports": (1, "GREATEST_FB")}
 # The milliseconds of a second, which are as many as the most steps of a decoder.
 OTHER_NUMBERS = (1000,)
-# A number in definitions that is as great as a limit and is none: what a byte is less than.
-NO_LIMITS = (("srcp_info/specs/WellFormed.antt", 256),)
+# A number in a definition or a clause that is as great as a limit and is none: what a byte is less than, what a number
+# of four digits is less than, the nanoseconds of a millisecond, and the bytes of an order's first words.
+NO_LIMITS = (("srcp_info/specs/WellFormed.antt", 256), ("srcp_text/src/put.rt", 10_000),
+             ("srcp_sockets/src/mio_system.rt", 1_000_000), ("srcp_interlock/src/orders.rt", 64),
+             ("srcp_interlock/src/orders.rt", 80))
 
 
 def rows_under(page, heading):
@@ -146,16 +149,28 @@ def definitions_named_as_constants(_):
     return None if len(pins) > 25 else f"{len(pins)} definitions"
 
 
+def clauses_of(code):
+    """Returns the lines of the clauses of a source file: from each word that begins one to the brace that ends it."""
+    for begun in re.finditer(r"^ *(?:requires|ensures|ghost)\b[^{;]*", code, re.M):
+        depth, end = 0, begun.end()
+        while end < len(code) and (depth or end == begun.end()):
+            depth += {"{": 1, "}": -1}.get(code[end], 0)
+            end += 1
+        yield from code[begun.start():end].splitlines()
+
+
 def limits_that_stand_once(_):
-    """Asserts that no limit has two definitions, and that its number stands nowhere else in definitions."""
+    """Asserts that no limit has two definitions, and that its number stands nowhere else in definitions or clauses."""
     pins = pins_of_the_definitions()
     names = [name for _, name, _ in pins]
     if twice := sorted({name for name in names if names.count(name) > 1}):
         return f"defined twice: {twice}"
     numbers = {number for _, _, number in pins if number > 9 and number not in OTHER_NUMBERS}
-    for file in CRATES.glob("*/specs/**/*.antt"):
+    stated = [(file, file.read_text().splitlines()) for file in CRATES.glob("*/specs/**/*.antt")]
+    stated += [(file, clauses_of(file.read_text())) for file in CRATES.glob("*/src/**/*.rt")]
+    for file, lines in stated:
         place = file.relative_to(CRATES)
-        for line in file.read_text().splitlines():
+        for line in lines:
             said = re.sub(r'--.*|codes "[^"]*"|^\w+ = \d+$|\^ \d+', "", line)
             for number in numbers & {int(word) for word in re.findall(r"(?<![\w.])\d+", said)}:
                 if (str(place), number) not in NO_LIMITS:
