@@ -1,6 +1,7 @@
 """What sessions that send without end do to panels that read, and to sessions that wait for a reply."""
 import os
 import signal
+import selectors
 import socket
 import threading
 import time
@@ -22,7 +23,10 @@ ROWS = 1_000
 LONGEST_END = 4
 CLOSED = 1
 # A share is 19 lines of 13 bytes. Five shares weigh one less than the lines of a turn, so the sixth is cut.
-SENDERS = 6
+# How many sessions send without end, and for how long what each is answered is counted.
+SENDERS = (2, 6, 32, 63)
+SETS_AT_ONCE = 1_000
+SECONDS_OF_SHARES = 2
 MOST_AHEAD = 1.5
 
 
@@ -158,28 +162,31 @@ def quiet_replies(program, behind):
 
 
 def sessions_that_do_not_wait_have_like_shares(program):
-    """Of sessions that send without end none is answered half as often again as another."""
-    with served(program) as (port, _):
-        throttles = [Client(port, "COMMAND") for _ in range(SENDERS)]
-        answered = [0] * SENDERS
-        readers = [threading.Thread(target=count_replies, args=(throttle, answered, index))
-                   for index, throttle in enumerate(throttles)]
-        commands = b"SET 1 FB 1 1\n" * SETS
-        senders = [threading.Thread(target=send_all, args=(throttle, commands)) for throttle in throttles]
-        with running(readers), running(senders):
-            time.sleep(1)
-            told = list(answered)
-            shut(throttles)
-    return None if max(told) < MOST_AHEAD * min(told) else f"the sessions are answered {told} times"
+    """Of few and of many sessions that send without end none is answered half as often again as another."""
+    for count in SENDERS:
+        told = replies_to_each(program, count)
+        if max(told) >= MOST_AHEAD * min(told):
+            return f"the sessions are answered {told} times"
+    return None
 
 
-def count_replies(throttle, answered, index):
-    """Counts the replies that a session reads until its connection is shut."""
-    try:
-        while piece := throttle.socket.recv(1 << 16):
-            answered[index] += piece.count(b"\n")
-    except OSError:
-        pass
+def replies_to_each(program, count):
+    """Returns how often each of so many sessions that send without end is answered within some time."""
+    commands = memoryview(b"SET 1 FB 1 1\n" * SETS_AT_ONCE)
+    answered, sent = [0] * count, [0] * count
+    with served(program) as (port, _), selectors.DefaultSelector() as selector:
+        for index in range(count):
+            throttle = Client(port, "COMMAND").socket
+            throttle.setblocking(False)
+            selector.register(throttle, selectors.EVENT_READ | selectors.EVENT_WRITE, index)
+        end = time.monotonic() + SECONDS_OF_SHARES
+        while time.monotonic() < end:
+            for key, ready in selector.select(1):
+                if ready & selectors.EVENT_READ:
+                    answered[key.data] += key.fileobj.recv(1 << 16).count(b"\n")
+                if ready & selectors.EVENT_WRITE:
+                    sent[key.data] += key.fileobj.send(commands[sent[key.data] % len(commands):])
+    return answered
 
 
 def commands_in_one_go(program):
