@@ -16,3 +16,4 @@ pub mod EndsAreTold
 pub mod ReadsAnswerInTime
 pub mod WaitsAreFlushed
 pub mod AnswersAreBounded
+pub mod SettledPanelsHold

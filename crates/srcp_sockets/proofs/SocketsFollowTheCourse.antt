@@ -21,7 +21,7 @@ use Rattle.srcp_door.specs.declared.door.Got.TheVariants as got
 use Rattle.srcp_peers.proofs.AccountsHoldStreams.{gave_is, handed_is, taken_is, took_is}
 
 -- what a peer took by the calls with what memory answered is what it took by the calls
-taken_trace : (peer : ℕ) (trace : List Call) → given_taken peer trace ≡ flat_map (taken_in peer) (map door_call trace)
+pub taken_trace : (peer : ℕ) (trace : List Call) → given_taken peer trace ≡ flat_map (taken_in peer) (map door_call trace)
 taken_trace peer [] = refl
 taken_trace peer (WriteCall who bytes (Ok count) ∷ trace) = ap (λ xs. (if who == peer then take count bytes else []) ++ xs)
     (taken_trace peer trace)
@@ -35,7 +35,7 @@ handed_trace peer (ReadCall who (Ok (got.Bytes count)) buffer grants ∷ trace) 
 handed_trace peer (other ∷ trace) = handed_trace peer trace
 
 -- the elements of two lists that are mapped to one
-at_index : {X Y : Type 0} (f : X → List ℕ) (g : Y → List ℕ) (xs : List X) (ys : List Y) → map f xs ≡ map g ys
+pub at_index : {X Y : Type 0} (f : X → List ℕ) (g : Y → List ℕ) (xs : List X) (ys : List Y) → map f xs ≡ map g ys
     → (k : ℕ) (x : X) (y : Y) → k < length xs → f (slice_index_or xs k x) ≡ g (slice_index_or ys k y)
 at_index f g xs ys same k x y within =
     let long : length xs ≡ length ys = sym (length-map xs f) ∙ ap length same ∙ length-map ys g in

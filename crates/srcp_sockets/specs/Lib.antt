@@ -11,5 +11,6 @@ pub mod Limits
 pub mod Loads
 pub mod Names
 pub mod Panels
+pub mod Settled
 pub mod Waits
 pub mod Work

@@ -21,6 +21,7 @@ ghost use Rattle.srcp_sockets.specs.KeptTimes.{AreKeptTimes, ArePaced};
 ghost use Rattle.srcp_sockets.specs.Limits.{most_lingering};
 ghost use Rattle.srcp_sockets.specs.Loads.{AreBounded, load};
 ghost use Rattle.srcp_sockets.specs.Panels.{PanelsAreKept};
+ghost use Rattle.srcp_sockets.specs.Settled.{SettledPanelsHold};
 ghost use Rattle.srcp_peers.specs.Times.{times};
 ghost use Rattle.srcp_peers.specs.Turns.{got_bytes, reports_end};
 ghost use Rattle.srcp_peers.specs.Streams.{gave, handed, taken, took};
@@ -251,6 +252,14 @@ pub fn panels_are_kept<S: System>(door: &SocketDoor<S>)
 {
     let _sockets = &door.sockets;
 }
+
+/// States what a settled panel holds, for all that `serve_sockets` ensures of a core and a log. Let the information
+/// session of a connection be settled, and let the socket have taken all bytes taken for the peer. Then the socket took
+/// all that the connection was sent (`all`). A client that applies all lines behind the replies holds exactly the
+/// registry (`client`), which is that of the core (`registry`). The core's moment has 64 bits, as that of each `Core`.
+pub fn settled_panels_hold_the_registry()
+    ensures { SettledPanelsHold }
+{}
 
 /// States how many calls of the system the door made for an answer, counted from the previous answer. For a moment
 /// there were at most 517: a write, a shutdown and a read of each of 129 peers, 64 reads and 64 closes of those that
