@@ -1,7 +1,9 @@
 //! The system of the machine: mio's sockets and a clock. Each call finds the socket of a number and makes the system
 //! call. A wait that failed or was ended early is followed by a rest.
 
-ghost use Rattle.std.specs.Prelude.{◌≡◌, ◌/◌, IfOk, ◌<◌, IfSome, length, min};
+ghost use Rattle.std.specs.Prelude.{◌≡◌, ◌≢◌, ◌/◌, ◌-◌, ◌||◌, IfOk, ◌<◌, IfNone, IfSome, length, min, All};
+ghost use Rattle.std.specs.Prelude.{None, Some, false, true, if◌then◌else◌, nat_lt, slice_index_or};
+ghost use Rattle.std.specs.List.Sorted.{IsNonDecreasingBy};
 ghost use Rattle.std.specs.Duration.{as_nanos};
 ghost use Rattle.srcp_info.specs.Limits.{greatest_u64};
 
@@ -20,7 +22,7 @@ use std::vec::Vec;
 /// The listener's token; the token of a socket is the socket's number.
 const LISTENER: Token = Token(0);
 
-/// How long the system sleeps after a wait that failed, in milliseconds.
+/// How long the system rests after a wait that failed or ended early, in milliseconds.
 const FAILED_WAIT: u64 = 8;
 
 /// A socket with its number.
@@ -102,13 +104,16 @@ impl<C: Clock + Drop> MioSystem<C> {
     }
 
     /// Returns whether a wait that found no socket ready ended before its time of `most` milliseconds. A signal ends a
-    /// wait early.
-    fn ends_early(&self, most: Option<u64>) -> bool {
+    /// wait early. A wait with no limit always ended early, and a wait of 0 ms never.
+    fn ends_early(&self, most: Option<u64>) -> bool
+        ensures unlimited { most ≡ None → result ≡ true }
+        ensures at_once { most ≡ Some 0 → result ≡ false }
+    {
         match most {
             Some(0) => false,
             Some(most) => self
                 .read_clock()
-                .is_some_and(|now| now.saturating_sub(self.shown) < most),
+                .is_some_and(|now| is_early(self.shown, now, most)),
             None => true,
         }
     }
@@ -121,22 +126,32 @@ impl<C: Clock + Drop> MioSystem<C> {
         Ok(&mut self.sockets[index])
     }
 
-    /// Returns the index of a socket. The search begins behind the last socket that was asked, since sockets are asked
-    /// by rising numbers.
+    /// Returns the index of a socket with this number. If the numbers rise, `None` says that no socket has the number.
+    /// The search begins behind the last socket that was asked, since sockets are asked by rising numbers.
     fn index_of(&self, number: u32) -> Option<usize>
-        ensures { IfSome result (λ index. index < length self.now.sockets.items) }
+        ensures found { IfSome result (λ index. (index < length self.now.sockets.items)
+            × ((d : Socket) → (slice_index_or self.now.sockets.items index d).number ≡ number)) }
+        ensures absent { IsNonDecreasingBy (λ socket. socket.number) self.now.sockets.items
+            → IfNone result (All (λ socket. socket.number ≢ number) self.now.sockets.items) }
     {
         let next = self.recent.saturating_add(1);
-        if self
-            .sockets
-            .get(next)
-            .is_some_and(|socket| socket.number == number)
-        {
+        if self.is_at(next, number) {
             return Some(next);
         }
         self.sockets
             .binary_search_by_key(&number, |socket| socket.number)
             .ok()
+    }
+
+    /// Returns whether there is a socket at this index and it has this number.
+    fn is_at(&self, index: usize, number: u32) -> bool
+        ensures { result ≡ true → (index < length self.now.sockets.items)
+            × ((d : Socket) → (slice_index_or self.now.sockets.items index d).number ≡ number) }
+    {
+        match self.sockets.get(index) {
+            Some(socket) => socket.number == number,
+            None => false,
+        }
     }
 }
 
@@ -178,8 +193,9 @@ impl<C: Clock + Drop> System for MioSystem<C> {
         let waited = self
             .poll
             .poll(&mut self.events, most.map(Duration::from_millis));
-        if waited.is_err() || self.events.is_empty() && self.ends_early(most) {
-            self.clock.sleep(Duration::from_millis(FAILED_WAIT));
+        let early = self.events.is_empty() && self.ends_early(most);
+        if let Some(rest) = rest_after(waited.is_err(), early) {
+            self.clock.sleep(Duration::from_millis(rest));
             return 0;
         }
         let mut count = 0;
@@ -203,6 +219,25 @@ impl<C: Clock + Drop> System for MioSystem<C> {
     fn clock(&mut self) -> Option<u64> {
         self.shown = self.read_clock()?;
         Some(self.shown)
+    }
+}
+
+/// Returns whether fewer than `most` milliseconds passed between two times of the clock, `shown` and `now`.
+fn is_early(shown: u64, now: u64, most: u64) -> bool
+    ensures { result ≡ nat_lt (now - shown) most }
+{
+    now.saturating_sub(shown) < most
+}
+
+/// Returns how long the system rests after a wait, in milliseconds: 8 if the wait failed or ended early. Otherwise it
+/// does not rest.
+fn rest_after(failed: bool, early: bool) -> Option<u64>
+    ensures { result ≡ (if failed || early then Some 8 else None) }
+{
+    if failed || early {
+        Some(FAILED_WAIT)
+    } else {
+        None
     }
 }
 
