@@ -9,6 +9,13 @@ use std::marker::Model;
 
 /// Lends a change, and holds the line of the change if written: all panels then share the line. Contracts see the
 /// change alone.
+///
+/// ```
+/// let told = ChangeLine::new(&change);
+/// for panel in panels {
+///     panel.tell_line(&told);
+/// }
+/// ```
 #[derive(Drop)]
 pub struct ChangeLine<'a> {
     change: &'a Change,

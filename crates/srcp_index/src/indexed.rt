@@ -11,6 +11,11 @@ use std::alloc::Global;
 use std::marker::Model;
 
 /// Holds the rows of a keeper with their indexes. Contracts see the keeper alone.
+///
+/// ```
+/// let rows: Indexed<Nested> = Indexed::empty(alloc, &layout)?;
+/// assert_eq!(rows.earliest_due(), None);
+/// ```
 #[derive(Drop)]
 pub struct Indexed<R: Rows> {
     rows: R,

@@ -34,8 +34,8 @@ fn put_letter<const N: usize>(letter: Letter, buffer: &mut WrittenLine<N>)
     requires { length buffer.old + 1 + length (letter_word letter) ≤ N }
     ensures { buffer.new ≡ buffer.old ++ 32 ∷ letter_word letter }
 {
-    buffer.push(b' ');
-    buffer.push_all(letter_word(letter));
+    let word = letter_word(letter);
+    buffer.push_all(&[b' ', word[0]]);
 }
 
 /// Appends a space and a bit: 1 for on, 0 for off.
@@ -51,16 +51,22 @@ fn put_bit<const N: usize>(on: bool, buffer: &mut WrittenLine<N>)
     buffer.push(b'0');
 }
 
-/// Appends a space and a number.
+/// Appends a space and a number. Most numbers have one digit.
+#[inline(never)]
 fn put_numeral<const N: usize>(number: u32, buffer: &mut WrittenLine<N>)
     requires { length buffer.old + 1 + length (decimal number) ≤ N }
     ensures { buffer.new ≡ buffer.old ++ 32 ∷ decimal number }
 {
+    if number < 10 {
+        buffer.push_all(&[b' ', b'0' + number as u8]);
+        return;
+    }
     buffer.push(b' ');
     put_number(u64::from(number), buffer);
 }
 
 /// Appends each number behind a space.
+#[inline(always)]
 fn put_numerals<const N: usize>(numbers: &[u32], buffer: &mut WrittenLine<N>)
     requires { length buffer.old + length (after_spaces (map decimal numbers.now)) ≤ N }
     ensures { buffer.new ≡ buffer.old ++ after_spaces (map decimal numbers.now) }
@@ -180,8 +186,7 @@ fn put_info<const N: usize>(
         ≡ buffer.old ++ join_with_byte 32 (info_words moment code.now bus group []) }
 {
     put_stamp(moment, buffer);
-    buffer.push(b' ');
-    buffer.push_all(code);
+    buffer.push_all(&[b' ', code[0], code[1], code[2]]);
     buffer.push_all(b" INFO");
     put_numeral(u32::from(bus), buffer);
     put_group(group, buffer);

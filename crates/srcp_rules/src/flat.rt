@@ -14,6 +14,12 @@ use std::alloc::Global;
 use std::marker::Model;
 
 /// Keeps the rows of a registry in one vector, by rising key.
+///
+/// ```
+/// let mut rows = Flat::empty(alloc, &layout)?;
+/// begin_session(&mut rows, 1, moment, Mode::Command)?;
+/// let obeyed = obey(&mut rows, 1, moment, &command);
+/// ```
 #[derive(Drop)]
 pub struct Flat {
     buses: Vec<Bus>,

@@ -25,6 +25,15 @@ use std::collections::BTreeMap;
 use std::marker::Model;
 
 /// Keeps the rows of a registry in a record for each bus. The first record is of the server's own bus.
+///
+/// ```
+/// let rows = Nested::empty(alloc, &layout)?;
+/// let mut at = Cursor::Start;
+/// while let Some(row) = rows.row_after(at) {
+///     print(row);
+///     at = Cursor::After(row.shown.key);
+/// }
+/// ```
 #[derive(Drop)]
 pub struct Nested {
     buses: Vec<Bus>,

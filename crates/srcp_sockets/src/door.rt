@@ -19,6 +19,11 @@ use std::vec::Vec;
 pub(crate) const MOST_READY: usize = 128;
 
 /// Holds a door over the system's sockets. When dropped, the door delivers the bytes that were taken.
+///
+/// ```
+/// let mut door = SocketDoor::open(system, alloc, wall, start)?;
+/// let served = serve_sockets(&mut core, &mut door, turns);
+/// ```
 pub struct SocketDoor<S: System> {
     pub(crate) sockets: Sockets<S>,
     alloc: Global,

@@ -5,6 +5,7 @@ ghost use Rattle.srcp_text.specs.Words.{number_of, plain_number_of, has_leading_
 
 /// Returns the number that a word writes in decimal, if the number is at most `max`. The word is one ASCII digit or
 /// more, and leading zeros are allowed. Returns `None` for any other word.
+#[inline(always)]
 pub fn read_number(word: &[u8], max: u32) -> Option<u32>
     ensures { result ≡ number_of max word.now }
 {
@@ -23,7 +24,8 @@ pub fn read_plain(word: &[u8], max: u64) -> Option<u64>
     number_within(word, max)
 }
 
-// Returns the number that a word of digits writes, leading zeros allowed, if it is at most `max`.
+/// Returns the number that a word of digits writes, leading zeros allowed, if the number is at most `max`.
+#[inline(always)]
 fn number_within(word: &[u8], max: u64) -> Option<u64>
     ensures { result ≡ number_of max word.now }
 {

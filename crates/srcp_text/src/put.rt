@@ -75,12 +75,12 @@ pub fn put_stamp<const N: usize>(moment: u64, line: &mut WrittenLine<N>)
     requires { length line.old + length (stamp moment) ≤ N }
     ensures { line.new ≡ line.old ++ stamp moment }
 {
-    let mut text = [0; 24];
+    put_number(moment / 1000, line);
     let thousandths = moment % 1000;
-    text[20] = b'.';
-    text[21] = b'0' + (thousandths / 100) as u8;
-    text[22] = b'0' + (thousandths / 10 % 10) as u8;
-    text[23] = b'0' + (thousandths % 10) as u8;
-    let start = itoa::write_digits(moment / 1000, &mut text, 20);
-    put_bytes(&text[start..], line);
+    line.push_all(&[
+        b'.',
+        b'0' + (thousandths / 100) as u8,
+        b'0' + (thousandths / 10 % 10) as u8,
+        b'0' + (thousandths % 10) as u8,
+    ]);
 }

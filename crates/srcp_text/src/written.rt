@@ -7,6 +7,13 @@ use std::ops::DerefSlice;
 
 /// Holds a written line: at most `N` bytes, which stand in the value itself, so that no memory is allocated. A copy
 /// costs the same for all lengths, and a clear writes none of the bytes. Contracts see the list of the bytes.
+///
+/// ```
+/// let mut line: WrittenLine<64> = WrittenLine::new();
+/// put_number(3, &mut line);
+/// line.push_all(b" GL\n");
+/// assert_eq!(line.as_slice(), b"3 GL\n");
+/// ```
 #[derive(Drop)]
 pub struct WrittenLine<const N: usize> {
     // The first `len` bytes are the line.
@@ -97,8 +104,7 @@ impl<const N: usize> WrittenLine<N> {
         ensures value { self.new ≡ line.now }
         ensures most { length self.new ≤ N }
     {
-        let (places, bytes) = (&mut self.bytes[..], &line.bytes[..]);
-        places.copy_from_slice(bytes);
+        self.bytes = line.bytes;
         self.len = line.len;
     }
 
