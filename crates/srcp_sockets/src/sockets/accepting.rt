@@ -2,6 +2,7 @@
 
 ghost use Rattle.std.specs.Prelude.{false, true, ◌≡◌, ◌<◌, ◌+◌, ◌⊎◌, None, Ok, Err, IfErr, length};
 ghost use Rattle.std.specs.Prelude.{◌++◌, ◌∷◌, [], ℕ, OnErr};
+ghost use Rattle.srcp_info.specs.Limits.{greatest_id};
 ghost use Rattle.srcp_sockets.specs.Asked.{IsExcused};
 ghost use Rattle.srcp_sockets.specs.Doors.{is_quiet};
 ghost use Rattle.srcp_sockets.specs.Limits.{most_peers};
@@ -23,13 +24,14 @@ impl<S: System> Sockets<S> {
     /// Accepts the next pending connection, if there is one. Its number is above those of all peers before it.
     ///
     /// # Errors
-    /// `Accept` if the system failed to accept it, or if memory or the numbers ran out.
+    /// `Accept` if the system failed to accept it. It is answered without a call of the system only if the numbers ran
+    /// out, or if no queues are spare and memory is refused.
     pub(crate) fn accept(&mut self, alloc: Global) -> Result<Option<u32>, DoorFault>
         ensures answers { AnswersWithin self.old.system.log.steps (AcceptCall result) self.new.system.log.steps }
         ensures fault { IfErr result (λ fault. fault ≡ DoorFault.Accept) }
         ensures rests { OnErr result (self.new.listening ≡ Listening.BackingOff) }
         ensures asks { may_accept self.old.listening self.old.peers.items ≡ true
-            → (result ≡ Err DoorFault.Accept)
+            → ((result ≡ Err DoorFault.Accept) × ((self.old.last ≡ greatest_id) ⊎ (self.old.spare ≡ None)))
             ⊎ IsAccepting (self.old.last + 1) result self.old.listening self.new.listening
             self.old.system.log.steps self.new.system.log.steps }
         ensures keeps { (self.new.flushed ≡ self.old.flushed) × (self.new.starved ≡ self.old.starved) }
@@ -62,7 +64,7 @@ impl<S: System> Sockets<S> {
         ensures excused { result ≡ false → IsExcused self.new.system.log.steps }
         ensures keeps { (self.new.flushed ≡ self.old.flushed) × (self.new.starved ≡ self.old.starved) }
         ensures same { result ≡ true → (self.new.listening ≡ self.old.listening) × (self.new.last ≡ self.old.last)
-            × (self.new.system.log.steps ≡ self.old.system.log.steps) }
+            × (self.new.system.log.steps ≡ self.old.system.log.steps) × (self.new.spare ≡ self.old.spare) }
         ensures quiet { is_quiet self.old.listening ≡ true → (self.new.listening ≡ self.old.listening)
             × (self.new.system.log.steps ≡ self.old.system.log.steps) }
         ensures makes { is_quiet self.old.listening ≡ false
@@ -170,8 +172,10 @@ impl<S: System> Sockets<S> {
     }
 }
 
-/// Returns the queues that are spare, or new ones.
-fn spare_or_new(spare: &mut Option<Queues>, alloc: Global) -> Result<Queues, AllocError> {
+/// Returns the queues that are spare, or new ones. Fails only if none are spare and memory is refused.
+fn spare_or_new(spare: &mut Option<Queues>, alloc: Global) -> Result<Queues, AllocError>
+    ensures { OnErr result (spare.old ≡ None) }
+{
     match spare.take() {
         Some(queues) => Ok(queues),
         None => Queues::new(alloc),
