@@ -14,7 +14,7 @@ use crate::value::{Bits, Letter, Text, Value};
 use crate::words::{code_text, letter_word, mode_word, switch_word, value_code};
 use srcp_text::{WrittenLine, put_bytes, put_number, put_stamp};
 
-/// The bytes of a line in memory: `LONGEST_LINE` up to a multiple of 16, since a copy of so many bytes needs no call.
+/// The bytes of a line in memory: `LONGEST_LINE`, rounded up to a multiple of 16. A copy of such a length needs no call.
 pub const LINE_CAPACITY: usize = 128;
 
 /// Holds a line of a change or of a reply.
@@ -43,12 +43,7 @@ fn put_bit<const N: usize>(on: bool, buffer: &mut WrittenLine<N>)
     requires { length buffer.old + 1 + length (bit_word on) ≤ N }
     ensures { buffer.new ≡ buffer.old ++ 32 ∷ bit_word on }
 {
-    buffer.push(b' ');
-    if on {
-        buffer.push(b'1');
-        return;
-    }
-    buffer.push(b'0');
+    buffer.push_all(&[b' ', b'0' + u8::from(on)]);
 }
 
 /// Appends a space and a number. Most numbers have one digit.
@@ -186,8 +181,9 @@ fn put_info<const N: usize>(
         ≡ buffer.old ++ join_with_byte 32 (info_words moment code.now bus group []) }
 {
     put_stamp(moment, buffer);
-    buffer.push_all(&[b' ', code[0], code[1], code[2]]);
-    buffer.push_all(b" INFO");
+    buffer.push_all(&[
+        b' ', code[0], code[1], code[2], b' ', b'I', b'N', b'F', b'O',
+    ]);
     put_numeral(u32::from(bus), buffer);
     put_group(group, buffer);
 }
