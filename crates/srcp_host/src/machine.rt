@@ -15,6 +15,12 @@ use std::net::Net;
 use std::time::Clock;
 
 /// Opens a door at a port of the machine itself, as `SocketDoor::listen` does.
+///
+/// ```
+/// let mut machine = Machine { rt };
+/// let mut door = machine.open(rt.alloc(), 4303)?;
+/// let served = serve_sockets(&mut core, &mut door, turns);
+/// ```
 #[derive(Drop)]
 pub struct Machine<'a, R: Net + Clock> {
     /// What has the sockets and the clocks.
