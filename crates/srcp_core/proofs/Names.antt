@@ -28,7 +28,7 @@ pub use Rattle.srcp_core.specs.Run.{Happened, HasPlainMoment, PlainMoments, Runs
 pub use Rattle.srcp_core.specs.Stands.{IsAt, IsOwned, StandsBy, StandsFor, panel_at, place_of}
 pub use Rattle.srcp_core.specs.Under.{At, Bytes, Event, Heard, Open, Piece, Room, Shut}
 pub use Rattle.srcp_core.specs.Under.{all_under, denied_by, giving, greeting_under, greets, lines_under, recorded_step, under}
-pub use Rattle.srcp_core.specs.Waits.{IsOverrun, brought, least, lesser, changes_left, room, slack_of}
+pub use Rattle.srcp_core.specs.Waits.{IsOverrun, brought, least, lesser, changes_left, slack_of}
 pub use Rattle.srcp_core.specs.declared.connection.Panel.{Panel}
 pub use Rattle.srcp_core.specs.declared.connection.Panel.TheVariants.{Absent, Listening, Overran}
 pub use Rattle.srcp_core.specs.declared.line.Request.{Request}

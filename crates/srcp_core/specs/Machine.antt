@@ -248,14 +248,14 @@ abbrev pub freed_of : ℕ → Held → Held
 freed_of session held = carried (freed held.rows session held.moment) held
 
 -- the session ends if its own command ends it
-abbrev pub finished : Bool → ℕ → ℕ → Held → Held
-finished ends key session held =
+abbrev pub ended_by_command : Bool → ℕ → ℕ → Held → Held
+ended_by_command ends key session held =
     if ends then freed_of session (changed_at key (λ p. record p { ended = true }) held) else held
 
 -- a command is carried out and replied to, and may end its session
 abbrev pub obeyed : ℕ → ℕ → Effect → Held → Held
 obeyed key session result held =
-    finished result.ends key session (replied key result.reply (carried result.updates held))
+    ended_by_command result.ends key session (replied key result.reply (carried result.updates held))
 
 -- whether a command is obeyed, by whether memory was given to it: it is if it wants none
 abbrev pub is_obeyed : Bool → ℕ → Command → Held → Bool

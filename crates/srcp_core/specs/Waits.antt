@@ -93,18 +93,14 @@ module _ (buses : List Bus) where
       → length (waiting later (history buses (course buses (events ++ more))))
       ≤ length (waiting conn (history buses (course buses events))) + brought events more
 
-  -- how many changes may come: the least over all panels, or as many as may wait if there is none
-  abbrev pub room : World → ℕ
-  room w = changes_left (slack w)
-
   -- only those sessions overran by the end of the later events that overran before them, whether shut since or not
   abbrev pub NoneOverruns : (events more : List Event) → Type 0
   NoneOverruns events more = (number : ℕ) (later : Connection) → IsOverrun (course buses (events ++ more)) number later
       → (conn : Connection) × IsOverrun (course buses events) number conn
 
-  -- so it is if the later events bring no more changes than that
+  -- so it is if the later events bring no more changes than may come
   abbrev pub FewChangesCloseNone : Type 0
-  FewChangesCloseNone = (events more : List Event) → brought events more ≤ room (course buses events)
+  FewChangesCloseNone = (events more : List Event) → brought events more ≤ changes_left (slack (course buses events))
       → NoneOverruns events more
 
   -- ---- what of these changes lines bring, and what moments and ends of sessions bring
@@ -132,7 +128,8 @@ module _ (buses : List Bus) where
   abbrev pub LinesBringTheirWeight : Type 0
   LinesBringTheirWeight = IsLayout buses → (events more : List Event) → brought events more ≤ may_bring events more
 
-  -- if that is within the room, only those sessions overran afterwards that overran before
+  -- if they may not have brought more than may come, only those sessions overran afterwards that overran before
   abbrev pub LightLinesCloseNone : Type 0
-  LightLinesCloseNone = IsLayout buses → (events more : List Event) → may_bring events more ≤ room (course buses events)
+  LightLinesCloseNone = IsLayout buses → (events more : List Event)
+      → may_bring events more ≤ changes_left (slack (course buses events))
       → NoneOverruns events more

@@ -20,7 +20,7 @@ pub use Rattle.srcp_core.specs.Machine.{let_out, slack_at, unsent_at, without_se
 pub use Rattle.srcp_core.specs.Recording.{key_of, without_key}
 pub use Rattle.srcp_core.specs.Stands.{StandsFor}
 pub use Rattle.srcp_core.specs.Under.{At, Bytes, Event, Heard, Open, Piece, Room, Shut, denied_by, giving, greets}
-pub use Rattle.srcp_core.specs.Waits.{IsOverrun, IsPanel, brought, due_next, least, changes_left, room, slack}
+pub use Rattle.srcp_core.specs.Waits.{IsOverrun, IsPanel, brought, due_next, least, changes_left, slack}
 pub use Rattle.srcp_core.specs.declared.record.CoreFault.{CoreFault}
 pub use Rattle.srcp_core.specs.declared.record.CoreFault.TheVariants.{Full, Memory as MemoryFault, NoSuch}
 pub use Rattle.srcp_feed.specs.Cursor.{beyond, concerns}

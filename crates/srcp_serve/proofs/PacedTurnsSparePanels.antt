@@ -3,7 +3,7 @@ use Rattle.srcp_serve.proofs.Names.{drop, ◌≡◌, ◌∙◌, ℕ, List, [], �
 use Rattle.srcp_serve.proofs.Names.{filter_map, flat_map, fold, Bus, Event, At, Open, Accepted, Call, ExpectCall, Stand, begun, moment_of}
 use Rattle.srcp_serve.proofs.Names.{accept_of, clients, timed, turned, visit_events, with_accept, with_moment, Expects, OfEachTurn}
 use Rattle.srcp_serve.proofs.Names.{empty_stand, expects, question, turn_asks, turns, Connection, course, IsLayout, drop_at, IsOverrun}
-use Rattle.srcp_serve.proofs.Names.{changes_left, slack, room, IsLight, IsPaced, ServingSparesAll, TurnsSpare, SparesPanels, trace_room}
+use Rattle.srcp_serve.proofs.Names.{changes_left, slack, IsLight, IsPaced, ServingSparesAll, TurnsSpare, SparesPanels, trace_room}
 use Rattle.srcp_core.proofs.CourseLaws.WaitsGrow.{few_close_none}
 use Rattle.srcp_core.proofs.CourseLaws.LinesBringTheirWeight.{light_lines}
 use Rattle.srcp_serve.proofs.CallsByTurnAndPeer.{accept_as, each_turn, turns_parted}
@@ -55,7 +55,7 @@ module _ (buses : List Bus) where
 module _ (buses : List Bus) where
   -- what the door was told is how many changes may come
   room_trace : (stand : Stand) (calls : List Call) → map question calls ≡ turn_asks buses stand calls
-      → trace_room calls ≡ room buses (course buses stand.events)
+      → trace_room calls ≡ changes_left (slack buses (course buses stand.events))
   room_trace stand (ExpectCall due slack_expected ∷ calls) e =
       let head : Expects due slack_expected ≡ expects buses stand.events = cc in
       let same : slack_expected ≡ slack buses (course buses stand.events) = cc in

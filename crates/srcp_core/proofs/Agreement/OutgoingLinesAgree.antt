@@ -144,7 +144,7 @@ module _ (first : List Shown) (history : History) (conn : Connection) (shut : co
       let is : after [] ≡ later = cc (append-nil _) in
       rw is (record {
         unsent_is = none;
-        cursor_is = done_now conn.done fits.finished;
+        cursor_is = done_now conn.done fits.done_by;
         untold_is = cc (untold_shut later history shut, both.0);
         told_is = refl;
       })

@@ -118,7 +118,7 @@ told_place_of first reader conn history changes shut f =
     let len : length (history ++ changes ∷ []) ≡ length history + 1 = length_push history changes in
     let up : length history ≤ length (history ++ changes ∷ []) = omega arith in
     let cur : cursor_at conn (length (history ++ changes ∷ [])) ≡ cursor_at conn (length history) =
-    cursor_later _ _ _ _ up f.finished f.numbers in
+    cursor_later _ _ _ _ up f.done_by f.numbers in
     cc (
       told_places_placed changes reader conn.mode conn.session conn.info conn.ended (unsent conn) (cursor_at conn (length history))
           (untold conn history),

@@ -23,7 +23,7 @@ owed_by go items done history rows =
 -- what was given and told is of the steps so far
 pub record Fits (start : List Shown) (history : History) (go : ℕ) (items : List Item) (done : Option ℕ) : Type 0 where
   pub numbers : AreBy (length history) items
-  pub finished : IsDoneBy (length history) done
+  pub done_by : IsDoneBy (length history) done
   pub began : go ≤ length history
   pub enough : length (tolds items) ≤ length (concerning_by go (cursor_by done items) history)
 
@@ -48,7 +48,7 @@ fits_push start history changes go items done f =
     let began = f.began in
     record {
       numbers = by_more _ _ items up f.numbers;
-      finished = done_more _ _ done up f.finished;
+      done_by = done_more _ _ done up f.done_by;
       began = omega arith;
       enough = omega arith;
     }
@@ -108,7 +108,7 @@ fits_told start history go items done change changes f e =
     record {
       fits = record {
         numbers = all_append _ items _ f.numbers (le_refl _, tt);
-        finished = f.finished;
+        done_by = f.done_by;
         began = f.began;
         enough = omega arith;
       };
@@ -122,7 +122,7 @@ pub not_done : (start : List Shown) (history : History) (go : ℕ) (items : List
     → done ≡ None
 not_done start history go items None row left f b = refl
 not_done start history go items (Some m) row left f b =
-    let past : nat_le m (length history) ≡ true = le-leb m (length history) f.finished in
+    let past : nat_le m (length history) ≡ true = le-leb m (length history) f.done_by in
     let bad : beyond Done (rows_after start history) ≡ row ∷ left = rw past at b in
     let none = beyond_done (rows_after start history) in
     cc
@@ -150,7 +150,7 @@ fits_listed start history go items None row left order f e b =
     record {
       fits = record {
         numbers = all_append _ items _ f.numbers (le_refl _, tt);
-        finished = f.finished;
+        done_by = f.done_by;
         began = f.began;
         enough = omega arith;
       };

@@ -8,8 +8,8 @@ use Rattle.srcp_core.proofs.Names.{Connection, World, start, at_connection, open
 use Rattle.srcp_core.proofs.Names.{history_from, state_after, updates_of, entered, greeted, ended, obeyed, commanded, command_of}
 use Rattle.srcp_core.proofs.Names.{ordered, answered_as, answered, order_of, new_marks, fed_to, shut_as, accepted, or_refused, happens}
 use Rattle.srcp_core.proofs.Names.{course, Greeting, Speaks, Chooses, Goes, Refuses, IsLayout, Event, Open, Bytes, Room, At, Shut, Piece}
-use Rattle.srcp_core.proofs.Names.{Step, Obeyed, Began, Moment, Ended, Heard, Order, greets, greeting_under, lines_under, brought, room}
-use Rattle.srcp_core.proofs.Names.{IsOverrun, CoreFault, cond_both}
+use Rattle.srcp_core.proofs.Names.{Step, Obeyed, Began, Moment, Ended, Heard, Order, greets, greeting_under, lines_under, brought}
+use Rattle.srcp_core.proofs.Names.{IsOverrun, CoreFault, changes_left, cond_both}
 use Rattle.std.proofs.Math.Seq.{drop-append_seam}
 use Rattle.std.specs.List.{sum_by}
 use Rattle.std.specs.Prelude.{max}
@@ -18,7 +18,7 @@ use Rattle.srcp_info.specs.declared.value.Mode.TheVariants.{Command as CommandMo
 use Rattle.srcp_grammar.specs.Grammar.{reads}
 use Rattle.srcp_core.specs.Handshake.{greets as greets_of, greets_mode, greets_protocol, greets_words, is_version}
 use Rattle.srcp_text.specs.Words.{words_of, is_keyword}
-use Rattle.srcp_core.specs.Waits.{brought_besides, completed, due_and_freed, may_bring, weighs, weight_of_mark}
+use Rattle.srcp_core.specs.Waits.{brought_besides, completed, due_and_freed, may_bring, slack, weighs, weight_of_mark}
 use Rattle.srcp_grammar.specs.Weight.{weight}
 use Rattle.srcp_rules.proofs.WeightLaws.{line_weighs, go_weighs_one}
 use Rattle.srcp_rules.proofs.EachStepLaws.{effect_law}
@@ -300,10 +300,10 @@ module _ (buses : List Bus) where
         is : brought buses events more ≡ changes (state buses w) c.steps
         is = ap (λ h. length (flat_map (λ (changes : List Change). changes) h)) told ∙ in_history _ c.steps
 
-    pub light_lines : (events more : List Event) → may_bring buses events more ≤ room buses (course buses events)
+    pub light_lines : (events more : List Event) → may_bring buses events more ≤ changes_left (slack buses (course buses events))
         → (number : ℕ) (later : Connection) → IsOverrun buses (course buses (events ++ more)) number later
         → (conn : Connection) × IsOverrun buses (course buses events) number conn
     light_lines events more few number later over =
         let bring = lines_bring events more in
-        let low : brought buses events more ≤ room buses (course buses events) = omega arith in
+        let low : brought buses events more ≤ changes_left (slack buses (course buses events)) = omega arith in
         few_close_none buses events more low number later over

@@ -88,7 +88,7 @@ fits_done start history go items f owes =
     let enough = f.enough in
     record {
       numbers = f.numbers;
-      finished = le_refl _;
+      done_by = le_refl _;
       began = f.began;
       enough = omega arith;
     }

@@ -93,7 +93,7 @@ module _ (first : List Shown) (ordered : IsRisingBy key_at first) (P : History â
       let some : 0 â‰¤ length (concerning_by go (cursor_by None []) history) = omega arith in
       record {
         numbers = tt;
-        finished = tt;
+        done_by = tt;
         began = h;
         enough = some;
       }

@@ -118,7 +118,7 @@ follows_law start = record {
             ∙ fold-append happens (begun (rows_after start (take go history))) p.happenings (Changes changes ∷ [])
             ∙ ap (λ panel. happens panel (Changes changes)) p.is
             ∙ panel_same _ _ _ _ _ _ _ _ (sym (rows_push start history changes))
-            (sym (cursor_later (length history) (length (history ++ changes ∷ [])) done items up f.finished f.numbers))
+            (sym (cursor_later (length history) (length (history ++ changes ∷ [])) done items up f.done_by f.numbers))
             (sym (untold_push start history changes go items done f)) (given_later start history changes items f.numbers);
       };
   tell = λ history go items done change changes order f p e. record {

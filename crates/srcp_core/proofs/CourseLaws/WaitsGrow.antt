@@ -4,9 +4,9 @@ use Rattle.srcp_core.proofs.Names.{sym, ◌∙◌, subst, arith, append-nil, len
 use Rattle.srcp_core.proofs.Names.{flat_map-append, fold-append, le-ltb, ltb-false, filter, fold, flat_map, nat_lt, Option, Some, None}
 use Rattle.srcp_core.proofs.Names.{if◌then◌else◌, Change, Bus, opening, concerns, Event, Step, Connection, History, is_open, given_room}
 use Rattle.srcp_core.proofs.Names.{overran, owed, took, waiting, World, fresh, start, numbered, at_connection, did, history_from, history}
-use Rattle.srcp_core.proofs.Names.{rows, happens, course, is_info, entered, brought, IsOverrun, room, slack_of, least, changes_left}
+use Rattle.srcp_core.proofs.Names.{rows, happens, course, is_info, entered, brought, IsOverrun, slack_of, least, changes_left}
 use Rattle.srcp_core.proofs.Names.{le_refl, cond_both, take, take-append-le, take_all}
-use Rattle.srcp_core.specs.Waits.{changes_since, WaitsGrowByChanges, FewChangesCloseNone}
+use Rattle.srcp_core.specs.Waits.{changes_since, slack, WaitsGrowByChanges, FewChangesCloseNone}
 use Rattle.srcp_core.proofs.CourseLaws.Histories.{concerning_by, concerning_push, concerning_none, cursor_by}
 use Rattle.srcp_core.proofs.CourseLaws.ItemsFitHistory.{untold_by, tolds}
 use Rattle.srcp_core.proofs.CourseLaws.ShownRegistry.{history_push, length_history}
@@ -284,16 +284,16 @@ some_slack_256 : (h : History) (o : Option Connection) (n : ℕ) → slack_by h 
 some_slack_256 h None n e = cc
 some_slack_256 h (Some conn) n e = slack_256 h conn n e
 
-room_256 : (xs : List (Option ℕ)) → ((n : ℕ) → IsIn xs n → n ≤ 256) → changes_left (least xs) ≤ 256
-room_256 xs f = by _ refl
+changes_256 : (xs : List (Option ℕ)) → ((n : ℕ) → IsIn xs n → n ≤ 256) → changes_left (least xs) ≤ 256
+changes_256 xs f = by _ refl
   where
     by : (o : Option ℕ) → least xs ≡ o → changes_left o ≤ 256
     by None e = omega arith
     by (Some n) e = f n (least_in xs n e)
 
-room_most : (o : Option ℕ) (n : ℕ) → AtMost n o → changes_left o ≤ n
-room_most None n h = absurd h
-room_most (Some m) n h = h
+changes_most : (o : Option ℕ) (n : ℕ) → AtMost n o → changes_left o ≤ n
+changes_most None n h = absurd h
+changes_most (Some m) n h = h
 
 pub few_close_none : (buses : List Bus) → FewChangesCloseNone buses
 few_close_none buses events more enough number later o = by (numbered number w.connections) refl
@@ -308,10 +308,10 @@ few_close_none buses events more enough number later o = by (numbered number w.c
     slacks = map (slack_of h) w.connections
 
     r : ℕ
-    r = room buses w
+    r = changes_left (slack buses w)
 
     within : r ≤ 256
-    within = room_256 slacks (λ n i. some_slack_256 h (numbered (suc i.0) w.connections) n (sym (slack_conns h w.connections i.0) ∙ i.1))
+    within = changes_256 slacks (λ n i. some_slack_256 h (numbered (suc i.0) w.connections) n (sym (slack_conns h w.connections i.0) ∙ i.1))
 
     -- what waits of a panel
     waits : (k : ℕ) (conn : Connection) → numbered k w.connections ≡ Some conn → conn.info ≡ true → conn.shut ≡ None
@@ -321,7 +321,7 @@ few_close_none buses events more enough number later o = by (numbered number w.c
         let up : is_open conn ≡ true = cc in
         let is : slack_of h conn ≡ Some (256 - length (waiting conn h)) = cc in
         let low : r ≤ 256 - length (waiting conn h) =
-        room_most (least slacks) (256 - length (waiting conn h))
+        changes_most (least slacks) (256 - length (waiting conn h))
         (least_least slacks k (256 - length (waiting conn h)) (slack_conns h w.connections k ∙ ap (slack_by h) e ∙ is)) in
         let few : length (waiting conn h) ≤ 256 =
         ltb-false 256 (length (waiting conn h))

@@ -10,7 +10,7 @@ use Rattle.srcp_info.specs.WellFormed.{IsWellFormedReply}
 use Rattle.srcp_info.specs.declared.change.Reply.TheVariants.{Mode as ModeReply}
 use Rattle.srcp_info.proofs.LineLaws.{length-reply_line-le, length-reply_line-most}
 use Rattle.srcp_rules.proofs.ToldLaws.{reply_told}
-use Rattle.srcp_core.specs.Machine.{replied, goes, greeted, finished, obeyed, answered, is_obeyed}
+use Rattle.srcp_core.specs.Machine.{replied, goes, greeted, ended_by_command, obeyed, answered, is_obeyed}
 use Rattle.srcp_core.proofs.Invariants.EveryPlaceIsTold.{told_all_at}
 use Rattle.srcp_core.proofs.Invariants.ChangesOneByOne.{change_in}
 use Rattle.srcp_core.proofs.Invariants.PlacesCover.{place_set_here, told_so}
@@ -116,13 +116,13 @@ greeted_gains granted key mode (Chooses chosen) held now =
 greeted_gains granted key mode Goes held now = goes_gains granted key mode held now
 greeted_gains granted key mode (Refuses code) held now = replied_gains key (Refused code) held now tt
 
-finished_gains : (ends : Bool) (key session : ℕ) (held : Held) → Gains 0 (at held key) (at (finished ends key session held) key)
-finished_gains true key session held =
+ended_gains : (ends : Bool) (key session : ℕ) (held : Held) → Gains 0 (at held key) (at (ended_by_command ends key session held) key)
+ended_gains true key session held =
     let mid = changed_at key (λ p. record p { ended = true }) held in
     both 0 0 (at held key) (at mid key) _
     (changed_gains 0 key (λ p. record p { ended = true }) held.places (λ p. record { few = omega arith; begun = refl }))
     (told_gains key (map change_in (freed held.rows session held.moment)) mid.places)
-finished_gains false key session held = nothing _
+ended_gains false key session held = nothing _
 
 obeyed_gains : (key session : ℕ) (did : Effect) (held : Held) → IsMoment held.moment → IsWellFormedReply did.reply
     → Gains 126 (at held key) (at (obeyed key session did held) key)
@@ -134,7 +134,7 @@ obeyed_gains key session did held now h =
     (both 0 (longest did.reply + 0) (at held key) (at mid key) (at (obeyed key session did held) key)
     (told_gains key (map change_in did.updates) held.places)
     (both (longest did.reply) 0 (at mid key) (at end key) (at (obeyed key session did held) key) (replied_gains key did.reply mid now h)
-    (finished_gains did.ends key session end)))
+    (ended_gains did.ends key session end)))
 
 -- an answer adds no more than its longest, and leaves what is begun
 pub answered_gains : (granted : Bool) (key : ℕ) (request : Request) (held : Held) (p : Place) (mark : Mark) → at held key ≡ Some p

@@ -139,9 +139,9 @@ module _ (conn : Connection) where
 
     pub owed_same : (past more : History) (rows : List Shown) → AreBy (length past) conn.items → IsDoneBy (length past) conn.done
         → AreNone more → owed conn (past ++ more) rows ≡ owed conn past rows
-    owed_same past more rows numbers finished none =
+    owed_same past more rows numbers done_by none =
         let longer = length-append past more in
-        let cursor = cursor_later (length past) (length (past ++ more)) conn.done conn.items (omega arith) finished numbers in
+        let cursor = cursor_later (length past) (length (past ++ more)) conn.done conn.items (omega arith) done_by numbers in
         cc (untold_same past more none)
 
 -- ---- an information session that goes on: what is unsent of it and what it is owed, and what each event makes of that
@@ -346,5 +346,5 @@ module _ (buses : List Bus) (n : ℕ) where
         cc (fold-append (happens buses) start events more, stays_all buses n p.conn more w others p.is.there) in
         let fine : overran p.conn (history buses v) ≡ false = cc (untold_same p.conn panel_shut past since each) in
         let owes : owed p.conn (history buses v) (rows buses v) ≡ nexts =
-        cc (owed_same p.conn panel_shut past since (rows buses w) fits.numbers fits.finished each) in
+        cc (owed_same p.conn panel_shut past since (rows buses w) fits.numbers fits.done_by each) in
         search
