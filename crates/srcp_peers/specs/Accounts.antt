@@ -79,7 +79,7 @@ is_silent received owed = not (is_held received) && ((received.quiet && (not rec
     || (received.ended && owed))
 
 -- nothing happens to it unless its socket is found ready: all that was taken for it was taken by the socket, or that
--- was found to refuse it since; and if the core has more for it, so that it takes nothing of it, there is no room
+-- was found to refuse it since; and if the core has more for it, so that it takes nothing of it, there is no space
 -- for more, and else there is nothing of it
 abbrev pub is_at_rest : Sent → Received → Bool
 is_at_rest sent received = not sent.lost && ((not (is_owed sent) || sent.full) && cond sent.cut (is_full sent)

@@ -12,7 +12,7 @@ woken_listening before ready = if (ready.socket == 0) && (ready.readable || (rea
     then listening.Ready else before
 
 -- after an accept that failed
-abbrev pub refused_listening : IoFailure → Listening
-refused_listening WouldBlock = listening.Quiet
-refused_listening Interrupted = listening.Ready
-refused_listening Fatal = listening.BackingOff
+abbrev pub listening_after_failure : IoFailure → Listening
+listening_after_failure WouldBlock = listening.Quiet
+listening_after_failure Interrupted = listening.Ready
+listening_after_failure Fatal = listening.BackingOff

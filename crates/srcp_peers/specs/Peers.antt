@@ -103,10 +103,11 @@ IsOffered socket bytes old new = (before : List Step) × (answer : Result ℕ Er
 
 -- ---- what answers make of a peer
 
-abbrev pub refused : Output → IoFailure → Output
-refused state WouldBlock = output.Full
-refused state Interrupted = state
-refused state Fatal = output.Lost
+-- a write that failed
+abbrev pub after_failure : Output → IoFailure → Output
+after_failure state WouldBlock = output.Full
+after_failure state Interrupted = state
+after_failure state Fatal = output.Lost
 
 -- a write of `all` bytes that took `count` of them
 abbrev pub output_after : (count all : ℕ) → Output
@@ -118,27 +119,28 @@ queued_more output.Lost outgoing bytes = outgoing
 queued_more state outgoing bytes = outgoing ++ bytes
 
 -- how many lines may still be queued while the socket takes no more: each takes one
-abbrev pub room_after : Output → (room : ℕ) → ℕ
-room_after output.Full room = room - 1
-room_after state room = room
+abbrev pub lines_left_after : Output → (lines_left : ℕ) → ℕ
+lines_left_after output.Full lines_left = lines_left - 1
+lines_left_after state lines_left = lines_left
 
--- how many of as many bytes as that are queued, if `fitting` of them have space: none without room for a line while the
+-- how many of as many bytes as that are queued, if `fitting` of them have space: none if no line is left while the
 -- socket takes no more; what is written to a lost peer goes nowhere
-abbrev pub enqueued_as : Output → (room fitting all : ℕ) → ℕ
-enqueued_as output.Open room fitting all = fitting
-enqueued_as output.Full room fitting all = if nat_lt 0 room then fitting else 0
-enqueued_as output.Lost room fitting all = all
+abbrev pub enqueued_as : Output → (lines_left fitting all : ℕ) → ℕ
+enqueued_as output.Open lines_left fitting all = fitting
+enqueued_as output.Full lines_left fitting all = if nat_lt 0 lines_left then fitting else 0
+enqueued_as output.Lost lines_left fitting all = all
 
 abbrev pub enqueued : Peer → (bytes : List ℕ) → ℕ
-enqueued p bytes = enqueued_as p.output p.room (min (length bytes) (most_outgoing - length p.outgoing)) (length bytes)
+enqueued p bytes =
+    enqueued_as p.output p.lines_left (min (length bytes) (most_outgoing - length p.outgoing)) (length bytes)
 
--- a read that gave `count` bytes, if there was room for `room`
+-- a read that gave `count` bytes, if there was space for `space`
 abbrev pub given_some : Input → Bool → Input
 given_some input.Ready true = input.Quiet
 given_some state left = state
 
 abbrev pub given : Input → ℕ → ℕ → Input
-given state count room = if count == 0 then input.Ended else given_some state (nat_lt count room)
+given state count space = if count == 0 then input.Ended else given_some state (nat_lt count space)
 
 abbrev pub missed : Input → IoFailure → Input
 missed state WouldBlock = input.Quiet
@@ -159,7 +161,7 @@ after_write p (Ok count) = record p {
   output = output_after count (length p.outgoing);
   awaits_reply = false;
 }
-after_write p (Err fault) = record p { output = refused p.output (failure_of fault); awaits_reply = false }
+after_write p (Err fault) = record p { output = after_failure p.output (failure_of fault); awaits_reply = false }
 
 -- the step that came is a read of its socket, and `new` has what that gave
 abbrev pub Asks : (p new : Peer) → (log later : List Step) → Type 0

@@ -43,17 +43,17 @@ end_in turn p = cond turn.may_report_end
 
 -- ---- if something is
 
--- the piece of it that a buffer of `room` bytes takes
-abbrev pub piece_of : Peer → (room : ℕ) → List ℕ
-piece_of p room = take (min most_in_piece room) p.incoming
+-- the piece of it that a buffer of `space` bytes takes
+abbrev pub piece_of : Peer → (space : ℕ) → List ℕ
+piece_of p space = take (min most_in_piece space) p.incoming
 
 -- ---- the answer
 
--- a read with room for so many bytes answered so and handed that out, or kept a line back. It handed out as much as the
--- pace and the peer's share allow; if nothing was held, it reported the end. The peer waits if others go first
-pub record IsAnswered (turn : Turn) (waits : Bool) (p : Peer) (room : ℕ) (answer : Result Got DoorFault)
+-- a read with space for so many bytes answered so and handed that out, or kept a line back. It handed out as much as
+-- the pace and the peer's share allow; if nothing was held, it reported the end. The peer waits if others go first
+pub record IsAnswered (turn : Turn) (waits : Bool) (p : Peer) (space : ℕ) (answer : Result Got DoorFault)
     (handed : List ℕ) (kept : Bool) : Type 0 where
   pub end : p.incoming ≡ [] → answer ≡ end_in turn p
   pub some : p.incoming ≢ [] → (reports_end answer ≡ false)
-      × Allows (own_pace waits turn.pace) p.share (piece_of p room) (length handed)
-  pub back : kept ≡ keeps_back (own_pace waits turn.pace) p.share (piece_of p room) handed
+      × Allows (own_pace waits turn.pace) p.share (piece_of p space) (length handed)
+  pub back : kept ≡ keeps_back (own_pace waits turn.pace) p.share (piece_of p space) handed

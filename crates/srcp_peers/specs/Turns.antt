@@ -163,9 +163,9 @@ shortfall None = most_writes
 shortfall (Some left) = reserve - left
 
 -- how many lines may be queued in a visit for a peer whose socket refuses more: what the panels lack, if input is held
-abbrev pub room_of : (holds : Bool) → (slack : Option ℕ) → ℕ
-room_of true slack = shortfall slack
-room_of false slack = most_writes
+abbrev pub lines_left_of : (holds : Bool) → (slack : Option ℕ) → ℕ
+lines_left_of true slack = shortfall slack
+lines_left_of false slack = most_writes
 
 -- how long a turn stands still though there is something to do: as long as the clock takes to go on, if a panel is so
 -- far behind for the second turn

@@ -8,7 +8,7 @@ ghost use Rattle.srcp_peers.specs.Times.{KeepsTimes};
 ghost use Rattle.srcp_peers.specs.Peers.{Asks, IsKept, Offers, Spares, IsRead, after_wake, has_rest};
 ghost use Rattle.srcp_peers.specs.Peers.{holds_input, is_busy, is_due, is_over, is_resting, is_waiting, is_wanting};
 ghost use Rattle.srcp_peers.specs.Peers.{goes_first, is_silent, may_have};
-ghost use Rattle.srcp_peers.specs.Peers.{enqueued, queued_more, room_after, tries_again, woken_output};
+ghost use Rattle.srcp_peers.specs.Peers.{enqueued, lines_left_after, queued_more, tries_again, woken_output};
 ghost use Rattle.srcp_peers.specs.declared.readiness.Input.{Input};
 ghost use Rattle.srcp_peers.specs.declared.readiness.Output.{Output};
 ghost use Rattle.srcp_peers.specs.Ends.{begun, written};
@@ -37,7 +37,7 @@ pub struct Peer {
     /// The number of the socket.
     pub number: u32,
     /// How many lines may still be queued for the peer in this visit while the socket refuses more.
-    pub room: u32,
+    pub lines_left: u32,
     /// The bytes written to the peer that the socket did not take yet.
     pub outgoing: Outgoing,
     /// The bytes read from the peer that were not handed out yet.
@@ -77,7 +77,7 @@ impl Peer {
           ending = Ending.Open;
           awaits_reply = true;
           heard = clock;
-          room = MOST_WRITES;
+          lines_left = MOST_WRITES;
         } }
     {
         let Queues { outgoing, incoming } = queues;
@@ -96,7 +96,7 @@ impl Peer {
             ending: Ending::Open,
             awaits_reply: true,
             heard: clock,
-            room: MOST_WRITES,
+            lines_left: MOST_WRITES,
         }
     }
 
@@ -164,7 +164,7 @@ impl Peer {
                 self.outgoing.drop_front(count);
                 self.output = Output::after(count, all);
             }
-            Err(fault) => self.output = self.output.refused(failure_of(fault)),
+            Err(fault) => self.output = self.output.after_failure(failure_of(fault)),
         }
     }
 
@@ -179,14 +179,14 @@ impl Peer {
     }
 
     /// Begins a visit: reads the socket, and takes a step on the way to the end. With `anew`, or if the peer is silent
-    /// when the clock shows `clock`, the share becomes a whole piece again. At most `room` lines may be queued in the
-    /// visit while the socket refuses more.
+    /// when the clock shows `clock`, the share becomes a whole piece again. At most `lines_left` lines may be queued in
+    /// the visit while the socket refuses more.
     pub(crate) fn begin_visit<S: System>(
         &mut self,
         system: &mut Logged<S>,
         anew: bool,
         clock: u64,
-        room: u32,
+        lines_left: u32,
     )
         requires { IsKept system.old.log.steps self.old }
         ensures kept { IsKept system.new.log.steps self.new }
@@ -209,11 +209,11 @@ impl Peer {
           input = self.new.input;
           share = self.new.share;
           ending = self.new.ending;
-          room = room;
+          lines_left = lines_left;
         } }
     {
         self.fill(system);
-        self.room = room;
+        self.lines_left = lines_left;
         if anew || self.is_silent(clock) {
             self.share.rest = MOST_IN_PIECE;
         }
@@ -248,9 +248,9 @@ impl Peer {
         if !self.is_wanting() {
             return;
         }
-        let room = MOST_INCOMING - self.incoming.len();
+        let space = MOST_INCOMING - self.incoming.len();
         match self.incoming.read_from(system, self.number) {
-            Ok(count) => self.input = self.input.given(count, room),
+            Ok(count) => self.input = self.input.given(count, space),
             Err(fault) => self.input = self.input.missed(failure_of(fault)),
         }
     }
@@ -269,7 +269,7 @@ impl Peer {
         ensures number { self.new.number ≡ self.old.number }
         ensures same { self.new ≡ record self.old {
           outgoing = queued_more self.old.output self.old.outgoing (take result bytes.now);
-          room = room_after self.old.output self.old.room;
+          lines_left = lines_left_after self.old.output self.old.lines_left;
           backpressured = nat_lt result (length bytes.now);
           ending = written self.old.ending (not (nat_lt result (length bytes.now)));
         } }
@@ -289,12 +289,12 @@ impl Peer {
         ensures exact { result ≡ enqueued self.old bytes.now }
         ensures new { self.new ≡ record self.old {
           outgoing = queued_more self.old.output self.old.outgoing (take result bytes.now);
-          room = room_after self.old.output self.old.room;
+          lines_left = lines_left_after self.old.output self.old.lines_left;
         } }
     {
         match self.output {
             Output::Open => (),
-            Output::Full if self.room > 0 => self.room -= 1,
+            Output::Full if self.lines_left > 0 => self.lines_left -= 1,
             Output::Full => return 0,
             Output::Lost => return bytes.len(),
         }

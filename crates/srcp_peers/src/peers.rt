@@ -38,13 +38,14 @@ pub fn flush<S: System>(system: &mut Logged<S>, peers: &mut [Peer], what: Flush)
 }
 
 /// Begins the visit of each peer. The share is a whole piece again for each peer that is silent when the clock shows
-/// `clock`, and with `anew` for all peers. At most `room` lines may be queued for each peer whose socket refuses more.
+/// `clock`, and with `anew` for all peers. At most `lines_left` lines may be queued for each peer whose socket refuses
+/// more.
 pub fn begin_visits<S: System>(
     system: &mut Logged<S>,
     peers: &mut [Peer],
     anew: bool,
     clock: u64,
-    room: u32,
+    lines_left: u32,
 )
     requires kept { AreKept system.old.log.steps peers.old }
     requires apart { AreApart peers.old }
@@ -58,10 +59,10 @@ pub fn begin_visits<S: System>(
         → IsRead system.new.log.steps (slice_index_or peers.new k d).number }
     ensures shares { AreShared anew clock peers.old peers.new }
     ensures begun { AreBegun peers.old peers.new }
-    ensures rooms { All (λ peer. peer.room ≡ room) peers.new }
+    ensures lines_left { All (λ peer. peer.lines_left ≡ lines_left) peers.new }
 {
     for peer in peers.iter_mut() {
-        peer.begin_visit(system, anew, clock, room);
+        peer.begin_visit(system, anew, clock, lines_left);
     }
 }
 

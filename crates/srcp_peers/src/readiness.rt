@@ -1,9 +1,9 @@
 //! What a read and a write of a peer's socket may find, and what is flushed to the peer.
 
 ghost use Rattle.std.specs.Prelude.{◌≡◌, ◌≢◌, true, false};
-ghost use Rattle.srcp_peers.specs.Peers.{flushes_all, given, is_lost, is_over, may_have, missed, output_after, refused};
-ghost use Rattle.srcp_peers.specs.Peers.{rests_reading, has_ended, rests_writing, tries_again, woken_input};
-ghost use Rattle.srcp_peers.specs.Peers.{woken_output};
+ghost use Rattle.srcp_peers.specs.Peers.{after_failure, flushes_all, given, is_lost, is_over, may_have, missed};
+ghost use Rattle.srcp_peers.specs.Peers.{output_after, rests_reading, has_ended, rests_writing, tries_again};
+ghost use Rattle.srcp_peers.specs.Peers.{woken_input, woken_output};
 
 use crate::queue::{MOST_INCOMING, Outgoing, Queue};
 use crate::system::IoFailure;
@@ -52,7 +52,7 @@ pub enum Input {
 pub enum Output {
     /// A write may be taken.
     Open,
-    /// No room, until the socket is found ready.
+    /// No space, until the socket is found ready.
     Full,
     /// The socket takes no more.
     Lost,
@@ -66,7 +66,7 @@ pub enum Flush {
     /// Everything.
     All,
     /// Everything, also to a socket that refused more and was not found ready. The system reports a socket as ready
-    /// only once much of its room is free.
+    /// only once much of its space is free.
     Again,
 }
 
@@ -107,15 +107,15 @@ impl Input {
         }
     }
 
-    /// Returns what follows a read that gave `count` bytes into a buffer of `room` bytes.
-    pub(crate) fn given(self, count: usize, room: usize) -> Input
-        ensures { result ≡ given self count room }
+    /// Returns what follows a read that gave `count` bytes into a buffer of `space` bytes.
+    pub(crate) fn given(self, count: usize, space: usize) -> Input
+        ensures { result ≡ given self count space }
     {
         if count == 0 {
             return Input::Ended;
         }
         match self {
-            Input::Ready if count < room => Input::Quiet,
+            Input::Ready if count < space => Input::Quiet,
             Input::Ready => Input::Ready,
             Input::Emptying => Input::Emptying,
             Input::Quiet => Input::Quiet,
@@ -201,8 +201,8 @@ impl Output {
     }
 
     /// Returns what follows a write that failed.
-    pub(crate) fn refused(self, said: IoFailure) -> Output
-        ensures { result ≡ refused self said }
+    pub(crate) fn after_failure(self, said: IoFailure) -> Output
+        ensures { result ≡ after_failure self said }
     {
         match said {
             IoFailure::WouldBlock => Output::Full,

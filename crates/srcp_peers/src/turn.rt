@@ -14,7 +14,7 @@ ghost use Rattle.std.specs.Option.{option_map};
 ghost use Rattle.srcp_peers.specs.Accounts.{is_short_wait};
 ghost use Rattle.srcp_peers.specs.Peers.{is_busy, is_resting};
 ghost use Rattle.std.specs.List.{list_all, list_any};
-ghost use Rattle.srcp_peers.specs.Listeners.{refused_listening};
+ghost use Rattle.srcp_peers.specs.Listeners.{listening_after_failure};
 ghost use Rattle.srcp_peers.specs.Waiting.{IsWithin, longest_wait, sooner};
 
 use crate::peer::Peer;
@@ -100,7 +100,7 @@ impl Turn {
         }
     }
 
-    /// Returns how many milliseconds the turn waits although there is work to do: `TICK` if a panel lacked room for a
+    /// Returns how many milliseconds the turn waits although there is work to do: `TICK` if a panel lacked space for a
     /// line in two turns running, else 0.
     pub fn backpressure_delay(&self) -> u64
         ensures { result ≡ backpressure_delay self.now }
@@ -378,8 +378,8 @@ impl Listening {
     }
 
     /// Returns what follows an accept that failed.
-    pub fn refused(said: IoFailure) -> Listening
-        ensures { result ≡ refused_listening said }
+    pub fn after_failure(said: IoFailure) -> Listening
+        ensures { result ≡ listening_after_failure said }
     {
         match said {
             IoFailure::WouldBlock => Listening::Quiet,

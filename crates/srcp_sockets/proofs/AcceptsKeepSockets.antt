@@ -20,7 +20,7 @@ use Rattle.srcp_peers.specs.Peers.{Agrees, IsKept, Spares}
 use Rattle.srcp_door.specs.Pacing.{line_after}
 use Rattle.srcp_peers.specs.declared.ending.Ending.TheVariants as ending
 use Rattle.srcp_door.specs.declared.pacing.LineBoundary.TheVariants as boundary
-use Rattle.srcp_peers.specs.Listeners.{refused_listening}
+use Rattle.srcp_peers.specs.Listeners.{listening_after_failure}
 use Rattle.srcp_peers.specs.AllPeers.{AreApart, AreKept, IsAbsent}
 use Rattle.srcp_sockets.specs.Doors.{Closed, Fresh, Hears, Sound, Stands, is_quiet}
 use Rattle.srcp_peers.proofs.PeersStayKept.{account_more, alien, own, picks, skips, spares_after}
@@ -40,7 +40,7 @@ new_peer clock number = record {
   ending = ending.Open;
   awaits_reply = true;
   heard = clock;
-  room = 300;
+  lines_left = 300;
 }
 
 -- what an accept says of the sockets
@@ -170,7 +170,7 @@ stands_later log peers l last loud stands = record {
 
 -- an accept that failed
 refused_hears : (a : Account) (l : Listening) (said : IoFailure) → is_quiet l ≡ false → Hears a l
-    → Hears (record a { received = heard_refusal a.received said }) (refused_listening said)
+    → Hears (record a { received = heard_refusal a.received said }) (listening_after_failure said)
 refused_hears a l WouldBlock loud h = record {
   fresh = record { written = h.fresh.written; took = h.fresh.took; gave = h.fresh.gave; handed = h.fresh.handed };
   lost = h.lost;
@@ -214,7 +214,7 @@ spares_refused old new number fault other ne tells =
 
 pub stands_refused : (old new : List Step) (peers : List Peer) (l : Listening) (last number : ℕ) (fault : ErrorKind)
     → is_quiet l ≡ false → new ≡ old ++ Accepts number (Err fault) ∷ [] → Stands old peers l last
-    → Stands new peers (refused_listening (failure_of fault)) last
+    → Stands new peers (listening_after_failure (failure_of fault)) last
 stands_refused old new peers l last number fault loud tells stands = record {
   kept = λ k d lt.
       let some : 0 < (slice_index_or peers k d).number = (stands.within k d lt).0 in
@@ -235,7 +235,7 @@ stands_refused old new peers l last number fault loud tells stands = record {
       (stands.closed 0 (subst (λ (n : ℕ). IsAbsent n peers) e absent)))))
       (λ (ne : socket ≡ 0 → ⊥). subst Closed (sym (spares_refused old new number fault socket ne tells)) (stands.closed socket absent))
       (cases_eq socket 0);
-  heard = subst (λ (a : Account). Hears a (refused_listening (failure_of fault))) (sym more)
+  heard = subst (λ (a : Account). Hears a (listening_after_failure (failure_of fault))) (sym more)
       (refused_hears (account 0 old) l (failure_of fault) loud stands.heard);
 }
   where

@@ -151,11 +151,11 @@ leaves a p wanted h here far may sound settled =
 
 -- of a peer that is there
 pub read_done : (wall start : ℕ) (log : List Step) (turn : Turn) (waits : Bool) (p : Peer) (answer : Result Got DoorFault)
-    (buffer : List ℕ) (room : ℕ) (kept : Bool) → Timed (times wall start log) turn → IsKept log p
-    → p.stay ≡ stay.Here → is_as_far (ending_of p.number log) p.ending ≡ true → length buffer ≡ room
-    → IsAnswered turn waits p room answer (got_bytes answer buffer) kept
+    (buffer : List ℕ) (space : ℕ) (kept : Bool) → Timed (times wall start log) turn → IsKept log p
+    → p.stay ≡ stay.Here → is_as_far (ending_of p.number log) p.ending ≡ true → length buffer ≡ space
+    → IsAnswered turn waits p space answer (got_bytes answer buffer) kept
     → IsReadDone wall start log p.number answer buffer
-read_done wall start log turn waits p answer buffer room kept timed agrees here far long answered =
+read_done wall start log turn waits p answer buffer space kept timed agrees here far long answered =
     let a : Account = account p.number log in
     let h : Agrees a p = agrees in
     let reads : ReadsAs a.received p.incoming p.input = reads_here a.received p.incoming p.input p.stay here h.reads in
@@ -164,7 +164,7 @@ read_done wall start log turn waits p answer buffer room kept timed agrees here 
     let stays : StaysAs a.watched a.lingering p.outgoing stay.Here = subst (StaysAs a.watched a.lingering p.outgoing) here h.stays in
     let some : is_held a.received ≡ true → p.incoming ≢ [] = λ e none.
     true≢false (sym e ∙ held ∙ ap (λ (xs : List ℕ). not (length xs == 0)) none) in
-    let piece : piece_of p room ≡ held_piece a.received (length buffer) =
+    let piece : piece_of p space ≡ held_piece a.received (length buffer) =
     ap (λ n. take (min 256 n) p.incoming) (sym long)
     ∙ ap (take (min 256 (length buffer)))
     (sym (ap (drop (length a.received.handed)) gave ∙ drop-append_seam a.received.handed p.incoming)) in
@@ -195,7 +195,7 @@ read_done wall start log turn waits p answer buffer room kept timed agrees here 
           subst (λ (l : LineBoundary). IsHandedOut l (held_piece a.received (length buffer)) (length (got_bytes answer buffer)))
           (sym (line_kept log wall start p agrees))
           (subst (λ (xs : List ℕ). IsHandedOut p.share.line xs (length (got_bytes answer buffer))) piece
-          (allowed (own_pace waits turn.pace) p.share (piece_of p room) (length (got_bytes answer buffer)) (answered.some (some e)).1));
+          (allowed (own_pace waits turn.pace) p.share (piece_of p space) (length (got_bytes answer buffer)) (answered.some (some e)).1));
     }
 
 -- of one that is not there

@@ -40,7 +40,7 @@ nobody = record {
   ending = ending.Open;
   awaits_reply = true;
   heard = 0;
-  room = 300;
+  lines_left = 300;
 }
 
 pub find : (socket : ℕ) (peers : List Peer) → IsThere socket peers ⊎ IsAbsent socket peers

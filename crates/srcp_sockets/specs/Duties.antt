@@ -54,9 +54,9 @@ pub record IsMomentDone (log : List Step) (answer : Result ℕ DoorFault) : Type
 
 -- ---- a read
 
--- the piece of what is held of it that a buffer of `room` bytes takes
-abbrev pub held_piece : Received → (room : ℕ) → List ℕ
-held_piece received room = take (min most_in_piece room) (drop (length received.handed) received.gave)
+-- the piece of what is held of it that a buffer of `space` bytes takes
+abbrev pub held_piece : Received → (space : ℕ) → List ℕ
+held_piece received space = take (min most_in_piece space) (drop (length received.handed) received.gave)
 
 -- it is not there; or a read or a write of it failed, and nothing is held of it
 abbrev pub is_failing : Account → Bool

@@ -12,7 +12,7 @@ use Rattle.srcp_peers.specs.declared.system.Ready.{Ready}
 use Rattle.srcp_peers.specs.declared.turn.Listening.{Listening}
 use Rattle.srcp_peers.specs.declared.turn.Listening.TheVariants as listening
 use Rattle.srcp_peers.specs.declared.turn.Turn.{Turn}
-use Rattle.srcp_peers.specs.Listeners.{refused_listening, woken_listening}
+use Rattle.srcp_peers.specs.Listeners.{listening_after_failure, woken_listening}
 use Rattle.srcp_peers.specs.Peers.{Makes, goes_first, holds_input, is_gone, is_here, is_shut, is_silent}
 use Rattle.srcp_peers.specs.Reports.{IsAnswered}
 use Rattle.srcp_peers.specs.Steps.{Accepts, Answers, Clocks, Closes, Step, Waits, failure_of}
@@ -63,7 +63,7 @@ is_crowded peers = nat_le most_peers (length peers)
 -- how the listener is heard after an accept of the system that answered so
 abbrev pub after_accept : Listening → Result Unit ErrorKind → Listening
 after_accept heard (Ok done) = heard
-after_accept heard (Err fault) = refused_listening (failure_of fault)
+after_accept heard (Err fault) = listening_after_failure (failure_of fault)
 
 -- the steps that came are an accept of the system under that number, and the answer that follows of it; the listener is
 -- heard as the system answered
@@ -92,9 +92,9 @@ goes_behind turn peers p = is_short_pace turn.pace
 
 -- the read of a peer that is there answered what that peer's read answers, and it is known then whether a line of some
 -- peer was kept back
-abbrev pub IsPeerRead : Turn → List Peer → (number room : ℕ) → Result Got DoorFault → (handed : List ℕ)
+abbrev pub IsPeerRead : Turn → List Peer → (number space : ℕ) → Result Got DoorFault → (handed : List ℕ)
     → (before after : Bool) → Type 0
-IsPeerRead turn peers number room answer handed before after = (k : ℕ) (d : Peer) → k < length peers
+IsPeerRead turn peers number space answer handed before after = (k : ℕ) (d : Peer) → k < length peers
     → IsPresent number (slice_index_or peers k d)
     → (let p = slice_index_or peers k d in
-    (kept : Bool) × IsAnswered turn (goes_behind turn peers p) p room answer handed kept × (after ≡ (before || kept)))
+    (kept : Bool) × IsAnswered turn (goes_behind turn peers p) p space answer handed kept × (after ≡ (before || kept)))

@@ -21,8 +21,8 @@ ghost use Rattle.srcp_peers.specs.Limits.{most_drained};
 ghost use Rattle.srcp_peers.specs.Peers.{goes_first};
 ghost use Rattle.srcp_peers.specs.Peers.{Makes, flushes_all, is_resting, holds_input, is_closable, is_here};
 ghost use Rattle.srcp_peers.specs.Times.{KeepsTimes};
-ghost use Rattle.srcp_peers.specs.Turns.{after_wait, first_turn, got_bytes, flushing, has_ticked, is_pending, room_of};
-ghost use Rattle.srcp_peers.specs.Turns.{time_left};
+ghost use Rattle.srcp_peers.specs.Turns.{after_wait, first_turn, got_bytes, flushing, has_ticked, is_pending};
+ghost use Rattle.srcp_peers.specs.Turns.{lines_left_of, time_left};
 ghost use Rattle.srcp_peers.specs.Waiting.{IsWithin, longest_wait};
 ghost use Rattle.srcp_door.specs.Calls.{ExpectCall, NowCall, ReadCall, WriteCall, CloseCall};
 ghost use Rattle.srcp_peers.specs.Steps.{Answers, Closes, GrowsBy, SaysNothing, SaysOne};
@@ -108,8 +108,8 @@ impl<S: System> Sockets<S> {
             self.old.peers.items self.old.system.log.steps self.new.system.log.steps }
         ensures waits { HasWaited (cond (goes_on self.old.turn self.old.flushed self.old.peers.items) 0 1)
             self.old.system.log.steps self.new.system.log.steps }
-        ensures rooms { All (λ peer. peer.room ≡ room_of (list_any holds_input self.old.peers.items)
-            self.old.turn.slack) self.new.peers.items }
+        ensures lines_left { All (λ peer. peer.lines_left
+            ≡ lines_left_of (list_any holds_input self.old.peers.items) self.old.turn.slack) self.new.peers.items }
         ensures flushed { self.new.flushed ≡ self.old.turn.clock }
         ensures reset { self.new.starved ≡ false }
     {
@@ -250,13 +250,14 @@ impl<S: System> Sockets<S> {
         ensures visited { AreVisited self.new.system.log.steps self.new.peers.items }
         ensures shares { AreShared (not (self.old.starved || self.old.turn.late)) self.old.turn.clock
             self.old.peers.items self.new.peers.items }
-        ensures rooms { All (λ peer. peer.room ≡ room_of holds self.old.turn.slack) self.new.peers.items }
+        ensures lines_left { All (λ peer. peer.lines_left ≡ lines_left_of holds self.old.turn.slack)
+            self.new.peers.items }
         ensures times { KeepsTimes self.old.system.log.steps self.new.system.log.steps }
         ensures flushed { self.new.flushed ≡ self.old.flushed }
         ensures reset { self.new.starved ≡ false }
     {
         let anew = self.renews_shares();
-        let room = self.room(holds);
+        let lines_left = self.lines_left(holds);
         self.starved = false;
         let clock = self.turn.clock;
         begin_visits(
@@ -264,15 +265,15 @@ impl<S: System> Sockets<S> {
             self.peers.as_mut_slice(),
             anew,
             clock,
-            room,
+            lines_left,
         );
     }
 
     /// Returns how many lines may be queued for a peer whose socket refuses more. While commands wait for the panels,
     /// the result is the number of changes that the panels lack. What may be queued for a panel then lasts for as many
     /// lines, one a millisecond.
-    fn room(&self, holds: bool) -> u32
-        ensures { result ≡ room_of holds self.now.turn.slack }
+    fn lines_left(&self, holds: bool) -> u32
+        ensures { result ≡ lines_left_of holds self.now.turn.slack }
     {
         if holds {
             self.turn.shortfall()

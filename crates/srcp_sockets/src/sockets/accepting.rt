@@ -136,7 +136,7 @@ impl<S: System> Sockets<S> {
             Err(fault) => {
                 self.spare = Some(queues);
                 let said = failure_of(fault);
-                self.listening = Listening::refused(said);
+                self.listening = Listening::after_failure(said);
                 let answer = nobody(said);
                 self.system.answer(&Answer::Accept(answer));
                 self.turn.note_accept(answer);

@@ -32,7 +32,8 @@ loop-peer-preserved g c =
       read = set_read old new peers i d p (omega arith) was.apart each.number each.others each.read was.read;
       shared = set_each (λ (x y : Peer). y.share.rest ≡ cond (c.args.anew || is_silent c.args.clock x) 256 x.share.rest)
           first peers i d p (omega arith) (cc) was.rest was.shared;
-      rooms = set_each (λ (x y : Peer). y.room ≡ c.args.room) first peers i d p (omega arith) (cc) was.rest was.rooms;
+      lines_left = set_each (λ (x y : Peer). y.lines_left ≡ c.args.lines_left) first peers i d p (omega arith) (cc) was.rest
+          was.lines_left;
       begun = set_each (λ (x y : Peer). (y.stay ≡ x.stay) × (y.ending ≡ begun x.ending (is_over y.incoming y.input)))
           first peers i d p (omega arith) (each.stay, each.ending) was.rest was.begun;
       rest = set_rest first peers i p was.rest;

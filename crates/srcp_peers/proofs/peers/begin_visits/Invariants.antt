@@ -20,7 +20,7 @@ invariant-loop-peer g l = record {
   shared : (k : ℕ) (d : Peer) → k < l.peer-index
       → (slice_index_or l.peers k d).share.rest ≡ (let p = slice_index_or l.fn.peers k d in
       cond {A = ℕ} (l.anew || is_silent l.clock p) 256 p.share.rest);
-  rooms : (k : ℕ) (d : Peer) → k < l.peer-index → (slice_index_or l.peers k d).room ≡ l.room;
+  lines_left : (k : ℕ) (d : Peer) → k < l.peer-index → (slice_index_or l.peers k d).lines_left ≡ l.lines_left;
   begun : (k : ℕ) (d : Peer) → k < l.peer-index → (let p = slice_index_or l.peers k d in
       (p.stay ≡ (slice_index_or l.fn.peers k d).stay)
       × (p.ending ≡ begun (slice_index_or l.fn.peers k d).ending (is_over p.incoming p.input)));

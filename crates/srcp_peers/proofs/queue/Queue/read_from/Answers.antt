@@ -20,6 +20,6 @@ returns-in-Ok g c =
     let own : length c.args.self.now ≡ held = sym (ap length c.self.view_is)
     ∙ range_length c.self.inside.buffer.items c.self.inside.start c.self.inside.end (omega arith) (omega arith) in
     let all : length bytes ≡ g.row.MOST = search rules in
-    let room : length c.read.new.buffer ≡ g.row.MOST - length c.args.self.now =
+    let space : length c.read.new.buffer ≡ g.row.MOST - length c.args.self.now =
     omega (arith, own, all, sized, length-take (length bytes - held) mid, length-drop held bytes) in
-    (c.read.new.buffer, room, c.in-Ok.ensures.log, (c.in-Ok.ensures.count, is))
+    (c.read.new.buffer, space, c.in-Ok.ensures.log, (c.in-Ok.ensures.count, is))

@@ -6,7 +6,7 @@ use Rattle.srcp_peers.specs.declared.system.IoFailure.{IoFailure}
 use Rattle.srcp_peers.specs.declared.system.IoFailure.TheVariants.{WouldBlock, Interrupted, Fatal}
 use Rattle.srcp_peers.specs.declared.turn.Listening.{Listening}
 use Rattle.srcp_sockets.specs.Doors.{Stands}
-use Rattle.srcp_peers.specs.Listeners.{refused_listening}
+use Rattle.srcp_peers.specs.Listeners.{listening_after_failure}
 use Rattle.srcp_peers.specs.Steps.{Accepts, Answers}
 use Rattle.srcp_peers.specs.Times.{is_as_heard, refused_accept}
 use Rattle.srcp_peers.specs.Turns.{after_call}
@@ -70,9 +70,9 @@ invariant_of-self-in-Err g c =
     let call = AcceptCall answer in
     let is : answer ≡ refused_accept c.failure_of-said.result = c.nobody-answer.ensures.answer in
     record {
-      stands = stands_answered mid new self.peers.items c.refused-self.result self.last call (λ s a. refl) c.answer-in-Err.ensures
+      stands = stands_answered mid new self.peers.items c.after_failure-self.result self.last call (λ s a. refl) c.answer-in-Err.ensures
           (subst (λ (l : Listening). Stands mid self.peers.items l self.last)
-          (sym (c.refused-self.ensures ∙ ap refused_listening c.failure_of-said.ensures))
+          (sym (c.after_failure-self.ensures ∙ ap listening_after_failure c.failure_of-said.ensures))
           (stands_refused old mid self.peers.items self.listening self.last number c.in-Err.fault c.requires.loud
           c.in-Err.ensures.log self.stands));
       named = named_call mid new self.last call (says_call mid new call c.answer-in-Err.ensures)
@@ -115,7 +115,7 @@ returns-in-Err-clause-exact g c =
     let said : Result Unit ErrorKind = Err c.in-Err.fault in (
       said,
       c.nobody-answer.ensures.answer ∙ ap refused_accept c.failure_of-said.ensures,
-      c.refused-self.ensures ∙ ap refused_listening c.failure_of-said.ensures,
+      c.after_failure-self.ensures ∙ ap listening_after_failure c.failure_of-said.ensures,
       tells_two old mid new (Accepts c.args.number said) (Answers (AcceptCall c.nobody-answer.result)) c.in-Err.ensures.log
           c.answer-in-Err.ensures,
     )

@@ -4,7 +4,7 @@ use Rattle.std.proofs.lemmas.List.{with_items_is}
 use Rattle.srcp_peers.specs.declared.peer.Peer.{Peer}
 use Rattle.srcp_peers.specs.AllPeers.{AreShared}
 use Rattle.srcp_sockets.specs.Doors.{Stands}
-use Rattle.srcp_peers.specs.Turns.{room_of}
+use Rattle.srcp_peers.specs.Turns.{lines_left_of}
 use Rattle.srcp_sockets.proofs.AcceptsAreAsked.{asked_silent}
 use Rattle.srcp_sockets.proofs.WorkIsDone.{done_silent}
 use Rattle.srcp_sockets.proofs.NumbersDiffer.{named_silent}
@@ -83,11 +83,12 @@ returns-clause-shares g c =
     (subst (λ (b : Bool). AreShared b clock c.as_mut_slice.result.now c.begin_visits.new.peers) c.renews_shares-anew.ensures
     c.begin_visits.ensures.shares))
 
-pub returns-clause-rooms : goal.returns-clause-rooms
-returns-clause-rooms g c =
-    subst (λ (ps : List Peer). All (λ peer. peer.room ≡ room_of c.args.holds c.args.self.now.turn.slack) ps)
+pub returns-clause-lines_left : goal.returns-clause-lines_left
+returns-clause-lines_left g c =
+    subst (λ (ps : List Peer). All (λ peer. peer.lines_left ≡ lines_left_of c.args.holds c.args.self.now.turn.slack) ps)
     (sym (with_items_is c.args.self.now.peers c.begin_visits.new.peers (c.begin_visits.auto.peers ∙ search rules)))
-    (subst (λ (n : ℕ). All (λ (peer : Peer). peer.room ≡ n) c.begin_visits.new.peers) c.room-room.ensures c.begin_visits.ensures.rooms)
+    (subst (λ (n : ℕ). All (λ (peer : Peer). peer.lines_left ≡ n) c.begin_visits.new.peers) c.lines_left-lines_left.ensures
+    c.begin_visits.ensures.lines_left)
 
 pub returns-clause-most : goal.returns-clause-most
 returns-clause-most g c =

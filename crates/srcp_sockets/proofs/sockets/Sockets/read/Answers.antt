@@ -101,13 +101,13 @@ returns-clause-answered g c k d lt there =
     (there.0 ∙ sym (found.1 d).0) in
     let seen = the_one self.peers.items c.in-Some.index k c.index.result.now d c.index.ensures found.0 self.stands.apart lt
     (there.0 ∙ sym (found.1 d).0) in
-    let room = length c.args.buffer.now in
+    let space = length c.args.buffer.now in
     let bytes = got_bytes handed.result.got handed.new.buffer in
     let behind = c.goes_behind-waits.ensures ∙ ap (goes_behind self.turn self.peers.items) seen in (
       handed.result.starved,
-      subst (λ (w : Bool). IsAnswered self.turn w (slice_index_or self.peers.items k d) room handed.result.got bytes
+      subst (λ (w : Bool). IsAnswered self.turn w (slice_index_or self.peers.items k d) space handed.result.got bytes
           handed.result.starved) behind
-          (subst (λ (p : Peer). IsAnswered self.turn c.goes_behind-waits.result p room handed.result.got bytes handed.result.starved)
+          (subst (λ (p : Peer). IsAnswered self.turn c.goes_behind-waits.result p space handed.result.got bytes handed.result.starved)
           is handed.ensures.answered),
       search rules,
     )
