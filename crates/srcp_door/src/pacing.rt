@@ -61,6 +61,12 @@ pub struct Share {
 }
 
 /// Says what weight of lines may still be let through in a turn.
+///
+/// ```
+/// let mut pace = Pace::of_turn(slack, tick);
+/// let allowed = pace.allow(&mut share, piece);
+/// hand_out(&piece[..allowed.count]);
+/// ```
 #[derive(Clone, Copy)]
 pub enum Pace {
     /// Lines of this weight in all.

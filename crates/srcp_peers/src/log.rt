@@ -68,6 +68,14 @@ impl Log {
 }
 
 /// Makes the calls of a system, and logs each call with its answer. A door logs its own answers between these calls.
+///
+/// ```
+/// let mut system = Logged::new(sockets);
+/// system.accept(number)?;
+/// let count = system.read(number, &mut buffer)?;
+/// let taken = system.write(number, &buffer[..count])?;
+/// system.close(number);
+/// ```
 #[derive(Drop)]
 pub struct Logged<S: System> {
     system: S,

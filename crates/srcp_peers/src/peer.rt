@@ -32,6 +32,12 @@ const FLUSH_THRESHOLD: usize = MOST_OUTGOING - MOST_WRITES as usize * LONGEST_LI
 const SILENCE: u64 = 50;
 
 /// Holds a peer and the state of the peer's socket.
+///
+/// ```
+/// let mut peer = Peer::new(number, clock, Queues::new(alloc)?);
+/// let outcome = peer.read(&mut system, &mut turn, waits, &mut buffer);
+/// let taken = peer.write(&mut system, reply);
+/// ```
 #[derive(Drop)]
 pub struct Peer {
     /// The number of the socket.

@@ -21,6 +21,12 @@ pub const MOST_INCOMING: usize = 4_096;
 pub type Outgoing = Queue<MOST_OUTGOING>;
 
 /// Holds the two queues of a peer that is still to come. Both are empty.
+///
+/// ```
+/// let queues = Queues::new(alloc)?;
+/// let peer = Peer::new(number, clock, queues);
+/// peers.push(peer)?;
+/// ```
 #[derive(Drop)]
 pub struct Queues {
     /// The queue of what the peer is written.

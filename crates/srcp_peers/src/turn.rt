@@ -33,6 +33,13 @@ const EARLY_PART: u64 = 128;
 const MOST_TWICE: u64 = 500;
 
 /// Holds what a door knows of its turn.
+///
+/// ```
+/// let mut turn = Turn::new(wall, start);
+/// turn.expect(due, slack);
+/// turn.wait();
+/// let moment = turn.report_moment(system.clock())?;
+/// ```
 #[derive(Drop)]
 pub struct Turn {
     /// The clocks at the start, and the last moment reported.

@@ -44,8 +44,8 @@ impl<S: System> Sockets<S> {
         self.peers.iter().any(|peer| peer.goes_first(clock))
     }
 
-    /// Returns whether the lines of a peer are delivered after those of others: not every line may be delivered now, the
-    /// peer is not silent, and input is held of one that is.
+    /// Returns whether the lines of a peer are delivered after those of others: not every line may be delivered now,
+    /// the peer is not silent, and input is held of one that is.
     fn goes_behind(&self, peer: &Peer) -> bool
         ensures { result ≡ goes_behind self.now.turn self.now.peers.items peer.now }
     {
