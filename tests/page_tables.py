@@ -18,7 +18,7 @@ NO_LIMITS = (("srcp_info/specs/WellFormed.antt", 256), ("srcp_text/src/put.rt", 
 
 
 def rows_under(page, heading):
-    """The cells of each row of the first table behind a heading of a page of docs/, or of another by its path."""
+    """The cells of each row of the first table behind a heading of a page of docs/."""
     table = (TOP / "docs" / page).read_text().partition(f"\n## {heading}\n")[2].partition("\n|")[2].partition("\n\n")[0]
     return [[cell.strip() for cell in line.strip()[1:-1].split("|")] for line in table.splitlines()[2:]]
 
@@ -178,14 +178,12 @@ def limits_that_stand_once(_):
     return None if len(numbers) > 15 else f"{len(numbers)} limits"
 
 
-def clauses_of_the_core_page(_):
-    """Each call of the table has the clauses that it lists, and no others."""
+def calls_of_the_proofs_page(_):
+    """Each call of a core that the table lists has the clauses that it lists, and no others."""
     files = [CRATES / "srcp_core/src/server_core.rt", *(CRATES / "srcp_core/src/server_core").glob("*.rt")]
     code = "".join(file.read_text() for file in files)
-    call, listed = None, {}
-    for first, clause, _ in rows_under(CRATES / "srcp_core" / "README.md", "What the clauses of a call say"):
-        call = (quoted(first) or [call])[0]
-        listed.setdefault(call, []).extend(quoted(clause) or [""])
+    rows = rows_under("proofs.md", "The calls of a core")
+    listed = {quoted(call)[0]: quoted(clauses) or [""] for call, clauses, _ in rows}
     for call, clauses in listed.items():
         head = re.search(rf"^    pub fn {call}\(.*?^    {{$", code, re.M | re.S)
         found = re.findall(r"^ +ensures\*? ?(\w*) ?{", head[0] if head else "", re.M)
@@ -197,4 +195,4 @@ def clauses_of_the_core_page(_):
 
 PAGE_TABLE_CASES = (walk_of_the_architecture_page, limits_of_the_architecture_page, refusals_of_the_architecture_page,
                     limits_of_the_protocol_page, limits_of_the_configuration_page, definitions_named_as_constants,
-                    limits_that_stand_once, clauses_of_the_core_page)
+                    limits_that_stand_once, calls_of_the_proofs_page)
