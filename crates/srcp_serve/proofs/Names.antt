@@ -33,7 +33,7 @@ pub use Rattle.srcp_info.specs.declared.change.Shown.{Shown}
 pub use Rattle.srcp_door.specs.Calls.{Adds, Call as DoorCall, PeersDiffer, Tells, Trace, one_more, parts, peer_of}
 pub use Rattle.srcp_serve.specs.Given.{AcceptCall, Accepted, Call, CloseCall, CountsRefusals, ExpectCall, GivesUnlessCounted, NowCall}
 pub use Rattle.srcp_serve.specs.Given.{ReadCall, WriteCall, answers_in, answers_of, door_call}
-pub use Rattle.srcp_serve.specs.Pacing.{IsLight, IsPaced, ServingSparesAll, SparesPanels, TurnsSpare, brought_in, trace_room}
+pub use Rattle.srcp_serve.specs.Pacing.{IsLight, IsPaced, ServingSparesAll, SparesPanels, TurnsSpare, brought_in, changes_allowed}
 pub use Rattle.srcp_serve.specs.Serving.{Accepts, Client, Closes, Closes as ClosesQuestion, Expects, IsFair, IsServed, Moments, OfEachTurn}
 pub use Rattle.srcp_serve.specs.Serving.{FedIsHanded, FeedsWhatIsHanded, HasWhatIsCarried, OfEachServed, OfEachVisit, Question}
 pub use Rattle.srcp_serve.specs.Serving.{Reads, SendsWhatIsTaken, SentIsTaken, Slots, Stand, Writes, accept_of, handed_out, handed_out_in}

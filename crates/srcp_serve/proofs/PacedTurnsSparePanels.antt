@@ -3,7 +3,7 @@ use Rattle.srcp_serve.proofs.Names.{drop, ◌≡◌, ◌∙◌, ℕ, List, [], �
 use Rattle.srcp_serve.proofs.Names.{filter_map, flat_map, fold, Bus, Event, At, Open, Accepted, Call, ExpectCall, Stand, begun, moment_of}
 use Rattle.srcp_serve.proofs.Names.{accept_of, clients, timed, turned, visit_events, with_accept, with_moment, Expects, OfEachTurn}
 use Rattle.srcp_serve.proofs.Names.{empty_stand, expects, question, turn_asks, turns, Connection, course, IsLayout, drop_at, IsOverrun}
-use Rattle.srcp_serve.proofs.Names.{changes_left, slack, IsLight, IsPaced, ServingSparesAll, TurnsSpare, SparesPanels, trace_room}
+use Rattle.srcp_serve.proofs.Names.{changes_left, slack, IsLight, IsPaced, ServingSparesAll, TurnsSpare, SparesPanels, changes_allowed}
 use Rattle.srcp_core.proofs.CourseLaws.WaitsGrow.{few_close_none}
 use Rattle.srcp_core.proofs.CourseLaws.LinesBringTheirWeight.{light_lines}
 use Rattle.srcp_serve.proofs.CallsByTurnAndPeer.{accept_as, each_turn, turns_parted}
@@ -54,19 +54,19 @@ module _ (buses : List Bus) where
 
 module _ (buses : List Bus) where
   -- what the door was told is how many changes may come
-  room_trace : (stand : Stand) (calls : List Call) → map question calls ≡ turn_asks buses stand calls
-      → trace_room calls ≡ changes_left (slack buses (course buses stand.events))
-  room_trace stand (ExpectCall due slack_expected ∷ calls) e =
+  allowed_by_slack : (stand : Stand) (calls : List Call) → map question calls ≡ turn_asks buses stand calls
+      → changes_allowed calls ≡ changes_left (slack buses (course buses stand.events))
+  allowed_by_slack stand (ExpectCall due slack_expected ∷ calls) e =
       let head : Expects due slack_expected ≡ expects buses stand.events = cc in
       let same : slack_expected ≡ slack buses (course buses stand.events) = cc in
       ap changes_left same
-  room_trace stand other e = cc
+  allowed_by_slack stand other e = cc
 
   spares : (stand : Stand) (calls : List Call) → map question calls ≡ turn_asks buses stand calls → IsPaced buses stand calls
       → SparesPanels buses stand calls
   spares stand calls asked paced number later over =
       let same = turned_events buses stand calls in
-      few_close_none buses stand.events _ (rw (room_trace stand calls asked, same) at paced) number later (rw same at over)
+      few_close_none buses stand.events _ (rw (allowed_by_slack stand calls asked, same) at paced) number later (rw same at over)
 
   pub light_spares : IsLayout buses → (stand : Stand) (calls : List Call) → map question calls ≡ turn_asks buses stand calls
       → IsLight buses stand calls → SparesPanels buses stand calls
@@ -75,7 +75,7 @@ module _ (buses : List Bus) where
       let same = turned_events buses stand calls in
       let events : drop (length stand.events) (turned buses stand calls).events ≡ more =
       cc (drop_at stand.events more (length stand.events) refl) in
-      let few = rw (room_trace stand calls asked, events, same) at light in
+      let few = rw (allowed_by_slack stand calls asked, events, same) at light in
       light_lines buses layout stand.events more few number later (rw same at over)
 
   -- ---- turn after turn

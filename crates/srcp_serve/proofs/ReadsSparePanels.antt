@@ -1,6 +1,6 @@
 -- A turn makes no panel overrun if what the door hands out leaves the reserve, and moments and ends of sessions fit it.
 use Rattle.srcp_serve.proofs.Names.{ℕ, ◌+◌, ◌-◌, ◌≤◌, min, max, List, [], ◌∷◌, ◌++◌, arith, Bus, Call, Stand, IsLight}
-use Rattle.srcp_serve.proofs.Names.{OfEachTurn, IsLayout, SparesPanels, empty_stand, trace_room, turned, turns}
+use Rattle.srcp_serve.proofs.Names.{OfEachTurn, IsLayout, SparesPanels, empty_stand, changes_allowed, turned, turns}
 use Rattle.srcp_serve.specs.Pacing.{FitsReserve, LeavesReserve, OfEachTurnAfter, PacedReadsSpare, PacedReadsSpareAll}
 use Rattle.srcp_serve.specs.Pacing.{brought_by_time, weighed, weight_of_turn}
 use Rattle.srcp_serve.proofs.CallsByTurnAndPeer.{AreTurnsAsked, turns_parted}
@@ -14,12 +14,12 @@ module _ (buses : List Bus) where
   is_light : (past : List Call) (stand : Stand) (calls : List Call) → WeighsEnough past stand calls → LeavesReserve past stand calls
       → FitsReserve buses past stand calls → IsLight buses stand calls
   is_light past stand calls weigh leaves fits =
-      by (weight_of_turn buses stand calls) (weighed past calls) (brought_by_time buses stand calls) (trace_room calls) weigh leaves
+      by (weight_of_turn buses stand calls) (weighed past calls) (brought_by_time buses stand calls) (changes_allowed calls) weigh leaves
       fits.few fits.fit
     where
-      by : (turn door time room : ℕ) → turn ≤ door → door ≤ max (room - 160) 11 → time ≤ 160 → time + min door 11 ≤ room
-          → turn + time ≤ room
-      by turn door time room a b c d = omega (arith, a, b, c, d)
+      by : (turn door time most : ℕ) → turn ≤ door → door ≤ max (most - 160) 11 → time ≤ 160 → time + min door 11 ≤ most
+          → turn + time ≤ most
+      by turn door time most a b c d = omega (arith, a, b, c, d)
 
   each_light : (past : List Call) (stand : Stand) (all : List (List Call)) → OfEachTurnAfter buses WeighsEnough past stand all
       → OfEachTurnAfter buses LeavesReserve past stand all → OfEachTurnAfter buses (FitsReserve buses) past stand all

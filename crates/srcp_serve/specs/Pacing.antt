@@ -17,10 +17,10 @@ use Rattle.srcp_serve.specs.Serving.{handed_out_in, turned, turns}
 
 -- how many changes the turn may bring, by the slack that the door was told: as many as may wait for a panel if there
 -- was none, since one may begin
-abbrev pub trace_room : List Call → ℕ
-trace_room [] = most_waiting
-trace_room (ExpectCall due slack ∷ calls) = changes_left slack
-trace_room (other ∷ calls) = most_waiting
+abbrev pub changes_allowed : List Call → ℕ
+changes_allowed [] = most_waiting
+changes_allowed (ExpectCall due slack ∷ calls) = changes_left slack
+changes_allowed (other ∷ calls) = most_waiting
 
 -- what the door knows of a peer's bytes is the same, whether they were handed out in two pieces or in one
 abbrev pub LinesGoOn : Type 0
@@ -41,7 +41,7 @@ weighed past (call ∷ calls) = weighed_in past call + weighed (past ++ call ∷
 
 -- what the door handed out in the turn weighs no more than the slack leaves beside the reserve, or no more than a line
 abbrev pub LeavesReserve : (past : List Call) → Stand → (calls : List Call) → Type 0
-LeavesReserve past stand calls = weighed past calls ≤ max (trace_room calls - reserve) most_changes
+LeavesReserve past stand calls = weighed past calls ≤ max (changes_allowed calls - reserve) most_changes
 
 module _ (buses : List Bus) where
   -- the lines that end in a piece weigh no more than the door weighs the piece; of the bytes that were fed before, the
@@ -79,7 +79,7 @@ module _ (buses : List Bus) where
 
   -- the turn brings no more changes than the door was told
   abbrev pub IsPaced : Stand → List Call → Type 0
-  IsPaced stand calls = brought_in stand calls ≤ trace_room calls
+  IsPaced stand calls = brought_in stand calls ≤ changes_allowed calls
 
   -- over all calls that are served, a turn that is so makes no panel overrun
   abbrev pub TurnsSpare : (Stand → List Call → Type 0) → Type 0
@@ -99,7 +99,7 @@ module _ (buses : List Bus) where
       let w = course buses stand.events in
       let later = (turned buses stand calls).events in
       weighs buses w (drop (length stand.events) later) + brought_besides buses w (course buses later)
-      ≤ trace_room calls
+      ≤ changes_allowed calls
 
   -- how many changes the moment of the turn and the ends of sessions brought
   abbrev pub brought_by_time : Stand → List Call → ℕ
@@ -109,7 +109,7 @@ module _ (buses : List Bus) where
   -- these are within the reserve; and within the slack, with what the door handed out, of which a line's weight counts
   pub record FitsReserve (past : List Call) (stand : Stand) (calls : List Call) : Type 0 where
     pub few : brought_by_time stand calls ≤ reserve
-    pub fit : brought_by_time stand calls + min (weighed past calls) most_changes ≤ trace_room calls
+    pub fit : brought_by_time stand calls + min (weighed past calls) most_changes ≤ changes_allowed calls
 
   -- a turn makes no panel overrun if what is handed out leaves the reserve, and moments and ends fit it
   abbrev pub PacedReadsSpare : Type 0
