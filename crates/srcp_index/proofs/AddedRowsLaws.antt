@@ -11,7 +11,7 @@ use Rattle.srcp_index.specs.Indexed.{IsIndexed, IsRankedRow, due_of, removable_r
 use Rattle.srcp_index.specs.Ordered.{insert_by}
 use Rattle.srcp_index.proofs.RowSums.{but_at, removable_count, sum-put_row}
 use Rattle.srcp_index.proofs.PairsOfRows.{with_pairs}
-use Rattle.srcp_index.proofs.RankLaws.{with_room, ranked_row}
+use Rattle.srcp_index.proofs.RankLaws.{with_reserved, ranked_row}
 
 -- ---- rows that are added
 
@@ -37,39 +37,42 @@ still_fresh row state (other ∷ rows) above fresh =
 
 module _ (buses : List Bus) where
   one_added : (row : Row) (state : State) (both : Indexes) (count : ℕ) → IsFresh state row → IsRowOf buses row
-      → count + removable_count row ≤ both.moments.room → count + removable_count row ≤ both.sessions.room → IsIndexed state both count
+      → count + removable_count row ≤ both.moments.reserved → count + removable_count row ≤ both.sessions.reserved
+      → IsIndexed state both count
       → IsIndexed (put_row row state) (row_edited insert_by row both) (count + removable_count row)
-  one_added row state both count fresh of due_room held_room h =
+  one_added row state both count fresh of due_reserved held_reserved h =
       let more = count + removable_count row in
       let same = but_at_none row.shown.key state fresh in
       record {
         rising = rising_put row_key row state h.rising;
-        due = with_pairs due_of row state _ more (rw same (with_room due_of state _ _ count more refl refl due_room h.due));
-        held = with_pairs holder_of row state _ more (rw same (with_room holder_of state _ _ count more refl refl held_room h.held));
+        due = with_pairs due_of row state _ more (rw same (with_reserved due_of state _ _ count more refl refl due_reserved h.due));
+        held = with_pairs holder_of row state _ more
+            (rw same (with_reserved holder_of state _ _ count more refl refl held_reserved h.held));
         since = h.since;
         counted = omega (arith, sum-put_row removable_count row state, ap removable_rows same, h.counted);
         rows = all_put row_key IsRankedRow row state (ranked_row buses row of) h.rows;
       }
 
   all_added : (rows : List Row) (state : State) (both : Indexes) (count : ℕ) → IsRising rows → AllByRecursion (IsFresh state) rows
-      → AllByRecursion (IsRowOf buses) rows → count + removable_rows rows ≤ both.moments.room
-      → count + removable_rows rows ≤ both.sessions.room
+      → AllByRecursion (IsRowOf buses) rows → count + removable_rows rows ≤ both.moments.reserved
+      → count + removable_rows rows ≤ both.sessions.reserved
       → IsIndexed state both count → IsIndexed (put_rows rows state) (with_rows rows both) (count + removable_rows rows)
-  all_added [] state both count rising fresh of due_room held_room h = subst (IsIndexed state both) (omega arith) h
-  all_added (row ∷ rows) state both count rising fresh of due_room held_room h =
+  all_added [] state both count rising fresh of due_reserved held_reserved h = subst (IsIndexed state both) (omega arith) h
+  all_added (row ∷ rows) state both count rising fresh of due_reserved held_reserved h =
       let sum = sum_by-cons removable_count row rows in
-      let here = one_added row state both count fresh.0 of.0 (omega (arith, sum, due_room)) (omega (arith, sum, held_room)) h in
+      let here = one_added row state both count fresh.0 of.0 (omega (arith, sum, due_reserved)) (omega (arith, sum, held_reserved)) h in
       let all = all_added rows (put_row row state) (row_edited insert_by row both) (count + removable_count row) rising.1
-      (still_fresh row state rows rising.0 fresh.1) of.1 (omega (arith, sum, due_room)) (omega (arith, sum, held_room)) here in
+      (still_fresh row state rows rising.0 fresh.1) of.1 (omega (arith, sum, due_reserved)) (omega (arith, sum, held_reserved)) here in
       let same : count + removable_count row + removable_rows rows ≡ count + removable_rows (row ∷ rows) = omega (arith, sum) in
       subst (λ n. IsIndexed (put_rows rows (put_row row state)) (with_rows rows (row_edited insert_by row both)) n) same all
 
   pub added_indexed : (state : State) (device : Device) (rows : List Row) → AreNewRowsOf buses state device rows
-      → (both : Indexes) (count : ℕ) → count + removable_rows rows ≤ both.moments.room → count + removable_rows rows ≤ both.sessions.room
+      → (both : Indexes) (count : ℕ) → count + removable_rows rows ≤ both.moments.reserved
+      → count + removable_rows rows ≤ both.sessions.reserved
       → IsIndexed state both count → IsIndexed (put_rows rows state) (with_rows rows both) (count + removable_rows rows)
-  added_indexed state device rows fresh both count due_room held_room h =
+  added_indexed state device rows fresh both count due_reserved held_reserved h =
       let n = row_count buses device in
       all_added rows state both count (ports_rise device rows 0 n fresh.all.keys)
       (weaken rows (ports_from device rows 0 n fresh.all.keys)
       (λ row from. ap (λ k. row_at k state) from.2 ∙ no_row (row_at (key_at device from.0) state) (fresh.free from.0)))
-      fresh.all.each due_room held_room h
+      fresh.all.each due_reserved held_reserved h

@@ -10,7 +10,7 @@ use Rattle.srcp_index.specs.Indexed.{IsIndexed, IsRankedRow, due_of, is_removabl
 use Rattle.srcp_index.specs.Ordered.{remove_by}
 use Rattle.srcp_index.proofs.RowSums.{but_at, removable_count, sum-there}
 use Rattle.srcp_index.proofs.PairsOfRows.{without_pairs}
-use Rattle.srcp_index.proofs.RankLaws.{with_room}
+use Rattle.srcp_index.proofs.RankLaws.{with_reserved}
 use Rattle.srcp_index.proofs.AddedRowsLaws.{but_at_none}
 
 -- ---- a device that is dropped
@@ -67,8 +67,8 @@ module _ (state : State) (both : Indexes) (count : ℕ) (h : IsIndexed state bot
   dropped_one goes =
       let test = (λ (other : Row). not (same_key other.shown.key row.shown.key)) in
       let one : removable_count row ≡ 1 = rw goes refl in
-      let fewer_due = with_room due_of state _ both.moments count (count - 1) refl refl (omega (arith, h.due.room)) h.due in
-      let fewer_held = with_room holder_of state _ both.sessions count (count - 1) refl refl (omega (arith, h.held.room)) h.held in
+      let fewer_due = with_reserved due_of state _ both.moments count (count - 1) refl refl (omega (arith, h.due.reserved)) h.due in
+      let fewer_held = with_reserved holder_of state _ both.sessions count (count - 1) refl refl (omega (arith, h.held.reserved)) h.held in
       record {
         rising = rising_filter row_key test state h.rising;
         due = without_pairs due_of row state both.moments (count - 1) h.rising there fewer_due;

@@ -1,4 +1,4 @@
--- Laws of the rows with both indexes: the opening, a moment, and more room.
+-- Laws of the rows with both indexes: the opening, a moment, and more memory.
 use Rattle.srcp_rules.proofs.Names
 use Names.{◌≡◌, ℕ, ◌≤◌, Bool, false, List, [], ◌∷◌, map, Option, None, if◌then◌else◌, AllByRecursion, range_with_len, refl}
 use Names.{sym, ap, ◌∙◌, arith, sum_by-cons, Row, all_append, Bus, IsLayout, power_device, fb_device, State, opening, opening_on, first_row}
@@ -14,7 +14,7 @@ use Rattle.srcp_index.proofs.RowSums.{removable_count}
 use Rattle.srcp_index.specs.Indexed.{IsIndexed, due_of, removable_rows, is_removable, pairs_of}
 use Rattle.srcp_index.proofs.Pairs.{before_weak, before_tie}
 use Rattle.srcp_index.proofs.Ordered.{order_by-order_by}
-use Rattle.srcp_index.proofs.RankLaws.{ranked_row, with_room}
+use Rattle.srcp_index.proofs.RankLaws.{ranked_row, with_reserved}
 
 -- ---- the opening
 
@@ -56,12 +56,12 @@ opening_indexed buses layout both moments sessions since =
       due = record {
         pairs = moments ∙ ap (order_by (before both.moments.since))
             (sym (no_pairs due_of state (weaken state plain (λ row p. p.0))));
-        room = omega arith;
+        reserved = omega arith;
       };
       held = record {
         pairs = sessions ∙ ap (order_by (before both.sessions.since))
             (sym (no_pairs holder_of state (weaken state plain (λ row p. p.1))));
-        room = omega arith;
+        reserved = omega arith;
       };
       since = since;
       counted = no_goers state (weaken state plain (λ row p. p.2));
@@ -71,16 +71,16 @@ opening_indexed buses layout both moments sessions since =
 -- ---- a moment
 
 pub settled : (state : State) (both : Indexes) (count moment : ℕ) (index : IndexModel) → IsIndexed state both count → index.pairs
-    ≡ order_by (before moment) both.moments.pairs → index.since ≡ moment → index.room ≡ both.moments.room
+    ≡ order_by (before moment) both.moments.pairs → index.since ≡ moment → index.reserved ≡ both.moments.reserved
     → IsIndexed state (record { moments = index; sessions = both.sessions }) count
-settled state both count moment index h pairs since room =
+settled state both count moment index h pairs since reserved =
     record {
       rising = h.rising;
       due = record {
         pairs = pairs ∙ ap (order_by (before moment)) h.due.pairs
             ∙ order_by-order_by (before moment) (before_weak moment) (before_tie moment) (before both.moments.since) (pairs_of due_of state)
             ∙ ap (λ m. order_by (before m) (pairs_of due_of state)) (sym since);
-        room = omega (arith, h.due.room);
+        reserved = omega (arith, h.due.reserved);
       };
       held = h.held;
       since = h.since;
@@ -88,17 +88,17 @@ settled state both count moment index h pairs since room =
       rows = h.rows;
     }
 
--- ---- more room
+-- ---- more memory
 
-pub roomier : (state : State) (both other : Indexes) (count : ℕ) → IsIndexed state both count → other.moments.pairs
+pub more_reserved : (state : State) (both other : Indexes) (count : ℕ) → IsIndexed state both count → other.moments.pairs
     ≡ both.moments.pairs → other.moments.since ≡ both.moments.since
-    → other.sessions.pairs ≡ both.sessions.pairs → other.sessions.since ≡ both.sessions.since → count ≤ other.moments.room
-    → count ≤ other.sessions.room → IsIndexed state other count
-roomier state both other count h pairs since held held_since room held_room =
+    → other.sessions.pairs ≡ both.sessions.pairs → other.sessions.since ≡ both.sessions.since → count ≤ other.moments.reserved
+    → count ≤ other.sessions.reserved → IsIndexed state other count
+more_reserved state both other count h pairs since held held_since reserved held_reserved =
     record {
       rising = h.rising;
-      due = with_room due_of state both.moments other.moments count count pairs since room h.due;
-      held = with_room holder_of state both.sessions other.sessions count count held held_since held_room h.held;
+      due = with_reserved due_of state both.moments other.moments count count pairs since reserved h.due;
+      held = with_reserved holder_of state both.sessions other.sessions count count held held_since held_reserved h.held;
       since = held_since ∙ h.since;
       counted = h.counted;
       rows = h.rows;

@@ -48,7 +48,7 @@ module _ (rank : Row → Option ℕ) where
   pub with_pairs : (row : Row) (state : State) (index : IndexModel) (count : ℕ) → HasPairs rank (but_at row.shown.key state) index count
       → HasPairs rank (put_row row state) (pair_edited insert_by (rank row) row.shown.key index) count
   with_pairs row state index count h =
-      let whole = put_pairs index.since row state in record { pairs = grind (arith, whole, h.pairs); room = h.room }
+      let whole = put_pairs index.since row state in record { pairs = grind (arith, whole, h.pairs); reserved = h.reserved }
 
   pub without_pairs : (row : Row) (state : State) (index : IndexModel) (count : ℕ) → IsRising state → row_at row.shown.key state ≡ Some row
       → HasPairs rank state index count
@@ -57,7 +57,7 @@ module _ (rank : Row → Option ℕ) where
       let lt = before index.since in
       let whole =
       put_pairs index.since row state ∙ ap (λ rows. order_by lt (pairs_of rank rows)) (put_there row state rising there) ∙ sym h.pairs in
-      record { pairs = grind (arith, whole, remove_by-insert_by lt (before_weak index.since)); room = h.room }
+      record { pairs = grind (arith, whole, remove_by-insert_by lt (before_weak index.since)); reserved = h.reserved }
 
   -- no more rows have a pair than come and go
   pub fewer_pairs : (state : State) → AllByRecursion (λ row. IsSome (rank row) → IsTrue (is_removable row)) state

@@ -39,11 +39,11 @@ ranked_row buses row of =
 -- ---- one index
 
 module _ (rank : Row → Option ℕ) where
-  -- an index with the same pairs has room for more rows, or for fewer
-  pub with_room : (state : State) (index other : IndexModel) (m n : ℕ) → other.pairs ≡ index.pairs → other.since ≡ index.since
-      → n ≤ other.room → HasPairs rank state index m → HasPairs rank state other n
-  with_room state index other m n pairs since room h =
-      record { pairs = pairs ∙ h.pairs ∙ ap (λ s. order_by (before s) (pairs_of rank state)) (sym since); room = room }
+  -- an index with the same pairs has memory for more rows, or for fewer
+  pub with_reserved : (state : State) (index other : IndexModel) (m n : ℕ) → other.pairs ≡ index.pairs → other.since ≡ index.since
+      → n ≤ other.reserved → HasPairs rank state index m → HasPairs rank state other n
+  with_reserved state index other m n pairs since reserved h =
+      record { pairs = pairs ∙ h.pairs ∙ ap (λ s. order_by (before s) (pairs_of rank state)) (sym since); reserved = reserved }
 
   -- there are no more pairs than rows that come and go
   pub few : ((row : Row) → IsRankedRow row → IsSome (rank row) → IsTrue (may_rank row.shown.key.group)) → (state : State)

@@ -6,7 +6,7 @@ use Rattle.srcp_rules.proofs.KeyLaws.{same_key}
 use Rattle.srcp_rules.proofs.StateLaws.{row_key, row_at_key}
 use Rattle.srcp_index.specs.declared.indexes.Indexes.{Indexes}
 use Rattle.srcp_index.specs.Pairs.{IndexModel}
-use Rattle.srcp_index.specs.Indexed.{IsIndexed, HasPairs, HasRoom, IsRankedRow, due_of, may_rank, removable_rows}
+use Rattle.srcp_index.specs.Indexed.{IsIndexed, HasPairs, HasReserved, IsRankedRow, due_of, may_rank, removable_rows}
 use Rattle.srcp_index.specs.Indexed.{Edit, pair_edited, row_edited}
 use Rattle.srcp_index.specs.Ordered.{insert_by, remove_by}
 use Rattle.srcp_index.proofs.RowSums.{but_at, removable_count, sum-put_row, sum-there}
@@ -40,15 +40,15 @@ module _ (buses : List Bus) (state : State) (both : Indexes) (count : ℕ) (h : 
   counts = sum-there removable_count old state h.rising old_there
       ∙ (λ i. cond {A = ℕ} (can_go (same i).group) 1 0 + removable_rows (but_at (same i) state))
 
-  -- there is room for the pair of the row, since its device comes and goes
-  pub room_for : (rank : Row → Option ℕ) (index : IndexModel)
+  -- memory is reserved for the pair of the row, since its device comes and goes
+  pub reserved_for : (rank : Row → Option ℕ) (index : IndexModel)
       → ((row : Row) → IsRankedRow row → IsSome (rank row) → IsTrue (may_rank row.shown.key.group)) → HasPairs rank state index count
-      → IsSome (rank row) → HasRoom (pair_edited remove_by (rank old) old.shown.key index)
-  room_for rank index ranks has s =
+      → IsSome (rank row) → HasReserved (pair_edited remove_by (rank old) old.shown.key index)
+  reserved_for rank index ranks has s =
       let rows_left = all_filter IsRankedRow (λ other. not (same_key other.shown.key row.shown.key)) state h.rows in
       let a = few rank ranks left (pair_edited remove_by (rank old) old.shown.key index) count rows_left (pairs_left rank index has) in
       let b : removable_count row ≡ 1 = rw (ranked_goes row.shown.key.group (ranks row (ranked_row buses row of) s)) refl in
-      omega (arith, h.counted, has.room, counts)
+      omega (arith, h.counted, has.reserved, counts)
 
   pub set_indexed : IsIndexed (put_row row state) (row_edited insert_by row (row_edited remove_by old both)) count
   set_indexed = record {

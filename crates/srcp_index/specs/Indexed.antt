@@ -53,9 +53,9 @@ row_edited edit row both = record {
 abbrev pub with_rows : List Row → Indexes → Indexes
 with_rows rows both = fold (λ before row. row_edited insert_by row before) both rows
 
--- the index has room for one more pair
-abbrev pub HasRoom : IndexModel → Type 0
-HasRoom index = length index.pairs < index.room
+-- the index has reserved memory for one more pair
+abbrev pub HasReserved : IndexModel → Type 0
+HasReserved index = length index.pairs < index.reserved
 
 -- the row is of a device that comes and goes
 abbrev pub is_removable : Row → Bool
@@ -78,12 +78,12 @@ pub record IsRankedRow (row : Row) : Type 0 where
   pub held : IsSome (holder_of row) → IsTrue (may_rank row.shown.key.group)
   pub port : row.shown.key.port < most_rows row.shown.key.group
 
--- the index has the pairs of the rows, and room for `count` pairs
+-- the index has the pairs of the rows, and reserved memory for `count` pairs
 pub record HasPairs (rank : Row → Option ℕ) (state : State) (index : IndexModel) (count : ℕ) : Type 0 where
   pub pairs : index.pairs ≡ order_by (before index.since) (pairs_of rank state)
-  pub room : count ≤ index.room
+  pub reserved : count ≤ index.reserved
 
--- the keys rise, both indexes have the pairs of the rows, and room for all that come and go, and these are counted
+-- the keys rise, both indexes have the pairs of the rows, and memory for all that come and go, and these are counted
 pub record IsIndexed (state : State) (both : Indexes) (count : ℕ) : Type 0 where
   pub rising : IsRising state
   pub due : HasPairs due_of state both.moments count

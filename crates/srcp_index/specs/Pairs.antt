@@ -16,11 +16,11 @@ order since a b =
 abbrev pub before : (since : ℕ) → Pair → Pair → Bool
 before since a b = is_lt (order since a b)
 
--- an index as contracts see it: its pairs in the order since the moment, and how many it has room for
+-- an index as contracts see it: its pairs in the order since the moment, and how many it has reserved memory for
 pub record IndexModel : Type 0 where
   pub since : ℕ
   pub pairs : List Pair
-  pub room : ℕ
+  pub reserved : ℕ
 
 -- the rank has come, and the key is beyond the cursor
 abbrev pub is_due_beyond : (moment : ℕ) → Cursor → Pair → Bool

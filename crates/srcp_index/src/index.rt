@@ -48,10 +48,10 @@ fn count_before(pairs: &VecDeque<Pair>, since: u64, pair: &Pair) -> usize
     pairs.partition_point(|x| is_before(since, x, pair))
 }
 
-/// Inserts a pair in order. There has to be room for the pair.
+/// Inserts a pair in order. Memory for the pair has to be reserved.
 fn insert_in(pairs: &mut VecDeque<Pair>, since: u64, pair: Pair)
     requires order { IsInOrder (before since) pairs.old.items }
-    requires room { deque_len pairs.old < deque_capacity pairs.old }
+    requires reserved { deque_len pairs.old < deque_capacity pairs.old }
     ensures pairs { pairs.new.items ≡ insert_by (before since) pair pairs.old.items }
     ensures len { deque_len pairs.new ≡ deque_len pairs.old + 1 }
     ensures capacity { deque_capacity pairs.old ≤ deque_capacity pairs.new }
@@ -150,12 +150,12 @@ fn least_in(pairs: &VecDeque<Pair>, since: u64) -> Option<u64>
     Some(least_due(pairs, since, first.rank))
 }
 
-/// Holds pairs in the order of a moment. Contracts see the list, the moment, and for how many pairs there is room.
+/// Holds pairs in the order of a moment. Contracts see the list, the moment, and how many pairs are reserved.
 #[derive(Drop)]
 pub(crate) struct Index {
     since: u64,
-    /// The number of pairs with room made by `reserve`.
-    room: usize,
+    /// The number of pairs that `reserve` made memory for.
+    reserved: usize,
     pairs: VecDeque<Pair>,
 }
 
@@ -167,9 +167,9 @@ impl Model for Index {
 
     ghost Value = { IndexModel };
 
-    ghost view = { λ x. record { since = x.since; pairs = x.pairs.items; room = x.room } };
+    ghost view = { λ x. record { since = x.since; pairs = x.pairs.items; reserved = x.reserved } };
 
-    ghost invariant = { λ x. IsInOrder (before x.since) x.pairs.items × (x.room ≤ deque_capacity x.pairs) };
+    ghost invariant = { λ x. IsInOrder (before x.since) x.pairs.items × (x.reserved ≤ deque_capacity x.pairs) };
 }
 
 impl Index {
@@ -180,31 +180,31 @@ impl Index {
     {
         Index {
             since: 0,
-            room: 0,
+            reserved: 0,
             pairs: VecDeque::new(alloc),
         }
     }
 
-    /// Makes room for `total` pairs in all. Fails if memory is refused, and the pairs stay. No other call allocates
-    /// memory.
+    /// Reserves memory for `total` pairs in all. Fails if memory is refused, and the pairs stay. No other call
+    /// allocates.
     pub(crate) fn reserve(&mut self, total: usize) -> Result<(), AllocError>
         ensures pairs { self.new.pairs ≡ self.old.pairs }
         ensures since { self.new.since ≡ self.old.since }
-        ensures more { self.old.room ≤ self.new.room }
-        ensures ok { OnOk result (total ≤ self.new.room) }
+        ensures more { self.old.reserved ≤ self.new.reserved }
+        ensures ok { OnOk result (total ≤ self.new.reserved) }
     {
         self.pairs.reserve(total.saturating_sub(self.pairs.len()))?;
-        self.room = self.room.max(total);
+        self.reserved = self.reserved.max(total);
         Ok(())
     }
 
     /// Inserts a pair at its place in the order.
     pub(crate) fn insert(&mut self, pair: Pair)
-        requires room { length self.old.pairs < self.old.room }
+        requires reserved { length self.old.pairs < self.old.reserved }
         ensures pairs { self.new.pairs ≡ insert_by (before self.old.since) pair self.old.pairs }
         ensures len { length self.new.pairs ≡ length self.old.pairs + 1 }
         ensures since { self.new.since ≡ self.old.since }
-        ensures room { self.new.room ≡ self.old.room }
+        ensures reserved { self.new.reserved ≡ self.old.reserved }
     {
         insert_in(&mut self.pairs, self.since, pair);
     }
@@ -213,7 +213,7 @@ impl Index {
     pub(crate) fn remove(&mut self, pair: Pair)
         ensures pairs { self.new.pairs ≡ remove_by (before self.old.since) pair self.old.pairs }
         ensures since { self.new.since ≡ self.old.since }
-        ensures room { self.new.room ≡ self.old.room }
+        ensures reserved { self.new.reserved ≡ self.old.reserved }
     {
         remove_from(&mut self.pairs, self.since, pair);
     }
@@ -222,7 +222,7 @@ impl Index {
     pub(crate) fn sort_for(&mut self, moment: u64)
         ensures pairs { self.new.pairs ≡ order_by (before moment) self.old.pairs }
         ensures since { self.new.since ≡ moment }
-        ensures room { self.new.room ≡ self.old.room }
+        ensures reserved { self.new.reserved ≡ self.old.reserved }
     {
         if moment != self.since {
             reorder_in(&mut self.pairs, self.since, moment);

@@ -20,7 +20,7 @@ use std::marker::Model;
 pub struct Indexed<R: Rows> {
     rows: R,
     indexes: Indexes,
-    /// The number of rows of devices that come and go. The indexes have room for as many.
+    /// The number of rows of devices that come and go. The indexes reserve memory for as many.
     count: usize,
 }
 

@@ -1,6 +1,6 @@
 //! The index of due moments, and the index of the sessions with locks.
 ghost use Rattle.std.specs.Prelude.{◌≡◌, ◌+◌, ◌≤◌, IsSome, [], OnOk, length};
-ghost use Rattle.srcp_index.specs.Indexed.{HasRoom, due_of, pair_edited, row_edited, with_rows};
+ghost use Rattle.srcp_index.specs.Indexed.{HasReserved, due_of, pair_edited, row_edited, with_rows};
 ghost use Rattle.srcp_index.specs.Ordered.{insert_by, remove_by};
 ghost use Rattle.srcp_rules.specs.State.{holder_of};
 
@@ -31,16 +31,16 @@ impl Indexes {
         }
     }
 
-    /// Makes room for the pairs of `total` rows in all. Fails if memory is refused, and the pairs stay.
+    /// Reserves memory for the pairs of `total` rows in all. Fails if memory is refused, and the pairs stay.
     pub(crate) fn reserve(&mut self, total: usize) -> Result<(), Memory>
         ensures moments { self.new.moments.pairs ≡ self.old.moments.pairs }
         ensures sessions { self.new.sessions.pairs ≡ self.old.sessions.pairs }
         ensures moments_since { self.new.moments.since ≡ self.old.moments.since }
         ensures sessions_since { self.new.sessions.since ≡ self.old.sessions.since }
-        ensures moments_more { self.old.moments.room ≤ self.new.moments.room }
-        ensures sessions_more { self.old.sessions.room ≤ self.new.sessions.room }
-        ensures moments_room { OnOk result (total ≤ self.new.moments.room) }
-        ensures sessions_room { OnOk result (total ≤ self.new.sessions.room) }
+        ensures moments_more { self.old.moments.reserved ≤ self.new.moments.reserved }
+        ensures sessions_more { self.old.sessions.reserved ≤ self.new.sessions.reserved }
+        ensures moments_reserved { OnOk result (total ≤ self.new.moments.reserved) }
+        ensures sessions_reserved { OnOk result (total ≤ self.new.sessions.reserved) }
     {
         if self.moments.reserve(total).is_err() || self.sessions.reserve(total).is_err() {
             return Err(Memory);
@@ -50,8 +50,8 @@ impl Indexes {
 
     /// Inserts the pairs of a row.
     pub(crate) fn insert(&mut self, row: &Row)
-        requires moments { IsSome (due_of row.now) → HasRoom self.old.moments }
-        requires sessions { IsSome (holder_of row.now) → HasRoom self.old.sessions }
+        requires moments { IsSome (due_of row.now) → HasReserved self.old.moments }
+        requires sessions { IsSome (holder_of row.now) → HasReserved self.old.sessions }
         ensures { self.new ≡ row_edited insert_by row.now self.old }
     {
         insert_ranked(&mut self.moments, row.due, row.shown.key);
@@ -60,8 +60,8 @@ impl Indexes {
 
     /// Inserts the pairs of rows.
     pub(crate) fn insert_all(&mut self, rows: &[Row])
-        requires moments { length self.old.moments.pairs + length rows.now ≤ self.old.moments.room }
-        requires sessions { length self.old.sessions.pairs + length rows.now ≤ self.old.sessions.room }
+        requires moments { length self.old.moments.pairs + length rows.now ≤ self.old.moments.reserved }
+        requires sessions { length self.old.sessions.pairs + length rows.now ≤ self.old.sessions.reserved }
         ensures { self.new ≡ with_rows rows.now self.old }
     {
         for row in rows {
@@ -90,7 +90,7 @@ fn holder(row: &Row) -> Option<u64>
 
 /// Inserts the pair of a key, if the key has a rank.
 fn insert_ranked(index: &mut Index, rank: Option<u64>, key: Key)
-    requires { IsSome rank → HasRoom index.old }
+    requires { IsSome rank → HasReserved index.old }
     ensures { index.new ≡ pair_edited insert_by rank key index.old }
 {
     if let Some(rank) = rank {

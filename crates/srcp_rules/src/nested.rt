@@ -1,6 +1,6 @@
 //! A keeper of rows by bus, group and address.
 
-ghost use Rattle.std.specs.Prelude.{◌≡◌, ◌<◌, [], ◌∷◌, ◌++◌, true, map, Some, IfOk, IfSome, OnOk};
+ghost use Rattle.std.specs.Prelude.{◌≡◌, ◌<◌, [], ◌∷◌, ◌++◌, true, map, Some, IfOk, IfSome, OnOk, option_copied};
 ghost use Rattle.std.specs.List.{AllByRecursion};
 ghost use Rattle.std.specs.Map.{keys_of};
 ghost use Rattle.srcp_info.specs.declared.key.Key.{Key};
@@ -67,16 +67,12 @@ impl Rows for Nested {
         self.by_number.get(&key.bus)?.row(key)
     }
 
+    #[inline(always)]
     fn row_after(&self, cursor: Cursor) -> Option<&Row> {
-        if let Some(row) = self.row_after_in_own_group(cursor) {
-            return Some(row);
+        match self.row_after_in_own_group(cursor) {
+            Some(row) => Some(row),
+            None => self.row_after_of_each_bus(cursor),
         }
-        for (number, rows) in self.by_number.range(first_bus(cursor)..) {
-            if let Some(row) = rows.row_after(*number, cursor) {
-                return Some(row);
-            }
-        }
-        None
     }
 
     fn next_due(&mut self, moment: u64, cursor: Cursor) -> Option<Row> {
@@ -116,6 +112,7 @@ impl Rows for Nested {
 impl Nested {
     /// Finds the row with the least key beyond the cursor, if the row is of the cursor's own group. Nearly each row of
     /// a listing is.
+    #[inline(always)]
     fn row_after_in_own_group(&self, cursor: Cursor) -> Option<&Row>
         ensures { IfSome result (λ row. Some row.now ≡ row_after cursor self.now.state) }
     {
@@ -124,6 +121,20 @@ impl Nested {
         };
         let rows = self.by_number.get(&last.bus)?;
         rows.row_after_in_group(last.bus, last.group, cursor)
+    }
+
+    /// Finds the row with the least key beyond the cursor, bus by bus.
+    #[cold]
+    #[inline(never)]
+    fn row_after_of_each_bus(&self, cursor: Cursor) -> Option<&Row>
+        ensures { option_copied result ≡ row_after cursor self.now.state }
+    {
+        for (number, rows) in self.by_number.range(first_bus(cursor)..) {
+            if let Some(row) = rows.row_after(*number, cursor) {
+                return Some(row);
+            }
+        }
+        None
     }
 
     /// Finds the first row beyond the cursor that the filter passes.

@@ -2,7 +2,7 @@ use Rattle.srcp_rules.proofs.Names.{holder_of, length, sym, ap, subst, arith, Ar
 use Rattle.std.proofs.lemmas.List.Sums.{count_by-le-length}
 use Rattle.srcp_index.specs.Indexed.{due_of, is_removable}
 use Rattle.srcp_index.proofs.AddedRowsLaws.{added_indexed}
-use Rattle.srcp_index.proofs.IndexedLaws.{roomier}
+use Rattle.srcp_index.proofs.IndexedLaws.{more_reserved}
 use Rattle.srcp_index.proofs.RankLaws.{few}
 use Rattle.srcp_index.proofs.indexed.IndexedRows.add.Goals as goal
 
@@ -28,9 +28,9 @@ invariant_of-self-2 g c =
     let total = c.in-Some.ensures in
     let some = count_by-le-length is_removable c.args.added.now in
     let now = c.reserve.ensures in
-    let room = c.in_ok-reserve.ensures in
-    let reserved = roomier _ _ c.reserve.new.self _ c.self.invariant now.moments now.moments_since now.sessions now.sessions_since
-    (omega (arith, total, room.moments_room)) (omega (arith, total, room.sessions_room)) in
+    let memory = c.in_ok-reserve.ensures in
+    let reserved = more_reserved _ _ c.reserve.new.self _ c.self.invariant now.moments now.moments_since now.sessions now.sessions_since
+    (omega (arith, total, memory.moments_reserved)) (omega (arith, total, memory.sessions_reserved)) in
     rw (c.in_ok-add.ensures.ok, c.insert_all.ensures, c.removable_rows.ensures)
     (added_indexed (g.R.Rows.buses c.self.inside.rows) _ c.requires.0 c.args.added.now fresh c.reserve.new.self _
-    (omega (arith, total, some, room.moments_room)) (omega (arith, total, some, room.sessions_room)) reserved)
+    (omega (arith, total, some, memory.moments_reserved)) (omega (arith, total, some, memory.sessions_reserved)) reserved)

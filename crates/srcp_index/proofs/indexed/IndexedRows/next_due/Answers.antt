@@ -12,13 +12,13 @@ invariant_of-self-2 g c = search (rules, settled)
 pub returns-in_err-pair-clause-row : goal.returns-in_err-pair-clause-row
 returns-in_err-pair-clause-row g c =
     let sorted = c.sort_for.ensures in
-    let kept = settled _ _ _ c.args.moment c.sort_for.new.self c.self.invariant sorted.pairs sorted.since sorted.room in
+    let kept = settled _ _ _ c.args.moment c.sort_for.new.self c.self.invariant sorted.pairs sorted.since sorted.reserved in
     let first = due_row _ c.sort_for.new.self c.args.cursor None kept.rising kept.due.pairs c.in_err-pair.ensures in
     cc
 
 pub returns-clause-row : goal.returns-clause-row
 returns-clause-row g c =
     let sorted = c.sort_for.ensures in
-    let kept = settled _ _ _ c.args.moment c.sort_for.new.self c.self.invariant sorted.pairs sorted.since sorted.room in
+    let kept = settled _ _ _ c.args.moment c.sort_for.new.self c.self.invariant sorted.pairs sorted.since sorted.reserved in
     let first = due_row _ c.sort_for.new.self c.args.cursor (Some c.in_ok-pair.pair) kept.rising kept.due.pairs c.in_ok-pair.ensures in
     cc

@@ -1,5 +1,5 @@
 use Rattle.srcp_rules.proofs.Names.{◌≡◌, AllByRecursion, row_after, AreRowsOfBus, bus_rows, listed}
-use Rattle.srcp_rules.proofs.nested.NestedRows.row_after.Given as goal
+use Rattle.srcp_rules.proofs.nested.Nested.row_after_of_each_bus.Given as goal
 
 abbrev pub invariant-loop-number : goal.invariant-loop-number
 invariant-loop-number l = record {

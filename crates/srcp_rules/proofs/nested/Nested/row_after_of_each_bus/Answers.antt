@@ -3,7 +3,7 @@ use Names.{◌≡◌, sym, ap, subst, ◌∙◌, AllByRecursion, nat_cmp, entrie
 use Names.{listed}
 use Rattle.srcp_rules.proofs.ListedLaws.{each-between, first_has, first_has_none}
 use Rattle.srcp_rules.proofs.NestedLaws.{row_after-buses}
-use Rattle.srcp_rules.proofs.nested.NestedRows.row_after.Goals as goal
+use Rattle.srcp_rules.proofs.nested.Nested.row_after_of_each_bus.Goals as goal
 
 pub loop-number-init : goal.loop-number-init
 loop-number-init c =
@@ -29,17 +29,17 @@ loop-number-init c =
 pub returns-in-Some-row_after : goal.returns-in-Some-row_after
 returns-in-Some-row_after c =
     first_has (λ e. bus_rows e.1) c.args.cursor c.loop-number.number-iterator c.next.new.self
-    (c.in-Some-2.number.now, c.in-Some-2.rows.now)
-    c.in-Some-2.ensures.steps c.in-Some-row_after.row.now c.in-Some-row_after.ensures
+    (c.in-Some.number.now, c.in-Some.rows.now)
+    c.in-Some.ensures.steps c.in-Some-row_after.row.now c.in-Some-row_after.ensures
     ∙ sym c.loop-number.invariant.rest
 
 pub loop-number-preserved : goal.loop-number-preserved
 loop-number-preserved c = record {
   can = tt;
   finite = tt;
-  each = (subst (AllByRecursion (λ e. AreRowsOfBus e.0 e.1)) c.in-Some-2.ensures.steps c.loop-number.invariant.each).1;
+  each = (subst (AllByRecursion (λ e. AreRowsOfBus e.0 e.1)) c.in-Some.ensures.steps c.loop-number.invariant.each).1;
   rest = c.loop-number.invariant.rest
       ∙ first_has_none (λ e. bus_rows e.1) c.args.cursor c.loop-number.number-iterator c.next.new.self
-      (c.in-Some-2.number.now, c.in-Some-2.rows.now)
-      c.in-Some-2.ensures.steps c.in_default-row_after.ensures;
+      (c.in-Some.number.now, c.in-Some.rows.now)
+      c.in-Some.ensures.steps c.in_default.ensures;
 }
