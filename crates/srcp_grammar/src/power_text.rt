@@ -6,7 +6,7 @@ ghost use Rattle.srcp_grammar.specs.Grammar.{text_of};
 use srcp_info::{Code, LONGEST_TEXT, Text, is_text};
 use srcp_text::Words;
 
-/// Appends a word. The text must have room for the word.
+/// Appends a word. The text must have capacity for the word.
 fn push_word(text: &mut Text, word: &[u8])
     requires { length text.old + length word.now ≤ LONGEST_TEXT }
     ensures { text.new ≡ text.old ++ word.now }

@@ -78,7 +78,7 @@ abbrev pub may_accept : Listening → List Peer → Bool
 may_accept heard peers = not (is_quiet heard) && not (is_crowded peers)
 
 -- a place is made: the first peer that lingers and is owed nothing is closed. Without one the listener rests
-pub record MakesRoom (peers : List Peer) (before after : Listening) (old new : List Step) : Type 0 where
+pub record FreesPlace (peers : List Peer) (before after : Listening) (old new : List Step) : Type 0 where
   pub none : position (λ peer. is_shut peer.stay) peers ≡ None → after ≡ listening.BackingOff
   pub one : (index : ℕ) → position (λ peer. is_shut peer.stay) peers ≡ Some index
       → (after ≡ before) × Makes is_close 1 old new

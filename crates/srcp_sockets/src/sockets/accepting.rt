@@ -7,7 +7,7 @@ ghost use Rattle.srcp_sockets.specs.Asked.{IsExcused};
 ghost use Rattle.srcp_sockets.specs.Doors.{is_quiet};
 ghost use Rattle.srcp_sockets.specs.Limits.{most_peers};
 ghost use Rattle.srcp_sockets.specs.Loads.{AnswersWithin};
-ghost use Rattle.srcp_sockets.specs.Work.{IsAccepting, MakesRoom, is_crowded, may_accept};
+ghost use Rattle.srcp_sockets.specs.Work.{IsAccepting, FreesPlace, is_crowded, may_accept};
 ghost use Rattle.srcp_peers.specs.Times.{refused_accept};
 ghost use Rattle.srcp_door.specs.Calls.{AcceptCall};
 ghost use Rattle.srcp_peers.specs.Steps.{Answers, Closes, GrowsBy, SaysNothing};
@@ -39,7 +39,7 @@ impl<S: System> Sockets<S> {
             × (self.new.system.log.steps ≡ self.old.system.log.steps ++ Answers (AcceptCall (Ok None)) ∷ []) }
         ensures makes { is_quiet self.old.listening ≡ false
             → is_crowded self.old.peers.items ≡ true
-            → MakesRoom self.old.peers.items self.old.listening self.new.listening
+            → FreesPlace self.old.peers.items self.old.listening self.new.listening
             self.old.system.log.steps self.new.system.log.steps }
     {
         if !self.may_accept() {
@@ -59,7 +59,7 @@ impl<S: System> Sockets<S> {
     fn may_accept(&mut self) -> bool
         ensures calls { SaysNothing self.old.system.log.steps self.new.system.log.steps }
         ensures few { GrowsBy 1 self.old.system.log.steps self.new.system.log.steps }
-        ensures room { result ≡ true → length self.new.peers.items < most_peers }
+        ensures place { result ≡ true → length self.new.peers.items < most_peers }
         ensures is { result ≡ may_accept self.old.listening self.old.peers.items }
         ensures excused { result ≡ false → IsExcused self.new.system.log.steps }
         ensures keeps { (self.new.flushed ≡ self.old.flushed) × (self.new.starved ≡ self.old.starved) }
@@ -69,14 +69,14 @@ impl<S: System> Sockets<S> {
             × (self.new.system.log.steps ≡ self.old.system.log.steps) }
         ensures makes { is_quiet self.old.listening ≡ false
             → is_crowded self.old.peers.items ≡ true
-            → MakesRoom self.old.peers.items self.old.listening self.new.listening
+            → FreesPlace self.old.peers.items self.old.listening self.new.listening
             self.old.system.log.steps self.new.system.log.steps }
     {
         if self.listening.is_quiet() {
             return false;
         }
         if self.is_crowded() {
-            self.make_room();
+            self.free_place();
             return false;
         }
         true
@@ -115,7 +115,7 @@ impl<S: System> Sockets<S> {
     /// Accepts the next pending connection under that number, if there is one.
     fn accept_next(&mut self, number: u32, queues: Queues) -> Result<Option<u32>, DoorFault>
         requires next { number ≡ self.old.last + 1 }
-        requires room { length self.old.peers.items < most_peers }
+        requires place { length self.old.peers.items < most_peers }
         requires loud { is_quiet self.old.listening ≡ false }
         ensures fault { IfErr result (λ fault. fault ≡ DoorFault.Accept) }
         ensures rests { OnErr result (self.new.listening ≡ Listening.BackingOff) }
@@ -148,21 +148,21 @@ impl<S: System> Sockets<S> {
     /// Returns whether one that lingers has to be closed before a connection is accepted.
     fn is_crowded(&self) -> bool
         ensures is { result ≡ is_crowded self.now.peers.items }
-        ensures room { result ≡ false → length self.now.peers.items < most_peers }
+        ensures place { result ≡ false → length self.now.peers.items < most_peers }
     {
         self.peers.len() >= MOST_PEERS || count_lingering(self.peers.as_slice()) >= MOST_LINGERING
     }
 
     /// Closes the first peer that lingers and is owed nothing. If there is none, no connection is accepted until one is
     /// closed.
-    fn make_room(&mut self)
+    fn free_place(&mut self)
         requires { is_quiet self.old.listening ≡ false }
         ensures calls { SaysNothing self.old.system.log.steps self.new.system.log.steps }
         ensures last { self.new.last ≡ self.old.last }
         ensures keeps { (self.new.flushed ≡ self.old.flushed) × (self.new.starved ≡ self.old.starved) }
         ensures closes { (self.new.system.log.steps ≡ self.old.system.log.steps)
             ⊎ ((who : ℕ) × (self.new.system.log.steps ≡ self.old.system.log.steps ++ Closes who ∷ [])) }
-        ensures makes { MakesRoom self.old.peers.items self.old.listening self.new.listening
+        ensures makes { FreesPlace self.old.peers.items self.old.listening self.new.listening
             self.old.system.log.steps self.new.system.log.steps }
     {
         match first_shut(self.peers.as_slice()) {

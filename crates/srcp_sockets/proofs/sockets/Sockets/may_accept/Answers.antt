@@ -10,20 +10,20 @@ pub returns-then-is_crowded-clause-excused : goal.returns-then-is_crowded-clause
 returns-then-is_crowded-clause-excused g c refused =
     let self = c.args.self.now in
     let old = self.system.log.steps in
-    let new = c.make_room.new.self.system.log.steps in
+    let new = c.free_place.new.self.system.log.steps in
     let crowded : is_crowded self.peers.items ≡ true = sym c.if-is_crowded.ensures.is in
     ⊎_elim
     (λ (same : new ≡ old).
     subst IsExcused (sym same) (may_crowded old self.peers.items self.listening self.last self.stands crowded))
     (λ (one : (who : ℕ) × (new ≡ old ++ Closes who ∷ [])).
     may_closed old new self.peers.items self.listening self.last one.0 self.stands crowded one.1)
-    c.make_room.ensures.closes
+    c.free_place.ensures.closes
 
 pub returns-then-is_crowded-clause-few : goal.returns-then-is_crowded-clause-few
 returns-then-is_crowded-clause-few g c =
     let old = c.args.self.now.system.log.steps in
-    let new = c.make_room.new.self.system.log.steps in
+    let new = c.free_place.new.self.system.log.steps in
     ⊎_elim
     (λ (same : new ≡ old). omega (arith, ap length same))
     (λ (one : (who : ℕ) × (new ≡ old ++ Closes who ∷ [])). grows_step old new (Closes one.0) one.1)
-    c.make_room.ensures.closes
+    c.free_place.ensures.closes

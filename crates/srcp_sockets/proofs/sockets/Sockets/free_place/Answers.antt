@@ -3,7 +3,7 @@ use Rattle.std.specs.Prelude.{slice_index_or}
 use Rattle.srcp_peers.specs.declared.peer.Peer.{Peer}
 use Rattle.srcp_peers.specs.Peers.{is_closable}
 use Rattle.srcp_sockets.proofs.AcceptsKeepSockets.{stands_later}
-use Rattle.srcp_sockets.proofs.sockets.Sockets.make_room.Goals as goal
+use Rattle.srcp_sockets.proofs.sockets.Sockets.free_place.Goals as goal
 
 pub close_at-requires : goal.close_at-requires
 close_at-requires g c =
