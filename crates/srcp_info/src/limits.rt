@@ -53,3 +53,6 @@ pub const LONGEST_LINE: usize = 126;
 
 /// The most bytes of the line of a reply without a row, LF included.
 pub const LONGEST_SHORT_REPLY: usize = 64;
+
+/// The most bytes of the text of such a reply, behind the stamp.
+pub(crate) const LONGEST_REPLY_TEXT: usize = 40;

@@ -9,12 +9,13 @@ ghost use Rattle.srcp_info.specs.WellFormed.{IsWellFormed, IsWellFormedShown, Is
 
 use crate::change::{Change, Reply, Shown};
 use crate::key::{Device, Group, Key};
-use crate::limits::{LONGEST_LINE, LONGEST_SHORT_REPLY};
+use crate::limits::{LONGEST_LINE, LONGEST_REPLY_TEXT, LONGEST_SHORT_REPLY};
 use crate::value::{Bits, Letter, Text, Value};
 use crate::words::{code_text, letter_word, mode_word, switch_word, value_code};
 use srcp_text::{WrittenLine, put_bytes, put_number, put_stamp};
 
-/// The bytes of a line in memory: `LONGEST_LINE`, rounded up to a multiple of 16. A copy of such a length needs no call.
+/// The bytes of a line in memory: `LONGEST_LINE`, rounded up to a multiple of 16. A copy of such a length needs no
+/// call.
 pub const LINE_CAPACITY: usize = 128;
 
 /// Holds a line of a change or of a reply.
@@ -124,10 +125,9 @@ fn put_value<const N: usize>(key: &Key, value: &Value, buffer: &mut WrittenLine<
     ensures { buffer.new
         ≡ buffer.old ++ after_spaces (value_words key.now.address key.now.port value.now) }
 {
-    let address = key.address;
     match value {
         Value::Session { mode } => {
-            put_numeral(address, buffer);
+            put_numeral(key.address, buffer);
             put_word(mode_word(*mode), buffer);
         }
         Value::Power { on, text } => put_power(*on, text, buffer),
@@ -137,7 +137,7 @@ fn put_value<const N: usize>(key: &Key, value: &Value, buffer: &mut WrittenLine<
             steps,
             functions,
         } => {
-            put_numeral(address, buffer);
+            put_numeral(key.address, buffer);
             put_letter(*letter, buffer);
             put_numerals(&[*version, *steps, *functions], buffer);
         }
@@ -147,22 +147,22 @@ fn put_value<const N: usize>(key: &Key, value: &Value, buffer: &mut WrittenLine<
             vmax,
             functions,
         } => {
-            put_numerals(&[address, *mode, *v, *vmax], buffer);
+            put_numerals(&[key.address, *mode, *v, *vmax], buffer);
             put_functions(functions, buffer);
         }
         Value::GaInit { letter } => {
-            put_numeral(address, buffer);
+            put_numeral(key.address, buffer);
             put_letter(*letter, buffer);
         }
         Value::GaPort { on } => {
-            put_numerals(&[address, u32::from(key.port - 1)], buffer);
+            put_numerals(&[key.address, u32::from(key.port - 1)], buffer);
             put_bit(*on, buffer);
         }
         Value::Fb { on } => {
-            put_numeral(address, buffer);
+            put_numeral(key.address, buffer);
             put_bit(*on, buffer);
         }
-        Value::Lock { seconds, session } => put_numerals(&[address, *seconds, *session], buffer),
+        &Value::Lock { seconds, session } => put_numerals(&[key.address, seconds, session], buffer),
     }
 }
 
@@ -240,7 +240,7 @@ pub fn write_change<const N: usize>(change: &Change, buffer: &mut WrittenLine<N>
 
 /// Writes a moment and a text as a line.
 fn write_text<const N: usize>(stamp: u64, text: &[u8], buffer: &mut WrittenLine<N>)
-    requires short { length text.now ≤ 40 }
+    requires short { length text.now ≤ LONGEST_REPLY_TEXT }
     requires fits { LONGEST_LINE ≤ N }
     requires empty { buffer.old ≡ [] }
     ensures line { buffer.new ≡ spaced (stamp_of stamp ∷ text.now ∷ []) }
