@@ -49,8 +49,8 @@ pub trait Door {
         ensures faults { faults self.new ≡ faults self.old }
         ensures trace { Tells (trace self.old) (ExpectCall due slack) (trace self.new) };
 
-    /// Returns the time, in milliseconds since 1970. A door over sockets waits here for input, for room, and for the
-    /// next row that falls due.
+    /// Returns the time, in milliseconds since 1970. A door over sockets waits here for input, for sockets that take
+    /// more bytes, and for the next row that falls due.
     ///
     /// # Errors
     /// Returns `Now` if the time is not known.

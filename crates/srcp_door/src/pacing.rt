@@ -51,6 +51,14 @@ impl LineBoundary {
 }
 
 /// Holds a peer's share of the lines.
+///
+/// ```
+/// let mut share = Share {
+///     line: LineBoundary::At,
+///     rest: MOST_IN_PIECE,
+/// };
+/// let allowed = pace.allow(&mut share, piece);
+/// ```
 #[derive(Clone, Copy)]
 pub struct Share {
     /// Whether the bytes that were handed out end at the boundary of a line.
@@ -152,7 +160,7 @@ impl Pace {
     }
 }
 
-/// A prefix of a piece.
+/// Holds the length of a prefix of a piece, and how many lines end in it.
 #[derive(Clone, Copy)]
 struct Prefix {
     // The number of bytes.
@@ -161,7 +169,7 @@ struct Prefix {
     lines: usize,
 }
 
-/// A prefix of a piece, and what its lines weigh.
+/// Holds a prefix of a piece, and what its lines weigh.
 #[derive(Clone, Copy)]
 struct WeighedPrefix {
     prefix: Prefix,
@@ -172,7 +180,7 @@ struct WeighedPrefix {
     next: usize,
 }
 
-/// The part of a peer's piece that goes.
+/// Says which part of a peer's piece goes.
 #[derive(Clone, Copy)]
 struct Granted {
     // The number of bytes.

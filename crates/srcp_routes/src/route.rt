@@ -32,6 +32,12 @@ pub struct Signal {
 }
 
 /// Describes a route.
+///
+/// ```
+/// let route = Route { number: 1, turnouts, blocks, signal: None, frees: None };
+/// routes.push(route)?;
+/// let mut interlocking = Interlocking::new(alloc, routes)?;
+/// ```
 #[derive(Drop)]
 pub struct Route {
     /// The number by which the route is asked for and reported.

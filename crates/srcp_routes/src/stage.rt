@@ -8,6 +8,27 @@ ghost use Rattle.srcp_routes.specs.Stages.{stop_setting, turned_back};
 use crate::{Order, Route, Setting, Signal};
 
 /// Says how far a route has come.
+///
+/// ```text
+/// Idle ---> Locking ---> Throwing ---> Ready ---> Showing ---> Reporting ---> Set
+///   ^          |            |            |           |             |           |
+///   |          |            |            |           +-------------+-----------+---> Stopping <---> Stuck
+///   |          |            |            |                                               |
+///   |          |            +------------+-----------------------------------> Hiding <--+
+///   |          v                                                                 |
+///   +----- Unlocking <-----------------------------------------------------------+
+///
+/// any stage --- a command session begins ---> Clearing ---> Closing ---> Idle
+///                                                 ^
+///                                                 +-------> Blocked
+/// ```
+///
+/// A route goes to the right while it is wanted and its orders are accepted. It goes down if an order is refused, or if
+/// the route is given back. A signal that could not be stopped leaves the route `Stuck` or `Blocked`. The signal is to
+/// be stopped again if the route is given back once more.
+///
+/// A route without a signal passes over `Ready`, `Showing`, `Stopping` and `Clearing`. A route without turnouts passes
+/// over `Locking`, `Throwing`, `Ready` and `Unlocking`.
 #[derive(Clone, Copy, Debug, PartialEq, Eq)]
 pub enum Stage {
     /// The route holds nothing, and the signal shows "stop".

@@ -29,7 +29,7 @@ pub struct Served {
     pub faults: u64,
 }
 
-/// A server over a door, with the slots of its peers.
+/// Holds a server over a door, with the slots of its peers.
 #[derive(Drop)]
 struct Server<'d, D: Door> {
     door: &'d mut D,
