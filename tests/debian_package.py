@@ -169,7 +169,9 @@ def copyright_names_what_is_linked(_):
     words = set(re.findall(r"\w+", told.partition("\nFiles: *\n")[0]))
     if missing := linked_libraries() - words:
         return f"packaging/copyright does not name {sorted(missing)}"
-    mit, apache, readme = [(TOP / name).read_text() for name in ("LICENSE-MIT", "LICENSE-APACHE", "README.md")]
+    mit = (TOP / "LICENSE-MIT").read_text()
+    apache = (TOP / "LICENSE-APACHE").read_text()
+    readme = (TOP / "README.md").read_text()
     body = re.search(r"^License: MIT\n((?: .*\n)+)", told, re.M)[1]
     has_text = " ".join(body.replace(" .\n", "").split()) == " ".join(mit.partition("\n")[2].split())
     is_named = "(LICENSE-MIT)" in readme and "(LICENSE-APACHE)" in readme and "License: MIT or Apache-2.0\n" in told
@@ -182,7 +184,9 @@ def version_is_counted_once(program):
     another."""
     told = subprocess.run([program, "--version"], capture_output=True, text=True, timeout=SECONDS).stdout.split()
     welcome = WELCOME.decode().partition(";")[0].split()
-    changes, readme, install = [(TOP / name).read_text() for name in ("CHANGELOG.md", "README.md", "docs/install.md")]
+    changes = (TOP / "CHANGELOG.md").read_text()
+    readme = (TOP / "README.md").read_text()
+    install = (TOP / "docs" / "install.md").read_text()
     package = re.match(r"srcp-server \(([\d.]+-\d+)\) ", (PACKAGING / "changelog").read_text())[1]
     heads = re.findall(r"^## (.*)$", changes, re.M)
     named = set(re.findall(r"srcp-server_([\d.]+-\d+)_", readme + install))

@@ -39,8 +39,8 @@ def collected(errors: bytes) -> int:
 def counted_server(program: str):
     """A server under callgrind: its port, its process, and a list that holds the count of its instructions in the
     end."""
-    with tempfile.TemporaryDirectory() as room:
-        counting = Path(room, "counting")
+    with tempfile.TemporaryDirectory() as folder:
+        counting = Path(folder, "counting")
         count: list[int] = []
         counting.write_text(f'#!/bin/sh\nexec {" ".join(CALLGRIND)} "{program}" "$@"\n')
         counting.chmod(0o755)

@@ -110,10 +110,10 @@ def measured(words, path, output=os.devnull):
 @contextmanager
 def replays(program, config):
     """Lends the words that replay a script on a layout, and where the script and what is printed of it go."""
-    with tempfile.TemporaryDirectory() as room:
-        layout, script, record = (Path(room, name) for name in ("layout.toml", "script", "record"))
+    with tempfile.TemporaryDirectory() as folder:
+        layout = Path(folder, "layout.toml")
         layout.write_bytes(config)
-        yield [program, "replay", "--config", str(layout)], script, record
+        yield [program, "replay", "--config", str(layout)], Path(folder, "script"), Path(folder, "record")
 
 
 def replayed(replay, events):

@@ -11,6 +11,7 @@ from pathlib import Path
 
 from bridge_tests import common
 from bridge_tests.common import until
+from srcp_bridges.rows import Lock, Port, parse
 
 OWN = 9  # the routes' own bus
 BUSES = (1, 2)  # those of the devices of a route
@@ -79,15 +80,16 @@ class Watch:
         return lies and len(holders) == 1 and not holders & {None, *self.throttles}
 
     def takes(self, line):
-        match line.split()[1:]:
-            case ["100", "INFO", bus, "FB", number, value] if int(bus) == OWN and int(number) in self.routes:
-                self.reports(int(number), value == "1")
-            case ["100", "INFO", bus, "GA", address, port, "1"] if int(bus) != OWN:
-                self.moves((int(bus), int(address)), int(port))
-            case ["100", "INFO", bus, "LOCK", "GA", address, _, session]:
-                self.locked[int(bus), int(address)] = int(session)
-            case ["102", "INFO", bus, "LOCK", "GA", address]:
-                self.unlocks((int(bus), int(address)))
+        (bus, group, address, part), row = parse(line)
+        match group, part, row:
+            case "FB", "does", Port(value=value) if bus == OWN and address in self.routes:
+                self.reports(address, value == 1)
+            case "GA", int(port), Port(value=1) if bus != OWN:
+                self.moves((bus, address), port)
+            case "GA", "lock", Lock(session=session):
+                self.locked[bus, address] = session
+            case "GA", "lock", None:
+                self.unlocks((bus, address))
 
     def reports(self, number, is_set):
         self.count["set" if is_set else "reported as not set"] += 1
@@ -162,7 +164,7 @@ class Soak:
                 panel = common.Session(self.server.port, "INFO")
                 self.watch.begins()
                 while self.running:
-                    self.watch.takes(panel.line().decode())
+                    self.watch.takes(panel.line().decode().rstrip("\n"))
 
     def drive(self):
         """A throttle that asks for routes, and commands what it likes."""

@@ -76,7 +76,10 @@ def device_of(place):
 
 def locomotive_of(place):
     """Returns bus and address, if this is the topic at which a locomotive is driven; else None."""
-    bus, group, address, _ = device_of(place) or (0, None, 0, None)
+    device = device_of(place)
+    if device is None:
+        return None
+    bus, _, address, _ = device
     return (bus, address) if place == f"{bus}/GL/{address}" else None
 
 
@@ -98,7 +101,8 @@ def commands_for(rows, place, text):
     if not COMMAND.fullmatch(place):
         raise ValueError("no such topic")
     bus, group, address, part = [*place.split("/"), "", ""][:4]
-    device, bit = f"{bus} {group} {address}", BITS.get(text.upper(), text)
+    device = f"{bus} {group} {address}"
+    bit = BITS.get(text.upper(), text)
     if group == "POWER":
         return [f"SET {bus} POWER {text}"]
     if group == "FB":

@@ -109,9 +109,16 @@ class Plans(unittest.TestCase):
         """A route takes the way to which its turnouts are put, and a block goes from its sensor to the next turnout."""
         drawing = plan_of(PLAN).drawing
         straight, loop = (self.corners(drawing, route["tracks"]) for route in drawing["routes"])
-        west, b1, s1, t1, b2, t2, east = [(x, 0.5) for x in (0.5, 4.0, 8.0, 12.5, 17.0, 23.5, 27.5)]
+        west = (0.5, 0.5)
+        b1 = (4.0, 0.5)
+        s1 = (8.0, 0.5)
+        t1 = (12.5, 0.5)
+        b2 = (17.0, 0.5)
+        t2 = (23.5, 0.5)
+        east = (27.5, 0.5)
         self.assertEqual(straight, [(west, b1), (b1, s1), (s1, t1), (t1, b2), (b2, t2), (t2, east)])
-        below, b3 = [(t1, (14.5, 2.5), (18.0, 2.5)), (t2, (21.5, 2.5), (18.0, 2.5))], (18.0, 2.5)
+        b3 = (18.0, 2.5)
+        below = [(t1, (14.5, 2.5), b3), (t2, (21.5, 2.5), b3)]
         self.assertEqual({*loop}, {(t2, east), *below, (s1, t1), (b1, s1), (west, b1)})
         blocks = {each["name"]: {*self.corners(drawing, each["tracks"])} for each in drawing["elements"]
                   if each["kind"] == "sensor"}
