@@ -6,6 +6,9 @@ ghost use Rattle.srcp_interlock.specs.Orders.{set_line, order_line};
 use srcp_routes::{Device, Order, Setting};
 use srcp_text::{LineBuf, put_bytes, put_number};
 
+/// The milliseconds after which a port that a box sets falls back to 0.
+const PULSE: u64 = 250;
+
 /// Returns the line of a command session, with its LF, in which a box sends an order. `own` is the bus of the box's
 /// routes. The sensor on this bus with a route's number tells whether the route is set.
 ///
@@ -58,7 +61,9 @@ fn set_line(setting: Setting) -> LineBuf
     let mut line = begun(b"SET ", setting.device.bus, b" GA ", setting.device.address);
     put_bytes(b" ", &mut line);
     put_number(u64::from(setting.port), &mut line);
-    put_bytes(b" 1 250\n", &mut line);
+    put_bytes(b" 1 ", &mut line);
+    put_number(PULSE, &mut line);
+    put_bytes(b"\n", &mut line);
     line
 }
 
