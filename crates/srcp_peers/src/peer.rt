@@ -42,7 +42,7 @@ const SILENCE: u64 = 50;
 pub struct Peer {
     /// The number of the socket.
     pub number: u32,
-    /// How many lines may still be queued for the peer in this visit while the socket refuses more.
+    /// How many lines may still be queued for the peer in this visit while the socket is full.
     pub lines_left: u32,
     /// The bytes written to the peer that the socket did not take yet.
     pub outgoing: Outgoing,
@@ -186,7 +186,7 @@ impl Peer {
 
     /// Begins a visit: reads the socket, and takes a step on the way to the end. With `anew`, or if the peer is silent
     /// when the clock shows `clock`, the share becomes a whole piece again. At most `lines_left` lines may be queued in
-    /// the visit while the socket refuses more.
+    /// the visit while the socket is full.
     pub(crate) fn begin_visit<S: System>(
         &mut self,
         system: &mut Logged<S>,

@@ -38,8 +38,7 @@ pub fn flush<S: System>(system: &mut Logged<S>, peers: &mut [Peer], what: Flush)
 }
 
 /// Begins the visit of each peer. The share is a whole piece again for each peer that is silent when the clock shows
-/// `clock`, and with `anew` for all peers. At most `lines_left` lines may be queued for each peer whose socket refuses
-/// more.
+/// `clock`, and with `anew` for all peers. At most `lines_left` lines may be queued for each peer whose socket is full.
 pub fn begin_visits<S: System>(
     system: &mut Logged<S>,
     peers: &mut [Peer],

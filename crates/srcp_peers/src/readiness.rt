@@ -65,8 +65,8 @@ pub enum Flush {
     Answers,
     /// Everything.
     All,
-    /// Everything, also to a socket that refused more and was not found ready. The system reports a socket as ready
-    /// only once much of its space is free.
+    /// Everything, also to a full socket that was not found ready. The system reports a socket as ready only once much
+    /// of its space is free.
     Again,
 }
 
@@ -78,7 +78,7 @@ impl Flush {
         !matches!(self, Flush::Answers)
     }
 
-    /// Returns whether a socket that refused more is tried.
+    /// Returns whether a full socket is tried.
     pub(crate) fn tries_again(self) -> bool
         ensures { result ≡ tries_again self }
     {

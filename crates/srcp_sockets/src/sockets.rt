@@ -269,8 +269,8 @@ impl<S: System> Sockets<S> {
         );
     }
 
-    /// Returns how many lines may be queued for a peer whose socket refuses more. While commands wait for the panels,
-    /// the result is the number of changes that the panels lack. What may be queued for a panel then lasts for as many
+    /// Returns how many lines may be queued for a peer whose socket is full. While commands wait for the panels, the
+    /// result is the number of changes that the panels lack. What may be queued for a panel then lasts for as many
     /// lines, one a millisecond.
     fn lines_left(&self, holds: bool) -> u32
         ensures { result ≡ lines_left_of holds self.now.turn.slack }
