@@ -324,18 +324,38 @@ def commands_of_the_configuration_page(program):
     return follow("docs/configuration.md", program)
 
 
+def table_of(page, first):
+    """The rows of the table of a page whose heading begins with that word, each as its cells."""
+    table = (TOP / "docs" / page).read_text().partition(f"| {first} |")[2].partition("\n\n")[0]
+    return [line.strip("| ").split(" | ") for line in table.splitlines()[2:]]
+
+
+def named_in(cells):
+    """The names that stand between backticks in cells of a table."""
+    return set(re.findall(r"\w+", " ".join(re.findall(r"`([^`]*)`", " ".join(cells))))) - {"laws"}
+
+
 def clauses_of_the_proofs_page(_):
-    """Each name of the table of promises stands in the crate that it is said of."""
-    table = (TOP / "docs" / "proofs.md").read_text().partition("| Promise |")[2].partition("\n\n")[0]
-    rows = [line.split(" | ") for line in table.splitlines()[2:]]
-    for promise, where, clauses in rows:
-        names = set(re.findall(r"\w+", " ".join(re.findall(r"`([^`]*)`", where + clauses)))) - {"laws"}
+    """Each name of the table of promises, and of that of the door's laws, stands in the crate that it is said of."""
+    promises = [(promise, named_in(cells)) for promise, *cells in table_of("proofs.md", "Promise")]
+    laws = [(law, named_in([law, clauses]) | {"srcp_sockets"}) for law, _, clauses in table_of("door.md", "Law")]
+    for promise, names in promises + laws:
         crates = [TOP / "crates" / name for name in names if (TOP / "crates" / name).is_dir()]
         files = [file for crate in crates for part in ("src", "specs") for file in (crate / part).rglob("*.*t*")]
         words = set(re.findall(r"\w+", "".join(file.read_text() for file in files))) | {crate.name for crate in crates}
         if missing := names - words:
             return f"{promise}: no {sorted(missing)}"
-    return None if rows else "no promises"
+    return None if promises and laws else f"{len(promises)} promises, {len(laws)} laws of the door"
+
+
+def laws_of_the_door_page(_):
+    """Each law of the door over sockets has one row, in the table of its page or in that of promises."""
+    laws = re.findall(r"^pub fn (\w+)", (TOP / "crates/srcp_sockets/src/laws.rt").read_text(), re.M)
+    rows = [named_in(cells) for _, *cells in table_of("proofs.md", "Promise")]
+    rows += [named_in([law]) for law, *_ in table_of("door.md", "Law")]
+    counts = {law: sum(law in names for names in rows) for law in laws}
+    wrong = {law: count for law, count in counts.items() if count != 1}
+    return f"rows of each law: {wrong}" if wrong else None if laws else "no laws"
 
 
 def laws_that_pages_name(_):
@@ -373,4 +393,5 @@ def links_between_pages(_):
 PAGE_CASES = (gate_that_proves_what_is_new, programs_that_ask_for_python, commands_of_the_protocol_page,
               commands_of_the_replay_page, commands_of_the_install_page, commands_of_the_configuration_page,
               choices_before_go, choices_in_a_session, choices_that_cases_show, clauses_of_the_proofs_page,
-              laws_that_pages_name, contracts_that_the_proofs_page_quotes, links_between_pages, *PAGE_TABLE_CASES)
+              laws_of_the_door_page, laws_that_pages_name, contracts_that_the_proofs_page_quotes, links_between_pages,
+              *PAGE_TABLE_CASES)
