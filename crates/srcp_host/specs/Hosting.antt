@@ -1,5 +1,6 @@
 -- What is served of a file, or why nothing is.
-use Rattle.std.specs.Prelude.{◌≡◌, ◌≢◌, ◌⊎◌, ℕ, List, Result, Ok, Err}
+use Rattle.std.specs.Prelude.{◌≡◌, ◌≢◌, ◌⊎◌, ℕ, List, Option, Some, Result, Ok, Err, if◌then◌else◌, nat_lt}
+use Rattle.srcp_info.specs.Limits.{greatest_u64}
 use Rattle.srcp_core.specs.Held.{Held}
 use Rattle.srcp_core.specs.Machine.{opening_held}
 use Rattle.srcp_layout_file.specs.Document.{config_of}
@@ -15,6 +16,13 @@ use Rattle.srcp_host.specs.declared.fault.HostFault.TheVariants as host
 -- what may be answered for a port, from one state of an opener to the next
 abbrev pub Answers : (Opener System : Type 0) → Type 1
 Answers Opener System = Opener → (port : ℕ) → Result System ListenFault → Opener → Type 0
+
+-- how many milliseconds a turn waits at most if turns are counted: so long, and else as the door has it
+abbrev pub longest_turn : ℕ
+longest_turn = 8
+
+abbrev pub longest_of_turns : (turns : ℕ) → Option ℕ → Option ℕ
+longest_of_turns turns most = if nat_lt turns greatest_u64 then Some longest_turn else most
 
 -- the file says this, and the opener was asked for its port, once, and answered so
 pub record IsAsked {Opener System : Type 0} (answers : Answers Opener System) (file : List ℕ) (old new : Opener)

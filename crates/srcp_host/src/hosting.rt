@@ -2,7 +2,7 @@
 
 ghost use Rattle.std.specs.Prelude.{◌≡◌, ◌<◌, IfErr, IfOk};
 ghost use Rattle.srcp_info.specs.Limits.{greatest_u64};
-ghost use Rattle.srcp_host.specs.Hosting.{Refuses, Serves};
+ghost use Rattle.srcp_host.specs.Hosting.{Refuses, Serves, longest_of_turns};
 
 use crate::fault::HostFault;
 use crate::opener::Opener;
@@ -58,6 +58,7 @@ pub fn serve_file<R: Rows, O: Opener>(
 fn limit_waits<S: System>(door: &mut SocketDoor<S>, turns: u64)
     ensures system { door.new.sockets.system ≡ door.old.sockets.system }
     ensures faults { door.new.faults ≡ door.old.faults }
+    ensures wait { door.new.sockets.most ≡ longest_of_turns turns door.old.sockets.most }
 {
     if turns < u64::MAX {
         door.wait_at_most(LONGEST_TURN);

@@ -1,6 +1,7 @@
 pub mod AcceptsAreAsked
 pub mod NumbersDiffer
 pub mod SocketsStayStanding
+pub mod ThePeer
 pub mod WaitsKeepSockets
 pub mod AcceptsKeepSockets
 pub mod SocketsLingerAndClose

@@ -13,7 +13,7 @@ use Rattle.srcp_peers.specs.declared.turn.Listening.{Listening}
 use Rattle.srcp_peers.specs.declared.turn.Listening.TheVariants as listening
 use Rattle.srcp_peers.specs.declared.turn.Turn.{Turn}
 use Rattle.srcp_peers.specs.Listeners.{listening_after_failure, woken_listening}
-use Rattle.srcp_peers.specs.Peers.{Makes, goes_first, holds_input, is_gone, is_here, is_shut, is_silent}
+use Rattle.srcp_peers.specs.Peers.{Makes, enqueued, goes_first, holds_input, is_gone, is_here, is_shut, is_silent}
 use Rattle.srcp_peers.specs.Reports.{IsAnswered}
 use Rattle.srcp_peers.specs.Steps.{Accepts, Answers, Clocks, Closes, Step, Waits, failure_of}
 use Rattle.srcp_peers.specs.Times.{accept_answer}
@@ -73,6 +73,11 @@ IsAccepting number answer before after old new = (said : Result Unit ErrorKind)
     × (answer ≡ accept_answer number said) × (after ≡ after_accept before said)
     × (new ≡ old ++ Accepts number said ∷ Answers (AcceptCall answer) ∷ [])
 
+-- the number of the last peer that came, after an accept that answered so
+abbrev pub last_after : (last : ℕ) → Result (Option ℕ) DoorFault → ℕ
+last_after last (Ok (Some number)) = number
+last_after last other = last
+
 -- the next pending connection may be accepted
 abbrev pub may_accept : Listening → List Peer → Bool
 may_accept heard peers = not (is_quiet heard) && not (is_crowded peers)
@@ -98,3 +103,10 @@ IsPeerRead turn peers number space answer handed before after = (k : ℕ) (d : P
     → IsPresent number (slice_index_or peers k d)
     → (let p = slice_index_or peers k d in
     (kept : Bool) × IsAnswered turn (goes_behind turn peers p) p space answer handed kept × (after ≡ (before || kept)))
+
+-- ---- who is written
+
+-- for a peer that is there so many bytes were taken as that peer's write takes
+abbrev pub IsPeerWritten : List Peer → (number : ℕ) → (bytes : List ℕ) → Result ℕ DoorFault → Type 0
+IsPeerWritten peers number bytes answer = (k : ℕ) (d : Peer) → k < length peers
+    → IsPresent number (slice_index_or peers k d) → answer ≡ Ok (enqueued (slice_index_or peers k d) bytes)

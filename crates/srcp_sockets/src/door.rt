@@ -1,17 +1,17 @@
 //! The door over the system's sockets.
 
-ghost use Rattle.std.specs.Prelude.{◌≡◌, ◌<◌, ◌≤◌, IfErr, Ok, true, false, ℕ, Some, []};
+ghost use Rattle.std.specs.Prelude.{◌≡◌, ◌<◌, ◌≤◌, IfErr, Ok, true, false, ℕ, None, Some, []};
 ghost use Rattle.std.specs.Prelude.{IfOk, OnOk, OnErr, length, vec_capacity};
-ghost use Rattle.srcp_door.specs.Calls.{ReadCall, one_more};
+ghost use Rattle.srcp_door.specs.Calls.{ReadCall, WriteCall, one_more};
 ghost use Rattle.srcp_peers.specs.Steps.{SaysOne};
 ghost use Rattle.srcp_peers.specs.Turns.{first_turn, got_bytes};
 ghost use Rattle.srcp_sockets.specs.Limits.{most_peers, most_ready};
 ghost use Rattle.srcp_sockets.specs.Loads.{AnswersFairly, AnswersFairly-prop};
-ghost use Rattle.srcp_sockets.specs.Work.{IsPeerRead};
+ghost use Rattle.srcp_sockets.specs.Work.{IsPeerRead, IsPeerWritten};
 
 use crate::sockets::Sockets;
 use srcp_door::{Door, DoorFault, Got};
-use srcp_peers::{Ready, System, Turn};
+use srcp_peers::{Listening, Ready, System, Turn};
 use std::alloc::{AllocError, Global};
 use std::vec::Vec;
 
@@ -50,6 +50,8 @@ impl<S: System> SocketDoor<S> {
         ensures log { IfOk result (λ door. door.sockets.system.log.steps ≡ []) }
         ensures turn { IfOk result (λ door. door.sockets.turn ≡ first_turn wall start) }
         ensures places { IfOk result (λ door. vec_capacity door.sockets.peers ≡ most_peers) }
+        ensures begins { IfOk result (λ door. (door.sockets.most ≡ None) × (door.sockets.last ≡ 0)
+            × (door.sockets.listening ≡ Listening.Ready)) }
     {
         let nothing = Ready {
             socket: 0,
@@ -157,7 +159,15 @@ impl<S: System> Door for SocketDoor<S> {
         answer
     }
 
-    fn write(&mut self, peer: u32, bytes: &[u8]) -> Result<usize, DoorFault> {
+    fn write(&mut self, peer: u32, bytes: &[u8]) -> Result<usize, DoorFault>
+        ensures ok { OnOk result (self.new.faults ≡ self.old.faults) }
+        ensures err { OnErr result (self.new.faults ≡ one_more self.old.faults) }
+        ensures fault { IfErr result (λ fault. fault ≡ DoorFault.Write) }
+        ensures count { IfOk result (λ n. n ≤ length bytes.now) }
+        ensures trace { SaysOne self.old.sockets.system.log.steps (WriteCall peer bytes.now result)
+            self.new.sockets.system.log.steps }
+        ensures exact { IsPeerWritten self.old.sockets.peers.items peer bytes.now result }
+    {
         let answer = self.sockets.write(peer, bytes);
         if answer.is_err() {
             self.failed();

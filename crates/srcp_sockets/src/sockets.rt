@@ -9,7 +9,8 @@ ghost use Rattle.srcp_sockets.specs.Delivery.{HasEnded, HasWaited, linger_end};
 ghost use Rattle.srcp_sockets.specs.Duties.{AreDone, AreDone-prop, MayTell, has_waited};
 ghost use Rattle.srcp_sockets.specs.Endings.{AreAsFar, AreAsFar-prop, AreVisited};
 ghost use Rattle.srcp_sockets.specs.Waits.{AreFlushed, IsWaitDone};
-ghost use Rattle.srcp_sockets.specs.Work.{AreClosedUp, IsClocked, IsPeerRead, IsWaiting, goes_behind, goes_on};
+ghost use Rattle.srcp_sockets.specs.Work.{AreClosedUp, IsClocked, IsPeerRead, IsPeerWritten, IsWaiting};
+ghost use Rattle.srcp_sockets.specs.Work.{goes_behind, goes_on};
 ghost use Rattle.srcp_sockets.specs.Work.{is_close};
 ghost use Rattle.srcp_sockets.specs.Facts.{Stands-prop};
 ghost use Rattle.std.specs.List.{list_any};
@@ -78,7 +79,9 @@ impl<S: System> Sockets<S> {
     pub(crate) fn expect(&mut self, due: Option<u64>, slack: Option<usize>)
         ensures trace { SaysOne self.old.system.log.steps (ExpectCall due slack) self.new.system.log.steps }
         ensures log { self.new.system.log.steps ≡ self.old.system.log.steps ++ Answers (ExpectCall due slack) ∷ [] }
-        ensures keeps { (self.new.flushed ≡ self.old.flushed) × (self.new.starved ≡ self.old.starved) }
+        ensures keeps { (self.new.flushed ≡ self.old.flushed) × (self.new.starved ≡ self.old.starved)
+            × (self.new.most ≡ self.old.most) × (self.new.last ≡ self.old.last)
+            × (self.new.listening ≡ self.old.listening) }
     {
         self.system.answer(&Answer::Expect(due, slack));
         self.turn.expect(due, slack);
@@ -87,7 +90,8 @@ impl<S: System> Sockets<S> {
     /// Limits how long a turn waits, in milliseconds.
     pub(crate) fn wait_at_most(&mut self, milliseconds: u64)
         ensures most { self.new.most ≡ Some milliseconds }
-        ensures keeps { (self.new.flushed ≡ self.old.flushed) × (self.new.starved ≡ self.old.starved) }
+        ensures keeps { (self.new.flushed ≡ self.old.flushed) × (self.new.starved ≡ self.old.starved)
+            × (self.new.last ≡ self.old.last) × (self.new.listening ≡ self.old.listening) }
         ensures system { self.new.system ≡ self.old.system }
     {
         self.most = Some(milliseconds);
@@ -112,6 +116,7 @@ impl<S: System> Sockets<S> {
             ≡ lines_left_of (list_any holds_input self.old.peers.items) self.old.turn.slack) self.new.peers.items }
         ensures flushed { self.new.flushed ≡ self.old.turn.clock }
         ensures reset { self.new.starved ≡ false }
+        ensures keeps { (self.new.most ≡ self.old.most) × (self.new.last ≡ self.old.last) }
     {
         let holds = self.holds_input();
         let held = self.goes_on(holds);
@@ -187,6 +192,7 @@ impl<S: System> Sockets<S> {
         ensures slack { self.new.turn.slack ≡ self.old.turn.slack }
         ensures flushed { self.new.flushed ≡ self.old.flushed }
         ensures starved { self.new.starved ≡ self.old.starved }
+        ensures keeps { (self.new.most ≡ self.old.most) × (self.new.last ≡ self.old.last) }
     {
         if held {
             return;
@@ -203,7 +209,9 @@ impl<S: System> Sockets<S> {
         ensures offered { AreOffered what self.old.peers.items self.old.system.log.steps self.new.system.log.steps }
         ensures out { AreFlushed (flushes_all what) self.new.system.log.steps }
         ensures times { KeepsTimes self.old.system.log.steps self.new.system.log.steps }
-        ensures keeps { (self.new.turn ≡ self.old.turn) × (self.new.starved ≡ self.old.starved) }
+        ensures keeps { (self.new.turn ≡ self.old.turn) × (self.new.starved ≡ self.old.starved)
+            × (self.new.most ≡ self.old.most) × (self.new.last ≡ self.old.last)
+            × (self.new.listening ≡ self.old.listening) }
         ensures flushed { self.new.flushed ≡ self.old.turn.clock }
     {
         self.flushed = self.turn.clock;
@@ -225,6 +233,7 @@ impl<S: System> Sockets<S> {
         ensures turn { self.new.turn ≡ after_wait self.old.turn }
         ensures flushed { self.new.flushed ≡ self.old.flushed }
         ensures starved { self.new.starved ≡ self.old.starved }
+        ensures keeps { (self.new.most ≡ self.old.most) × (self.new.last ≡ self.old.last) }
     {
         let most = self.longest_wait();
         let count = self.system.wait(most, ready);
@@ -255,6 +264,8 @@ impl<S: System> Sockets<S> {
         ensures times { KeepsTimes self.old.system.log.steps self.new.system.log.steps }
         ensures flushed { self.new.flushed ≡ self.old.flushed }
         ensures reset { self.new.starved ≡ false }
+        ensures keeps { (self.new.most ≡ self.old.most) × (self.new.last ≡ self.old.last)
+            × (self.new.listening ≡ self.old.listening) }
     {
         let anew = self.renews_shares();
         let lines_left = self.lines_left(holds);
@@ -312,7 +323,8 @@ impl<S: System> Sockets<S> {
     pub(crate) fn new(system: S, alloc: Global, turn: Turn) -> Result<Sockets<S>, AllocError>
         requires turn { turn ≡ first_turn turn.timekeeper.wall turn.timekeeper.start }
         ensures { IfOk result (λ sockets. (sockets.system.system ≡ system) × (sockets.system.log.steps ≡ [])
-            × (sockets.turn ≡ turn) × (vec_capacity sockets.peers ≡ most_peers)) }
+            × (sockets.turn ≡ turn) × (vec_capacity sockets.peers ≡ most_peers) × (sockets.most ≡ None)
+            × (sockets.last ≡ 0) × (sockets.listening ≡ Listening.Ready)) }
     {
         Ok(Sockets {
             system: Logged::new(system),
@@ -333,7 +345,9 @@ impl<S: System> Sockets<S> {
     pub(crate) fn close(&mut self, number: u32) -> Result<(), DoorFault>
         ensures trace { SaysOne self.old.system.log.steps (CloseCall number result) self.new.system.log.steps }
         ensures log { self.new.system.log.steps ≡ self.old.system.log.steps ++ Answers (CloseCall number result) ∷ [] }
-        ensures keeps { (self.new.flushed ≡ self.old.flushed) × (self.new.starved ≡ self.old.starved) }
+        ensures keeps { (self.new.flushed ≡ self.old.flushed) × (self.new.starved ≡ self.old.starved)
+            × (self.new.most ≡ self.old.most) × (self.new.last ≡ self.old.last)
+            × (self.new.listening ≡ self.old.listening) }
         ensures fault { IfErr result (λ fault. fault ≡ DoorFault.Close) }
     {
         let Some(index) = self.index_of(number) else {
@@ -355,7 +369,8 @@ impl<S: System> Sockets<S> {
         ensures as_few { length self.new.peers.items ≤ length self.old.peers.items }
         ensures last { self.new.last ≡ self.old.last }
         ensures times { KeepsTimes self.old.system.log.steps self.new.system.log.steps }
-        ensures keeps { (self.new.turn ≡ self.old.turn) × (self.new.starved ≡ self.old.starved) }
+        ensures keeps { (self.new.turn ≡ self.old.turn) × (self.new.starved ≡ self.old.starved)
+            × (self.new.most ≡ self.old.most) × (self.new.listening ≡ self.old.listening) }
         ensures flushed { self.new.flushed ≡ self.old.flushed }
         ensures closed { AreClosedUp self.old.turn.clock self.new.peers.items
             self.old.system.log.steps self.new.system.log.steps }
@@ -380,7 +395,8 @@ impl<S: System> Sockets<S> {
         ensures as_few { length self.new.peers.items ≤ length self.old.peers.items }
         ensures last { self.new.last ≡ self.old.last }
         ensures times { KeepsTimes self.old.system.log.steps self.new.system.log.steps }
-        ensures keeps { (self.new.turn ≡ self.old.turn) × (self.new.starved ≡ self.old.starved) }
+        ensures keeps { (self.new.turn ≡ self.old.turn) × (self.new.starved ≡ self.old.starved)
+            × (self.new.most ≡ self.old.most) }
         ensures heard { self.new.listening ≡ self.old.listening }
         ensures flushed { self.new.flushed ≡ self.old.flushed }
         ensures closed { Makes is_close 1 self.old.system.log.steps self.new.system.log.steps }
@@ -406,6 +422,8 @@ impl<S: System> Sockets<S> {
         ensures clock { IsClocked self.old.turn result self.old.system.log.steps self.new.system.log.steps }
         ensures flushed { self.new.flushed ≡ self.old.flushed }
         ensures starved { self.new.starved ≡ self.old.starved }
+        ensures keeps { (self.new.most ≡ self.old.most) × (self.new.last ≡ self.old.last)
+            × (self.new.listening ≡ self.old.listening) × (self.new.peers ≡ self.old.peers) }
     {
         let shown = self.system.clock();
         let answer = self.turn.report_moment(shown);
@@ -467,7 +485,10 @@ impl<S: System> Sockets<S> {
             ≡ self.old.system.log.steps ++ Answers (WriteCall number bytes.now result) ∷ [] }
         ensures count { IfOk result (λ n. n ≤ length bytes.now) }
         ensures fault { IfErr result (λ fault. fault ≡ DoorFault.Write) }
-        ensures keeps { (self.new.flushed ≡ self.old.flushed) × (self.new.starved ≡ self.old.starved) }
+        ensures exact { IsPeerWritten self.old.peers.items number bytes.now result }
+        ensures keeps { (self.new.flushed ≡ self.old.flushed) × (self.new.starved ≡ self.old.starved)
+            × (self.new.most ≡ self.old.most) × (self.new.last ≡ self.old.last)
+            × (self.new.listening ≡ self.old.listening) }
     {
         let Some(index) = self.index_of(number) else {
             self.system

@@ -7,7 +7,7 @@ ghost use Rattle.srcp_sockets.specs.Asked.{IsExcused};
 ghost use Rattle.srcp_sockets.specs.Doors.{is_quiet};
 ghost use Rattle.srcp_sockets.specs.Limits.{most_peers};
 ghost use Rattle.srcp_sockets.specs.Loads.{AnswersWithin};
-ghost use Rattle.srcp_sockets.specs.Work.{IsAccepting, FreesPlace, is_crowded, may_accept};
+ghost use Rattle.srcp_sockets.specs.Work.{IsAccepting, FreesPlace, is_crowded, last_after, may_accept};
 ghost use Rattle.srcp_peers.specs.Times.{refused_accept};
 ghost use Rattle.srcp_door.specs.Calls.{AcceptCall};
 ghost use Rattle.srcp_peers.specs.Steps.{Answers, Closes, GrowsBy, SaysNothing};
@@ -34,7 +34,9 @@ impl<S: System> Sockets<S> {
             → ((result ≡ Err DoorFault.Accept) × ((self.old.last ≡ greatest_id) ⊎ (self.old.spare ≡ None)))
             ⊎ IsAccepting (self.old.last + 1) result self.old.listening self.new.listening
             self.old.system.log.steps self.new.system.log.steps }
-        ensures keeps { (self.new.flushed ≡ self.old.flushed) × (self.new.starved ≡ self.old.starved) }
+        ensures keeps { (self.new.flushed ≡ self.old.flushed) × (self.new.starved ≡ self.old.starved)
+            × (self.new.most ≡ self.old.most) }
+        ensures last { self.new.last ≡ last_after self.old.last result }
         ensures quiet { is_quiet self.old.listening ≡ true → (self.new.listening ≡ self.old.listening)
             × (self.new.system.log.steps ≡ self.old.system.log.steps ++ Answers (AcceptCall (Ok None)) ∷ []) }
         ensures makes { is_quiet self.old.listening ≡ false
@@ -60,9 +62,11 @@ impl<S: System> Sockets<S> {
         ensures calls { SaysNothing self.old.system.log.steps self.new.system.log.steps }
         ensures few { GrowsBy 1 self.old.system.log.steps self.new.system.log.steps }
         ensures place { result ≡ true → length self.new.peers.items < most_peers }
+        ensures last { self.new.last ≡ self.old.last }
         ensures is { result ≡ may_accept self.old.listening self.old.peers.items }
         ensures excused { result ≡ false → IsExcused self.new.system.log.steps }
-        ensures keeps { (self.new.flushed ≡ self.old.flushed) × (self.new.starved ≡ self.old.starved) }
+        ensures keeps { (self.new.flushed ≡ self.old.flushed) × (self.new.starved ≡ self.old.starved)
+            × (self.new.most ≡ self.old.most) }
         ensures same { result ≡ true → (self.new.listening ≡ self.old.listening) × (self.new.last ≡ self.old.last)
             × (self.new.system.log.steps ≡ self.old.system.log.steps) × (self.new.spare ≡ self.old.spare) }
         ensures quiet { is_quiet self.old.listening ≡ true → (self.new.listening ≡ self.old.listening)
@@ -88,7 +92,9 @@ impl<S: System> Sockets<S> {
         requires { is_quiet self.old.listening ≡ false }
         ensures log { self.new.system.log.steps ≡ self.old.system.log.steps ++ Answers (AcceptCall result) ∷ [] }
         ensures fault { result ≡ Err DoorFault.Accept }
-        ensures keeps { (self.new.flushed ≡ self.old.flushed) × (self.new.starved ≡ self.old.starved) }
+        ensures keeps { (self.new.flushed ≡ self.old.flushed) × (self.new.starved ≡ self.old.starved)
+            × (self.new.most ≡ self.old.most) }
+        ensures last { self.new.last ≡ last_after self.old.last result }
         ensures rests { self.new.listening ≡ Listening.BackingOff }
     {
         self.listening = Listening::BackingOff;
@@ -105,7 +111,9 @@ impl<S: System> Sockets<S> {
         ensures log { self.new.system.log.steps ≡ self.old.system.log.steps ++ Answers (AcceptCall result) ∷ [] }
         ensures same { result ≡ answer }
         ensures listening { self.new.listening ≡ self.old.listening }
-        ensures keeps { (self.new.flushed ≡ self.old.flushed) × (self.new.starved ≡ self.old.starved) }
+        ensures keeps { (self.new.flushed ≡ self.old.flushed) × (self.new.starved ≡ self.old.starved)
+            × (self.new.most ≡ self.old.most) }
+        ensures last { self.new.last ≡ last_after self.old.last result }
     {
         self.system.answer(&Answer::Accept(answer));
         self.turn.note_accept(answer);
@@ -121,7 +129,9 @@ impl<S: System> Sockets<S> {
         ensures rests { OnErr result (self.new.listening ≡ Listening.BackingOff) }
         ensures exact { IsAccepting number result self.old.listening self.new.listening
             self.old.system.log.steps self.new.system.log.steps }
-        ensures keeps { (self.new.flushed ≡ self.old.flushed) × (self.new.starved ≡ self.old.starved) }
+        ensures keeps { (self.new.flushed ≡ self.old.flushed) × (self.new.starved ≡ self.old.starved)
+            × (self.new.most ≡ self.old.most) }
+        ensures last { self.new.last ≡ last_after self.old.last result }
     {
         match self.system.accept(number) {
             Ok(()) => {
@@ -159,7 +169,8 @@ impl<S: System> Sockets<S> {
         requires { is_quiet self.old.listening ≡ false }
         ensures calls { SaysNothing self.old.system.log.steps self.new.system.log.steps }
         ensures last { self.new.last ≡ self.old.last }
-        ensures keeps { (self.new.flushed ≡ self.old.flushed) × (self.new.starved ≡ self.old.starved) }
+        ensures keeps { (self.new.flushed ≡ self.old.flushed) × (self.new.starved ≡ self.old.starved)
+            × (self.new.most ≡ self.old.most) }
         ensures closes { (self.new.system.log.steps ≡ self.old.system.log.steps)
             ⊎ ((who : ℕ) × (self.new.system.log.steps ≡ self.old.system.log.steps ++ Closes who ∷ [])) }
         ensures makes { FreesPlace self.old.peers.items self.old.listening self.new.listening

@@ -29,7 +29,9 @@ impl<S: System> Sockets<S> {
         ensures log { self.new.system.log.steps
             ≡ self.old.system.log.steps ++ Answers (ReadCall number result buffer.now) ∷ [] }
         ensures nothing { result ≡ Ok Got.Nothing }
-        ensures keeps { (self.new.flushed ≡ self.old.flushed) × (self.new.starved ≡ self.old.starved) }
+        ensures keeps { (self.new.flushed ≡ self.old.flushed) × (self.new.starved ≡ self.old.starved)
+            × (self.new.most ≡ self.old.most) × (self.new.last ≡ self.old.last)
+            × (self.new.listening ≡ self.old.listening) }
     {
         let answer = Ok(Got::Nothing);
         self.system.answer(&Answer::Read(number, answer, buffer));
@@ -67,6 +69,8 @@ impl<S: System> Sockets<S> {
         ensures answered { IsPeerRead self.old.turn self.old.peers.items number (length buffer.old) result
             (got_bytes result buffer.new) self.old.starved self.new.starved }
         ensures flushed { self.new.flushed ≡ self.old.flushed }
+        ensures keeps { (self.new.most ≡ self.old.most) × (self.new.last ≡ self.old.last)
+            × (self.new.listening ≡ self.old.listening) }
         ensures stays { self.old.starved ≡ true → self.new.starved ≡ true }
     {
         let Some(index) = self.index_of(number) else {
@@ -90,7 +94,9 @@ impl<S: System> Sockets<S> {
         ensures log { self.new.system.log.steps
             ≡ self.old.system.log.steps ++ Answers (ReadCall number result buffer.now) ∷ [] }
         ensures nothing { (result ≡ Ok Got.Nothing) ⊎ (result ≡ Err DoorFault.Read) }
-        ensures keeps { (self.new.flushed ≡ self.old.flushed) × (self.new.starved ≡ self.old.starved) }
+        ensures keeps { (self.new.flushed ≡ self.old.flushed) × (self.new.starved ≡ self.old.starved)
+            × (self.new.most ≡ self.old.most) × (self.new.last ≡ self.old.last)
+            × (self.new.listening ≡ self.old.listening) }
     {
         let answer = self.turn.report_fault();
         self.system.answer(&Answer::Read(number, answer, buffer));

@@ -1,11 +1,12 @@
 use Rattle.std.specs.declared.io.ErrorKind.{ErrorKind}
 use Rattle.std.specs.Prelude.{Result, filter_map}
-use Rattle.std.proofs.Common.{◌≡◌, ◌∙◌, ◌∷◌, ◌++◌, [], ap, le_trans, refl, rules, sym, subst, arith, true, Ok, Err, Some}
+use Rattle.std.proofs.Common.{◌≡◌, ◌∙◌, ℕ, ◌∷◌, ◌++◌, [], ap, le_trans, refl, rules, sym, subst, arith, true, Ok, Err, Some}
 use Rattle.srcp_door.specs.Calls.{AcceptCall, peer_of}
 use Rattle.srcp_peers.specs.declared.system.IoFailure.{IoFailure}
 use Rattle.srcp_peers.specs.declared.system.IoFailure.TheVariants.{WouldBlock, Interrupted, Fatal}
 use Rattle.srcp_peers.specs.declared.turn.Listening.{Listening}
 use Rattle.srcp_sockets.specs.Doors.{Stands}
+use Rattle.srcp_sockets.specs.Work.{last_after}
 use Rattle.srcp_peers.specs.Listeners.{listening_after_failure}
 use Rattle.srcp_peers.specs.Steps.{Accepts, Answers}
 use Rattle.srcp_peers.specs.Times.{is_as_heard, refused_accept}
@@ -119,3 +120,14 @@ returns-in-Err-clause-exact g c =
       tells_two old mid new (Accepts c.args.number said) (Answers (AcceptCall c.nobody-answer.result)) c.in-Err.ensures.log
           c.answer-in-Err.ensures,
     )
+
+-- nobody came
+last_of_nobody : (last : ℕ) (said : IoFailure) → last ≡ last_after last (refused_accept said)
+last_of_nobody last WouldBlock = refl
+last_of_nobody last Interrupted = refl
+last_of_nobody last Fatal = refl
+
+pub returns-in-Err-clause-last : goal.returns-in-Err-clause-last
+returns-in-Err-clause-last g c =
+    let last = c.args.self.now.last in
+    last_of_nobody last c.failure_of-said.result ∙ sym (ap (last_after last) c.nobody-answer.ensures.answer)

@@ -14,6 +14,8 @@ loop-init g c =
       turn = refl;
       starved = refl;
       flushed = refl;
+      limit = refl;
+      heard = refl;
       made = omega arith;
       most = λ n le. omega arith;
       as_few = omega arith;
@@ -34,6 +36,8 @@ loop-preserved g c =
       turn = now.keeps.0 ∙ was.turn;
       starved = now.keeps.1 ∙ was.starved;
       flushed = now.flushed ∙ was.flushed;
+      limit = now.keeps.2 ∙ was.limit;
+      heard = now.heard ∙ was.heard;
       made = (let a = now.closed in let b = was.made in omega (arith, a, b));
       most = λ n le. (let a = now.most in let b = was.most c.loop.counter (omega arith) in omega (arith, le, a, b));
       as_few = (let a = now.as_few in let b = was.as_few in omega (arith, a, b));

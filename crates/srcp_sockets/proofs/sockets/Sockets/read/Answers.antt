@@ -1,8 +1,5 @@
-use Rattle.std.proofs.Common.{◌++◌, ◌∷◌, [], ◌≡◌, ◌∙◌, ◌<◌, ℕ, List, length, ap, refl, rules, sym, subst, true≢false, ⊎_elim}
+use Rattle.std.proofs.Common.{◌++◌, ◌∷◌, [], ◌≡◌, ◌∙◌, ℕ, length, ap, refl, rules, sym, subst, true≢false}
 use Rattle.std.specs.Prelude.{slice_index_or}
-use Rattle.std.proofs.lemmas.Bool.{cases_eq}
-use Rattle.std.proofs.lemmas.List.{get_or_default}
-use Rattle.srcp_peers.specs.AllPeers.{AreApart}
 use Rattle.srcp_peers.specs.Reports.{IsAnswered}
 use Rattle.srcp_peers.specs.Turns.{after_read, got_bytes}
 use Rattle.srcp_peers.specs.declared.peer.Peer.{Peer}
@@ -21,6 +18,7 @@ use Rattle.srcp_peers.specs.declared.stay.Stay.TheVariants as stay
 use Rattle.srcp_sockets.specs.Endings.{ending_of, is_as_far}
 use Rattle.srcp_sockets.specs.Work.{goes_behind}
 use Rattle.srcp_sockets.proofs.EndsAreTold.{far_goes, set_one, slackens_step}
+use Rattle.srcp_sockets.proofs.ThePeer.{the_one}
 use Rattle.srcp_sockets.proofs.sockets.Sockets.read.Goals as goal
 
 pub invariant_of-self : goal.invariant_of-self
@@ -82,14 +80,6 @@ returns-clause-trace g c =
     c.read-handed.new.system.log.steps) e
     (says_call c.args.self.now.system.log.steps c.read-handed.new.system.log.steps
     (ReadCall x.number c.read-handed.result.got c.read-handed.new.buffer) c.read-handed.ensures.log)
-
--- a peer of the list that has the number of another is that one
-the_one : (peers : List Peer) (i k : ℕ) (x d : Peer) → x ≡ slice_index_or peers i x → i < length peers → AreApart peers
-    → k < length peers → (slice_index_or peers k d).number ≡ (slice_index_or peers i d).number → x ≡ slice_index_or peers k d
-the_one peers i k x d is within apart lt same = ⊎_elim
-    (λ (e : k ≡ i). is ∙ get_or_default peers i x d within ∙ ap (λ n. slice_index_or peers n d) (sym e))
-    (λ (ne : k ≡ i → ⊥). absurd (apart k i d lt within ne same))
-    (cases_eq k i)
 
 pub returns-clause-answered : goal.returns-clause-answered
 returns-clause-answered g c k d lt there =

@@ -1,7 +1,8 @@
-use Rattle.std.proofs.Common.{◌++◌, ◌∷◌, [], ◌≡◌, ◌∙◌, ℕ, ap, refl, subst, Ok, Err, rules}
+use Rattle.std.proofs.Common.{◌++◌, ◌∷◌, [], ◌≡◌, ◌∙◌, ℕ, ap, refl, subst, sym, true≢false, Ok, Err, rules}
 use Rattle.srcp_peers.specs.declared.peer.Peer.{Peer}
 use Rattle.srcp_door.specs.declared.door.DoorFault.TheVariants.{Write}
 use Rattle.srcp_door.specs.Calls.{WriteCall}
+use Rattle.srcp_peers.specs.Peers.{enqueued, is_here}
 use Rattle.srcp_peers.specs.Steps.{Answers, SaysOne}
 use Rattle.srcp_peers.specs.Turns.{after_call}
 use Rattle.srcp_peers.proofs.CallsAreOfTheDoor.{says_call}
@@ -12,6 +13,7 @@ use Rattle.srcp_sockets.proofs.SocketsLingerAndClose.{stands_unwritten}
 use Rattle.srcp_sockets.proofs.SocketsStayStanding.{stands_one}
 use Rattle.srcp_sockets.proofs.TimesGoOn.{timed_write}
 use Rattle.srcp_sockets.proofs.EndsAreTold.{far_same, far_wrote}
+use Rattle.srcp_sockets.proofs.ThePeer.{the_one}
 use Rattle.srcp_sockets.proofs.sockets.Sockets.write.Goals as goal
 
 pub returns-in_default-clause-trace : goal.returns-in_default-clause-trace
@@ -101,3 +103,15 @@ returns-clause-log g c =
     let e = ap (λ (p : Peer). p.number) c.index_mut.ensures.value ∙ (c.in-Some.ensures.found.1 x).0 in
     subst (λ (n : ℕ). c.write-count.new.system.log.steps
     ≡ c.args.self.now.system.log.steps ++ Answers (WriteCall n c.args.bytes.now (Ok c.write-count.result)) ∷ []) e c.write-count.ensures.log
+
+pub returns-clause-exact : goal.returns-clause-exact
+returns-clause-exact g c k d lt there =
+    let peers = c.args.self.now.peers.items in
+    let found = c.in-Some.ensures.found in
+    let is = the_one peers c.in-Some.index k c.index_mut.result.now d c.index_mut.ensures.value found.0
+    c.args.self.now.stands.apart lt (there.0 ∙ sym (found.1 d).0) in
+    ap Ok (c.write-count.ensures.exact ∙ ap (λ (p : Peer). enqueued p c.args.bytes.now) is)
+
+pub returns-in_default-clause-exact : goal.returns-in_default-clause-exact
+returns-in_default-clause-exact g c k d lt there =
+    absurd (true≢false (sym (ap is_here there.1) ∙ c.in_default.ensures.none k d lt there.0))
