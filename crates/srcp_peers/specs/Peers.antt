@@ -201,7 +201,7 @@ abbrev pub flushes_all : Flush → Bool
 flushes_all flush.Answers = false
 flushes_all other = true
 
--- sockets that refused more are tried, though they were not found ready
+-- full sockets are tried, though they were not found ready
 abbrev pub tries_again : Flush → Bool
 tries_again flush.Again = true
 tries_again other = false

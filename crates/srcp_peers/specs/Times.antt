@@ -92,7 +92,7 @@ abbrev pub accept_answer : (number : ℕ) → Result Unit ErrorKind → Result (
 accept_answer number (Ok done) = Ok (Some number)
 accept_answer number (Err fault) = refused_accept (failure_of fault)
 
--- that was answered. If the system was not asked, nobody came, or memory or the numbers ran out
+-- that was answered. If the system was not asked, nobody came, or it was a fault
 abbrev pub is_as_heard : (heard : Option (Result (Option ℕ) DoorFault)) → Result (Option ℕ) DoorFault → Bool
 is_as_heard (Some (Ok (Some number))) (Ok (Some peer)) = number == peer
 is_as_heard (Some (Ok None)) (Ok None) = true

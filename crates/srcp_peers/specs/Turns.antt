@@ -162,7 +162,7 @@ abbrev pub shortfall : (slack : Option ℕ) → ℕ
 shortfall None = most_writes
 shortfall (Some left) = reserve - left
 
--- how many lines may be queued in a visit for a peer whose socket refuses more: what the panels lack, if input is held
+-- how many lines may be queued in a visit for a peer whose socket is full: what the panels lack, if input is held
 abbrev pub lines_left_of : (holds : Bool) → (slack : Option ℕ) → ℕ
 lines_left_of true slack = shortfall slack
 lines_left_of false slack = most_writes

@@ -127,7 +127,7 @@ pub fn times_are_kept<S: System>(door: &SocketDoor<S>)
 
 /// States that the door answered `accept` as the system did. The answer was the number of the accepted connection, a
 /// fault if the system failed, or nobody if the system found nobody or was interrupted. If the system was not asked,
-/// the answer was nobody, or a fault since memory or the numbers ran out.
+/// the answer was nobody, or a fault.
 pub fn accepts_are_true<S: System>(door: &SocketDoor<S>)
     ensures { (times door.now.sockets.turn.timekeeper.wall door.now.sockets.turn.timekeeper.start
         door.now.sockets.system.log.steps).honest ≡ true }

@@ -25,7 +25,7 @@ impl<S: System> Sockets<S> {
     ///
     /// # Errors
     /// `Accept` if the system failed to accept it. It is answered without a call of the system only if the numbers ran
-    /// out, or if no queues are spare and memory is refused.
+    /// out, or if no queues were spare. New ones are made then, which fails if memory is refused.
     pub(crate) fn accept(&mut self, alloc: Global) -> Result<Option<u32>, DoorFault>
         ensures answers { AnswersWithin self.old.system.log.steps (AcceptCall result) self.new.system.log.steps }
         ensures fault { IfErr result (λ fault. fault ≡ DoorFault.Accept) }
