@@ -38,9 +38,7 @@ pub fn sockets_follow<S: System>(door: &SocketDoor<S>)
         → StartsWith (taken socket log) (took socket log) }
     ensures handed { let log = door.now.sockets.system.log.steps in (socket : ℕ)
         → StartsWith (gave socket log) (handed socket log) }
-{
-    let _sockets = &door.sockets;
-}
+{}
 
 /// States that bytes taken for a peer, and not yet taken by the socket, are held in order. This holds while the peer is
 /// there or is kept, unless a write found that the socket takes no more.
@@ -50,9 +48,7 @@ pub fn untaken_is_held<S: System>(door: &SocketDoor<S>)
         → (let peer = slice_index_or door.now.sockets.peers.items k d in
         ((account peer.number log).sent.lost ≡ true)
         ⊎ (taken peer.number log ≡ took peer.number log ++ peer.outgoing)) }
-{
-    let _sockets = &door.sockets;
-}
+{}
 
 /// States that the end of a peer was reported only after a read of the peer's socket had found the end. By then all
 /// input before the end was handed out, and the socket had taken all bytes taken for the peer.
@@ -60,9 +56,7 @@ pub fn ends_are_true<S: System>(door: &SocketDoor<S>)
     ensures { (before after : List Step) (socket : ℕ) (buffer : List ℕ)
         → door.now.sockets.system.log.steps ≡ before ++ Answers (ReadCall socket (Ok Got.Ended) buffer) ∷ after
         → may_end (account socket before) ≡ true }
-{
-    let _sockets = &door.sockets;
-}
+{}
 
 /// States that a read was reported as failed only if a read or a write of the socket had failed before, or the peer was
 /// not there. A failed write was reported only if the peer was not there.
@@ -73,9 +67,7 @@ pub fn faults_are_true<S: System>(door: &SocketDoor<S>)
     ensures write { (before after : List Step) (socket : ℕ) (bytes : List ℕ) (fault : DoorFault)
         → door.now.sockets.system.log.steps ≡ before ++ Answers (WriteCall socket bytes (Err fault)) ∷ after
         → (account socket before).watched ≡ false }
-{
-    let _sockets = &door.sockets;
-}
+{}
 
 /// States what a wait owes to a peer that is there. The wait may leave the peer with less than a piece held, and with
 /// something that a read might find. Then the peer was read before the next moment was reported.
@@ -83,9 +75,7 @@ pub fn peers_are_read<S: System>(door: &SocketDoor<S>)
     ensures { (before after : List Step) (socket : ℕ) (answer : Result ℕ DoorFault)
         → door.now.sockets.system.log.steps ≡ before ++ Answers (NowCall answer) ∷ after
         → ((account socket before).watched && (account socket before).unread) ≡ false }
-{
-    let _sockets = &door.sockets;
-}
+{}
 
 /// States that a wait longer than the retry delay found at rest each peer that was there, and the listener, which is
 /// socket 0.
@@ -94,9 +84,7 @@ pub fn waits_are_safe<S: System>(door: &SocketDoor<S>)
         → door.now.sockets.system.log.steps ≡ before ++ Waits most count ready ∷ after → is_short_wait most ≡ false
         → (socket : ℕ) → ((account socket before).watched || (socket == 0)) ≡ true
         → is_at_rest (account socket before).sent (account socket before).received ≡ true }
-{
-    let _sockets = &door.sockets;
-}
+{}
 
 /// States that a socket was shut down and closed at most once, after the core closed its peer. The socket was shut down
 /// when it had taken all bytes taken for the peer. There are three cases in which the socket was closed. First, it took
@@ -111,9 +99,7 @@ pub fn closed_rightly<S: System>(door: &SocketDoor<S>)
         → may_close (account socket before) ≡ true }
     ensures kept { let log = door.now.sockets.system.log.steps in (socket : ℕ)
         → (account socket log).lingering.kept ≡ true → IsThere socket door.now.sockets.peers.items }
-{
-    let _sockets = &door.sockets;
-}
+{}
 
 /// States that each moment was the moment to report by a clock that was read since the moment before. No wait ended
 /// past what the door expects to fall due, and no wait began in a late turn. A wait longer than the retry delay came
@@ -121,9 +107,7 @@ pub fn closed_rightly<S: System>(door: &SocketDoor<S>)
 pub fn times_are_kept<S: System>(door: &SocketDoor<S>)
     ensures { AreKeptTimes (times door.now.sockets.turn.timekeeper.wall door.now.sockets.turn.timekeeper.start
         door.now.sockets.system.log.steps) }
-{
-    let _sockets = &door.sockets;
-}
+{}
 
 /// States that the door answered `accept` as the system did. The answer was the number of the accepted connection, a
 /// fault if the system failed, or nobody if the system found nobody or was interrupted. If the system was not asked,
@@ -131,9 +115,7 @@ pub fn times_are_kept<S: System>(door: &SocketDoor<S>)
 pub fn accepts_are_true<S: System>(door: &SocketDoor<S>)
     ensures { (times door.now.sockets.turn.timekeeper.wall door.now.sockets.turn.timekeeper.start
         door.now.sockets.system.log.steps).honest ≡ true }
-{
-    let _sockets = &door.sockets;
-}
+{}
 
 /// States what is true if the door answered `accept` by nobody. The door had asked the system since the last answer of
 /// `accept`, or the listener (socket 0) was found quiet, or there was no place. No place means that at least 128
@@ -141,9 +123,7 @@ pub fn accepts_are_true<S: System>(door: &SocketDoor<S>)
 /// now to make a place.
 pub fn accepts_are_asked<S: System>(door: &SocketDoor<S>)
     ensures { AreAsked door.now.sockets.system.log.steps }
-{
-    let _sockets = &door.sockets;
-}
+{}
 
 /// States that each moment was reported as the next step behind a look at the clock: as a fault if the clock could not
 /// be read, else as a time. If the door had not waited since it answered the call before, input of a peer was held that
@@ -155,9 +135,7 @@ pub fn turns_wait<S: System>(door: &SocketDoor<S>)
     ensures waits { (before after : List Step) (answer : Result ℕ DoorFault)
         → door.now.sockets.system.log.steps ≡ before ++ Answers (NowCall answer) ∷ after
         → ((socket : ℕ) → takes_input (account socket before) ≡ false) → has_waited before ≡ true }
-{
-    let _sockets = &door.sockets;
-}
+{}
 
 /// States that a wait found no lingering socket that has to be closed, unless 64 sockets were closed since the moment
 /// before. A socket has to be closed if a write found that it takes no more, or 10 seconds are over by the clock read.
@@ -170,9 +148,7 @@ pub fn gone_are_closed<S: System>(door: &SocketDoor<S>)
     ensures shut { (before after : List Step) (most : Option ℕ) (count : ℕ) (ready : List Ready)
         → door.now.sockets.system.log.steps ≡ before ++ Waits most count ready ∷ after
         → (socket : ℕ) → may_shut (account socket before) ≡ true → (account socket before).sent.lost ≡ true }
-{
-    let _sockets = &door.sockets;
-}
+{}
 
 /// States that a flush came before two kinds of waits: in a turn in which nothing happened since the wait before, and
 /// without a panel. Consider each socket that was not closed, and had not taken all bytes taken for its peer. The
@@ -186,9 +162,7 @@ pub fn queued_is_offered<S: System>(door: &SocketDoor<S>)
         → is_owed (account socket before).sent ≡ true
         → (((account socket before).sent.full || (account socket before).sent.lost) || is_written socket before)
         ≡ true }
-{
-    let _sockets = &door.sockets;
-}
+{}
 
 /// States what a read did if input of the peer was held and the turn was not late. The read reported no end. If no line
 /// ends in the piece that the buffer takes, the read handed out all of the piece. Else the read handed out at least the
@@ -201,9 +175,7 @@ pub fn input_is_handed_out<S: System>(door: &SocketDoor<S>)
         t.turn.late ≡ false → (reports_end answer ≡ false)
         × IsHandedOut (t.lines socket) (held_piece (account socket before).received (length buffer))
         (length (got_bytes answer buffer))) }
-{
-    let _sockets = &door.sockets;
-}
+{}
 
 /// States that a read of a peer that was not there reported a fault. So did a read of a peer with nothing held of which
 /// a read or a write had failed. The exceptions are a late turn, and a turn that had reported another end.
@@ -213,9 +185,7 @@ pub fn faults_are_told<S: System>(door: &SocketDoor<S>)
         → is_failing (account socket before) ≡ true
         → (let t = times door.now.sockets.turn.timekeeper.wall door.now.sockets.turn.timekeeper.start before in
         t.turn.late ≡ false → t.turn.may_report_end ≡ true → is_fault answer ≡ true) }
-{
-    let _sockets = &door.sockets;
-}
+{}
 
 /// States that a read of a leaving peer reported the peer's end. A leaving peer was there and had not failed. A read
 /// had found the end, all input before was handed out, and the socket had taken all bytes taken for the peer. A visit
@@ -227,9 +197,7 @@ pub fn ends_are_told<S: System>(door: &SocketDoor<S>)
         → is_leaving socket before ≡ true
         → (let t = times door.now.sockets.turn.timekeeper.wall door.now.sockets.turn.timekeeper.start before in
         t.turn.late ≡ false → t.turn.may_report_end ≡ true → is_end answer ≡ true) }
-{
-    let _sockets = &door.sockets;
-}
+{}
 
 /// States that the lines handed out from one moment to the next weighed at most the slack less 160. The slack is what
 /// the door was given before, or 256 if there was no panel. Another bound holds if this leaves less than the greatest
@@ -239,9 +207,7 @@ pub fn ends_are_told<S: System>(door: &SocketDoor<S>)
 pub fn turns_are_paced<S: System>(door: &SocketDoor<S>)
     ensures { ArePaced (times door.now.sockets.turn.timekeeper.wall door.now.sockets.turn.timekeeper.start
         door.now.sockets.system.log.steps) }
-{
-    let _sockets = &door.sockets;
-}
+{}
 
 /// States that no panel ever overran if two bounds hold in each turn. First, the turn's moment and the ends of sessions
 /// bring at most 160 changes. Second, with the lines that were handed out, of whose weight at most 11 count, these are
@@ -249,9 +215,7 @@ pub fn turns_are_paced<S: System>(door: &SocketDoor<S>)
 /// some turns ask.
 pub fn panels_are_kept<S: System>(door: &SocketDoor<S>)
     ensures { PanelsAreKept door.now.sockets.system.log.steps }
-{
-    let _sockets = &door.sockets;
-}
+{}
 
 /// States what a settled panel holds, for all that `serve_sockets` ensures of a core and a log. Let the information
 /// session of a connection be settled, and let the socket have taken all bytes taken for the peer. Then the socket took
@@ -268,9 +232,7 @@ pub fn settled_panels_hold_the_registry()
 pub fn turns_are_bounded<S: System>(door: &SocketDoor<S>)
     ensures few { AreBounded door.now.sockets.system.log.steps }
     ensures idle { load door.now.sockets.system.log.steps ≡ 0 }
-{
-    let _sockets = &door.sockets;
-}
+{}
 
 /// States that the most lines that a peer is written in a visit can be queued.
 pub fn visits_fit()
