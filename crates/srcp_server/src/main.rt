@@ -8,6 +8,7 @@ ghost use Rattle.srcp_tool.specs.Faults.{fault_status, fault_text};
 
 use clap::error::ErrorKind;
 use srcp_host::{HostFault, serve_here};
+use srcp_info::FEWEST_PORTS;
 use srcp_layout_file::read_layout;
 use srcp_plan_file::read_plan;
 use srcp_rules::{Bus, Layout, Nested};
@@ -142,7 +143,7 @@ fn built_in_layout(alloc: Global) -> Result<Layout, ToolFault> {
         power: true,
         gl_max: 0,
         ga_max: 0,
-        ga_ports: 2,
+        ga_ports: FEWEST_PORTS,
         fb_ports: 0,
     };
     match layout.add(bus) {

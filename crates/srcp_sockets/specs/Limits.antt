@@ -16,3 +16,7 @@ most_ready = 128
 -- the most waits in which a door delivers at its end
 abbrev pub most_last_waits : ℕ
 most_last_waits = 1000000
+
+-- so many milliseconds the system rests after a wait that failed or ended early
+abbrev pub failed_wait : ℕ
+failed_wait = 8

@@ -1,11 +1,12 @@
-//! The system of the machine: mio's sockets and a clock. Each call finds the socket of a number and makes the system
-//! call. A wait that failed or was ended early is followed by a rest.
+//! The system of the machine: mio's sockets and a clock. A call that names a number finds the socket of that number and
+//! makes the system call. A wait that failed or was ended early is followed by a rest.
 
 ghost use Rattle.std.specs.Prelude.{◌≡◌, ◌≢◌, ◌/◌, ◌-◌, ◌||◌, IfOk, ◌<◌, IfNone, IfSome, length, min, All};
 ghost use Rattle.std.specs.Prelude.{None, Some, false, true, if◌then◌else◌, nat_lt, slice_index_or};
 ghost use Rattle.std.specs.List.Sorted.{IsNonDecreasingBy};
 ghost use Rattle.std.specs.Duration.{as_nanos};
 ghost use Rattle.srcp_info.specs.Limits.{greatest_u64};
+ghost use Rattle.srcp_sockets.specs.Limits.{failed_wait};
 
 use crate::door::MOST_READY;
 use crate::options::set_options;
@@ -22,7 +23,7 @@ use std::vec::Vec;
 /// The listener's token; the token of a socket is the socket's number.
 const LISTENER: Token = Token(0);
 
-/// How long the system rests after a wait that failed or ended early, in milliseconds.
+/// Limits the rest after a wait that failed or ended early, in milliseconds.
 const FAILED_WAIT: u64 = 8;
 
 /// A socket with its number.
@@ -232,7 +233,7 @@ fn is_early(shown: u64, now: u64, most: u64) -> bool
 /// Returns how long the system rests after a wait, in milliseconds: 8 if the wait failed or ended early. Otherwise it
 /// does not rest.
 fn rest_after(failed: bool, early: bool) -> Option<u64>
-    ensures { result ≡ (if failed || early then Some 8 else None) }
+    ensures { result ≡ (if failed || early then Some failed_wait else None) }
 {
     if failed || early {
         Some(FAILED_WAIT)
