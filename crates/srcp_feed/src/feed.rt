@@ -149,6 +149,7 @@ impl InfoFeed {
 
     /// Returns the next row for the session, or `None` if no row is left. No change may wait. Advances the listing as
     /// `next` does.
+    #[inline(always)]
     pub fn list<'a, R: Rows>(&mut self, rows: &'a R) -> Option<&'a Row>
         requires { self.old.queue ≡ [] }
         ensures listed { IfSome result

@@ -63,6 +63,7 @@ impl<R: Rows> Rows for Indexed<R> {
         self.rows.row(key)
     }
 
+    #[inline(always)]
     fn row_after(&self, cursor: Cursor) -> Option<&Row> {
         self.rows.row_after(cursor)
     }
