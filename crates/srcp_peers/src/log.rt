@@ -79,8 +79,8 @@ impl Log {
 #[derive(Drop)]
 pub struct Logged<S: System> {
     system: S,
-    /// The calls and answers up to now.
-    pub log: Log,
+    // The calls and answers up to now.
+    log: Log,
 }
 
 impl<S: System> Logged<S> {
@@ -186,9 +186,10 @@ impl<S: System> Logged<S> {
         answer
     }
 
-    /// Logs an answer of the door.
+    /// Logs an answer of the door. Makes no call of the system.
     pub fn answer(&mut self, answer: &Answer<'_>)
-        ensures { self.new.log.steps ≡ self.old.log.steps ++ Answers (answered answer.now) ∷ [] }
+        ensures log { self.new.log.steps ≡ self.old.log.steps ++ Answers (answered answer.now) ∷ [] }
+        ensures system { self.new.system ≡ self.old.system }
     {
         self.log.note(&Note::Answers(*answer));
     }

@@ -201,9 +201,9 @@ pub fn ends_are_told<S: System>(door: &SocketDoor<S>)
 
 /// States that the lines handed out from one moment to the next weighed at most the slack less 160. The slack is what
 /// the door was given before, or 256 if there was no panel. Another bound holds if this leaves less than the greatest
-/// weight of a line, and the clock had gone on since the moment before. Then one read at most handed out lines that
-/// weigh something, and these weighed no more than a line can. Between two moments the end of at most one peer was
-/// reported.
+/// weight of a line, and the line that the clock let through last is as many milliseconds ago as it weighs. Then one
+/// read at most handed out lines that weigh something, and these weighed no more than a line can. Between two moments
+/// the end of at most one peer was reported.
 pub fn turns_are_paced<S: System>(door: &SocketDoor<S>)
     ensures { ArePaced (times door.now.sockets.turn.timekeeper.wall door.now.sockets.turn.timekeeper.start
         door.now.sockets.system.log.steps) }

@@ -30,4 +30,4 @@ returns-clause-kept g c =
     let failed : OnErr answer (MayFail p) =
     elim c.if-is_empty.branch [ then-is_empty w ↦ search rules | else-is_empty w ↦ search rules ] in
     kept_got log c.answer.new.self.log.steps p q answer buffer c.requires.here (search rules) bytes line ended failed
-    (c.answer.ensures ∙ ap (λ n. log ++ Answers (ReadCall n answer buffer) ∷ []) number) c.requires.kept
+    (c.answer.ensures.log ∙ ap (λ n. log ++ Answers (ReadCall n answer buffer) ∷ []) number) c.requires.kept

@@ -33,21 +33,21 @@ invariant_of-self g c =
     let call = AcceptCall (Ok (Some number)) in
     let pushed : c.push.new.self.items ≡ self.peers.items ++ c.new.result ∷ [] = search rules in
     record {
-      stands = stands_answered mid new c.push.new.self.items self.listening number call (λ s a. refl) c.answer.ensures
+      stands = stands_answered mid new c.push.new.self.items self.listening number call (λ s a. refl) c.answer.ensures.log
           (stands_came old mid self.peers.items c.push.new.self.items c.new.result self.listening self.turn.clock self.last number
           c.in-Ok.field-0 c.requires.next pushed c.new.ensures c.in-Ok.ensures.log self.stands);
-      named = named_come mid new self.last number (omega (arith, c.requires.next)) (says_call mid new call c.answer.ensures)
+      named = named_come mid new self.last number (omega (arith, c.requires.next)) (says_call mid new call c.answer.ensures.log)
           (named_silent old mid self.last (says_step old mid (Accepts number said) c.in-Ok.ensures.log refl) self.named);
       timed = timed_asked old mid new self.turn c.note_accept.new.self number said (Ok (Some number)) c.note_accept.ensures
           (own number)
-          c.in-Ok.ensures.log c.answer.ensures self.timed;
-      asked = asked_step mid new (Answers call) c.answer.ensures refl
+          c.in-Ok.ensures.log c.answer.ensures.log self.timed;
+      asked = asked_step mid new (Answers call) c.answer.ensures.log refl
           (asked_step old mid (Accepts number said) c.in-Ok.ensures.log refl self.asked);
       done = done_turn new self.turn c.note_accept.new.self (after_call self.turn call) c.note_accept.ensures refl refl
-          (done_step self.turn.timekeeper.wall self.turn.timekeeper.start mid new (Answers call) c.answer.ensures tt
+          (done_step self.turn.timekeeper.wall self.turn.timekeeper.start mid new (Answers call) c.answer.ensures.log tt
           (done_step self.turn.timekeeper.wall self.turn.timekeeper.start old mid (Accepts number said) c.in-Ok.ensures.log tt
           self.done));
-      ending = far_same mid new c.push.new.self.items (Answers call) c.answer.ensures (λ s x. refl)
+      ending = far_same mid new c.push.new.self.items (Answers call) c.answer.ensures.log (λ s x. refl)
           (far_pushed old mid self.peers.items c.push.new.self.items c.new.result self.turn.clock number c.in-Ok.field-0 pushed
           c.new.ensures c.in-Ok.ensures.log self.ending);
       places = (search rules, le_trans self.places.1 c.push.ensures.capacity);
@@ -105,7 +105,7 @@ returns-in-Ok-clause-exact g c =
       refl,
       refl,
       tells_two old mid new (Accepts c.args.number said) (Answers (AcceptCall (Ok (Some c.args.number)))) c.in-Ok.ensures.log
-          c.answer.ensures,
+          c.answer.ensures.log,
     )
 
 pub returns-in-Err-clause-exact : goal.returns-in-Err-clause-exact

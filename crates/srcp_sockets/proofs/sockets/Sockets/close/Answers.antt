@@ -16,7 +16,7 @@ use Rattle.srcp_sockets.proofs.sockets.Sockets.close.Goals as goal
 
 pub returns-in_default-clause-trace : goal.returns-in_default-clause-trace
 returns-in_default-clause-trace g c = says_call c.args.self.now.system.log.steps c.answer.new.self.log.steps
-    (CloseCall c.args.number (Err Close)) c.answer.ensures
+    (CloseCall c.args.number (Err Close)) c.answer.ensures.log
 
 pub invariant_of-self : goal.invariant_of-self
 invariant_of-self g c =
@@ -25,17 +25,17 @@ invariant_of-self g c =
     let call = CloseCall c.args.number (Err Close) in
     record {
       stands = stands_missing old new c.args.self.now.peers.items c.args.self.now.listening c.args.self.now.last c.args.number (Err Close)
-          c.in_default.ensures.none c.answer.ensures c.args.self.now.stands;
-      named = named_call old new c.args.self.now.last call (says_call old new call c.answer.ensures) refl c.args.self.now.named;
+          c.in_default.ensures.none c.answer.ensures.log c.args.self.now.stands;
+      named = named_call old new c.args.self.now.last call (says_call old new call c.answer.ensures.log) refl c.args.self.now.named;
       timed = timed_close old new c.args.self.now.turn c.note_close.new.self c.args.number (Err Close)
           (λ peer. c.note_close.ensures peer (Err Close))
-          c.answer.ensures c.args.self.now.timed;
-      asked = asked_step old new (Answers call) c.answer.ensures refl c.args.self.now.asked;
+          c.answer.ensures.log c.args.self.now.timed;
+      asked = asked_step old new (Answers call) c.answer.ensures.log refl c.args.self.now.asked;
       done = done_turn new c.args.self.now.turn c.note_close.new.self (after_call c.args.self.now.turn call)
           (c.note_close.ensures c.args.number (Err Close)) refl refl
-          (done_step c.args.self.now.turn.timekeeper.wall c.args.self.now.turn.timekeeper.start old new (Answers call) c.answer.ensures
+          (done_step c.args.self.now.turn.timekeeper.wall c.args.self.now.turn.timekeeper.start old new (Answers call) c.answer.ensures.log
           tt c.args.self.now.done);
-      ending = far_same old new c.args.self.now.peers.items (Answers call) c.answer.ensures (λ s x. refl) c.args.self.now.ending;
+      ending = far_same old new c.args.self.now.peers.items (Answers call) c.answer.ensures.log (λ s x. refl) c.args.self.now.ending;
       places = c.args.self.now.places;
     }
 

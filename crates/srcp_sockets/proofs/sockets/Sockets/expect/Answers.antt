@@ -18,22 +18,22 @@ invariant_of-self g c =
     let call = ExpectCall c.args.due c.args.slack in
     record {
       stands = stands_step old new c.args.self.now.peers.items c.args.self.now.listening c.args.self.now.last (Answers call)
-          (λ s a. refl) c.answer.ensures
+          (λ s a. refl) c.answer.ensures.log
           c.args.self.now.stands;
-      named = named_call old new c.args.self.now.last call (says_call old new call c.answer.ensures) refl c.args.self.now.named;
-      timed = timed_expect old new c.args.self.now.turn c.expect.new.self c.args.due c.args.slack c.expect.ensures c.answer.ensures
+      named = named_call old new c.args.self.now.last call (says_call old new call c.answer.ensures.log) refl c.args.self.now.named;
+      timed = timed_expect old new c.args.self.now.turn c.expect.new.self c.args.due c.args.slack c.expect.ensures c.answer.ensures.log
           c.args.self.now.timed;
-      asked = asked_step old new (Answers call) c.answer.ensures refl c.args.self.now.asked;
+      asked = asked_step old new (Answers call) c.answer.ensures.log refl c.args.self.now.asked;
       done = done_turn new c.args.self.now.turn c.expect.new.self (after_call c.args.self.now.turn call) c.expect.ensures refl refl
-          (done_step c.args.self.now.turn.timekeeper.wall c.args.self.now.turn.timekeeper.start old new (Answers call) c.answer.ensures
+          (done_step c.args.self.now.turn.timekeeper.wall c.args.self.now.turn.timekeeper.start old new (Answers call) c.answer.ensures.log
           tt c.args.self.now.done);
-      ending = far_same old new c.args.self.now.peers.items (Answers call) c.answer.ensures (λ s x. refl) c.args.self.now.ending;
+      ending = far_same old new c.args.self.now.peers.items (Answers call) c.answer.ensures.log (λ s x. refl) c.args.self.now.ending;
       places = c.args.self.now.places;
     }
 
 pub returns-clause-trace : goal.returns-clause-trace
 returns-clause-trace g c = says_call c.args.self.now.system.log.steps c.answer.new.self.log.steps
-    (ExpectCall c.args.due c.args.slack) c.answer.ensures
+    (ExpectCall c.args.due c.args.slack) c.answer.ensures.log
 
 pub returns-clause-keeps : goal.returns-clause-keeps
 returns-clause-keeps g c = (refl, refl, refl, refl, refl)

@@ -19,17 +19,17 @@ invariant_of-self g c =
     let call = ReadCall c.args.number (Ok Nothing) c.args.buffer.now in
     record {
       stands = stands_step old new c.args.self.now.peers.items c.args.self.now.listening c.args.self.now.last (Answers call)
-          (λ s a. refl) c.answer.ensures c.args.self.now.stands;
-      named = named_call old new c.args.self.now.last call (says_call old new call c.answer.ensures) refl c.args.self.now.named;
-      timed = timed_nothing old new c.args.self.now.turn c.args.number c.args.buffer.now c.answer.ensures c.args.self.now.timed;
-      asked = asked_step old new (Answers call) c.answer.ensures refl c.args.self.now.asked;
-      done = done_step c.args.self.now.turn.timekeeper.wall c.args.self.now.turn.timekeeper.start old new (Answers call) c.answer.ensures
-          (λ early. absurd (true≢false (sym c.requires ∙ ap (λ (t : Turn). t.late) (sym c.args.self.now.timed.same) ∙ early)))
+          (λ s a. refl) c.answer.ensures.log c.args.self.now.stands;
+      named = named_call old new c.args.self.now.last call (says_call old new call c.answer.ensures.log) refl c.args.self.now.named;
+      timed = timed_nothing old new c.args.self.now.turn c.args.number c.args.buffer.now c.answer.ensures.log c.args.self.now.timed;
+      asked = asked_step old new (Answers call) c.answer.ensures.log refl c.args.self.now.asked;
+      done = done_step c.args.self.now.turn.timekeeper.wall c.args.self.now.turn.timekeeper.start old new (Answers call)
+          c.answer.ensures.log (λ early. absurd (true≢false (sym c.requires ∙ ap (λ (t : Turn). t.late) (sym c.args.self.now.timed.same) ∙ early)))
           c.args.self.now.done;
-      ending = far_same old new c.args.self.now.peers.items (Answers call) c.answer.ensures (λ s x. refl) c.args.self.now.ending;
+      ending = far_same old new c.args.self.now.peers.items (Answers call) c.answer.ensures.log (λ s x. refl) c.args.self.now.ending;
       places = c.args.self.now.places;
     }
 
 pub returns-clause-trace : goal.returns-clause-trace
 returns-clause-trace g c = says_call c.args.self.now.system.log.steps c.answer.new.self.log.steps
-    (ReadCall c.args.number (Ok Nothing) c.args.buffer.now) c.answer.ensures
+    (ReadCall c.args.number (Ok Nothing) c.args.buffer.now) c.answer.ensures.log

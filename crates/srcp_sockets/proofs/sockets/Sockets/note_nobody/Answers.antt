@@ -25,16 +25,16 @@ invariant_of-self g c =
     (λ e. ap (is_as_heard None) e) (λ e. ap (is_as_heard None) e) c.requires.nobody in
     record {
       stands =
-          stands_answered old new self.peers.items self.listening self.last (AcceptCall answer) (λ s a. refl) c.answer.ensures
+          stands_answered old new self.peers.items self.listening self.last (AcceptCall answer) (λ s a. refl) c.answer.ensures.log
           self.stands;
       named =
-          named_call old new self.last (AcceptCall answer) (says_call old new (AcceptCall answer) c.answer.ensures) none self.named;
+          named_call old new self.last (AcceptCall answer) (says_call old new (AcceptCall answer) c.answer.ensures.log) none self.named;
       timed = timed_unasked old new self.turn c.note_accept.new.self answer c.note_accept.ensures as_heard
-          c.answer.ensures self.timed;
-      asked = asked_accept old new answer c.answer.ensures c.requires.excused self.asked;
+          c.answer.ensures.log self.timed;
+      asked = asked_accept old new answer c.answer.ensures.log c.requires.excused self.asked;
       done = done_turn new self.turn c.note_accept.new.self (after_call self.turn (AcceptCall answer)) c.note_accept.ensures refl refl
-          (done_step self.turn.timekeeper.wall self.turn.timekeeper.start old new (Answers (AcceptCall answer)) c.answer.ensures
+          (done_step self.turn.timekeeper.wall self.turn.timekeeper.start old new (Answers (AcceptCall answer)) c.answer.ensures.log
           tt self.done);
-      ending = far_same old new self.peers.items (Answers (AcceptCall answer)) c.answer.ensures (λ s x. refl) self.ending;
+      ending = far_same old new self.peers.items (Answers (AcceptCall answer)) c.answer.ensures.log (λ s x. refl) self.ending;
       places = self.places;
     }

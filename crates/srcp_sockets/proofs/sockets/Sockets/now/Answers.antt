@@ -48,20 +48,20 @@ invariant_of-self g c =
     let turn = c.args.self.now.turn in
     record {
       stands = stands_now mid new c.args.self.now.peers.items c.args.self.now.listening c.args.self.now.last answer
-          (read_clocked old mid c.clock-shown.result c.clock-shown.ensures.log c.requires.read) c.answer.ensures
+          (read_clocked old mid c.clock-shown.result c.clock-shown.ensures.log c.requires.read) c.answer.ensures.log
           (stands_clocked old mid c.args.self.now.peers.items c.args.self.now.listening c.args.self.now.last c.clock-shown.result
           c.clock-shown.ensures.log c.args.self.now.stands);
-      named = named_call mid new c.args.self.now.last (NowCall answer) (says_call mid new (NowCall answer) c.answer.ensures) refl
+      named = named_call mid new c.args.self.now.last (NowCall answer) (says_call mid new (NowCall answer) c.answer.ensures.log) refl
           (named_silent old mid c.args.self.now.last (says_step old mid (Clocks c.clock-shown.result) c.clock-shown.ensures.log refl)
           c.args.self.now.named);
       timed = timed_moment old mid new c.args.self.now.turn c.report_moment-answer.new.self c.clock-shown.result answer
           c.report_moment-answer.ensures.none c.report_moment-answer.ensures.some c.clock-shown.ensures.log
-          c.answer.ensures c.args.self.now.timed;
-      asked = asked_step mid new (Answers (NowCall answer)) c.answer.ensures refl
+          c.answer.ensures.log c.args.self.now.timed;
+      asked = asked_step mid new (Answers (NowCall answer)) c.answer.ensures.log refl
           (asked_step old mid (Clocks c.clock-shown.result) c.clock-shown.ensures.log refl c.args.self.now.asked);
       done = done_moment new turn c.report_moment-answer.new.self c.clock-shown.result answer
           c.report_moment-answer.ensures.none c.report_moment-answer.ensures.some
-          (done_step turn.timekeeper.wall turn.timekeeper.start mid new (Answers (NowCall answer)) c.answer.ensures
+          (done_step turn.timekeeper.wall turn.timekeeper.start mid new (Answers (NowCall answer)) c.answer.ensures.log
           (moment_done turn.timekeeper.wall turn.timekeeper.start old mid c.clock-shown.result answer c.clock-shown.ensures.log
           (moment_shown turn answer c.clock-shown.result
           (moment_is turn answer c.clock-shown.result (λ e. (c.report_moment-answer.ensures.none e).0)
@@ -69,7 +69,7 @@ invariant_of-self g c =
           c.requires.may)
           (done_step turn.timekeeper.wall turn.timekeeper.start old mid (Clocks c.clock-shown.result) c.clock-shown.ensures.log
           tt c.args.self.now.done));
-      ending = far_told old mid new c.args.self.now.peers.items c.clock-shown.result answer c.clock-shown.ensures.log c.answer.ensures
+      ending = far_told old mid new c.args.self.now.peers.items c.clock-shown.result answer c.clock-shown.ensures.log c.answer.ensures.log
           c.requires.visited;
       places = c.args.self.now.places;
     }
@@ -81,7 +81,7 @@ returns-clause-trace g c =
     let new = c.answer.new.self.log.steps in
     let answer = c.report_moment-answer.result in
     says_after old mid new (NowCall answer) (says_step old mid (Clocks c.clock-shown.result) c.clock-shown.ensures.log refl)
-    (says_call mid new (NowCall answer) c.answer.ensures)
+    (says_call mid new (NowCall answer) c.answer.ensures.log)
 
 pub returns-clause-clock : goal.returns-clause-clock
 returns-clause-clock g c =
@@ -93,5 +93,5 @@ returns-clause-clock g c =
       shown,
       moment_is c.args.self.now.turn answer shown (λ e. (c.report_moment-answer.ensures.none e).0)
           (λ time e. (c.report_moment-answer.ensures.some time e).0),
-      tells_two old mid new (Clocks shown) (Answers (NowCall answer)) c.clock-shown.ensures.log c.answer.ensures,
+      tells_two old mid new (Clocks shown) (Answers (NowCall answer)) c.clock-shown.ensures.log c.answer.ensures.log,
     )

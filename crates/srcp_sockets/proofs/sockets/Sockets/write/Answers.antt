@@ -18,7 +18,7 @@ use Rattle.srcp_sockets.proofs.sockets.Sockets.write.Goals as goal
 
 pub returns-in_default-clause-trace : goal.returns-in_default-clause-trace
 returns-in_default-clause-trace g c = says_call c.args.self.now.system.log.steps c.answer.new.self.log.steps
-    (WriteCall c.args.number c.args.bytes.now (Err Write)) c.answer.ensures
+    (WriteCall c.args.number c.args.bytes.now (Err Write)) c.answer.ensures.log
 
 pub invariant_of-self-2 : goal.invariant_of-self-2
 invariant_of-self-2 g c =
@@ -66,26 +66,26 @@ pub invariant_of-self-clause-named : goal.invariant_of-self-clause-named
 invariant_of-self-clause-named g c = named_call c.args.self.now.system.log.steps
     c.answer.new.self.log.steps c.args.self.now.last (WriteCall c.args.number c.args.bytes.now (Err Write))
     (says_call c.args.self.now.system.log.steps c.answer.new.self.log.steps
-    (WriteCall c.args.number c.args.bytes.now (Err Write)) c.answer.ensures) refl c.args.self.now.named
+    (WriteCall c.args.number c.args.bytes.now (Err Write)) c.answer.ensures.log) refl c.args.self.now.named
 
 pub invariant_of-self-clause-timed : goal.invariant_of-self-clause-timed
 invariant_of-self-clause-timed g c = timed_write c.args.self.now.system.log.steps
     c.answer.new.self.log.steps c.args.self.now.turn
     c.note_write.new.self c.args.number c.args.bytes.now (Err Write)
-    c.note_write.ensures c.answer.ensures c.args.self.now.timed
+    c.note_write.ensures c.answer.ensures.log c.args.self.now.timed
 
 pub invariant_of-self-clause-stands : goal.invariant_of-self-clause-stands
 invariant_of-self-clause-stands g c = stands_unwritten c.args.self.now.system.log.steps c.answer.new.self.log.steps
     c.args.self.now.peers.items c.args.self.now.listening c.args.self.now.last c.args.number c.args.bytes.now Write
-    c.in_default.ensures.none c.answer.ensures c.args.self.now.stands
+    c.in_default.ensures.none c.answer.ensures.log c.args.self.now.stands
 
 pub invariant_of-self-clause-asked : goal.invariant_of-self-clause-asked
 invariant_of-self-clause-asked g c = asked_step c.args.self.now.system.log.steps c.answer.new.self.log.steps
-    (Answers (WriteCall c.args.number c.args.bytes.now (Err Write))) c.answer.ensures refl c.args.self.now.asked
+    (Answers (WriteCall c.args.number c.args.bytes.now (Err Write))) c.answer.ensures.log refl c.args.self.now.asked
 
 pub invariant_of-self-clause-ending : goal.invariant_of-self-clause-ending
 invariant_of-self-clause-ending g c = far_same c.args.self.now.system.log.steps c.answer.new.self.log.steps
-    c.args.self.now.peers.items (Answers (WriteCall c.args.number c.args.bytes.now (Err Write))) c.answer.ensures (λ s x. refl)
+    c.args.self.now.peers.items (Answers (WriteCall c.args.number c.args.bytes.now (Err Write))) c.answer.ensures.log (λ s x. refl)
     c.args.self.now.ending
 
 pub invariant_of-self-clause-done : goal.invariant_of-self-clause-done
@@ -95,7 +95,7 @@ invariant_of-self-clause-done g c =
     done_turn c.answer.new.self.log.steps turn c.note_write.new.self (after_call turn call)
     (c.note_write.ensures c.args.number c.args.bytes.now) refl refl
     (done_step turn.timekeeper.wall turn.timekeeper.start c.args.self.now.system.log.steps
-    c.answer.new.self.log.steps (Answers call) c.answer.ensures tt c.args.self.now.done)
+    c.answer.new.self.log.steps (Answers call) c.answer.ensures.log tt c.args.self.now.done)
 
 pub returns-clause-log : goal.returns-clause-log
 returns-clause-log g c =
