@@ -71,26 +71,26 @@ invariant_of-self-in-Err g c =
     let call = AcceptCall answer in
     let is : answer ≡ refused_accept c.failure_of-said.result = c.nobody-answer.ensures.answer in
     record {
-      stands = stands_answered mid new self.peers.items c.after_failure-self.result self.last call (λ s a. refl) c.answer-in-Err.ensures
+      stands = stands_answered mid new self.peers.items c.after_failure-self.result self.last call (λ s a. refl) c.answer-in-Err.ensures.log
           (subst (λ (l : Listening). Stands mid self.peers.items l self.last)
           (sym (c.after_failure-self.ensures ∙ ap listening_after_failure c.failure_of-said.ensures))
           (stands_refused old mid self.peers.items self.listening self.last number c.in-Err.fault c.requires.loud
           c.in-Err.ensures.log self.stands));
-      named = named_call mid new self.last call (says_call mid new call c.answer-in-Err.ensures)
+      named = named_call mid new self.last call (says_call mid new call c.answer-in-Err.ensures.log)
           (ap (λ a. filter_map peer_of (AcceptCall a ∷ [])) is ∙ nobody_named c.failure_of-said.result)
           (named_silent old mid self.last (says_step old mid (Accepts number said) c.in-Err.ensures.log refl) self.named);
       timed = timed_asked old mid new self.turn c.note_accept-in-Err.new.self number said answer c.note_accept-in-Err.ensures
           (ap (λ a. is_as_heard (Some a) answer) (ap refused_accept (sym c.failure_of-said.ensures))
           ∙ ap (is_as_heard (Some (refused_accept c.failure_of-said.result))) is ∙ answered_so c.failure_of-said.result)
-          c.in-Err.ensures.log c.answer-in-Err.ensures self.timed;
-      asked = asked_accept mid new answer c.answer-in-Err.ensures (λ e. was_asked old mid number said c.in-Err.ensures.log)
+          c.in-Err.ensures.log c.answer-in-Err.ensures.log self.timed;
+      asked = asked_accept mid new answer c.answer-in-Err.ensures.log (λ e. was_asked old mid number said c.in-Err.ensures.log)
           (asked_step old mid (Accepts number said) c.in-Err.ensures.log refl self.asked);
       done = done_turn new self.turn c.note_accept-in-Err.new.self (after_call self.turn call) c.note_accept-in-Err.ensures refl refl
-          (done_step self.turn.timekeeper.wall self.turn.timekeeper.start mid new (Answers call) c.answer-in-Err.ensures
+          (done_step self.turn.timekeeper.wall self.turn.timekeeper.start mid new (Answers call) c.answer-in-Err.ensures.log
           tt
           (done_step self.turn.timekeeper.wall self.turn.timekeeper.start old mid (Accepts number said) c.in-Err.ensures.log tt
           self.done));
-      ending = far_same mid new self.peers.items (Answers call) c.answer-in-Err.ensures (λ s x. refl)
+      ending = far_same mid new self.peers.items (Answers call) c.answer-in-Err.ensures.log (λ s x. refl)
           (far_same old mid self.peers.items (Accepts number said) c.in-Err.ensures.log (λ s x. refl) self.ending);
       places = self.places;
     }
@@ -118,7 +118,7 @@ returns-in-Err-clause-exact g c =
       c.nobody-answer.ensures.answer ∙ ap refused_accept c.failure_of-said.ensures,
       c.after_failure-self.ensures ∙ ap listening_after_failure c.failure_of-said.ensures,
       tells_two old mid new (Accepts c.args.number said) (Answers (AcceptCall c.nobody-answer.result)) c.in-Err.ensures.log
-          c.answer-in-Err.ensures,
+          c.answer-in-Err.ensures.log,
     )
 
 -- nobody came

@@ -51,22 +51,22 @@ invariant_of-self-2 g c =
       stands = stands_left old new c.args.self.now.peers.items c.in-Some.index x c.linger.new.self c.args.self.now.listening
           c.args.self.now.last c.args.number c.args.self.now.turn.clock (Ok tt) there.0 (sym at)
           (ap (λ (p : Peer). p.number) at ∙ (there.1 x).0) (ap (λ (p : Peer). p.stay) at ∙ (there.1 x).1) c.linger.ensures
-          (clock_is old c.args.self.now.turn c.args.number c.args.self.now.timed) c.answer-2.ensures c.args.self.now.stands;
-      named = named_call old new c.args.self.now.last call (says_call old new call c.answer-2.ensures) refl c.args.self.now.named;
+          (clock_is old c.args.self.now.turn c.args.number c.args.self.now.timed) c.answer-2.ensures.log c.args.self.now.stands;
+      named = named_call old new c.args.self.now.last call (says_call old new call c.answer-2.ensures.log) refl c.args.self.now.named;
       timed = timed_close old new c.args.self.now.turn c.note_close-2.new.self c.args.number (Ok tt)
           (λ peer. c.note_close-2.ensures peer (Ok tt))
-          c.answer-2.ensures c.args.self.now.timed;
-      asked = asked_step old new (Answers call) c.answer-2.ensures refl c.args.self.now.asked;
+          c.answer-2.ensures.log c.args.self.now.timed;
+      asked = asked_step old new (Answers call) c.answer-2.ensures.log refl c.args.self.now.asked;
       done = done_turn new c.args.self.now.turn c.note_close-2.new.self (after_call c.args.self.now.turn call)
           (c.note_close-2.ensures c.args.number (Ok tt)) refl refl
           (done_step c.args.self.now.turn.timekeeper.wall c.args.self.now.turn.timekeeper.start old new
-          (Answers call) c.answer-2.ensures
+          (Answers call) c.answer-2.ensures.log
           tt c.args.self.now.done);
       ending = far_left old new c.args.self.now.peers.items c.in-Some.index x c.linger.new.self c.args.self.now.turn.clock there.0
-          c.linger.ensures (slackens_step old new (Answers call) c.answer-2.ensures (λ s x. refl)) c.args.self.now.ending;
+          c.linger.ensures (slackens_step old new (Answers call) c.answer-2.ensures.log (λ s x. refl)) c.args.self.now.ending;
       places = search rules;
     }
 
 pub returns-clause-trace : goal.returns-clause-trace
 returns-clause-trace g c = says_call c.args.self.now.system.log.steps c.answer-2.new.self.log.steps
-    (CloseCall c.args.number (Ok tt)) c.answer-2.ensures
+    (CloseCall c.args.number (Ok tt)) c.answer-2.ensures.log
