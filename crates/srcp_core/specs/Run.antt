@@ -40,7 +40,7 @@ module _ (buses : List Bus) where
   -- the core stands for the course, under the keys that the recording has, and the recording has what was done in it
   pub record Runs (r : Recording) (held : Held) (w : World) : Type 0 where
     pub stands : StandsFor buses r.keys held w
-    pub tells : Records r w
+    pub records : Records r w
 
   -- what came of the event: it was carried out, or it was refused and nothing changed
   abbrev pub Happened : Event → Option CoreFault → Recording → Held → World → Type 0

@@ -25,9 +25,9 @@ abbrev pub Trace : Type 0
 Trace = Option (List Call)
 
 -- the door keeps this call behind those that it kept, or keeps none from now on
-abbrev pub Tells : Option (List Call) → Call → Option (List Call) → Type 0
-Tells None call new = new ≡ None
-Tells (Some calls) call new = IfSome new (λ trace. trace ≡ calls ++ call ∷ [])
+abbrev pub Extends : Option (List Call) → Call → Option (List Call) → Type 0
+Extends None call new = new ≡ None
+Extends (Some calls) call new = IfSome new (λ trace. trace ≡ calls ++ call ∷ [])
 
 -- the door had kept some calls, and has added these
 pub record Adds (old : Option (List Call)) (trace calls : List Call) : Type 0 where

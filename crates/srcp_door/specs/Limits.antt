@@ -8,3 +8,7 @@ most_writes = 300
 -- the changes of a turn that are reserved for moments and the ends of sessions
 abbrev pub reserve : ℕ
 reserve = 160
+
+-- the locks with which a session may end, so that no panel loses a line for it
+abbrev pub most_locks : ℕ
+most_locks = 150

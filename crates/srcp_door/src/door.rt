@@ -1,7 +1,7 @@
 //! The door of a server: the calls by which a server reaches the outside.
 
 ghost use Rattle.std.specs.Prelude.{◌≡◌, ℕ, ◌<◌, ◌≤◌, List, Option, None, length, OnOk, OnErr, IfOk, IfErr};
-ghost use Rattle.srcp_door.specs.Calls.{Call, Tells, one_more};
+ghost use Rattle.srcp_door.specs.Calls.{Call, Extends, one_more};
 ghost use Rattle.srcp_door.specs.Calls.{ExpectCall, NowCall, AcceptCall, ReadCall, WriteCall, CloseCall};
 
 /// Names the call of a door that failed.
@@ -47,7 +47,7 @@ pub trait Door {
     /// knows how long a wait may take, and how much input may be handed out.
     fn expect(&mut self, due: Option<u64>, slack: Option<usize>)
         ensures faults { faults self.new ≡ faults self.old }
-        ensures trace { Tells (trace self.old) (ExpectCall due slack) (trace self.new) };
+        ensures trace { Extends (trace self.old) (ExpectCall due slack) (trace self.new) };
 
     /// Returns the time, in milliseconds since 1970. A door over sockets waits here for input, for sockets that take
     /// more bytes, and for the next row that falls due.
@@ -58,7 +58,7 @@ pub trait Door {
         ensures ok { OnOk result (faults self.new ≡ faults self.old) }
         ensures err { OnErr result (faults self.new ≡ one_more (faults self.old)) }
         ensures fault { IfErr result (λ fault. fault ≡ DoorFault.Now) }
-        ensures trace { Tells (trace self.old) (NowCall result) (trace self.new) };
+        ensures trace { Extends (trace self.old) (NowCall result) (trace self.new) };
 
     /// Accepts a pending peer, if any, and returns the peer's number. All later calls name the peer by that number, and
     /// no later peer gets the number.
@@ -69,7 +69,7 @@ pub trait Door {
         ensures ok { OnOk result (faults self.new ≡ faults self.old) }
         ensures err { OnErr result (faults self.new ≡ one_more (faults self.old)) }
         ensures fault { IfErr result (λ fault. fault ≡ DoorFault.Accept) }
-        ensures trace { Tells (trace self.old) (AcceptCall result) (trace self.new) };
+        ensures trace { Extends (trace self.old) (AcceptCall result) (trace self.new) };
 
     /// Reads the bytes that came from a peer, at most as many as the buffer holds.
     ///
@@ -81,7 +81,7 @@ pub trait Door {
         ensures err { OnErr result (faults self.new ≡ one_more (faults self.old)) }
         ensures fault { IfErr result (λ fault. fault ≡ DoorFault.Read) }
         ensures count { (n : ℕ) → result ≡ Ok (Got.Bytes n) → (0 < n) × (n ≤ length buf.old) }
-        ensures trace { Tells (trace self.old) (ReadCall peer result buf.new) (trace self.new) };
+        ensures trace { Extends (trace self.old) (ReadCall peer result buf.new) (trace self.new) };
 
     /// Writes to a peer as many bytes as the peer takes, from the first on, and returns how many. The other bytes have
     /// to be written again.
@@ -93,7 +93,7 @@ pub trait Door {
         ensures err { OnErr result (faults self.new ≡ one_more (faults self.old)) }
         ensures fault { IfErr result (λ fault. fault ≡ DoorFault.Write) }
         ensures count { IfOk result (λ n. n ≤ length bytes.now) }
-        ensures trace { Tells (trace self.old) (WriteCall peer bytes.now result) (trace self.new) };
+        ensures trace { Extends (trace self.old) (WriteCall peer bytes.now result) (trace self.new) };
 
     /// Closes a peer. No later call names the peer.
     ///
@@ -103,5 +103,5 @@ pub trait Door {
         ensures ok { OnOk result (faults self.new ≡ faults self.old) }
         ensures err { OnErr result (faults self.new ≡ one_more (faults self.old)) }
         ensures fault { IfErr result (λ fault. fault ≡ DoorFault.Close) }
-        ensures trace { Tells (trace self.old) (CloseCall peer result) (trace self.new) };
+        ensures trace { Extends (trace self.old) (CloseCall peer result) (trace self.new) };
 }

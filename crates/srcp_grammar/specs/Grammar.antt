@@ -46,6 +46,14 @@ infixl 10 ◌<$>◌
 abbrev pub ◌<$>◌ : {W A B : Type 0} → (A → B) → (W → Result A Code) → W → Result B Code
 (make <$> read) w = read w >>= (λ x. Ok (make x))
 
+-- the speed steps of a decoder of protocol P, if the command names none
+abbrev pub default_steps : ℕ
+default_steps = 28
+
+-- the functions of a locomotive with such a decoder, if the command names none
+abbrev pub default_functions : ℕ
+default_functions = 5
+
 -- how words are read, or refused
 abbrev pub Parser : Type 0 → Type 0
 Parser A = List (List ℕ) → Result A Code
@@ -175,7 +183,14 @@ module _ (bus : Bus) where
   init_gl (a ∷ l ∷ []) =
       if is_keyword (codes "P") l then (do
         address ← number_in 1 bus.gl_max a
-        Ok (record { bus = bus.number; address = address; letter = P; version = 1; steps = 28; functions = 5 }))
+        Ok (record {
+          bus = bus.number;
+          address = address;
+          letter = P;
+          version = 1;
+          steps = default_steps;
+          functions = default_functions;
+        }))
       else Err C419
   init_gl (a ∷ l ∷ v ∷ s ∷ f ∷ []) = do
     address ← number_in 1 bus.gl_max a

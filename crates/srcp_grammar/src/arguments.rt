@@ -26,6 +26,12 @@ use srcp_info::{
 };
 use srcp_text::{Words, is_keyword};
 
+/// The speed steps of a decoder of protocol P, if the command names none.
+const DEFAULT_STEPS: u32 = 28;
+
+/// The functions of a locomotive with such a decoder, if the command names none.
+const DEFAULT_FUNCTIONS: u32 = 5;
+
 /// Reads an address and nothing else.
 pub(crate) fn parse_address(most: u32, mut words: Words<'_>) -> Result<u32, Code>
     ensures { (make : ℕ → Command)
@@ -188,8 +194,8 @@ pub(crate) fn parse_init_gl(bus: &Bus, mut words: Words<'_>) -> Result<NewGl, Co
             address: parse_number(1, bus.gl_max, first)?,
             letter: Letter::P,
             version: 1,
-            steps: 28,
-            functions: 5,
+            steps: DEFAULT_STEPS,
+            functions: DEFAULT_FUNCTIONS,
         });
     };
     let fourth = next_word(&mut words)?;
@@ -261,7 +267,7 @@ fn parse_functions(mut words: Words<'_>) -> Result<Result<Bits, Code>, Code>
         }
         match parse_bit(word) {
             Ok(bit) => functions.push(bit),
-            Err(code) => return refused(functions.len(), words, code),
+            Err(code) => return refuse_function(functions.len(), words, code),
         }
     }
     Ok(Ok(functions))
@@ -270,7 +276,11 @@ fn parse_functions(mut words: Words<'_>) -> Result<Result<Bits, Code>, Code>
 /// Refuses a function that is neither 0 nor 1 behind `before` others. Returns 418 if these and the words that follow
 /// are too many, else 412 inside.
 #[cold]
-fn refused(before: usize, mut words: Words<'_>, code: Code) -> Result<Result<Bits, Code>, Code>
+fn refuse_function(
+    before: usize,
+    mut words: Words<'_>,
+    code: Code,
+) -> Result<Result<Bits, Code>, Code>
     requires { before < MOST_FUNCTIONS }
     ensures { result
         ≡ (if nat_lt MOST_FUNCTIONS (before + 1 + length words.entry) then Err TooLong else Ok (Err code)) }

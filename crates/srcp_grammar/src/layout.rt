@@ -9,6 +9,18 @@ use std::marker::Model;
 
 /// Says what a bus offers. A group with 0 or false in its field is not on the bus. Bus 0 of SRCP 0.8 is the server
 /// itself, and is in no layout.
+///
+/// ```
+/// let bus = Bus {
+///     number: 1,
+///     power: true,
+///     gl_max: 9999,
+///     ga_max: 256,
+///     ga_ports: 2,
+///     fb_ports: 16,
+/// };
+/// layout.add(bus)?;
+/// ```
 #[derive(Clone, Copy, Debug, PartialEq, Eq)]
 pub struct Bus {
     /// The number of the bus, from 1 to 250.

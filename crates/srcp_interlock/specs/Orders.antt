@@ -14,6 +14,14 @@ use Rattle.srcp_routes.specs.declared.route.Setting.{Setting}
 abbrev pub pulse : ℕ
 pulse = 250
 
+-- the bytes of the words before the numbers of an order, at most
+abbrev pub longest_words : ℕ
+longest_words = 64
+
+-- and those of the words and the numbers
+abbrev pub longest_begun : ℕ
+longest_begun = 80
+
 -- a port of an accessory is set to 1, and falls back to 0
 abbrev pub set_words : Setting → List (List ℕ)
 set_words setting =

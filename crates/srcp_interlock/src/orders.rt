@@ -1,7 +1,7 @@
 //! Orders, written as lines of a command session.
 
 ghost use Rattle.std.specs.Prelude.{◌≡◌, ◌+◌, ◌≤◌, ◌++◌, length, decimal};
-ghost use Rattle.srcp_interlock.specs.Orders.{set_line, order_line};
+ghost use Rattle.srcp_interlock.specs.Orders.{longest_begun, longest_words, order_line, set_line};
 
 use srcp_routes::{Device, Order, Setting};
 use srcp_text::{LineBuf, put_bytes, put_number};
@@ -27,9 +27,9 @@ pub fn order_line(own: u8, order: Order) -> LineBuf
 
 /// Begins a line: a command word, a bus, group words, and an address.
 fn begun(command: &[u8], bus: u8, group: &[u8], address: u32) -> LineBuf
-    requires { length command.now + length group.now ≤ 64 }
+    requires { length command.now + length group.now ≤ longest_words }
     ensures text { result ≡ command.now ++ decimal bus ++ group.now ++ decimal address }
-    ensures few { length result ≤ 80 }
+    ensures few { length result ≤ longest_begun }
 {
     let mut line = LineBuf::new();
     put_bytes(command, &mut line);

@@ -10,7 +10,7 @@ use Rattle.srcp_peers.specs.declared.system.IoFailure.TheVariants.{WouldBlock, I
 use Rattle.srcp_door.specs.Calls.{Call, ExpectCall, NowCall, AcceptCall, ReadCall, WriteCall, CloseCall}
 use Rattle.srcp_peers.specs.Steps.{Accepts, Clocks, Closes, Reads, Shuts, Step, Answers, Waits, Writes, calls, failure_of}
 use Rattle.srcp_peers.specs.Accounts.{Account, accepted, account, account_step, closed, heard, heard_refusal}
-use Rattle.srcp_peers.specs.Accounts.{refused_read, refused_write, shut_down, untouched, waited, woken, woken_came, woken_sent, wrote}
+use Rattle.srcp_peers.specs.Accounts.{failed_read, failed_write, shut_down, untouched, waited, woken, woken_came, woken_sent, wrote}
 use Rattle.srcp_peers.specs.Accounts.{read_of}
 use Rattle.srcp_peers.specs.Streams.{gave, gave_in, handed, handed_in, taken, taken_in, took, took_in}
 
@@ -86,12 +86,12 @@ accept_lists socket number a (Err fault) = by (socket == 0)
     by true = heard_lists a (failure_of fault)
     by false = if_same lists (number == socket) (accepted a (Err fault)) a refl
 
-refused_write_lists : (a : Account) (said : IoFailure) → lists (record a { sent = refused_write a.sent said }) ≡ lists a
+refused_write_lists : (a : Account) (said : IoFailure) → lists (record a { sent = failed_write a.sent said }) ≡ lists a
 refused_write_lists a WouldBlock = refl
 refused_write_lists a Interrupted = refl
 refused_write_lists a Fatal = refl
 
-refused_read_lists : (a : Account) (said : IoFailure) → lists (record a { received = refused_read a.received said }) ≡ lists a
+refused_read_lists : (a : Account) (said : IoFailure) → lists (record a { received = failed_read a.received said }) ≡ lists a
 refused_read_lists a WouldBlock = refl
 refused_read_lists a Interrupted = refl
 refused_read_lists a Fatal = refl

@@ -119,10 +119,10 @@ may_close a = is_lingering a
 
 -- ---- what a step says
 
-abbrev pub refused_write : Sent → IoFailure → Sent
-refused_write sent WouldBlock = record sent { full = true }
-refused_write sent Interrupted = sent
-refused_write sent Fatal = record sent { lost = true }
+abbrev pub failed_write : Sent → IoFailure → Sent
+failed_write sent WouldBlock = record sent { full = true }
+failed_write sent Interrupted = sent
+failed_write sent Fatal = record sent { lost = true }
 
 abbrev pub wrote : Sent → List ℕ → Result ℕ ErrorKind → Sent
 wrote sent bytes (Ok count) = record sent {
@@ -130,12 +130,12 @@ wrote sent bytes (Ok count) = record sent {
   full = nat_lt count (length bytes);
   lost = sent.lost || (count == 0);
 }
-wrote sent bytes (Err fault) = refused_write sent (failure_of fault)
+wrote sent bytes (Err fault) = failed_write sent (failure_of fault)
 
-abbrev pub refused_read : Received → IoFailure → Received
-refused_read received WouldBlock = record received { quiet = true; emptying = false }
-refused_read received Interrupted = received
-refused_read received Fatal = record received { failed = true }
+abbrev pub failed_read : Received → IoFailure → Received
+failed_read received WouldBlock = record received { quiet = true; emptying = false }
+failed_read received Interrupted = received
+failed_read received Fatal = record received { failed = true }
 
 abbrev pub read_in : Received → List ℕ → Result ℕ ErrorKind → Received
 read_in received buffer (Ok count) = record received {
@@ -143,7 +143,7 @@ read_in received buffer (Ok count) = record received {
   quiet = not received.emptying && nat_lt count (length buffer);
   ended = received.ended || (count == 0);
 }
-read_in received buffer (Err fault) = refused_read received (failure_of fault)
+read_in received buffer (Err fault) = failed_read received (failure_of fault)
 
 abbrev pub read_of : Account → List ℕ → Result ℕ ErrorKind → Account
 read_of a buffer answer = record a { received = read_in a.received buffer answer; unread = false }

@@ -82,15 +82,15 @@ answered_read t who answer buffer = record t {
 }
 
 -- what `accept` is to answer, if an accept of the system failed
-abbrev pub refused_accept : IoFailure → Result (Option ℕ) DoorFault
-refused_accept WouldBlock = Ok None
-refused_accept Interrupted = Ok None
-refused_accept Fatal = Err Accept
+abbrev pub failed_accept : IoFailure → Result (Option ℕ) DoorFault
+failed_accept WouldBlock = Ok None
+failed_accept Interrupted = Ok None
+failed_accept Fatal = Err Accept
 
 -- and if it answered so
 abbrev pub accept_answer : (number : ℕ) → Result Unit ErrorKind → Result (Option ℕ) DoorFault
 accept_answer number (Ok done) = Ok (Some number)
-accept_answer number (Err fault) = refused_accept (failure_of fault)
+accept_answer number (Err fault) = failed_accept (failure_of fault)
 
 -- that was answered. If the system was not asked, nobody came, or it was a fault
 abbrev pub is_as_heard : (heard : Option (Result (Option ℕ) DoorFault)) → Result (Option ℕ) DoorFault → Bool

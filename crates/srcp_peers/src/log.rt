@@ -21,6 +21,10 @@ impl Model for Log {
 }
 
 /// Names a call of a door, with the answer.
+///
+/// ```
+/// system.answer(&Answer::Close(number, Ok(())));
+/// ```
 #[derive(Clone, Copy, Drop)]
 pub enum Answer<'a> {
     /// The door was told what falls due next, and how many changes the panels can still take.

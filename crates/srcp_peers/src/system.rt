@@ -6,6 +6,17 @@ ghost use Rattle.srcp_peers.specs.Steps.{Step, Accepts, Clocks, Closes, Reads, S
 use std::io::ErrorKind;
 
 /// Says what a socket was found ready for. The listener is socket 0.
+///
+/// ```
+/// ready[0] = Ready {
+///     socket: 3,
+///     readable: true,
+///     closed: false,
+///     urgent: false,
+///     writable: false,
+/// };
+/// wake(peers, &ready[..1]);
+/// ```
 #[derive(Clone, Copy)]
 pub struct Ready {
     /// The socket.

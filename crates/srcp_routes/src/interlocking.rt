@@ -17,6 +17,11 @@ use std::marker::Model;
 use std::vec::Vec;
 
 /// Names an event of an interlocking. A route is named by its place in the plan.
+///
+/// ```
+/// let event = Event::Told(Device { bus: 1, address: 12 }, true);
+/// let order = interlocking.step(event);
+/// ```
 #[derive(Clone, Copy, Debug, PartialEq, Eq)]
 pub enum Event {
     /// A route is asked for.

@@ -12,6 +12,11 @@ pub struct Device {
 }
 
 /// Says which port of an accessory has to be on.
+///
+/// ```
+/// let turnout = Device { bus: 1, address: 4 };
+/// turnouts.push(Setting { device: turnout, port: 0 })?;
+/// ```
 #[derive(Clone, Copy, Debug, PartialEq, Eq)]
 pub struct Setting {
     /// The accessory.
@@ -21,6 +26,10 @@ pub struct Setting {
 }
 
 /// Says how an accessory shows the signal of a route.
+///
+/// ```
+/// let signal = Signal { device: Device { bus: 1, address: 9 }, go: 0, stop: 1 };
+/// ```
 #[derive(Clone, Copy, Debug, PartialEq, Eq)]
 pub struct Signal {
     /// The accessory.

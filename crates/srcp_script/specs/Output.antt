@@ -15,6 +15,10 @@ use Rattle.srcp_core.specs.declared.record.Finish.TheVariants as finish
 use Rattle.srcp_core.specs.declared.record.Record.{Record}
 use Rattle.srcp_core.specs.declared.record.Refusal.{Refusal}
 
+-- the bytes of a number of 64 bits and a space, at most
+abbrev pub longest_count : ℕ
+longest_count = 21
+
 -- how a connection stands at the end
 abbrev pub finish_word : Finish → List ℕ
 finish_word finish.Live = codes "open"

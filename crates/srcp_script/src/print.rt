@@ -10,7 +10,7 @@ ghost use Rattle.srcp_info.specs.WellFormed.{IsWellFormedShown};
 ghost use Rattle.srcp_info.specs.declared.change.Change.TheVariants as change;
 ghost use Rattle.srcp_rules.specs.State.{shown_rows};
 ghost use Rattle.srcp_script.specs.Output.{finish_word, fault_word, ended, connection_line, refusal_line, rows_line};
-ghost use Rattle.srcp_script.specs.Output.{printed_end};
+ghost use Rattle.srcp_script.specs.Output.{longest_count, printed_end};
 
 use srcp_core::{ConnRecord, CoreFault, Finish, Record, Refusal};
 use srcp_info::{InfoLine, Row, Shown, write_shown};
@@ -37,9 +37,9 @@ pub fn connection_line(number: usize, conn: &ConnRecord) -> LineBuf
 /// Appends a number of at most 20 bytes and a space.
 #[tactic(auto, using(crate::proofs::Prints::number_most))]
 fn put_count(number: usize, line: &mut LineBuf)
-    requires { length line.old + 21 ≤ LONGEST_WRITTEN }
+    requires { length line.old + longest_count ≤ LONGEST_WRITTEN }
     ensures items { line.new ≡ line.old ++ decimal number ++ 32 ∷ [] }
-    ensures most { length line.new ≤ length line.old + 21 }
+    ensures most { length line.new ≤ length line.old + longest_count }
 {
     put_number(number as u64, line);
     line.push(b' ');

@@ -1,7 +1,7 @@
 -- What a door told and what the core counted, call after call.
 use Rattle.srcp_serve.proofs.Names.{◌≡◌, ◌∙◌, List, [], ◌∷◌, ◌++◌, map, Some, None, Result, refl, sym, append_assoc, append-nil, ℕ, ◌+◌}
 use Rattle.srcp_serve.proofs.Names.{if◌then◌else◌, Ok, Err, append_cancel_left, map-append, flat_map-append, fold-append, min, Held, At}
-use Rattle.srcp_serve.proofs.Names.{Event, Room, none_denied, DoorCall, Tells, Adds, Trace, Call, CountsRefusals, GivesUnlessCounted}
+use Rattle.srcp_serve.proofs.Names.{Event, Room, none_denied, DoorCall, Extends, Adds, Trace, Call, CountsRefusals, GivesUnlessCounted}
 use Rattle.srcp_serve.proofs.Names.{answers_in, answers_of, NowCall, AddsGiven, CountsAsked, Makes, DoorFault, Bus, counted, course}
 use Rattle.srcp_serve.proofs.Names.{denied_in, start, Stand, timed}
 use Rattle.srcp_door.specs.Calls.{CloseCall}
@@ -9,7 +9,7 @@ use Rattle.srcp_serve.specs.Visits.{Closes}
 use Rattle.srcp_core.proofs.Agreement.RefusalsAreCounted.{denied_over_push}
 
 -- one call more
-pub adds_one : (call : DoorCall) (old new : Trace) (trace : List DoorCall) → Tells old call new → new ≡ Some trace
+pub adds_one : (call : DoorCall) (old new : Trace) (trace : List DoorCall) → Extends old call new → new ≡ Some trace
     → Adds old trace (call ∷ [])
 adds_one call None new trace e is = cc
 adds_one call (Some calls) new trace h is = record { before = calls; was = refl; is = rw is at h }
@@ -92,5 +92,6 @@ pub makes_none : (buses : List Bus) (events : List Event) (trace_old : Trace) (t
 makes_none buses events trace_old trace old is =
     record { adds = adds_none is; counted = refl; asked_for = asked_none buses events old }
 
-pub closes_by : (peer : ℕ) (answer : Result Unit DoorFault) (old new : Trace) → Tells old (CloseCall peer answer) new → Closes peer old new
+pub closes_by : (peer : ℕ) (answer : Result Unit DoorFault) (old new : Trace) → Extends old (CloseCall peer answer) new
+    → Closes peer old new
 closes_by peer answer old new h trace is = (CloseCall peer answer ∷ [], adds_one _ old new trace h is, (answer, refl))

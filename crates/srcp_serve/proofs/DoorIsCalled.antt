@@ -1,7 +1,7 @@
 -- What the methods of a server ask of its door, call after call, and how failed calls are counted.
 use Rattle.srcp_serve.proofs.Names.{◌≡◌, ◌∙◌, ℕ, ◌+◌, true, not, List, [], ◌∷◌, ◌++◌, Option, Result, refl, append-nil, length-append, ◌<◌}
 use Rattle.srcp_serve.proofs.Names.{◌≤◌, length, Ok, Err, arith, flat_map-append, list_all-append, all_append, list_all, AllByRecursion}
-use Rattle.srcp_serve.proofs.Names.{IfOk, flat_map, Tells, Trace, one_more, AreAboutPeers, AreTurns, AreMoment, Asks, AreAccept, IsTurn}
+use Rattle.srcp_serve.proofs.Names.{IfOk, flat_map, Extends, Trace, one_more, AreAboutPeers, AreTurns, AreMoment, Asks, AreAccept, IsTurn}
 use Rattle.srcp_serve.proofs.Names.{is_of_peer, DoorFault, Got}
 use Rattle.srcp_door.specs.Calls.{Call, ExpectCall, NowCall, AcceptCall, ReadCall, WriteCall, IsFair, is_expect, turns}
 use Rattle.srcp_serve.proofs.CallsByTurnAndPeer.{one_part, parts-append}
@@ -19,7 +19,7 @@ of_peers_then xs ys x y = record {
 pub asks_none : (old : Trace) → Asks AreAboutPeers old old
 asks_none old trace is = ([], adds_none is, record { peers = refl; fair = tt })
 
-pub asks_one : (Are : List Call → Type 0) (call : Call) (old new : Trace) → Are (call ∷ []) → Tells old call new → Asks Are old new
+pub asks_one : (Are : List Call → Type 0) (call : Call) (old new : Trace) → Are (call ∷ []) → Extends old call new → Asks Are old new
 asks_one Are call old new are h trace is = (call ∷ [], adds_one call old new trace h is, are)
 
 -- calls that are so, and then others
@@ -30,14 +30,14 @@ asks_then join old mid new first second trace is =
     let x = first _ y.1.was in
     (x.0 ++ y.0, adds_then y.1.was x.1 y.1, join x.0 y.0 x.2 y.2)
 
-pub asks_moment : (due slack : Option ℕ) (answer : Result ℕ DoorFault) (old mid new : Trace) → Tells old (ExpectCall due slack) mid
-    → Tells mid (NowCall answer) new → Asks AreMoment old new
+pub asks_moment : (due slack : Option ℕ) (answer : Result ℕ DoorFault) (old mid new : Trace) → Extends old (ExpectCall due slack) mid
+    → Extends mid (NowCall answer) new → Asks AreMoment old new
 asks_moment due slack answer old mid new first second =
     asks_then {A = λ xs. xs ≡ ExpectCall due slack ∷ []} {B = λ ys. ys ≡ NowCall answer ∷ []}
     (λ xs ys x y. rw (x, y) tt) old mid new
     (asks_one _ _ old mid refl first) (asks_one _ _ mid new refl second)
 
-pub asks_accept : (answer : Result (Option ℕ) DoorFault) (old mid new : Trace) → Tells old (AcceptCall answer) mid
+pub asks_accept : (answer : Result (Option ℕ) DoorFault) (old mid new : Trace) → Extends old (AcceptCall answer) mid
     → Asks AreAboutPeers mid new → Asks AreAccept old new
 asks_accept answer old mid new first later =
     asks_then {A = λ xs. xs ≡ AcceptCall answer ∷ []}
@@ -140,7 +140,7 @@ module _ {D : Type 0} (faults : D → ℕ) (trace : D → Trace) where
   -- one call, about a peer
   pub calls_one : (call : Call) (s t : Server D) → t.door.ghost_name ≡ s.door.ghost_name
       → CountsFaults s.tally.faults (faults s.door.now) t.tally.faults (faults t.door.now) → is_of_peer call ≡ true → IsFair call
-      → Tells (trace s.door.now) call (trace t.door.now) → CallsDoor faults trace AreAboutPeers s t
+      → Extends (trace s.door.now) call (trace t.door.now) → CallsDoor faults trace AreAboutPeers s t
   calls_one call s t same counted of_peer fair tells = record {
     same_door = same;
     counted = counted;

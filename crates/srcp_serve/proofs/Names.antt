@@ -30,7 +30,7 @@ pub use Rattle.srcp_grammar.specs.declared.layout.Bus.{Bus}
 pub use Rattle.srcp_info.proofs.ClientLaws.{all_append, all_filter, all_weaker, filter-map, filter_every, filter_no_one}
 pub use Rattle.srcp_info.specs.declared.change.Change.{Change}
 pub use Rattle.srcp_info.specs.declared.change.Shown.{Shown}
-pub use Rattle.srcp_door.specs.Calls.{Adds, Call as DoorCall, PeersDiffer, Tells, Trace, one_more, parts, peer_of}
+pub use Rattle.srcp_door.specs.Calls.{Adds, Call as DoorCall, PeersDiffer, Extends, Trace, one_more, parts, peer_of}
 pub use Rattle.srcp_serve.specs.Given.{AcceptCall, Accepted, Call, CloseCall, CountsRefusals, ExpectCall, GivesUnlessCounted, NowCall}
 pub use Rattle.srcp_serve.specs.Given.{ReadCall, WriteCall, answers_in, answers_of, door_call}
 pub use Rattle.srcp_serve.specs.Pacing.{IsLight, IsPaced, ServingSparesAll, SparesPanels, TurnsSpare, brought_in, changes_allowed}

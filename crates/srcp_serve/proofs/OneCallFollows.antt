@@ -2,7 +2,8 @@
 use Rattle.srcp_serve.proofs.Names.{◌≡◌, ◌∙◌, ℕ, List, [], ◌∷◌, map, Option, Some, Ok, Err, Result, ap, ◌≤◌, Bool, true, false, not, take}
 use Rattle.srcp_serve.proofs.Names.{length, None, refl, sym, arith, append-nil, length-take, ◌<◌, ◌==◌, inl, inr, Bus, course, fault, Held}
 use Rattle.srcp_serve.proofs.Names.{at, advanced, slack_at, IsReceived, bytes_fault, let_out, unsent_at, changed_at, without_sent, least}
-use Rattle.srcp_serve.proofs.Names.{Event, Bytes, giving, Room, StandsFor, calls_agree, calls_lead, Tells, Trace, Reads, is_ready, question}
+use Rattle.srcp_serve.proofs.Names.{Event, Bytes, giving, Room, StandsFor, calls_agree, calls_lead, Extends, Trace, Reads, is_ready}
+use Rattle.srcp_serve.proofs.Names.{question}
 use Rattle.srcp_serve.proofs.Names.{piece_of, loses_reading, lent, TakesMoment, DoorFault, FromEveryCourse, ReadsIn, Took, WritesOnce}
 use Rattle.srcp_serve.proofs.Names.{is_none, if◌then◌else◌, MatchResult, OnOk, CoreFault, ReadCall, Got, All, Less, Failed, or-false}
 use Rattle.srcp_serve.proofs.Names.{eqb-true, nil_from_length, timed, Wrote}
@@ -23,8 +24,8 @@ IsTold old (Err failed) new = new ≡ old
 
 -- what the door is told of a core is what the course says
 module _ (due slack : Option ℕ) (old : Held) (first : IsEarliestDue due old.rows) (least_is : slack ≡ least (map slack_at old.places))
-    (trace_old trace_mid trace_new : Trace) (expects_it : Tells trace_old (door.ExpectCall due slack) trace_mid) where
-  pub takes_moment : (answer : Result ℕ DoorFault) (new : Held) → Tells trace_mid (door.NowCall answer) trace_new → IsTold old answer new
+    (trace_old trace_mid trace_new : Trace) (expects_it : Extends trace_old (door.ExpectCall due slack) trace_mid) where
+  pub takes_moment : (answer : Result ℕ DoorFault) (new : Held) → Extends trace_mid (door.NowCall answer) trace_new → IsTold old answer new
       → TakesMoment old trace_old new trace_new
   takes_moment answer new h told owns buses stand keys trace in_state is =
       let y = adds_one (door.NowCall answer) trace_mid trace_new trace h is in
@@ -64,7 +65,7 @@ module _ (peer key : ℕ) (old : Held) (trace_old : Trace) (ready : Bool)
       }
 
   module _ (answer : Result Got DoorFault) (buffer : List ℕ) (trace_new : Trace) (e : ready ≡ true)
-      (full : length buffer ≡ 256) (tells : Tells trace_old (door.ReadCall peer answer buffer) trace_new) where
+      (full : length buffer ≡ 256) (tells : Extends trace_old (door.ReadCall peer answer buffer) trace_new) where
     asks : (buses : List Bus) (events : List Event) (n : ℕ) (grants : List Bool)
         → ready ≡ is_none (fault buses (course buses events) (Bytes n (giving [])))
         → question (ReadCall peer answer buffer grants) ∷ [] ≡ (if is_ready buses n events then Reads peer 256 ∷ [] else [])
@@ -87,7 +88,7 @@ module _ (peer key : ℕ) (old : Held) (trace_old : Trace) (ready : Bool)
 
   pub read_bytes : (count : ℕ) (buffer : List ℕ) (trace_new : Trace) (new : Held) (result : Result Unit CoreFault)
       (stays : Bool)
-      → ready ≡ true → length buffer ≡ 256 → Tells trace_old (door.ReadCall peer (Ok (got.Bytes count)) buffer) trace_new
+      → ready ≡ true → length buffer ≡ 256 → Extends trace_old (door.ReadCall peer (Ok (got.Bytes count)) buffer) trace_new
       → MatchResult result (λ _. bytes_fault key (take count buffer) old ≡ None)
       (λ cause. bytes_fault key (take count buffer) old ≡ Some cause)
       → OnOk result (IsReceived key (take count buffer) old new) → stays ≡ is_ok result → ReadsIn peer key old trace_old new trace_new stays
@@ -144,7 +145,7 @@ module _ (peer key : ℕ) (old : Held) (trace_old : Trace) where
 
   -- the door told the write of what was lent
   took : (bytes : List ℕ) (count : ℕ) (answer : Result ℕ DoorFault) (new : Held) (trace_new : Trace) → Lends bytes
-      → LeadsAt key (λ n. Room n count) old new → Tells trace_old (WriteCall peer bytes answer) trace_new
+      → LeadsAt key (λ n. Room n count) old new → Extends trace_old (WriteCall peer bytes answer) trace_new
       → FromEveryCourse peer key old trace_old new trace_new (λ buses events keys n trace. (bytes ≡ lent buses n events)
       × Took buses events keys n peer trace_old trace new (given.WriteCall peer (lent buses n events) answer ∷ []) count)
   took bytes count answer new trace_new lends sends tells buses events keys n trace s named =
@@ -174,14 +175,14 @@ module _ (peer key : ℕ) (old : Held) (trace_old : Trace) where
         )
 
     pub wrote_failed : (bytes : List ℕ) (fault : DoorFault) (trace_new : Trace) → Lends bytes
-        → Tells trace_old (WriteCall peer bytes (Err fault)) trace_new → (length bytes == 0) ≡ false
+        → Extends trace_old (WriteCall peer bytes (Err fault)) trace_new → (length bytes == 0) ≡ false
         → WritesOnce peer key old trace_old mid trace_new Failed
     wrote_failed bytes fault trace_new lends tells some buses events keys n trace s named =
         let t = took bytes 0 (Err fault) mid trace_new lends asked tells buses events keys n trace s named in
         (fault, rw t.0 at (some_of bytes some), t.1)
 
   module _ (bytes : List ℕ) (count : ℕ) (new : Held) (trace_new : Trace) (lends : Lends bytes)
-      (sends : LeadsAt key (λ n. Room n count) old new) (tells : Tells trace_old (WriteCall peer bytes (Ok count)) trace_new) where
+      (sends : LeadsAt key (λ n. Room n count) old new) (tells : Extends trace_old (WriteCall peer bytes (Ok count)) trace_new) where
     pub wrote_less : count < length bytes → WritesOnce peer key old trace_old new trace_new Less
     wrote_less few buses events keys n trace s named =
         let t = took bytes count (Ok count) new trace_new lends sends tells buses events keys n trace s named in

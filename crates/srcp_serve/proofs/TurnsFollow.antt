@@ -2,7 +2,7 @@
 use Rattle.srcp_serve.proofs.Names.{◌≡◌, ◌∙◌, ℕ, ◌+◌, Bool, true, false, ◌==◌, List, [], ◌∷◌, ◌++◌, map, fold, length, if◌then◌else◌}
 use Rattle.srcp_serve.proofs.Names.{Option, Some, Ok, Err, Result, refl, ap, sym, subst, arith, append_assoc, append-nil, nat_tests}
 use Rattle.srcp_serve.proofs.Names.{map-append, filter_map-append, list_any-append, list_all, list_any, filter_map, AllByRecursion, ◌||◌}
-use Rattle.srcp_serve.proofs.Names.{flat_map, Bus, course, Held, StandsFor, Open, filter_no_one, DoorCall, Tells, PeersDiffer, peer_of}
+use Rattle.srcp_serve.proofs.Names.{flat_map, Bus, course, Held, StandsFor, Open, filter_no_one, DoorCall, Extends, PeersDiffer, peer_of}
 use Rattle.srcp_serve.proofs.Names.{Trace, Accepted, Call, ExpectCall, NowCall, AcceptCall, CloseCall, door_call, Client, Closes, Stand}
 use Rattle.srcp_serve.proofs.Names.{Expects, Moments, expects, Accepts, IsFair, question, moment_of, accept_of, clients, is_about, kept}
 use Rattle.srcp_serve.proofs.Names.{visit_events, visits_ask, connects, with_connection, with_accept, with_moment, timed, begun, turned}
@@ -128,7 +128,7 @@ AcceptsNone (Ok (Some peer)) = ⊥
 AcceptsNone other = Unit {0}
 
 pub accepts_nobody : (old : Held) (trace_old trace_new : Trace) (owns : Owns) (answer : Result (Option ℕ) DoorFault)
-    → AcceptsNone answer → Tells trace_old (door.AcceptCall answer) trace_new → AcceptsOne old trace_old owns old trace_new owns false
+    → AcceptsNone answer → Extends trace_old (door.AcceptCall answer) trace_new → AcceptsOne old trace_old owns old trace_new owns false
 accepts_nobody old trace_old trace_new owns (Ok (Some peer)) none h buses stand keys trace in_state is peers calls adds differ known =
     absurd none
 accepts_nobody old trace_old trace_new owns answer none h buses stand keys trace in_state is peers calls adds differ known = (
@@ -148,7 +148,7 @@ accepts_nobody old trace_old trace_new owns answer none h buses stand keys trace
 
 pub accepts_peer : (peer : ℕ) (opens : Bool) (old new : Held) (trace_old trace_mid trace_new : Trace)
     (owns owns_new : Owns)
-    → Tells trace_old (door.AcceptCall (Ok (Some peer))) trace_mid → Asks AreAboutPeers trace_mid trace_new
+    → Extends trace_old (door.AcceptCall (Ok (Some peer))) trace_mid → Asks AreAboutPeers trace_mid trace_new
     → Connects old trace_mid owns new trace_new owns_new peer opens → AcceptsOne old trace_old owns new trace_new owns_new opens
 accepts_peer peer opens old new trace_old trace_mid trace_new owns owns_new h asks own_is buses stand keys trace in_state is peers calls
     adds differ known =

@@ -13,7 +13,7 @@ use Rattle.srcp_door.specs.Calls.{AcceptCall, Call, peer_of}
 use Rattle.srcp_sockets.specs.Names.{IsNamed, Named}
 use Rattle.srcp_peers.specs.Steps.{SaysNothing, SaysOne, Step, calls}
 use Rattle.srcp_peers.proofs.CallsAreOfTheDoor.{calls_stay}
-use Rattle.srcp_peers.specs.Times.{refused_accept}
+use Rattle.srcp_peers.specs.Times.{failed_accept}
 
 unequal_push : (x n : ℕ) (xs : List ℕ) → x < n → AllByRecursion (λ y. (x == y) ≡ false) xs → AllByRecursion (λ y. (x == y) ≡ false)
     (xs ++ n ∷ [])
@@ -62,7 +62,7 @@ named_come old new last n below says named =
     (named_push (filter_map peer_of (calls old)) last n below named)
 
 -- nobody came
-pub nobody_named : (said : IoFailure) → filter_map peer_of (AcceptCall (refused_accept said) ∷ []) ≡ []
+pub nobody_named : (said : IoFailure) → filter_map peer_of (AcceptCall (failed_accept said) ∷ []) ≡ []
 nobody_named WouldBlock = refl
 nobody_named Interrupted = refl
 nobody_named Fatal = refl

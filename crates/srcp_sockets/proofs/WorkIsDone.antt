@@ -23,7 +23,7 @@ use Rattle.srcp_peers.specs.declared.system.IoFailure.TheVariants.{WouldBlock, I
 use Rattle.srcp_peers.specs.declared.turn.Listening.{Listening}
 use Rattle.srcp_peers.specs.declared.turn.Turn.{Turn}
 use Rattle.srcp_peers.specs.Accounts.{Account, Received, accepted, account, account_step, closed, heard_refusal, is_held, read_in, read_of}
-use Rattle.srcp_peers.specs.Accounts.{refused_read, refused_write, shut_down, untouched, waited, woken, woken_came, woken_sent}
+use Rattle.srcp_peers.specs.Accounts.{failed_read, failed_write, shut_down, untouched, waited, woken, woken_came, woken_sent}
 use Rattle.srcp_peers.specs.Peers.{Agrees, ComesAs, ReadsAs, StaysAs, holds_input, is_here}
 use Rattle.srcp_peers.specs.Steps.{Accepts, Answers, Clocks, Closes, Reads, SaysNothing, Shuts, Step, Waits, Writes}
 use Rattle.srcp_peers.specs.Steps.{call_of, calls, failure_of}
@@ -196,12 +196,12 @@ takes_read a buffer (Ok count) takes = by a.watched a.sent.cut takes
     by false cut h = absurd (true≢false (sym h))
 takes_read a buffer (Err fault) takes = by (failure_of fault)
   where
-    by : (said : IoFailure) → takes_input (record a { received = refused_read a.received said; unread = false }) ≡ true
+    by : (said : IoFailure) → takes_input (record a { received = failed_read a.received said; unread = false }) ≡ true
     by WouldBlock = takes
     by Interrupted = takes
     by Fatal = takes
 
-takes_wrote : (a : Account) (said : IoFailure) → takes_input (record a { sent = refused_write a.sent said }) ≡ takes_input a
+takes_wrote : (a : Account) (said : IoFailure) → takes_input (record a { sent = failed_write a.sent said }) ≡ takes_input a
 takes_wrote a WouldBlock = refl
 takes_wrote a Interrupted = refl
 takes_wrote a Fatal = refl

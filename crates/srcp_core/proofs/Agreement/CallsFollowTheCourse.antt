@@ -24,7 +24,7 @@ telling keys w = record { keys = keys; steps = map recorded_step w.steps; connec
 
 pub runs_telling : (buses : List Bus) (keys : List (Option ℕ)) (held : Held) (w : World) → StandsFor buses keys held w
     → Runs buses (telling keys w) held w
-runs_telling buses keys held w s = record { stands = s; tells = record { steps = refl; refused = refl; connections = refl } }
+runs_telling buses keys held w s = record { stands = s; records = record { steps = refl; refused = refl; connections = refl } }
 
 pub at_leads : (moment : ℕ) (old new : Held) → new ≡ advanced moment old → LeadsTo (At moment) old new
 at_leads moment old new is buses events keys layout s =
@@ -75,7 +75,7 @@ kept_of : (buses : List Bus) (layout : IsLayout buses) (events : List Event) (ke
 kept_of buses layout events keys n key named held s = record {
   fine = fine_course buses layout events;
   stands = stands_counted buses keys held _ s;
-  tells = record { steps = refl; refused = refl; connections = refl };
+  records = record { steps = refl; refused = refl; connections = refl };
 }
 
 room_free : (buses : List Bus) (events : List Event) (keys : List (Option ℕ)) (n key bytes : ℕ) (held : Held) → key_of n keys ≡ Some key

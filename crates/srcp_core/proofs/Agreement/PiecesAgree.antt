@@ -173,7 +173,7 @@ module _ (buses : List Bus) (order : IsRisingBy key_at (shown_rows (opening buse
   -- after one more line of the piece
   pub record IsLined (grants : List Bool) (start stop : ℕ) (granted : Bool) (held new : Held) (r : Recording) : Type 0 where
     pub upto : IsUpTo (grants ++ granted ∷ []) stop new
-    pub tells : Records (noted n (steps_of_line granted (next_request_at key piece start held)) r)
+    pub records : Records (noted n (steps_of_line granted (next_request_at key piece start held)) r)
         (world_upto (grants ++ granted ∷ []) stop)
 
   -- what the reader finds
@@ -201,7 +201,7 @@ module _ (buses : List Bus) (order : IsRisingBy key_at (shown_rows (opening buse
       line_is_answered grants granted start s mark held p reading r (subst (λ k. start < k) stop_is onward) here adds moves u t in
       record {
         upto = rw stop_is (rw (ap (λ (x : ℕ × Held). x.1) is) both.0);
-        tells = rw stop_is (rw (ap (steps_of_line granted) finding) both.1);
+        records = rw stop_is (rw (ap (steps_of_line granted) finding) both.1);
       }
     where
       stop_is : stop ≡ s

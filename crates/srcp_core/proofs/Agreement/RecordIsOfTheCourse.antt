@@ -161,11 +161,11 @@ runs_on buses events event (Some cause) number r held e h =
     let is : course buses (events ++ event ∷ []) ≡ record w { refused = w.refused ++ record { event = w.events; fault = cause } ∷ [] } =
     cc (fold-append _ start events _, h.0) in
     let s = h.1.stands in
-    let t = h.1.tells in
+    let t = h.1.records in
     rw is
     (record {
       stands = stands_as buses (λ n fed. fed) r.keys held w _ _ _ _ _ _ _ s.moment s.last_id s;
-      tells = record {
+      records = record {
         steps = t.steps;
         refused = cc t.refused;
         connections = t.connections;
@@ -237,7 +237,7 @@ runs_start buses r held e h =
         apart = λ m n key e f. absurd (no_key m key e);
         owned = λ key p e. absurd (no_place key p e);
       };
-      tells = record { steps = refl; refused = refl; connections = refl };
+      records = record { steps = refl; refused = refl; connections = refl };
     }))
 
 pub runs_none : (buses : List Bus) (events : List PlainEvent) (r : Recording) (held : Held) → r ≡ nothing_recorded
@@ -262,10 +262,10 @@ pub record_is : (buses : List Bus) (events : List Event) (r : Recording) (held :
     → told.steps ≡ r.steps → told.refused ≡ r.refused → told.connections ≡ finished held r.keys r.connections → told.rows ≡ held.rows
     → IsRecordOf buses (course buses events) told
 record_is buses events r held told layout s steps refused connections rows = record {
-  steps = steps ∙ s.tells.steps;
-  refused = cc s.tells.refused;
+  steps = steps ∙ s.records.steps;
+  refused = cc s.records.refused;
   connections = cc (
-    s.tells.connections,
+    s.records.connections,
     finished_is _ held r.keys (course buses events).connections s.stands.long
         (λ k conn e. one_finished buses layout r.keys held events s.stands (suc k) conn e),
   );

@@ -85,7 +85,7 @@ module _ (buses : List Bus) (layout : IsLayout buses) (order : IsRisingBy key_at
   pub record Kept (r : Recording) (held : Held) (w : World) : Type 0 where
     pub fine : IsFine buses order w
     pub stands : StandsFor buses keys held w
-    pub tells : Records r w
+    pub records : Records r w
 
   abbrev pub roomed : ℕ → World → World
   roomed bytes w = at_connection n (given_room bytes (history buses w) (rows buses w)) w
@@ -138,7 +138,7 @@ module _ (buses : List Bus) (layout : IsLayout buses) (order : IsRisingBy key_at
       ∙ ap (λ (o : Option Place). with_given (length (history buses w)) (item_of (shown_rows held.rows) o) (record_of h.conn))
       (sym h.place) in
       let steps : length (history buses w) ≡ length r.steps =
-      length_history _ w.steps ∙ sym (length-map w.steps _) ∙ ap length (sym k.tells.steps) in
+      length_history _ w.steps ∙ sym (length-map w.steps _) ∙ ap length (sym k.records.steps) in
       record {
         fine = fine_roomed 0 w h.conn k.fine h.there h.shut;
         stands =
@@ -146,9 +146,9 @@ module _ (buses : List Bus) (layout : IsLayout buses) (order : IsRisingBy key_at
             (open_room 0 w h.conn) (fed_room 0 (history buses w) (rows buses w) h.conn)
             (λ reader shut.
             cc (fill reader).place);
-        tells =
+        records =
             noted_item _ h.conn h.there
-            (cc) k.tells;
+            (cc) k.records;
       }
     where
       nothing_noted : (conn : Connection) → numbered n w.connections ≡ Some conn
@@ -189,11 +189,11 @@ module _ (buses : List Bus) (layout : IsLayout buses) (order : IsRisingBy key_at
             stands_of buses order (λ n fed. fed) keys n key named held w h.conn _ _ s h.there
             (open_room count w h.conn) (fed_room count (history buses w) (rows buses w) h.conn)
             (λ reader shut. cc (taken_place reader _ h.conn count still));
-        tells =
+        records =
             tells_changed r w n h.conn _
             (λ told. record told { sent = told.sent ++ take count _ }) h.there
             (cc (taken_told h.conn count))
-            k.tells;
+            k.records;
       }
 
   -- no byte is taken
@@ -207,11 +207,11 @@ module _ (buses : List Bus) (layout : IsLayout buses) (order : IsRisingBy key_at
       ∙ ap (λ (places : List (Option Place)). record held { places = places }) (set_same _ key p h.place) in
       let t =
       tells_changed r w n h.conn (λ c. c) (λ told. record told { sent = told.sent ++ [] }) h.there
-      (ap (λ bytes. record (record_of h.conn) { sent = bytes }) (sym (append-nil _))) k.tells in
+      (ap (λ bytes. record (record_of h.conn) { sent = bytes }) (sym (append-nil _))) k.records in
       record {
         fine = k.fine;
         stands = rw same k.stands;
-        tells = subst (λ (conns : List Connection). Records (with_sent n [] r) (record w { connections = conns })) (with_itself n _) t;
+        records = subst (λ (conns : List Connection). Records (with_sent n [] r) (record w { connections = conns })) (with_itself n _) t;
       }
 
   -- ---- rooms one after another

@@ -37,7 +37,7 @@ fine_course buses layout events = sound buses (opening_in_order buses layout) An
 pub runs_counted : (buses : List Bus) (r : Recording) (held : Held) (w : World) → Runs buses r held w → Runs buses r held (counted w)
 runs_counted buses r held w s = record {
   stands = stands_counted buses r.keys held w s.stands;
-  tells = let t = s.tells in record { steps = t.steps; refused = t.refused; connections = t.connections };
+  records = let t = s.records in record { steps = t.steps; refused = t.refused; connections = t.connections };
 }
 
 -- what was refused in the event is what was asked for in the course, whatever the events were before
@@ -87,10 +87,10 @@ open_with key r old new a buses events layout s =
       free_fault buses r.keys old w c.stands a.few true,
       record {
         stands = stands_opened buses r.keys key old new w a c.stands;
-        tells = record {
-          steps = s.tells.steps;
-          refused = s.tells.refused;
-          connections = cc (s.tells.connections, map-append _ _ _);
+        records = record {
+          steps = s.records.steps;
+          refused = s.records.refused;
+          connections = cc (s.records.connections, map-append _ _ _);
         };
       },
     )
@@ -121,7 +121,7 @@ memory_with r old new room same buses events layout s =
       free_fault buses r.keys old w c.stands room false,
       rw same (record {
         stands = stands_as buses (λ n fed. fed) r.keys old w _ _ _ _ _ _ _ c.stands.moment c.stands.last_id c.stands;
-        tells = c.tells;
+        records = c.records;
       }),
     )
 
@@ -160,10 +160,10 @@ at_happens moment r old new now is now_is =
       refl,
       record {
         stands = rw is (stands_advanced buses r.keys old w moment fine c.stands);
-        tells = record {
-          steps = cc (c.tells.steps, map-append _ w.steps _);
-          refused = c.tells.refused;
-          connections = c.tells.connections;
+        records = record {
+          steps = cc (c.records.steps, map-append _ w.steps _);
+          refused = c.records.refused;
+          connections = c.records.connections;
         };
       },
     ))
@@ -220,7 +220,7 @@ shut_happens n key r old new now named is now_is =
     let stands =
     subst (λ (x : Held). StandsFor buses (without_key n r.keys) x (accepted buses (Shut n) w)) (sym is)
     (stands_hung_up buses order r.keys old w n key (fine_course buses layout events) c.stands named) in
-    let told = shut_told buses w h.conn h.there (cc ((hung_up_keeps key old (at old key)).0, c.stands.moment)) c.tells in
+    let told = shut_told buses w h.conn h.there (cc ((hung_up_keeps key old (at old key)).0, c.stands.moment)) c.records in
     let live : live_session key old ≡ (if (h.conn.session == 0) || h.conn.ended then None else Some h.conn.session) = cc h.place in
     let tells : Records (with_end (live_session key old) now (shut n r)) (accepted buses (Shut n) w) =
     rw live
@@ -228,7 +228,7 @@ shut_happens n key r old new now named is now_is =
       cc h.opened,
       record {
         stands = rw (shut_keys n (live_session key old) now r) stands;
-        tells = tells;
+        records = tells;
       },
     ))
   where
@@ -273,7 +273,7 @@ gives_first n key bytes r held named buses events layout s =
       keys = refl;
       rooming = record {
         now = w;
-        kept = record { fine = fine_course buses layout events; stands = c.stands; tells = c.tells };
+        kept = record { fine = fine_course buses layout events; stands = c.stands; records = c.records };
         to_come = refl;
       };
     }
@@ -339,7 +339,7 @@ room_happens n key bytes first_r first left r held ends same gives =
       i.free,
       record {
         stands = rw (taking_keys n key left held r ∙ i.keys) k.stands;
-        tells = k.tells;
+        records = k.records;
       },
     ))
 

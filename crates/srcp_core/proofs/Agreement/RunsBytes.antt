@@ -54,7 +54,7 @@ pub record IsReading (n key : ℕ) (piece : List ℕ) (grants : List Bool) (firs
   pub keys : r.keys ≡ first_r.keys
   pub upto : IsUpTo buses (opening_in_order buses layout) first_r.keys n key named conn.fed piece
       (accepting n piece w) first.denied grants start held
-  pub tells : Records r
+  pub records : Records r
       (world_upto buses (opening_in_order buses layout) first_r.keys n key named conn.fed piece
       (accepting n piece w) first.denied grants start)
 
@@ -86,7 +86,7 @@ reads_with_none n key piece r held named free buses events layout s =
       free = cc (fault_same buses order (λ n fed. fed) r.keys held w n key piece (fine_course buses layout events) c.stands named);
       keys = refl;
       upto = b.0;
-      tells = rw b.1 (tells_same r w n (λ c. record c { fed = c.fed ++ piece }) (λ conn e. refl) c.tells);
+      records = rw b.1 (tells_same r w n (λ c. record c { fed = c.fed ++ piece }) (λ conn e. refl) c.records);
     }
 
 pub reads_first : (n key : ℕ) (piece : List ℕ) (r : Recording) (held : Held) → key_of n r.keys ≡ Some key
@@ -112,7 +112,7 @@ reads_with_more grants n key piece first_r first start stop granted steps r held
     let order = opening_in_order buses layout in
     let w = counted _ in
     let l =
-    lined buses order _ n key i.named _ piece _ _ grants start stop granted held new r onward is i.upto i.tells in
+    lined buses order _ n key i.named _ piece _ _ grants start stop granted held new r onward is i.upto i.records in
     record {
       named = i.named;
       conn = i.conn;
@@ -120,12 +120,12 @@ reads_with_more grants n key piece first_r first start stop granted steps r held
       free = i.free;
       keys = noted_keys n steps r ∙ i.keys;
       upto = l.upto;
-      tells =
+      records =
           subst (λ (steps : List PlainStep).
           Records (noted n steps r)
           (world_upto buses order first_r.keys n key i.named i.conn.fed piece (accepting n piece w) first.denied
           (grants ++ granted ∷ []) stop))
-          (sym steps_are) l.tells;
+          (sym steps_are) l.records;
     }
 
 pub reads_more : (n key : ℕ) (piece : List ℕ) (first_r : Recording) (first : Held) (start stop : ℕ) (granted : Bool)
@@ -159,7 +159,7 @@ bytes_with grants n key piece first_r first start r held new is reads buses even
       i.free,
       subst (λ (v : World). Runs buses r new v) (sym world) (record {
         stands = rw i.keys e.stands;
-        tells = rw (← e.world_is) i.tells;
+        records = rw (← e.world_is) i.records;
       }),
     )
 

@@ -8,7 +8,7 @@ ghost use Rattle.srcp_sockets.specs.Doors.{is_quiet};
 ghost use Rattle.srcp_sockets.specs.Limits.{most_peers};
 ghost use Rattle.srcp_sockets.specs.Loads.{AnswersWithin};
 ghost use Rattle.srcp_sockets.specs.Work.{IsAccepting, FreesPlace, is_crowded, last_after, may_accept};
-ghost use Rattle.srcp_peers.specs.Times.{refused_accept};
+ghost use Rattle.srcp_peers.specs.Times.{failed_accept};
 ghost use Rattle.srcp_door.specs.Calls.{AcceptCall};
 ghost use Rattle.srcp_peers.specs.Steps.{Answers, Closes, GrowsBy, SaysNothing};
 
@@ -195,7 +195,7 @@ fn spare_or_new(spare: &mut Option<Queues>, alloc: Global) -> Result<Queues, All
 
 /// Answers for an accept that failed.
 fn nobody(said: IoFailure) -> Result<Option<u32>, DoorFault>
-    ensures answer { result ≡ refused_accept said }
+    ensures answer { result ≡ failed_accept said }
     ensures fault { IfErr result (λ fault. fault ≡ DoorFault.Accept) }
 {
     match said {

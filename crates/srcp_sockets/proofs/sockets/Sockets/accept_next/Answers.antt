@@ -9,7 +9,7 @@ use Rattle.srcp_sockets.specs.Doors.{Stands}
 use Rattle.srcp_sockets.specs.Work.{last_after}
 use Rattle.srcp_peers.specs.Listeners.{listening_after_failure}
 use Rattle.srcp_peers.specs.Steps.{Accepts, Answers}
-use Rattle.srcp_peers.specs.Times.{is_as_heard, refused_accept}
+use Rattle.srcp_peers.specs.Times.{is_as_heard, failed_accept}
 use Rattle.srcp_peers.specs.Turns.{after_call}
 use Rattle.srcp_peers.proofs.PeersStayKept.{own}
 use Rattle.srcp_peers.proofs.CallsAreOfTheDoor.{says_call, says_step}
@@ -54,7 +54,7 @@ invariant_of-self g c =
     }
 
 -- what is answered is what the system said
-answered_so : (said : IoFailure) → is_as_heard (Some (refused_accept said)) (refused_accept said) ≡ true
+answered_so : (said : IoFailure) → is_as_heard (Some (failed_accept said)) (failed_accept said) ≡ true
 answered_so WouldBlock = refl
 answered_so Interrupted = refl
 answered_so Fatal = refl
@@ -69,7 +69,7 @@ invariant_of-self-in-Err g c =
     let said : Result Unit ErrorKind = Err c.in-Err.fault in
     let answer = c.nobody-answer.result in
     let call = AcceptCall answer in
-    let is : answer ≡ refused_accept c.failure_of-said.result = c.nobody-answer.ensures.answer in
+    let is : answer ≡ failed_accept c.failure_of-said.result = c.nobody-answer.ensures.answer in
     record {
       stands = stands_answered mid new self.peers.items c.after_failure-self.result self.last call (λ s a. refl) c.answer-in-Err.ensures.log
           (subst (λ (l : Listening). Stands mid self.peers.items l self.last)
@@ -80,8 +80,8 @@ invariant_of-self-in-Err g c =
           (ap (λ a. filter_map peer_of (AcceptCall a ∷ [])) is ∙ nobody_named c.failure_of-said.result)
           (named_silent old mid self.last (says_step old mid (Accepts number said) c.in-Err.ensures.log refl) self.named);
       timed = timed_asked old mid new self.turn c.note_accept-in-Err.new.self number said answer c.note_accept-in-Err.ensures
-          (ap (λ a. is_as_heard (Some a) answer) (ap refused_accept (sym c.failure_of-said.ensures))
-          ∙ ap (is_as_heard (Some (refused_accept c.failure_of-said.result))) is ∙ answered_so c.failure_of-said.result)
+          (ap (λ a. is_as_heard (Some a) answer) (ap failed_accept (sym c.failure_of-said.ensures))
+          ∙ ap (is_as_heard (Some (failed_accept c.failure_of-said.result))) is ∙ answered_so c.failure_of-said.result)
           c.in-Err.ensures.log c.answer-in-Err.ensures.log self.timed;
       asked = asked_accept mid new answer c.answer-in-Err.ensures.log (λ e. was_asked old mid number said c.in-Err.ensures.log)
           (asked_step old mid (Accepts number said) c.in-Err.ensures.log refl self.asked);
@@ -115,14 +115,14 @@ returns-in-Err-clause-exact g c =
     let new = c.answer-in-Err.new.self.log.steps in
     let said : Result Unit ErrorKind = Err c.in-Err.fault in (
       said,
-      c.nobody-answer.ensures.answer ∙ ap refused_accept c.failure_of-said.ensures,
+      c.nobody-answer.ensures.answer ∙ ap failed_accept c.failure_of-said.ensures,
       c.after_failure-self.ensures ∙ ap listening_after_failure c.failure_of-said.ensures,
       tells_two old mid new (Accepts c.args.number said) (Answers (AcceptCall c.nobody-answer.result)) c.in-Err.ensures.log
           c.answer-in-Err.ensures.log,
     )
 
 -- nobody came
-last_of_nobody : (last : ℕ) (said : IoFailure) → last ≡ last_after last (refused_accept said)
+last_of_nobody : (last : ℕ) (said : IoFailure) → last ≡ last_after last (failed_accept said)
 last_of_nobody last WouldBlock = refl
 last_of_nobody last Interrupted = refl
 last_of_nobody last Fatal = refl

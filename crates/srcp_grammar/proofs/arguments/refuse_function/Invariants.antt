@@ -1,6 +1,6 @@
 use Rattle.std.proofs.Common.{◌≡◌, ◌+◌, ◌≤◌, length}
 use Rattle.srcp_info.specs.Limits.{most_functions}
-use Rattle.srcp_grammar.proofs.arguments.refused.Given as goal
+use Rattle.srcp_grammar.proofs.arguments.refuse_function.Given as goal
 
 abbrev pub invariant-loop-count : goal.invariant-loop-count
 invariant-loop-count l = record {
