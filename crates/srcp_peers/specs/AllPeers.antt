@@ -1,11 +1,10 @@
 -- What holds of all peers of a door.
-use Rattle.std.specs.Prelude.{◌≡◌, ◌≢◌, ℕ, ◌<◌, ◌≤◌, ◌||◌, Bool, List, length, slice_index_or, cond}
-use Rattle.srcp_info.specs.Limits.{most_in_piece}
+use Rattle.std.specs.Prelude.{◌≡◌, ◌≢◌, ℕ, ◌<◌, ◌≤◌, Bool, List, length, slice_index_or}
 use Rattle.srcp_peers.specs.declared.peer.Peer.{Peer}
 use Rattle.srcp_peers.specs.Steps.{Step}
 use Rattle.srcp_peers.specs.declared.readiness.Flush.{Flush}
 use Rattle.srcp_peers.specs.Ends.{begun}
-use Rattle.srcp_peers.specs.Peers.{IsKept, OffersDue, is_over, is_silent, stay_after}
+use Rattle.srcp_peers.specs.Peers.{IsKept, IsShared, KeepsRest, OffersDue, is_over, stay_after}
 
 -- each is what its account says
 abbrev pub AreKept : List Step → List Peer → Type 0
@@ -30,10 +29,10 @@ abbrev pub AreThose : List Peer → List Peer → Type 0
 AreThose old new = (k : ℕ) (d : Peer) → k < length old → (slice_index_or new k d).number
     ≡ (slice_index_or old k d).number
 
--- the share of each is a whole piece with `anew`, or if it is silent; and else what was left of it
+-- the share of each is given anew, or is what was left of it
 abbrev pub AreShared : (anew : Bool) (clock : ℕ) → (old new : List Peer) → Type 0
-AreShared anew clock old new = (k : ℕ) (d : Peer) → k < length old → (slice_index_or new k d).share.rest
-    ≡ cond (anew || is_silent clock (slice_index_or old k d)) most_in_piece (slice_index_or old k d).share.rest
+AreShared anew clock old new = (k : ℕ) (d : Peer) → k < length old
+    → IsShared anew clock (slice_index_or old k d) (slice_index_or new k d)
 
 -- a turn that flushes `what` offers the socket of each what is queued for it, if that is flushed
 abbrev pub AreOffered : Flush → List Peer → (old new : List Step) → Type 0
@@ -45,10 +44,9 @@ abbrev pub AreShutDown : (old new : List Peer) → Type 0
 AreShutDown old new = (k : ℕ) (d : Peer) → k < length old
     → (let p = slice_index_or new k d in p.stay ≡ stay_after (slice_index_or old k d).stay p.outgoing p.output)
 
--- each is as far on the way to its end as before
-abbrev pub KeepEndings : (old new : List Peer) → Type 0
-KeepEndings old new = (k : ℕ) (d : Peer) → k < length old → (slice_index_or new k d).ending
-    ≡ (slice_index_or old k d).ending
+-- each keeps what a flush leaves
+abbrev pub AllKeepRest : (old new : List Peer) → Type 0
+AllKeepRest old new = (k : ℕ) (d : Peer) → k < length old → KeepsRest (slice_index_or old k d) (slice_index_or new k d)
 
 -- each stays, and goes on on that way as a visit begins
 abbrev pub AreBegun : (old new : List Peer) → Type 0

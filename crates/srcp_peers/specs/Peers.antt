@@ -271,6 +271,22 @@ MayEnd p = (p.input ≡ input.Ended) × (p.incoming ≡ []) × (p.ending ≡ end
 abbrev pub MayFail : Peer → Type 0
 MayFail p = (p.input ≡ input.Failed) ⊎ (is_lost p.output ≡ true)
 
+-- its share stays, and when something of it was handed out last
+abbrev pub KeepsShare : (old new : Peer) → Type 0
+KeepsShare old new = (new.share ≡ old.share) × (new.heard ≡ old.heard)
+
+-- a flush leaves its share, how far it is on the way to its end and whether the core has more for it. If it is there, it
+-- stays so, and what came of it stays
+abbrev pub KeepsRest : (old new : Peer) → Type 0
+KeepsRest old new = KeepsShare old new × (new.ending ≡ old.ending) × (new.backpressured ≡ old.backpressured)
+    × (is_here old.stay ≡ true
+    → (new.stay ≡ old.stay) × (new.incoming ≡ old.incoming) × (new.input ≡ old.input))
+
+-- as its visit begins its share is a whole piece with `anew`, or if it is silent; and else what was left of it
+abbrev pub IsShared : (anew : Bool) (clock : ℕ) → (old new : Peer) → Type 0
+IsShared anew clock old new = (new.share.rest ≡ cond (anew || is_silent clock old) most_in_piece old.share.rest)
+    × (new.heard ≡ old.heard)
+
 -- ---- what a peer may wait for
 
 -- nothing is queued that its socket may take

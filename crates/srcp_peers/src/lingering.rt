@@ -9,8 +9,8 @@ ghost use Rattle.srcp_peers.specs.declared.peer.Peer.{Peer};
 ghost use Rattle.srcp_peers.specs.Steps.{GrowsBy, SaysNothing};
 ghost use Rattle.srcp_peers.specs.Times.{KeepsTimes};
 ghost use Rattle.srcp_peers.specs.Peers.{IsKept, OffersDue, Spares, is_closable, is_gone, is_here, is_lost, is_shut};
-ghost use Rattle.srcp_peers.specs.Peers.{Asks, IsDrained, Makes, calls_in, is_read_of, may_have, reads_each};
-ghost use Rattle.srcp_peers.specs.Peers.{stay_after};
+ghost use Rattle.srcp_peers.specs.Peers.{Asks, IsDrained, KeepsRest, Makes, calls_in, is_read_of, may_have};
+ghost use Rattle.srcp_peers.specs.Peers.{reads_each, stay_after};
 
 use crate::log::Logged;
 use crate::peer::Peer;
@@ -50,7 +50,7 @@ impl Peer {
         ensures number { self.new.number ≡ self.old.number }
         ensures offered { OffersDue what self.old system.old.log.steps system.new.log.steps }
         ensures stay { self.new.stay ≡ stay_after self.old.stay self.new.outgoing self.new.output }
-        ensures ending { self.new.ending ≡ self.old.ending }
+        ensures keeps { KeepsRest self.old self.new }
         ensures drained { IsDrained reads self.old self.new system.old.log.steps system.new.log.steps }
     {
         if self.stay.is_here() {
@@ -74,7 +74,7 @@ impl Peer {
         ensures offered { is_here self.old.stay ≡ false
             → OffersDue Flush.All self.old system.old.log.steps system.new.log.steps }
         ensures stay { self.new.stay ≡ stay_after self.old.stay self.new.outgoing self.new.output }
-        ensures ending { self.new.ending ≡ self.old.ending }
+        ensures keeps { KeepsRest self.old self.new }
         ensures drained { IsDrained reads self.old self.new system.old.log.steps system.new.log.steps }
     {
         match self.stay {
@@ -97,7 +97,7 @@ impl Peer {
         ensures number { self.new.number ≡ self.old.number }
         ensures offered { OffersDue Flush.All self.old system.old.log.steps system.new.log.steps }
         ensures stay { self.new.stay ≡ stay_after self.old.stay self.new.outgoing self.new.output }
-        ensures ending { self.new.ending ≡ self.old.ending }
+        ensures keeps { KeepsRest self.old self.new }
     {
         self.flush(system, Flush::All);
         if self.outgoing.is_empty() && !self.output.is_lost() {
@@ -136,7 +136,7 @@ impl Peer {
         ensures times { KeepsTimes system.old.log.steps system.new.log.steps }
         ensures number { self.new.number ≡ self.old.number }
         ensures stay { self.new.stay ≡ self.old.stay }
-        ensures ending { self.new.ending ≡ self.old.ending }
+        ensures keeps { KeepsRest self.old self.new }
         ensures drained { (may_have self.new.input ≡ false)
             ⊎ Makes (is_read_of self.old.number) reads system.old.log.steps system.new.log.steps }
     {
@@ -160,7 +160,7 @@ impl Peer {
         ensures times { KeepsTimes system.old.log.steps system.new.log.steps }
         ensures number { self.new.number ≡ self.old.number }
         ensures stay { self.new.stay ≡ self.old.stay }
-        ensures ending { self.new.ending ≡ self.old.ending }
+        ensures keeps { KeepsRest self.old self.new }
         ensures asked { may_have self.old.input ≡ true
             → Asks (record self.old { incoming = [] }) self.new system.old.log.steps system.new.log.steps }
     {

@@ -5,8 +5,8 @@ ghost use Rattle.srcp_peers.specs.declared.peer.Peer.{Peer};
 ghost use Rattle.srcp_peers.specs.Steps.{GrowsBy, SaysNothing};
 ghost use Rattle.srcp_peers.specs.Times.{KeepsTimes};
 ghost use Rattle.srcp_peers.specs.Peers.{Spares, IsRead, after_wake};
-ghost use Rattle.srcp_peers.specs.AllPeers.{AreApart, AreBegun, AreKept, AreShared, AreOffered, AreShutDown, AreThose};
-ghost use Rattle.srcp_peers.specs.AllPeers.{IsAbsent, KeepEndings};
+ghost use Rattle.srcp_peers.specs.AllPeers.{AllKeepRest, AreApart, AreBegun, AreKept, AreShared, AreOffered};
+ghost use Rattle.srcp_peers.specs.AllPeers.{AreShutDown, AreThose, IsAbsent};
 ghost use Rattle.srcp_peers.specs.Limits.{most_drained};
 ghost use Rattle.srcp_peers.specs.Listeners.{woken_listening};
 
@@ -29,7 +29,7 @@ pub fn flush<S: System>(system: &mut Logged<S>, peers: &mut [Peer], what: Flush)
     ensures times { KeepsTimes system.old.log.steps system.new.log.steps }
     ensures offered { AreOffered what peers.old system.old.log.steps system.new.log.steps }
     ensures shut { AreShutDown peers.old peers.new }
-    ensures endings { KeepEndings peers.old peers.new }
+    ensures keeps { AllKeepRest peers.old peers.new }
 {
     let reads = reads_each(peers);
     for peer in peers.iter_mut() {

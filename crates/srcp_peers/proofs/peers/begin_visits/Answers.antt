@@ -1,7 +1,6 @@
-use Rattle.std.proofs.Common.{◌≡◌, ◌∙◌, arith}
-use Rattle.std.specs.Prelude.{◌||◌, cond}
+use Rattle.std.proofs.Common.{◌≡◌, ◌∙◌, ap, arith}
 use Rattle.srcp_peers.specs.Ends.{begun}
-use Rattle.srcp_peers.specs.Peers.{is_over, is_silent}
+use Rattle.srcp_peers.specs.Peers.{IsShared, is_over}
 use Rattle.srcp_peers.specs.declared.peer.Peer.{Peer}
 use Rattle.srcp_peers.proofs.CallsAreOfTheDoor.{says_then}
 use Rattle.srcp_peers.proofs.OnePeerChanges.{set_read, absent_there, set_apart, set_each, set_kept, set_rest}
@@ -30,8 +29,8 @@ loop-peer-preserved g c =
       most = omega (arith, was.most, each.most);
       times = λ wall start. each.times wall start ∙ was.times wall start;
       read = set_read old new peers i d p (omega arith) was.apart each.number each.others each.read was.read;
-      shared = set_each (λ (x y : Peer). y.share.rest ≡ cond (c.args.anew || is_silent c.args.clock x) 256 x.share.rest)
-          first peers i d p (omega arith) (cc) was.rest was.shared;
+      shared = set_each (IsShared c.args.anew c.args.clock) first peers i d p (omega arith)
+          (cc, ap (λ (x : Peer). x.heard) each.same) was.rest was.shared;
       lines_left = set_each (λ (x y : Peer). y.lines_left ≡ c.args.lines_left) first peers i d p (omega arith) (cc) was.rest
           was.lines_left;
       begun = set_each (λ (x y : Peer). (y.stay ≡ x.stay) × (y.ending ≡ begun x.ending (is_over y.incoming y.input)))

@@ -1,9 +1,9 @@
-use Rattle.std.specs.Prelude.{◌≡◌, ℕ, ◌<◌, ◌≤◌, ◌||◌, cond, slice_index_or}
+use Rattle.std.specs.Prelude.{◌≡◌, ℕ, ◌<◌, ◌≤◌, slice_index_or}
 use Rattle.srcp_peers.specs.declared.peer.Peer.{Peer}
 use Rattle.srcp_peers.specs.Steps.{GrowsBy, SaysNothing}
 use Rattle.srcp_peers.specs.Times.{KeepsTimes}
 use Rattle.srcp_peers.specs.Ends.{begun}
-use Rattle.srcp_peers.specs.Peers.{Spares, IsRead, is_over, is_silent}
+use Rattle.srcp_peers.specs.Peers.{IsShared, Spares, IsRead, is_over}
 use Rattle.srcp_peers.specs.AllPeers.{AreApart, AreKept, AreThose, IsAbsent}
 use Rattle.srcp_peers.proofs.peers.begin_visits.Given as goal
 
@@ -18,8 +18,7 @@ invariant-loop-peer g l = record {
   times : KeepsTimes l.fn.system.log.steps l.system.log.steps;
   read : (k : ℕ) (d : Peer) → k < l.peer-index → IsRead l.system.log.steps (slice_index_or l.peers k d).number;
   shared : (k : ℕ) (d : Peer) → k < l.peer-index
-      → (slice_index_or l.peers k d).share.rest ≡ (let p = slice_index_or l.fn.peers k d in
-      cond {A = ℕ} (l.anew || is_silent l.clock p) 256 p.share.rest);
+      → IsShared l.anew l.clock (slice_index_or l.fn.peers k d) (slice_index_or l.peers k d);
   lines_left : (k : ℕ) (d : Peer) → k < l.peer-index → (slice_index_or l.peers k d).lines_left ≡ l.lines_left;
   begun : (k : ℕ) (d : Peer) → k < l.peer-index → (let p = slice_index_or l.peers k d in
       (p.stay ≡ (slice_index_or l.fn.peers k d).stay)

@@ -4,7 +4,7 @@ use Rattle.srcp_peers.proofs.CallsAreOfTheDoor.{says_then}
 use Rattle.srcp_peers.proofs.OnePeerChanges.{absent_there, set_apart, set_each, set_kept, set_rest, set_those}
 use Rattle.srcp_peers.proofs.QueuedIsOffered.{set_offered}
 use Rattle.srcp_peers.proofs.StepsAreCounted.{grows_flush, grows_peer}
-use Rattle.srcp_peers.specs.Peers.{calls_in, stay_after}
+use Rattle.srcp_peers.specs.Peers.{KeepsRest, calls_in, stay_after}
 use Rattle.srcp_peers.proofs.peers.flush.Goals as goal
 
 pub loop-peer-preserved : goal.loop-peer-preserved
@@ -33,7 +33,7 @@ loop-peer-preserved g c =
       offered = set_offered begin old new c.args.what first peers i d (omega arith) was.rest was.calls each.calls each.offered was.offered;
       shut = set_each (λ (x y : Peer). y.stay ≡ stay_after x.stay y.outgoing y.output) first peers i d p (omega arith) each.stay
           was.rest was.shut;
-      endings = set_each (λ (x y : Peer). y.ending ≡ x.ending) first peers i d p (omega arith) each.ending was.rest was.endings;
+      keeps = set_each KeepsRest first peers i d p (omega arith) each.keeps was.rest was.keeps;
       rest = set_rest first peers i p was.rest;
     }
 

@@ -3,7 +3,7 @@ use Rattle.std.specs.List.{sum_by}
 use Rattle.srcp_peers.specs.declared.peer.Peer.{Peer}
 use Rattle.srcp_peers.specs.Steps.{GrowsBy, SaysNothing}
 use Rattle.srcp_peers.specs.Times.{KeepsTimes}
-use Rattle.srcp_peers.specs.Peers.{OffersDue, Spares, calls_in, stay_after}
+use Rattle.srcp_peers.specs.Peers.{KeepsRest, OffersDue, Spares, calls_in, stay_after}
 use Rattle.srcp_peers.specs.AllPeers.{AreApart, AreKept, AreThose, IsAbsent}
 use Rattle.srcp_peers.proofs.peers.flush.Given as goal
 
@@ -20,6 +20,6 @@ invariant-loop-peer g l = record {
       → OffersDue l.fn.what (slice_index_or l.fn.peers k d) l.fn.system.log.steps l.system.log.steps;
   shut : (k : ℕ) (d : Peer) → k < l.peer-index → (let p = slice_index_or l.peers k d in
       p.stay ≡ stay_after (slice_index_or l.fn.peers k d).stay p.outgoing p.output);
-  endings : (k : ℕ) (d : Peer) → k < l.peer-index → (slice_index_or l.peers k d).ending ≡ (slice_index_or l.fn.peers k d).ending;
+  keeps : (k : ℕ) (d : Peer) → k < l.peer-index → KeepsRest (slice_index_or l.fn.peers k d) (slice_index_or l.peers k d);
   rest : (k : ℕ) (d : Peer) → l.peer-index ≤ k → slice_index_or l.peers k d ≡ slice_index_or l.fn.peers k d;
 }

@@ -1,4 +1,4 @@
-use Rattle.std.proofs.Common.{◌∙◌, [], arith, ap, sym}
+use Rattle.std.proofs.Common.{◌∙◌, [], arith, ap, sym, true≢false}
 use Rattle.srcp_peers.specs.Peers.{is_here}
 use Rattle.srcp_peers.proofs.CallsAreOfTheDoor.{says_then}
 use Rattle.srcp_peers.proofs.StepsAreCounted.{asked_more}
@@ -22,5 +22,10 @@ loop-preserved g c =
       made = rw (← was.number) (asked_more (record c.loop.self { incoming = [] }) c.skip.new.self c.loop.counter first old new
           (rw was.number was.made) (each.asked (sym c.is_ready.ensures ∙ c.if-not-is_ready.false)));
       stay = each.stay ∙ was.stay;
-      ending = each.ending ∙ was.ending;
+      keeps = (
+        (each.keeps.0.0 ∙ was.keeps.0.0, each.keeps.0.1 ∙ was.keeps.0.1),
+        each.keeps.1 ∙ was.keeps.1,
+        each.keeps.2 ∙ was.keeps.2,
+        λ here. absurd (true≢false (sym here ∙ c.requires.gone)),
+      );
     }

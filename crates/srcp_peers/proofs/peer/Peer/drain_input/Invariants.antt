@@ -1,7 +1,7 @@
 use Rattle.std.proofs.Common.{◌≡◌, ◌≢◌, ℕ, false}
 use Rattle.srcp_peers.specs.Steps.{GrowsBy, SaysNothing}
 use Rattle.srcp_peers.specs.Times.{KeepsTimes}
-use Rattle.srcp_peers.specs.Peers.{IsKept, Makes, Spares, is_here, is_read_of}
+use Rattle.srcp_peers.specs.Peers.{IsKept, KeepsRest, Makes, Spares, is_here, is_read_of}
 use Rattle.srcp_peers.proofs.peer.Peer.drain_input.Given as goal
 
 abbrev pub invariant-loop : goal.invariant-loop
@@ -15,5 +15,5 @@ invariant-loop g l = record {
   number : l.self.number ≡ l.fn.self.number;
   made : Makes (is_read_of l.fn.self.number) l.counter l.fn.system.log.steps l.system.log.steps;
   stay : l.self.stay ≡ l.fn.self.stay;
-  ending : l.self.ending ≡ l.fn.self.ending;
+  keeps : KeepsRest l.fn.self l.self;
 }
