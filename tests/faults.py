@@ -233,32 +233,31 @@ def memory_of(pid):
     return int(Path(f"/proc/{pid}/statm").read_text().split()[0]) * resource.getpagesize()
 
 
-def clients_until_one_waits(port):
-    """Connects clients until one is not greeted. Returns all of them, that one last; or None if all are greeted."""
+def clients_until_one_is_closed(port):
+    """Connects clients until one is closed and not greeted. Returns all of them, that one last; or None if all are
+    greeted."""
     clients = []
     for _ in range(MOST_CLIENTS):
-        clients.append(socket.create_connection(("127.0.0.1", port), timeout=0.5))
-        try:
-            clients[-1].recv(100)
-        except TimeoutError:
+        clients.append(socket.create_connection(("127.0.0.1", port), timeout=SECONDS))
+        if not clients[-1].recv(100):
             return clients
     return None
 
 
-def accept_without_memory(program):
-    """If memory is refused for a connection, open peers are served, the server rests, and the connection is accepted
-    once there is some."""
+def connection_without_memory(program):
+    """If memory is refused for a connection, its peer is closed at once, open peers are served, the server rests, and
+    who comes once there is some is greeted."""
     with served(program) as (port, server):
         throttle = Client(port, "COMMAND")
         limits = resource.prlimit(server.pid, resource.RLIMIT_AS)
         resource.prlimit(server.pid, resource.RLIMIT_AS, (memory_of(server.pid), limits[1]))
-        if (clients := clients_until_one_waits(port)) is None:
+        if (clients := clients_until_one_is_closed(port)) is None:
             return f"{MOST_CLIENTS} clients find memory"
         busy = work_without_rest(server, 1)
         reply = throttle.asks("GET 1 POWER")
         resource.prlimit(server.pid, resource.RLIMIT_AS, limits)
-        clients[-1].settimeout(SECONDS)
-        told = clients[-1].recv(100)
+        with socket.create_connection(("127.0.0.1", port), timeout=SECONDS) as late:
+            told = late.recv(100)
         for client in clients:
             client.close()
     if busy or reply != "100 INFO 1 POWER OFF":
@@ -266,4 +265,4 @@ def accept_without_memory(program):
     return None if told == WELCOME else f"with memory it was told {told!r}"
 
 
-FAULT_CASES = (calls_that_are_interrupted, wait_that_fails, accept_that_is_refused, accept_without_memory)
+FAULT_CASES = (calls_that_are_interrupted, wait_that_fails, accept_that_is_refused, connection_without_memory)
