@@ -2,6 +2,7 @@
 
 use srcp_plan_file::{print_plan, read_plan};
 use std::alloc::Global;
+use std::process::Abort;
 use std::string::String;
 
 /// Returns the locking table of a plan, or the text of the plan's fault.
@@ -12,6 +13,16 @@ fn told(alloc: Global, document: &str) -> Option<String> {
             String::from_utf8(text).ok()
         }
         Err(fault) => format!(in alloc; "{fault}").ok(),
+    }
+}
+
+/// Asserts what is told of each of these documents.
+fn assert_told(rt: &impl Abort, alloc: Global, documents: &[(&str, &str)]) {
+    for (document, wanted) in documents {
+        match told(alloc, document) {
+            Some(text) => assert_eq!(rt; text.as_str(), *wanted),
+            None => assert!(rt; false),
+        }
     }
 }
 
@@ -45,10 +56,7 @@ route 2044
 route 1 conflicts with route 2: turnout 1 12, turnout 1 13, block 1 5
 route 1 conflicts with route 3: signal 1 40
 ";
-    match told(rt.alloc(), document) {
-        Some(text) => assert_eq!(rt; text.as_str(), table),
-        None => assert!(rt; false),
-    }
+    assert_told(&rt, rt.alloc(), &[(document, table)]);
 }
 
 #[test]
@@ -74,6 +82,13 @@ fn names_the_first_fault(rt: HostRuntime) {
             "bus = 9\nroute = [{number = 3}, {number = 3}]",
             "plan: route 3 twice",
         ),
+    ];
+    assert_told(&rt, rt.alloc(), &refused);
+}
+
+#[test]
+fn names_a_list_that_is_out_of_range(rt: HostRuntime) {
+    let refused = [
         (
             "bus = 9\nroute = [{number = 3, turnouts = 1}]",
             "plan: route 3: turnouts out of range",
@@ -91,14 +106,6 @@ fn names_the_first_fault(rt: HostRuntime) {
             "plan: route 3: turnouts out of range",
         ),
         (
-            "bus = 9\nroute = [{number = 3, turnouts = [[1, 12, 0], [1, 12, 1]]}]",
-            "plan: route 3: an accessory twice",
-        ),
-        (
-            "bus = 9\nroute = [{number = 3, turnouts = [[1, 12, 0]], signal = [1, 12, 1, 0]}]",
-            "plan: route 3: an accessory twice",
-        ),
-        (
             "bus = 9\nroute = [{number = 3, blocks = [[1, 4097]]}]",
             "plan: route 3: blocks out of range",
         ),
@@ -110,6 +117,21 @@ fn names_the_first_fault(rt: HostRuntime) {
             "bus = 9\nroute = [{number = 3, frees = [9, 1]}]",
             "plan: route 3: frees out of range",
         ),
+    ];
+    assert_told(&rt, rt.alloc(), &refused);
+}
+
+#[test]
+fn names_an_accessory_that_cannot_serve_twice(rt: HostRuntime) {
+    let refused = [
+        (
+            "bus = 9\nroute = [{number = 3, turnouts = [[1, 12, 0], [1, 12, 1]]}]",
+            "plan: route 3: an accessory twice",
+        ),
+        (
+            "bus = 9\nroute = [{number = 3, turnouts = [[1, 12, 0]], signal = [1, 12, 1, 0]}]",
+            "plan: route 3: an accessory twice",
+        ),
         (
             "bus = 9\nroute = [{number = 1, signal = [1, 40, 1, 0]}, {number = 3, turnouts = [[1, 40, 1]]}]",
             "plan: routes 1 and 3: a signal of one is a turnout of the other",
@@ -119,10 +141,5 @@ fn names_the_first_fault(rt: HostRuntime) {
             "plan: routes 1 and 3: a port is go for one and stop for the other",
         ),
     ];
-    for (document, wanted) in refused {
-        match told(rt.alloc(), document) {
-            Some(text) => assert_eq!(rt; text.as_str(), wanted),
-            None => assert!(rt; false),
-        }
-    }
+    assert_told(&rt, rt.alloc(), &refused);
 }

@@ -2,7 +2,7 @@
 
 use crate::served::{
     GO_2, INIT_GA_5_AT_0, INIT_GA_5_AT_1, INIT_GL_3_AT_0, INIT_GL_3_AT_1, LOCK_GA_5_AT_0,
-    LOCK_GL_3_FOR_60_AT_1, tells,
+    LOCK_GL_3_FOR_60_AT_1, Line, tells,
 };
 use std::test::Fail;
 
@@ -140,23 +140,28 @@ fn a_moment_brings_its_changes_in_key_order(rt: HostRuntime) -> Result<(), Fail>
     tells(&rt, rt.alloc(), &lines)
 }
 
+// At the greatest moment.
+const INIT_GL_3_AT_MAX: Line = (
+    1,
+    18446744073709551615,
+    "INIT 1 GL 3 N 1 28 0",
+    "18446744073709551.615 200 OK\n18446744073709551.615 101 INFO 1 GL 3 N 1 28 0\n\
+         18446744073709551.615 100 INFO 1 GL 3 1 0 0\n",
+);
+
+const INIT_GA_5_AT_MAX: Line = (
+    1,
+    18446744073709551615,
+    "INIT 1 GA 5 N",
+    "18446744073709551.615 200 OK\n18446744073709551.615 101 INFO 1 GA 5 N\n\
+         18446744073709551.615 100 INFO 1 GA 5 0 0\n18446744073709551.615 100 INFO 1 GA 5 1 0\n",
+);
+
 #[test]
 fn no_end_lies_beyond_the_greatest_moment(rt: HostRuntime) -> Result<(), Fail> {
     let lines = [
-        (
-            1,
-            18446744073709551615,
-            "INIT 1 GL 3 N 1 28 0",
-            "18446744073709551.615 200 OK\n18446744073709551.615 101 INFO 1 GL 3 N 1 28 0\n\
-                 18446744073709551.615 100 INFO 1 GL 3 1 0 0\n",
-        ),
-        (
-            1,
-            18446744073709551615,
-            "INIT 1 GA 5 N",
-            "18446744073709551.615 200 OK\n18446744073709551.615 101 INFO 1 GA 5 N\n\
-                 18446744073709551.615 100 INFO 1 GA 5 0 0\n18446744073709551.615 100 INFO 1 GA 5 1 0\n",
-        ),
+        INIT_GL_3_AT_MAX,
+        INIT_GA_5_AT_MAX,
         (
             1,
             18446744073709551615,
@@ -186,25 +191,29 @@ fn no_end_lies_beyond_the_greatest_moment(rt: HostRuntime) -> Result<(), Fail> {
     tells(&rt, rt.alloc(), &lines)
 }
 
+const INIT_GL_4_AT_0: Line = (
+    1,
+    0,
+    "INIT 1 GL 4 N 1 28 0",
+    "0.000 200 OK\n0.000 101 INFO 1 GL 4 N 1 28 0\n0.000 100 INFO 1 GL 4 1 0 0\n",
+);
+
+const LOCK_GL_3_FOR_60_AT_0: Line = (
+    1,
+    0,
+    "SET 1 LOCK GL 3 60",
+    "0.000 200 OK\n0.000 100 INFO 1 LOCK GL 3 60 1\n",
+);
+
 #[test]
 fn the_end_of_a_session_frees_its_locks(rt: HostRuntime) -> Result<(), Fail> {
     let lines = [
         GO_2,
         INIT_GL_3_AT_0,
         INIT_GA_5_AT_0,
-        (
-            1,
-            0,
-            "INIT 1 GL 4 N 1 28 0",
-            "0.000 200 OK\n0.000 101 INFO 1 GL 4 N 1 28 0\n0.000 100 INFO 1 GL 4 1 0 0\n",
-        ),
+        INIT_GL_4_AT_0,
         LOCK_GA_5_AT_0,
-        (
-            1,
-            0,
-            "SET 1 LOCK GL 3 60",
-            "0.000 200 OK\n0.000 100 INFO 1 LOCK GL 3 60 1\n",
-        ),
+        LOCK_GL_3_FOR_60_AT_0,
         (
             2,
             0,

@@ -1,11 +1,11 @@
 //! Each accepted pair of an operation and a group.
 
-use crate::served::{INIT_GL_3_AT_1, LOCK_GL_3_FOR_60_AT_1, bus, tells, tells_over};
+use crate::served::{INIT_GL_3_AT_1, LOCK_GL_3_FOR_60_AT_1, Line, bus, tells, tells_over};
 use srcp_rules::Bus;
 use std::test::Fail;
 
 #[test]
-fn sessions_power_and_feedback(rt: HostRuntime) -> Result<(), Fail> {
+fn sessions_and_power(rt: HostRuntime) -> Result<(), Fail> {
     let lines = [
         (
             1,
@@ -34,6 +34,13 @@ fn sessions_power_and_feedback(rt: HostRuntime) -> Result<(), Fail> {
             "SET 1 POWER OFF",
             "2.000 200 OK\n2.000 100 INFO 1 POWER OFF\n",
         ),
+    ];
+    tells(&rt, rt.alloc(), &lines)
+}
+
+#[test]
+fn feedback(rt: HostRuntime) -> Result<(), Fail> {
+    let lines = [
         (1, 2000, "GET 1 FB 2", "0.000 100 INFO 1 FB 2 0\n"),
         (
             1,
@@ -48,55 +55,56 @@ fn sessions_power_and_feedback(rt: HostRuntime) -> Result<(), Fail> {
     tells(&rt, rt.alloc(), &lines)
 }
 
+const LOCOMOTIVES: [Line; 9] = [
+    (
+        1,
+        1000,
+        "INIT 1 GL 3 N 1 28 2",
+        "1.000 200 OK\n1.000 101 INFO 1 GL 3 N 1 28 2\n1.000 100 INFO 1 GL 3 1 0 0 0 0\n",
+    ),
+    (
+        1,
+        1000,
+        "SET 1 GL 3 1 5 28 1",
+        "1.000 200 OK\n1.000 100 INFO 1 GL 3 1 5 28 1 0\n",
+    ),
+    (
+        1,
+        1000,
+        "SET 1 GL 3 0 40 0 0 1",
+        "1.000 200 OK\n1.000 100 INFO 1 GL 3 0 40 0 0 1\n",
+    ),
+    (
+        1,
+        1000,
+        "SET 1 GL 3 2 5 28 1",
+        "1.000 200 OK\n1.000 100 INFO 1 GL 3 2 0 28 1 1\n",
+    ),
+    (1, 2000, "CHECK 1 GL 3 0 5 0 0", "2.000 200 OK\n"),
+    (1, 2000, "GET 1 GL 3", "1.000 100 INFO 1 GL 3 2 0 28 1 1\n"),
+    (
+        1,
+        2000,
+        "TERM 1 GL 3",
+        "2.000 200 OK\n2.000 102 INFO 1 GL 3\n",
+    ),
+    (
+        1,
+        2000,
+        "init\t1 gl 3 p",
+        "2.000 200 OK\n2.000 101 INFO 1 GL 3 P 1 28 5\n2.000 100 INFO 1 GL 3 1 0 0 0 0 0 0 0\n",
+    ),
+    (
+        1,
+        2000,
+        "INIT 1 GL 10239 S 255 1000 0",
+        "2.000 200 OK\n2.000 101 INFO 1 GL 10239 S 255 1000 0\n2.000 100 INFO 1 GL 10239 1 0 0\n",
+    ),
+];
+
 #[test]
 fn locomotives(rt: HostRuntime) -> Result<(), Fail> {
-    let lines = [
-        (
-            1,
-            1000,
-            "INIT 1 GL 3 N 1 28 2",
-            "1.000 200 OK\n1.000 101 INFO 1 GL 3 N 1 28 2\n1.000 100 INFO 1 GL 3 1 0 0 0 0\n",
-        ),
-        (
-            1,
-            1000,
-            "SET 1 GL 3 1 5 28 1",
-            "1.000 200 OK\n1.000 100 INFO 1 GL 3 1 5 28 1 0\n",
-        ),
-        (
-            1,
-            1000,
-            "SET 1 GL 3 0 40 0 0 1",
-            "1.000 200 OK\n1.000 100 INFO 1 GL 3 0 40 0 0 1\n",
-        ),
-        (
-            1,
-            1000,
-            "SET 1 GL 3 2 5 28 1",
-            "1.000 200 OK\n1.000 100 INFO 1 GL 3 2 0 28 1 1\n",
-        ),
-        (1, 2000, "CHECK 1 GL 3 0 5 0 0", "2.000 200 OK\n"),
-        (1, 2000, "GET 1 GL 3", "1.000 100 INFO 1 GL 3 2 0 28 1 1\n"),
-        (
-            1,
-            2000,
-            "TERM 1 GL 3",
-            "2.000 200 OK\n2.000 102 INFO 1 GL 3\n",
-        ),
-        (
-            1,
-            2000,
-            "init\t1 gl 3 p",
-            "2.000 200 OK\n2.000 101 INFO 1 GL 3 P 1 28 5\n2.000 100 INFO 1 GL 3 1 0 0 0 0 0 0 0\n",
-        ),
-        (
-            1,
-            2000,
-            "INIT 1 GL 10239 S 255 1000 0",
-            "2.000 200 OK\n2.000 101 INFO 1 GL 10239 S 255 1000 0\n2.000 100 INFO 1 GL 10239 1 0 0\n",
-        ),
-    ];
-    tells(&rt, rt.alloc(), &lines)
+    tells(&rt, rt.alloc(), &LOCOMOTIVES)
 }
 
 #[test]
@@ -177,53 +185,55 @@ fn bus_of_ports(number: u8, ga_ports: u8) -> Bus {
     }
 }
 
+/// Lines over buses whose accessories have two, four and eight ports.
+const PORTS: [Line; 10] = [
+    (
+        1,
+        0,
+        "INIT 1 GA 9 N",
+        "0.000 200 OK\n0.000 101 INFO 1 GA 9 N\n0.000 100 INFO 1 GA 9 0 0\n0.000 100 INFO 1 GA 9 1 0\n",
+    ),
+    (
+        1,
+        0,
+        "SET 1 GA 9 1 1 0",
+        "0.000 200 OK\n0.000 100 INFO 1 GA 9 1 1\n",
+    ),
+    (1, 1000, "SET 1 GA 9 2 1 0", "1.000 412 ERROR wrong value\n"),
+    (
+        1,
+        0,
+        "INIT 2 GA 9 N",
+        "0.000 200 OK\n0.000 101 INFO 2 GA 9 N\n0.000 100 INFO 2 GA 9 0 0\n0.000 100 INFO 2 GA 9 1 0\n\
+             0.000 100 INFO 2 GA 9 2 0\n0.000 100 INFO 2 GA 9 3 0\n",
+    ),
+    (
+        1,
+        0,
+        "SET 2 GA 9 3 1 0",
+        "0.000 200 OK\n0.000 100 INFO 2 GA 9 3 1\n",
+    ),
+    (1, 1000, "GET 2 GA 9 4", "1.000 412 ERROR wrong value\n"),
+    (
+        1,
+        0,
+        "INIT 3 GA 9 N",
+        "0.000 200 OK\n0.000 101 INFO 3 GA 9 N\n0.000 100 INFO 3 GA 9 0 0\n0.000 100 INFO 3 GA 9 1 0\n\
+             0.000 100 INFO 3 GA 9 2 0\n0.000 100 INFO 3 GA 9 3 0\n0.000 100 INFO 3 GA 9 4 0\n\
+             0.000 100 INFO 3 GA 9 5 0\n0.000 100 INFO 3 GA 9 6 0\n0.000 100 INFO 3 GA 9 7 0\n",
+    ),
+    (
+        1,
+        0,
+        "SET 3 GA 9 7 1 0",
+        "0.000 200 OK\n0.000 100 INFO 3 GA 9 7 1\n",
+    ),
+    (1, 1000, "GET 3 GA 9 8", "1.000 412 ERROR wrong value\n"),
+    (1, 5, "GET 3 GA 9 6", "0.000 100 INFO 3 GA 9 6 0\n"),
+];
+
 #[test]
 fn an_accessory_has_the_ports_of_its_bus(rt: HostRuntime) -> Result<(), Fail> {
     let buses = [bus_of_ports(1, 2), bus_of_ports(2, 4), bus_of_ports(3, 8)];
-    let lines = [
-        (
-            1,
-            0,
-            "INIT 1 GA 9 N",
-            "0.000 200 OK\n0.000 101 INFO 1 GA 9 N\n0.000 100 INFO 1 GA 9 0 0\n0.000 100 INFO 1 GA 9 1 0\n",
-        ),
-        (
-            1,
-            0,
-            "SET 1 GA 9 1 1 0",
-            "0.000 200 OK\n0.000 100 INFO 1 GA 9 1 1\n",
-        ),
-        (1, 1000, "SET 1 GA 9 2 1 0", "1.000 412 ERROR wrong value\n"),
-        (
-            1,
-            0,
-            "INIT 2 GA 9 N",
-            "0.000 200 OK\n0.000 101 INFO 2 GA 9 N\n0.000 100 INFO 2 GA 9 0 0\n0.000 100 INFO 2 GA 9 1 0\n\
-                 0.000 100 INFO 2 GA 9 2 0\n0.000 100 INFO 2 GA 9 3 0\n",
-        ),
-        (
-            1,
-            0,
-            "SET 2 GA 9 3 1 0",
-            "0.000 200 OK\n0.000 100 INFO 2 GA 9 3 1\n",
-        ),
-        (1, 1000, "GET 2 GA 9 4", "1.000 412 ERROR wrong value\n"),
-        (
-            1,
-            0,
-            "INIT 3 GA 9 N",
-            "0.000 200 OK\n0.000 101 INFO 3 GA 9 N\n0.000 100 INFO 3 GA 9 0 0\n0.000 100 INFO 3 GA 9 1 0\n\
-                 0.000 100 INFO 3 GA 9 2 0\n0.000 100 INFO 3 GA 9 3 0\n0.000 100 INFO 3 GA 9 4 0\n\
-                 0.000 100 INFO 3 GA 9 5 0\n0.000 100 INFO 3 GA 9 6 0\n0.000 100 INFO 3 GA 9 7 0\n",
-        ),
-        (
-            1,
-            0,
-            "SET 3 GA 9 7 1 0",
-            "0.000 200 OK\n0.000 100 INFO 3 GA 9 7 1\n",
-        ),
-        (1, 1000, "GET 3 GA 9 8", "1.000 412 ERROR wrong value\n"),
-        (1, 5, "GET 3 GA 9 6", "0.000 100 INFO 3 GA 9 6 0\n"),
-    ];
-    tells_over(&rt, rt.alloc(), &buses, &lines)
+    tells_over(&rt, rt.alloc(), &buses, &PORTS)
 }

@@ -300,18 +300,8 @@ fn sessions_end_themselves_alone(rt: HostRuntime) -> Result<(), Fail> {
 fn a_locomotive_is_made_again(rt: HostRuntime) -> Result<(), Fail> {
     let lines = [
         GO_2,
-        (
-            1,
-            1000,
-            "INIT 1 GL 3 N 1 28 1",
-            "1.000 200 OK\n1.000 101 INFO 1 GL 3 N 1 28 1\n1.000 100 INFO 1 GL 3 1 0 0 0\n",
-        ),
-        (
-            1,
-            1000,
-            "SET 1 LOCK GL 3 0",
-            "1.000 200 OK\n1.000 100 INFO 1 LOCK GL 3 0 1\n",
-        ),
+        INIT_GL_3_F1_AT_0,
+        LOCK_GL_3_AT_0,
         (1, 2000, "INIT 1 GL 3 N 1 28 1", "2.000 200 OK\n"),
         (
             2,

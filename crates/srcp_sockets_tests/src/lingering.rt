@@ -12,49 +12,21 @@ const ALL: usize = 76;
 
 #[test]
 fn keeps_who_was_closed_for_its_time(rt: HostRuntime) -> Result<(), Fail> {
-    for (later, last, taken, shut, closed) in [
-        (
-            at(3_000, 1, Happens::Receives(AMPLE)),
-            at(3_100, 1, Happens::HalfCloses),
-            ALL,
-            1,
-            3_100,
-        ),
-        (
-            at(3_000, 1, Happens::Receives(AMPLE)),
-            at(30_000, 1, Happens::HalfCloses),
-            ALL,
-            1,
-            10_005,
-        ),
-        (
-            at(3_000, 1, Happens::Receives(10)),
-            at(30_000, 1, Happens::HalfCloses),
-            60,
-            0,
-            10_005,
-        ),
-        (
-            at(3_000, 1, Happens::HalfCloses),
-            at(3_100, 1, Happens::Receives(AMPLE)),
-            ALL,
-            1,
-            3_100,
-        ),
-        (
-            at(3_000, 1, Happens::Resets),
-            at(30_000, 1, Happens::Receives(AMPLE)),
-            50,
-            0,
-            3_000,
-        ),
+    let reads = Happens::Receives(AMPLE);
+    let half_closes = Happens::HalfCloses;
+    for (later, time, last, taken, shut, closed) in [
+        (reads, 3_100, half_closes, ALL, 1, 3_100),
+        (reads, 30_000, half_closes, ALL, 1, 10_005),
+        (Happens::Receives(10), 30_000, half_closes, 60, 0, 10_005),
+        (half_closes, 3_100, reads, ALL, 1, 3_100),
+        (Happens::Resets, 30_000, reads, 50, 0, 3_000),
     ] {
         let events = [
             at(0, 1, Happens::Connects),
             at(0, 1, Happens::Receives(50)),
             at(5, 1, Happens::Sends(b"GO\nTERM 0 SESSION\nGET 1 POWER\n")),
-            later,
-            last,
+            at(3_000, 1, later),
+            at(time, 1, last),
         ];
         let (served, door) = serve_events(rt.alloc(), Network::new(rt.alloc(), &events, false))?;
         assert_eq!(rt; served, all_served(1));

@@ -4,10 +4,26 @@ use srcp_layout_file::{ConfigFault, Field};
 use srcp_plan_file::PlanFault;
 use srcp_script::{Cause, ScriptFault};
 use srcp_tool::ToolFault;
+use std::alloc::Global;
+use std::process::Abort;
 use std::test::Fail;
 
 fn at(line: usize, cause: Cause) -> ScriptFault {
     ScriptFault { line, cause }
+}
+
+/// Asserts the text and the status of each of these faults.
+fn assert_told(
+    rt: &impl Abort,
+    alloc: Global,
+    faults: &[(ToolFault, &str, u8)],
+) -> Result<(), Fail> {
+    for (fault, text, status) in faults {
+        let answer = format!(in alloc; "{fault}")?;
+        assert_eq!(rt; answer.as_str(), *text);
+        assert_eq!(rt; fault.status(), *status);
+    }
+    Ok(())
 }
 
 #[test]
@@ -31,6 +47,22 @@ fn tells_a_fault_and_its_status(rt: HostRuntime) -> Result<(), Fail> {
             2,
         ),
         (ToolFault::Memory, "out of memory", 1),
+        (ToolFault::Plan(PlanFault::NotToml), "plan: not TOML", 2),
+        (
+            ToolFault::from(PlanFault::Twice(4)),
+            "plan: route 4 twice",
+            2,
+        ),
+        (ToolFault::from(PlanFault::Memory), "out of memory", 1),
+        (ToolFault::Plan(PlanFault::Memory), "out of memory", 1),
+        (ToolFault::Listen, "cannot listen", 1),
+    ];
+    assert_told(&rt, rt.alloc(), &faults)
+}
+
+#[test]
+fn tells_a_fault_of_the_configuration(rt: HostRuntime) -> Result<(), Fail> {
+    let faults = [
         (
             ToolFault::Config(ConfigFault::NotToml),
             "config: not TOML",
@@ -57,21 +89,7 @@ fn tells_a_fault_and_its_status(rt: HostRuntime) -> Result<(), Fail> {
             2,
         ),
         (ToolFault::Config(ConfigFault::Memory), "out of memory", 1),
-        (ToolFault::Plan(PlanFault::NotToml), "plan: not TOML", 2),
-        (
-            ToolFault::from(PlanFault::Twice(4)),
-            "plan: route 4 twice",
-            2,
-        ),
-        (ToolFault::from(PlanFault::Memory), "out of memory", 1),
-        (ToolFault::Plan(PlanFault::Memory), "out of memory", 1),
         (ToolFault::Unreadable, "cannot read the configuration", 1),
-        (ToolFault::Listen, "cannot listen", 1),
     ];
-    for (fault, text, status) in faults {
-        let answer = format!(in rt.alloc(); "{fault}")?;
-        assert_eq!(rt; answer.as_str(), text);
-        assert_eq!(rt; fault.status(), status);
-    }
-    Ok(())
+    assert_told(&rt, rt.alloc(), &faults)
 }
