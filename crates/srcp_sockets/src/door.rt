@@ -146,8 +146,8 @@ impl<S: System> Door for SocketDoor<S> {
             self.new.sockets.system.log.steps }
         ensures late { self.old.sockets.turn.late ≡ true → result ≡ Ok Got.Nothing }
         ensures answered { self.old.sockets.turn.late ≡ false
-            → IsPeerRead self.old.sockets.turn self.old.sockets.peers.items peer (length buf.old) result
-            (got_bytes result buf.new) self.old.sockets.starved self.new.sockets.starved }
+            → IsPeerRead self.old.sockets.turn self.old.sockets.peers.items self.new.sockets.peers.items peer
+            (length buf.old) result (got_bytes result buf.new) self.old.sockets.starved self.new.sockets.starved }
     {
         if self.sockets.is_late() {
             return self.sockets.hold_back(peer, buf);

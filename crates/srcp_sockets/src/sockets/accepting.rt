@@ -1,13 +1,15 @@
 //! How a pending connection is accepted.
 
-ghost use Rattle.std.specs.Prelude.{false, true, ◌≡◌, ◌<◌, ◌+◌, ◌⊎◌, None, Ok, Err, IfErr, length};
+ghost use Rattle.std.specs.Prelude.{All, false, true, ◌≡◌, ◌<◌, ◌≤◌, ◌+◌, ◌⊎◌, None, Ok, Err, IfErr, length};
 ghost use Rattle.std.specs.Prelude.{◌++◌, ◌∷◌, [], ℕ, OnErr};
 ghost use Rattle.srcp_info.specs.Limits.{greatest_id};
 ghost use Rattle.srcp_sockets.specs.Asked.{IsExcused};
 ghost use Rattle.srcp_sockets.specs.Doors.{is_quiet};
 ghost use Rattle.srcp_sockets.specs.Limits.{most_peers};
 ghost use Rattle.srcp_sockets.specs.Loads.{AnswersWithin};
-ghost use Rattle.srcp_sockets.specs.Work.{IsAccepting, FreesPlace, is_crowded, last_after, may_accept};
+ghost use Rattle.srcp_sockets.specs.Work.{AreFrom, IsAccepting, IsFrom, FreesPlace, is_crowded, last_after};
+ghost use Rattle.srcp_sockets.specs.Work.{may_accept};
+ghost use Rattle.srcp_peers.specs.Peers.{KeepsShare};
 ghost use Rattle.srcp_peers.specs.Times.{failed_accept};
 ghost use Rattle.srcp_door.specs.Calls.{AcceptCall};
 ghost use Rattle.srcp_peers.specs.Steps.{Answers, Closes, GrowsBy, SaysNothing};
@@ -37,6 +39,8 @@ impl<S: System> Sockets<S> {
         ensures keeps { (self.new.flushed ≡ self.old.flushed) × (self.new.starved ≡ self.old.starved)
             × (self.new.most ≡ self.old.most) }
         ensures last { self.new.last ≡ last_after self.old.last result }
+        ensures shares { All (λ peer. peer.number ≤ self.old.last
+            → IsFrom KeepsShare self.old.peers.items peer) self.new.peers.items }
         ensures quiet { is_quiet self.old.listening ≡ true → (self.new.listening ≡ self.old.listening)
             × (self.new.system.log.steps ≡ self.old.system.log.steps ++ Answers (AcceptCall (Ok None)) ∷ []) }
         ensures makes { is_quiet self.old.listening ≡ false
@@ -67,6 +71,7 @@ impl<S: System> Sockets<S> {
         ensures excused { result ≡ false → IsExcused self.new.system.log.steps }
         ensures keeps { (self.new.flushed ≡ self.old.flushed) × (self.new.starved ≡ self.old.starved)
             × (self.new.most ≡ self.old.most) }
+        ensures shares { AreFrom KeepsShare self.old.peers.items self.new.peers.items }
         ensures same { result ≡ true → (self.new.listening ≡ self.old.listening) × (self.new.last ≡ self.old.last)
             × (self.new.system.log.steps ≡ self.old.system.log.steps) × (self.new.spare ≡ self.old.spare) }
         ensures quiet { is_quiet self.old.listening ≡ true → (self.new.listening ≡ self.old.listening)
@@ -93,7 +98,7 @@ impl<S: System> Sockets<S> {
         ensures log { self.new.system.log.steps ≡ self.old.system.log.steps ++ Answers (AcceptCall result) ∷ [] }
         ensures fault { result ≡ Err DoorFault.Accept }
         ensures keeps { (self.new.flushed ≡ self.old.flushed) × (self.new.starved ≡ self.old.starved)
-            × (self.new.most ≡ self.old.most) }
+            × (self.new.most ≡ self.old.most) × (self.new.peers ≡ self.old.peers) }
         ensures last { self.new.last ≡ last_after self.old.last result }
         ensures rests { self.new.listening ≡ Listening.BackingOff }
     {
@@ -112,7 +117,7 @@ impl<S: System> Sockets<S> {
         ensures same { result ≡ answer }
         ensures listening { self.new.listening ≡ self.old.listening }
         ensures keeps { (self.new.flushed ≡ self.old.flushed) × (self.new.starved ≡ self.old.starved)
-            × (self.new.most ≡ self.old.most) }
+            × (self.new.most ≡ self.old.most) × (self.new.peers ≡ self.old.peers) }
         ensures last { self.new.last ≡ last_after self.old.last result }
     {
         self.system.answer(&Answer::Accept(answer));
@@ -132,6 +137,8 @@ impl<S: System> Sockets<S> {
         ensures keeps { (self.new.flushed ≡ self.old.flushed) × (self.new.starved ≡ self.old.starved)
             × (self.new.most ≡ self.old.most) }
         ensures last { self.new.last ≡ last_after self.old.last result }
+        ensures shares { All (λ peer. peer.number ≤ self.old.last
+            → IsFrom KeepsShare self.old.peers.items peer) self.new.peers.items }
     {
         match self.system.accept(number) {
             Ok(()) => {
@@ -171,6 +178,7 @@ impl<S: System> Sockets<S> {
         ensures last { self.new.last ≡ self.old.last }
         ensures keeps { (self.new.flushed ≡ self.old.flushed) × (self.new.starved ≡ self.old.starved)
             × (self.new.most ≡ self.old.most) }
+        ensures shares { AreFrom KeepsShare self.old.peers.items self.new.peers.items }
         ensures closes { (self.new.system.log.steps ≡ self.old.system.log.steps)
             ⊎ ((who : ℕ) × (self.new.system.log.steps ≡ self.old.system.log.steps ++ Closes who ∷ [])) }
         ensures makes { FreesPlace self.old.peers.items self.old.listening self.new.listening

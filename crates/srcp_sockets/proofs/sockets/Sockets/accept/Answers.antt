@@ -1,4 +1,4 @@
-use Rattle.std.proofs.Common.{◌≡◌, ◌∙◌, ◌+◌, ℕ, Bool, List, [], ◌∷◌, ◌++◌}
+use Rattle.std.proofs.Common.{◌≡◌, ◌∙◌, ◌+◌, ◌≤◌, ℕ, Bool, List, [], ◌∷◌, ◌++◌}
 use Rattle.std.proofs.Common.{Option, ap, arith, inl, inr, not, refl, rules, subst, sym, true, false}
 use Rattle.std.proofs.Common.{true≢false, None, Ok}
 use Rattle.std.specs.Prelude.{Result, cond, count_by}
@@ -7,12 +7,15 @@ use Rattle.srcp_door.specs.Calls.{AcceptCall}
 use Rattle.srcp_door.specs.declared.door.DoorFault.{DoorFault}
 use Rattle.srcp_peers.specs.declared.peer.Peer.{Peer}
 use Rattle.srcp_peers.specs.declared.turn.Listening.{Listening}
-use Rattle.srcp_peers.specs.Peers.{Makes}
+use Rattle.srcp_peers.specs.Peers.{KeepsShare, Makes}
 use Rattle.srcp_peers.specs.Steps.{Accepts, Answers, Step}
 use Rattle.srcp_peers.proofs.PeersRestByAccount.{and_left, and_right}
 use Rattle.srcp_sockets.specs.Doors.{is_quiet}
 use Rattle.srcp_sockets.specs.Work.{IsAccepting, is_close, is_crowded, may_accept}
 use Rattle.srcp_sockets.proofs.AnswersAreBounded.{answered_after}
+use Rattle.std.specs.Prelude.{All, slice_index_or}
+use Rattle.srcp_sockets.specs.Work.{AreFrom, IsFrom}
+use Rattle.srcp_sockets.proofs.PeersAreFrom.{share_then, since}
 use Rattle.srcp_sockets.proofs.sockets.Sockets.accept.Goals as goal
 
 pub returns-clause-answers : goal.returns-clause-answers
@@ -160,3 +163,30 @@ returns-in_default-spare_or_new-clause-quiet g c quiet =
     let self = c.args.self.now in
     absurd (true≢false (sym quiet ∙ is_loud self.listening self.peers.items
     (sym c.may_accept.ensures.is ∙ c.if-not-may_accept.false)))
+
+-- nobody came behind that
+nobody_new : (last : ℕ) (old mid new : List Peer) → new ≡ mid → AreFrom KeepsShare old mid
+    → All (λ peer. peer.number ≤ last → IsFrom KeepsShare old peer) new
+nobody_new last old mid new same from = subst (All (λ peer. peer.number ≤ last → IsFrom KeepsShare old peer)) (sym same)
+    (λ k d lt below. from k d lt)
+
+pub returns-then-not-may_accept-clause-shares : goal.returns-then-not-may_accept-clause-shares
+returns-then-not-may_accept-clause-shares g c = nobody_new c.args.self.now.last c.args.self.now.peers.items
+    c.may_accept.new.self.peers.items c.note_nobody.new.self.peers.items (ap (λ peers. peers.items) c.note_nobody.ensures.keeps.3)
+    c.may_accept.ensures.shares
+
+pub returns-in_default-clause-shares : goal.returns-in_default-clause-shares
+returns-in_default-clause-shares g c = nobody_new c.args.self.now.last c.args.self.now.peers.items
+    c.may_accept.new.self.peers.items c.put_off.new.self.peers.items (ap (λ peers. peers.items) c.put_off.ensures.keeps.3)
+    c.may_accept.ensures.shares
+
+pub returns-in_default-spare_or_new-clause-shares : goal.returns-in_default-spare_or_new-clause-shares
+returns-in_default-spare_or_new-clause-shares g c =
+    let none = c.put_off-in_default-spare_or_new in
+    nobody_new c.args.self.now.last c.args.self.now.peers.items c.may_accept.new.self.peers.items none.new.self.peers.items
+    (ap (λ peers. peers.items) none.ensures.keeps.3) c.may_accept.ensures.shares
+
+pub returns-clause-shares : goal.returns-clause-shares
+returns-clause-shares g c k d lt below = since KeepsShare KeepsShare KeepsShare share_then c.args.self.now.peers.items
+    c.may_accept.new.self.peers.items (slice_index_or c.accept_next.new.self.peers.items k d) c.may_accept.ensures.shares
+    (c.accept_next.ensures.shares k d lt (omega (arith, below, c.may_accept.ensures.last)))

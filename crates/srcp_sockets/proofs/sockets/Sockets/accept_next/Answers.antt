@@ -20,6 +20,9 @@ use Rattle.srcp_sockets.proofs.AcceptsKeepSockets.{stands_came, stands_refused}
 use Rattle.srcp_sockets.proofs.SocketsStayStanding.{stands_answered}
 use Rattle.srcp_sockets.proofs.TimesGoOn.{timed_asked}
 use Rattle.srcp_sockets.proofs.EndsAreTold.{far_pushed, far_same}
+use Rattle.srcp_peers.specs.Peers.{KeepsShare}
+use Rattle.srcp_peers.specs.declared.peer.Peer.{Peer}
+use Rattle.srcp_sockets.proofs.PeersAreFrom.{from_pushed, from_same, share_stays}
 use Rattle.srcp_sockets.proofs.sockets.Sockets.accept_next.Goals as goal
 
 pub invariant_of-self : goal.invariant_of-self
@@ -131,3 +134,13 @@ pub returns-in-Err-clause-last : goal.returns-in-Err-clause-last
 returns-in-Err-clause-last g c =
     let last = c.args.self.now.last in
     last_of_nobody last c.failure_of-said.result ∙ sym (ap (last_after last) c.nobody-answer.ensures.answer)
+
+pub returns-in-Ok-clause-shares : goal.returns-in-Ok-clause-shares
+returns-in-Ok-clause-shares g c =
+    let self = c.args.self.now in
+    let number : c.new.result.number ≡ c.args.number = ap (λ (p : Peer). p.number) c.new.ensures in
+    from_pushed KeepsShare share_stays self.peers.items c.push.new.self.items c.new.result self.last (search rules)
+    (omega (arith, number, c.requires.next))
+
+pub returns-in-Err-clause-shares : goal.returns-in-Err-clause-shares
+returns-in-Err-clause-shares g c k d lt below = from_same KeepsShare share_stays c.args.self.now.peers.items k d lt

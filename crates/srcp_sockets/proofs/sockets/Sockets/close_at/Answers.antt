@@ -18,6 +18,9 @@ use Rattle.srcp_sockets.proofs.EndsAreTold.{far_goes, removed_of, slackens_step}
 use Rattle.srcp_peers.proofs.StepsAreCounted.{grows_step}
 use Rattle.std.proofs.lemmas.List.Edits.{length-remove}
 use Rattle.std.proofs.Common.{ap, arith, length}
+use Rattle.srcp_peers.specs.Peers.{KeepsRest}
+use Rattle.srcp_sockets.specs.Work.{AreFrom}
+use Rattle.srcp_sockets.proofs.PeersAreFrom.{from_removed, rest_stays}
 use Rattle.srcp_sockets.proofs.sockets.Sockets.close_at.Goals as goal
 
 pub invariant_of-self : goal.invariant_of-self
@@ -77,3 +80,10 @@ pub returns-clause-as_few : goal.returns-clause-as_few
 returns-clause-as_few g c =
     let items = c.args.self.now.peers.items in
     omega (arith, length-remove items c.args.index c.requires.within, ap length c.remove.ensures.items)
+
+pub returns-clause-left : goal.returns-clause-left
+returns-clause-left g c =
+    let self = c.args.self.now in
+    subst (AreFrom KeepsRest self.peers.items) (sym c.remove.ensures.items)
+    (from_removed KeepsRest rest_stays self.peers.items c.args.index c.index.result.now c.requires.within (sym c.index.ensures)
+    self.stands.apart)
