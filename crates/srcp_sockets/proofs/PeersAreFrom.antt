@@ -1,5 +1,5 @@
 -- Each peer was one of those before, by its number.
-use Rattle.std.proofs.Common.{◌≡◌, ◌∙◌, ℕ, ◌<◌, ◌≤◌, ◌+◌, Bool, List, [], ◌∷◌, ◌++◌, length, refl, ap, sym, subst, arith, ⊎_elim}
+use Rattle.std.proofs.Common.{◌≡◌, ◌∙◌, ℕ, ◌<◌, ◌≤◌, Bool, List, [], ◌∷◌, ◌++◌, length, refl, ap, sym, subst, arith, ⊎_elim}
 use Rattle.std.proofs.Common.{◌==◌, get_or, set, get_or-set_other, get_or-set_same, if◌then◌else◌, true, false}
 use Rattle.std.specs.Prelude.{◌||◌, ◌-◌, All, cond, fold, nat_le, slice_index_or}
 use Rattle.std.specs.List.{remove}
@@ -93,10 +93,15 @@ pub share_then : (a b c : Peer) → KeepsShare a b → KeepsShare b c → KeepsS
 share_then a b c one two = (two.0 ∙ one.0, two.1 ∙ one.1)
 
 pub rest_then : (a b c : Peer) → KeepsRest a b → KeepsRest b c → KeepsRest a c
-rest_then a b c one two = (share_then a b c one.0 two.0, two.1 ∙ one.1, two.2 ∙ one.2, λ here.
-    let first = one.3 here in
-    let second = two.3 (ap is_here first.0 ∙ here) in
-    (second.0 ∙ first.0, second.1 ∙ first.1, second.2 ∙ first.2))
+rest_then a b c one two = (
+  share_then a b c one.0 two.0,
+  two.1 ∙ one.1,
+  two.2 ∙ one.2,
+  λ here.
+      let first = one.3 here in
+      let second = two.3 (ap is_here first.0 ∙ here) in
+      (second.0 ∙ first.0, second.1 ∙ first.1, second.2 ∙ first.2),
+)
 
 pub rest_shares : (a b : Peer) → KeepsRest a b → KeepsShare a b
 rest_shares a b h = h.0

@@ -38,7 +38,7 @@ AreClosedUp clock peers old new = (position (is_gone clock) peers ≡ None) ⊎ 
 
 -- ---- what the peers keep
 
--- it was one of these, by its number, and became what it is so
+-- it was one of these, which its number says, and became what it is so
 abbrev pub IsFrom : (Holds : (old new : Peer) → Type 0) → List Peer → Peer → Type 0
 IsFrom Holds old p = Any (λ was. (p.number ≡ was.number) × Holds was p) old
 
@@ -57,7 +57,8 @@ abbrev pub IsWaiting : (most : Option ℕ) → (before after : Listening) → (o
 IsWaiting most before after old new = (count : ℕ) × (ready : List Ready) × (new ≡ old ++ Waits most count ready ∷ [])
     × (after ≡ fold woken_listening before (take count ready))
 
--- among the steps that came is such a wait. Its length follows of what a flush left of the peers
+-- among the steps that came is such a wait. Its length follows of the peers that were left of the first ones: each was
+-- flushed, and some were closed
 pub record WaitsAmong (turn : Turn) (most : Option ℕ) (before after : Listening) (first : List Peer)
     (old new : List Step) : Type 0 where
   pub peers : List Peer

@@ -50,7 +50,7 @@ const MOST_PEERS: usize = MOST_CONNECTIONS + 1 + MOST_LINGERING;
 /// Holds the system's sockets, with their peers. Only `deliver` drops a value: the type is not `Drop`.
 pub(crate) struct Sockets<S: System> {
     pub system: Logged<S>,
-    pub peers: Vec<Peer>,
+    peers: Vec<Peer>,
     listening: Listening,
     // The number of the last peer that came.
     last: u32,
@@ -58,7 +58,7 @@ pub(crate) struct Sockets<S: System> {
     recent: usize,
     turn: Turn,
     // The longest wait of a turn, in milliseconds, if a limit was set.
-    pub most: Option<u64>,
+    most: Option<u64>,
     // What the clock showed when all queued bytes were last flushed, in milliseconds.
     flushed: u64,
     // True if a line of a peer's share was kept back since the turn began: each peer then keeps the rest of its share.

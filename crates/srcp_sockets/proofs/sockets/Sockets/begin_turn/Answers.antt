@@ -1,4 +1,4 @@
-use Rattle.std.proofs.Common.{◌≡◌, ◌∙◌, ℕ, Bool, Option, false, ap, subst, sym}
+use Rattle.std.proofs.Common.{◌≡◌, ◌∙◌, ℕ, Bool, false, ap, subst, sym}
 use Rattle.std.specs.Prelude.{◌&&◌, ◌||◌, cond, not}
 use Rattle.srcp_peers.specs.declared.readiness.Flush.{Flush}
 use Rattle.srcp_peers.specs.declared.turn.Turn.{Turn}
@@ -11,13 +11,11 @@ use Rattle.srcp_peers.proofs.CallsAreOfTheDoor.{keeps_then, says_then}
 use Rattle.srcp_sockets.specs.Delivery.{HasWaited}
 use Rattle.srcp_sockets.specs.Doors.{flushed_in}
 use Rattle.srcp_sockets.specs.Waits.{AreFlushed}
-use Rattle.srcp_sockets.specs.Work.{AreClosedUp, AreFrom, IsWaiting, goes_on}
+use Rattle.srcp_sockets.specs.Work.{AreClosedUp, AreFrom, goes_on}
 use Rattle.srcp_sockets.proofs.EndsAreDelivered.{waited_after, waited_keeps}
 use Rattle.srcp_sockets.proofs.WorkIsDone.{looked_silent, may_tell}
 use Rattle.srcp_sockets.proofs.WaitsAreFlushed.{all_closed, may_wait}
 use Rattle.std.proofs.Common.{arith}
-use Rattle.srcp_peers.specs.Waiting.{longest_wait}
-use Rattle.srcp_peers.specs.declared.turn.Listening.{Listening}
 use Rattle.srcp_sockets.proofs.PeersAreFrom.{all_shared, from_then, rest_then}
 use Rattle.srcp_sockets.proofs.sockets.Sockets.begin_turn.Goals as goal
 
