@@ -172,8 +172,7 @@ impl Peer {
     fn drop_input(&mut self)
         ensures { self.new ≡ record self.old { incoming = [] } }
     {
-        let count = self.incoming.len();
-        self.incoming.drop_front(count);
+        self.incoming.clear();
     }
 
     /// Returns whether nothing is left to do for a lingering peer.

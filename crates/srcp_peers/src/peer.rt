@@ -106,6 +106,20 @@ impl Peer {
         }
     }
 
+    /// Returns the queues of a peer whose socket is closed, for the next peer. What they held is dropped.
+    pub fn into_queues(self) -> Queues
+        ensures { (result.outgoing ≡ []) × (result.incoming ≡ []) }
+    {
+        let Peer {
+            mut outgoing,
+            mut incoming,
+            ..
+        } = self;
+        outgoing.clear();
+        incoming.clear();
+        Queues { outgoing, incoming }
+    }
+
     /// Notes what the socket was found ready for. Another socket's `ready` changes nothing.
     pub(crate) fn wake(&mut self, ready: Ready)
         ensures { self.new ≡ after_wake self.old ready }

@@ -165,6 +165,14 @@ impl<const MOST: usize> Queue<MOST> {
         &self.buffer[self.start..self.end]
     }
 
+    /// Drops all held bytes.
+    pub(crate) fn clear(&mut self)
+        ensures { self.new ≡ [] }
+    {
+        self.start = 0;
+        self.end = 0;
+    }
+
     /// Drops `count` bytes, from the first on.
     pub(crate) fn drop_front(&mut self, count: usize)
         requires { count ≤ length self.old }

@@ -21,7 +21,7 @@ use Rattle.srcp_peers.specs.declared.stay.Stay.{Stay}
 use Rattle.srcp_peers.specs.declared.stay.Stay.TheVariants as stay
 use Rattle.srcp_peers.specs.declared.system.Ready.{Ready}
 use Rattle.srcp_peers.specs.Accounts.{Account, Received, account, account_step, is_held, untouched}
-use Rattle.srcp_peers.specs.AllPeers.{AreApart, AreBegun, AreKept, AreShutDown, AreThose, KeepEndings}
+use Rattle.srcp_peers.specs.AllPeers.{AllKeepRest, AreApart, AreBegun, AreKept, AreShutDown, AreThose}
 use Rattle.srcp_peers.specs.Ends.{begun, written}
 use Rattle.srcp_peers.specs.Peers.{Agrees, ReadsAs, after_wake, is_lost, is_over, stay_after, woken_input, woken_output}
 use Rattle.srcp_peers.specs.Reports.{is_settled}
@@ -391,15 +391,15 @@ still_here (stay.Draining since) outgoing state e = by ((length outgoing == 0) &
 still_here (stay.Shut since) outgoing state e = e
 
 pub flushed_of : (before after : List Peer) → length after ≡ length before → AreThose before after → AreShutDown before after
-    → KeepEndings before after → AreOf before after
-flushed_of before after long those shut endings k d lt here =
+    → AllKeepRest before after → AreOf before after
+flushed_of before after long those shut keeps k d lt here =
     let low : k < length before = omega (arith, lt, long) in
     let q : Peer = slice_index_or after k d in (
       k,
       low,
       still_here (slice_index_or before k d).stay q.outgoing q.output (sym (shut k d low) ∙ here),
       those k d low,
-      endings k d low,
+      (keeps k d low).1,
     )
 
 pub far_left : (old new : List Step) (peers : List Peer) (i : ℕ) (p q : Peer) (since : ℕ) → i < length peers

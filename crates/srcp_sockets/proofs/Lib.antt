@@ -18,3 +18,4 @@ pub mod ReadsAnswerInTime
 pub mod WaitsAreFlushed
 pub mod AnswersAreBounded
 pub mod SettledPanelsHold
+pub mod PeersAreFrom

@@ -2,6 +2,7 @@ pub mod Asked
 pub mod Delivery
 pub mod Doors
 pub mod Duties
+pub mod Early
 pub mod Endings
 pub mod Facts
 pub mod Faults

@@ -1,24 +1,28 @@
 -- What a door does in a turn, whatever it answers.
 use Rattle.std.specs.Prelude.{◌≡◌, ◌⊎◌, ℕ, ◌<◌, ◌∷◌, ◌++◌, Bool, true, false, ◌&&◌, ◌||◌, not, nat_le, List, []}
-use Rattle.std.specs.Prelude.{filter, fold, length, position, slice_index_or, take, Option, Some, None, Result, Ok, Err}
+use Rattle.std.specs.Prelude.{All, Any, filter, fold, length, position, slice_index_or, take, Option, Some, None}
+use Rattle.std.specs.Prelude.{◌==◌, cond, Result, Ok, Err}
 use Rattle.std.specs.List.{list_any}
 use Rattle.std.specs.declared.io.ErrorKind.{ErrorKind}
 use Rattle.srcp_door.specs.Calls.{AcceptCall, NowCall}
 use Rattle.srcp_door.specs.declared.door.DoorFault.{DoorFault}
 use Rattle.srcp_door.specs.declared.door.DoorFault.TheVariants as fault
 use Rattle.srcp_door.specs.declared.door.Got.{Got}
+use Rattle.srcp_door.specs.Pacing.{share_after}
 use Rattle.srcp_peers.specs.declared.peer.Peer.{Peer}
 use Rattle.srcp_peers.specs.declared.system.Ready.{Ready}
 use Rattle.srcp_peers.specs.declared.turn.Listening.{Listening}
 use Rattle.srcp_peers.specs.declared.turn.Listening.TheVariants as listening
 use Rattle.srcp_peers.specs.declared.turn.Turn.{Turn}
 use Rattle.srcp_peers.specs.Listeners.{listening_after_failure, woken_listening}
-use Rattle.srcp_peers.specs.Peers.{Makes, enqueued, goes_first, holds_input, is_gone, is_here, is_shut, is_silent}
+use Rattle.srcp_peers.specs.Peers.{KeepsRest, Makes, enqueued, goes_first, holds_input, is_gone, is_here, is_shut}
+use Rattle.srcp_peers.specs.Peers.{is_silent}
 use Rattle.srcp_peers.specs.Reports.{IsAnswered}
-use Rattle.srcp_peers.specs.Steps.{Accepts, Answers, Clocks, Closes, Step, Waits, failure_of}
+use Rattle.srcp_peers.specs.Steps.{Accepts, Answers, Clocks, Closes, SaysNothing, Step, Waits, failure_of}
 use Rattle.srcp_peers.specs.Times.{accept_answer}
 use Rattle.srcp_peers.specs.Turns.{has_ticked, is_short_pace, moment_at}
-use Rattle.srcp_sockets.specs.Doors.{IsPresent, is_quiet}
+use Rattle.srcp_peers.specs.Waiting.{longest_wait}
+use Rattle.srcp_sockets.specs.Doors.{AreStanding, IsPresent, is_quiet}
 use Rattle.srcp_sockets.specs.Limits.{most_lingering, most_peers}
 
 -- ---- who is closed
@@ -32,6 +36,16 @@ is_close other = false
 abbrev pub AreClosedUp : (clock : ℕ) → List Peer → (old new : List Step) → Type 0
 AreClosedUp clock peers old new = (position (is_gone clock) peers ≡ None) ⊎ Makes is_close most_lingering old new
 
+-- ---- what the peers keep
+
+-- it was one of these, which its number says, and became what it is so
+abbrev pub IsFrom : (Holds : (old new : Peer) → Type 0) → List Peer → Peer → Type 0
+IsFrom Holds old p = Any (λ was. (p.number ≡ was.number) × Holds was p) old
+
+-- each was one of those
+abbrev pub AreFrom : (Holds : (old new : Peer) → Type 0) → (old new : List Peer) → Type 0
+AreFrom Holds old new = All (IsFrom Holds old) new
+
 -- ---- when the door waits, and what time it is
 
 -- the turn goes on with held input, and does not wait: the clock did not go on since it showed `flushed`
@@ -42,6 +56,19 @@ goes_on turn flushed peers = not (has_ticked turn flushed) && list_any holds_inp
 abbrev pub IsWaiting : (most : Option ℕ) → (before after : Listening) → (old new : List Step) → Type 0
 IsWaiting most before after old new = (count : ℕ) × (ready : List Ready) × (new ≡ old ++ Waits most count ready ∷ [])
     × (after ≡ fold woken_listening before (take count ready))
+
+-- among the steps that came is such a wait. Its length follows of the peers that were left of the first ones: each was
+-- flushed, and some were closed
+pub record WaitsAmong (turn : Turn) (most : Option ℕ) (before after : Listening) (first : List Peer)
+    (old new : List Step) : Type 0 where
+  pub peers : List Peer
+  pub log : List Step
+  pub later : List Step
+  pub left : AreFrom KeepsRest first peers
+  pub stands : AreStanding log peers
+  pub begins : SaysNothing old log
+  pub waits : IsWaiting (longest_wait peers before turn most) before after log later
+  pub ends : SaysNothing later new
 
 -- the moment that is reported, if the clock shows this
 abbrev pub moment_of : Turn → (shown : Option ℕ) → Result ℕ DoorFault
@@ -96,13 +123,15 @@ goes_behind turn peers p = is_short_pace turn.pace
     && (not (is_silent turn.clock p) && list_any (goes_first turn.clock) peers)
 
 -- the read of a peer that is there answered what that peer's read answers, and it is known then whether a line of some
--- peer was kept back
-abbrev pub IsPeerRead : Turn → List Peer → (number space : ℕ) → Result Got DoorFault → (handed : List ℕ)
-    → (before after : Bool) → Type 0
-IsPeerRead turn peers number space answer handed before after = (k : ℕ) (d : Peer) → k < length peers
+-- peer was kept back. What is left of the peer's share follows, and when something of it was handed out last
+abbrev pub IsPeerRead : Turn → (peers later : List Peer) → (number space : ℕ) → Result Got DoorFault
+    → (handed : List ℕ) → (before after : Bool) → Type 0
+IsPeerRead turn peers later number space answer handed before after = (k : ℕ) (d : Peer) → k < length peers
     → IsPresent number (slice_index_or peers k d)
-    → (let p = slice_index_or peers k d in
-    (kept : Bool) × IsAnswered turn (goes_behind turn peers p) p space answer handed kept × (after ≡ (before || kept)))
+    → (let p = slice_index_or peers k d in let q = slice_index_or later k d in
+    (kept : Bool) × IsAnswered turn (goes_behind turn peers p) p space answer handed kept × (after ≡ (before || kept))
+    × (q.share ≡ share_after p.share handed kept)
+    × (q.heard ≡ cond (length handed == 0) p.heard turn.clock))
 
 -- ---- who is written
 

@@ -2,7 +2,7 @@
 
 ghost use Rattle.std.specs.Prelude.{◌≡◌, ◌<◌, ◌≤◌, IfErr, Ok, true, false, ℕ, None, Some, []};
 ghost use Rattle.std.specs.Prelude.{IfOk, OnOk, OnErr, length, vec_capacity};
-ghost use Rattle.srcp_door.specs.Calls.{ReadCall, WriteCall, one_more};
+ghost use Rattle.srcp_door.specs.Calls.{AcceptCall, CloseCall, ExpectCall, NowCall, ReadCall, WriteCall, one_more};
 ghost use Rattle.srcp_peers.specs.Steps.{SaysOne};
 ghost use Rattle.srcp_peers.specs.Turns.{first_turn, got_bytes};
 ghost use Rattle.srcp_sockets.specs.Limits.{most_peers, most_ready};
@@ -26,7 +26,6 @@ pub(crate) const MOST_READY: usize = 128;
 /// ```
 pub struct SocketDoor<S: System> {
     pub(crate) sockets: Sockets<S>,
-    alloc: Global,
     ready: Vec<Ready>,
     faults: u64,
     ghost most: { length ready.items ≡ most_ready },
@@ -64,7 +63,6 @@ impl<S: System> SocketDoor<S> {
         ready.resize(MOST_READY, nothing)?;
         Ok(SocketDoor {
             sockets: Sockets::new(system, alloc, Turn::new(wall, start))?,
-            alloc,
             ready,
             faults: 0,
         })
@@ -100,7 +98,6 @@ impl<S: System> Drop for SocketDoor<S> {
     fn drop(self) {
         let SocketDoor {
             sockets,
-            alloc: _,
             mut ready,
             faults: _,
         } = self;
@@ -116,11 +113,23 @@ impl<S: System> Door for SocketDoor<S> {
 
     ghost trace = { λ d. Some (calls d.sockets.system.log.steps) };
 
-    fn expect(&mut self, due: Option<u64>, slack: Option<usize>) {
+    fn expect(&mut self, due: Option<u64>, slack: Option<usize>)
+        ensures faults { self.new.faults ≡ self.old.faults }
+        ensures trace { SaysOne self.old.sockets.system.log.steps (ExpectCall due slack)
+            self.new.sockets.system.log.steps }
+        ensures limit { self.new.sockets.most ≡ self.old.sockets.most }
+    {
         self.sockets.expect(due, slack);
     }
 
-    fn now(&mut self) -> Result<u64, DoorFault> {
+    fn now(&mut self) -> Result<u64, DoorFault>
+        ensures ok { OnOk result (self.new.faults ≡ self.old.faults) }
+        ensures err { OnErr result (self.new.faults ≡ one_more self.old.faults) }
+        ensures fault { IfErr result (λ fault. fault ≡ DoorFault.Now) }
+        ensures trace { SaysOne self.old.sockets.system.log.steps (NowCall result)
+            self.new.sockets.system.log.steps }
+        ensures limit { self.new.sockets.most ≡ self.old.sockets.most }
+    {
         self.sockets.begin_turn(self.ready.as_mut_slice());
         let answer = self.sockets.now();
         if answer.is_err() {
@@ -129,8 +138,15 @@ impl<S: System> Door for SocketDoor<S> {
         answer
     }
 
-    fn accept(&mut self) -> Result<Option<u32>, DoorFault> {
-        let answer = self.sockets.accept(self.alloc);
+    fn accept(&mut self) -> Result<Option<u32>, DoorFault>
+        ensures ok { OnOk result (self.new.faults ≡ self.old.faults) }
+        ensures err { OnErr result (self.new.faults ≡ one_more self.old.faults) }
+        ensures fault { IfErr result (λ fault. fault ≡ DoorFault.Accept) }
+        ensures trace { SaysOne self.old.sockets.system.log.steps (AcceptCall result)
+            self.new.sockets.system.log.steps }
+        ensures limit { self.new.sockets.most ≡ self.old.sockets.most }
+    {
+        let answer = self.sockets.accept();
         if answer.is_err() {
             self.failed();
         }
@@ -146,8 +162,9 @@ impl<S: System> Door for SocketDoor<S> {
             self.new.sockets.system.log.steps }
         ensures late { self.old.sockets.turn.late ≡ true → result ≡ Ok Got.Nothing }
         ensures answered { self.old.sockets.turn.late ≡ false
-            → IsPeerRead self.old.sockets.turn self.old.sockets.peers.items peer (length buf.old) result
-            (got_bytes result buf.new) self.old.sockets.starved self.new.sockets.starved }
+            → IsPeerRead self.old.sockets.turn self.old.sockets.peers.items self.new.sockets.peers.items peer
+            (length buf.old) result (got_bytes result buf.new) self.old.sockets.starved self.new.sockets.starved }
+        ensures limit { self.new.sockets.most ≡ self.old.sockets.most }
     {
         if self.sockets.is_late() {
             return self.sockets.hold_back(peer, buf);
@@ -167,6 +184,7 @@ impl<S: System> Door for SocketDoor<S> {
         ensures trace { SaysOne self.old.sockets.system.log.steps (WriteCall peer bytes.now result)
             self.new.sockets.system.log.steps }
         ensures exact { IsPeerWritten self.old.sockets.peers.items peer bytes.now result }
+        ensures limit { self.new.sockets.most ≡ self.old.sockets.most }
     {
         let answer = self.sockets.write(peer, bytes);
         if answer.is_err() {
@@ -175,7 +193,14 @@ impl<S: System> Door for SocketDoor<S> {
         answer
     }
 
-    fn close(&mut self, peer: u32) -> Result<(), DoorFault> {
+    fn close(&mut self, peer: u32) -> Result<(), DoorFault>
+        ensures ok { OnOk result (self.new.faults ≡ self.old.faults) }
+        ensures err { OnErr result (self.new.faults ≡ one_more self.old.faults) }
+        ensures fault { IfErr result (λ fault. fault ≡ DoorFault.Close) }
+        ensures trace { SaysOne self.old.sockets.system.log.steps (CloseCall peer result)
+            self.new.sockets.system.log.steps }
+        ensures limit { self.new.sockets.most ≡ self.old.sockets.most }
+    {
         let answer = self.sockets.close(peer);
         if answer.is_err() {
             self.failed();

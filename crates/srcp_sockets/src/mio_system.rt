@@ -1,11 +1,12 @@
 //! The system of the machine: mio's sockets and a clock. A call that names a number finds the socket of that number and
 //! makes the system call. A wait that failed or was ended early is followed by a rest.
 
-ghost use Rattle.std.specs.Prelude.{◌≡◌, ◌≢◌, ◌/◌, ◌-◌, ◌||◌, IfOk, ◌<◌, IfNone, IfSome, length, min, All};
-ghost use Rattle.std.specs.Prelude.{None, Some, false, true, if◌then◌else◌, nat_lt, slice_index_or};
+ghost use Rattle.std.specs.Prelude.{◌≡◌, ◌≢◌, ◌/◌, ◌||◌, IfOk, ◌<◌, IfNone, IfSome, length, min, All};
+ghost use Rattle.std.specs.Prelude.{None, Option, Some, ℕ, true, if◌then◌else◌, slice_index_or};
 ghost use Rattle.std.specs.List.Sorted.{IsNonDecreasingBy};
 ghost use Rattle.std.specs.Duration.{as_nanos};
 ghost use Rattle.srcp_info.specs.Limits.{greatest_u64};
+ghost use Rattle.srcp_sockets.specs.Early.{is_early};
 ghost use Rattle.srcp_sockets.specs.Limits.{failed_wait};
 
 use crate::door::MOST_READY;
@@ -107,16 +108,13 @@ impl<C: Clock + Drop> MioSystem<C> {
     /// Returns whether a wait that found no socket ready ended before its time of `most` milliseconds. A signal ends a
     /// wait early. A wait with no limit always ended early, and a wait of 0 ms never.
     fn ends_early(&self, most: Option<u64>) -> bool
-        ensures unlimited { most ≡ None → result ≡ true }
-        ensures at_once { most ≡ Some 0 → result ≡ false }
+        ensures { (now : Option ℕ) × (result ≡ is_early self.now.shown now most) }
     {
-        match most {
-            Some(0) => false,
-            Some(most) => self
-                .read_clock()
-                .is_some_and(|now| is_early(self.shown, now, most)),
-            None => true,
-        }
+        let now = match most {
+            None | Some(0) => None,
+            Some(_) => self.read_clock(),
+        };
+        is_early(self.shown, now, most)
     }
 
     fn socket(&mut self, number: u32) -> Result<&mut Socket, ErrorKind> {
@@ -223,11 +221,15 @@ impl<C: Clock + Drop> System for MioSystem<C> {
     }
 }
 
-/// Returns whether fewer than `most` milliseconds passed between two times of the clock, `shown` and `now`.
-fn is_early(shown: u64, now: u64, most: u64) -> bool
-    ensures { result ≡ nat_lt (now - shown) most }
+/// Returns whether a wait of `most` milliseconds ended early: a wait with no limit, or one with fewer milliseconds
+/// between two times of the clock, `shown` and `now`. If the clock cannot be read, a wait with a limit did not.
+fn is_early(shown: u64, now: Option<u64>, most: Option<u64>) -> bool
+    ensures { result ≡ is_early shown now most }
 {
-    now.saturating_sub(shown) < most
+    let Some(most) = most else {
+        return true;
+    };
+    now.is_some_and(|now| now.saturating_sub(shown) < most)
 }
 
 /// Returns how long the system rests after a wait, in milliseconds: 8 if the wait failed or ended early. Otherwise it

@@ -9,9 +9,8 @@ ghost use Rattle.srcp_sockets.specs.Delivery.{HasEnded, HasWaited, linger_end};
 ghost use Rattle.srcp_sockets.specs.Duties.{AreDone, AreDone-prop, MayTell, has_waited};
 ghost use Rattle.srcp_sockets.specs.Endings.{AreAsFar, AreAsFar-prop, AreVisited};
 ghost use Rattle.srcp_sockets.specs.Waits.{AreFlushed, IsWaitDone};
-ghost use Rattle.srcp_sockets.specs.Work.{AreClosedUp, IsClocked, IsPeerRead, IsPeerWritten, IsWaiting};
-ghost use Rattle.srcp_sockets.specs.Work.{goes_behind, goes_on};
-ghost use Rattle.srcp_sockets.specs.Work.{is_close};
+ghost use Rattle.srcp_sockets.specs.Work.{AreClosedUp, AreFrom, IsClocked, IsPeerRead, IsPeerWritten, IsWaiting};
+ghost use Rattle.srcp_sockets.specs.Work.{WaitsAmong, goes_behind, goes_on, is_close};
 ghost use Rattle.srcp_sockets.specs.Facts.{Stands-prop};
 ghost use Rattle.std.specs.List.{list_any};
 ghost use Rattle.srcp_sockets.specs.Limits.{most_lingering, most_peers, most_ready};
@@ -19,21 +18,22 @@ ghost use Rattle.srcp_sockets.specs.Names.{IsNamed, IsNamed-prop};
 ghost use Rattle.srcp_sockets.specs.KeptTimes.{IsTimed, IsTimed-prop};
 ghost use Rattle.srcp_peers.specs.Accounts.{is_short_wait};
 ghost use Rattle.srcp_peers.specs.Limits.{most_drained};
-ghost use Rattle.srcp_peers.specs.Peers.{goes_first};
-ghost use Rattle.srcp_peers.specs.Peers.{Makes, flushes_all, is_resting, holds_input, is_closable, is_here};
+ghost use Rattle.srcp_peers.specs.Peers.{IsShared, KeepsRest, KeepsShare, Makes, flushes_all, goes_first};
+ghost use Rattle.srcp_peers.specs.Peers.{holds_input, is_closable, is_here, is_resting};
 ghost use Rattle.srcp_peers.specs.Times.{KeepsTimes};
 ghost use Rattle.srcp_peers.specs.Turns.{after_wait, first_turn, got_bytes, flushing, has_ticked, is_pending};
 ghost use Rattle.srcp_peers.specs.Turns.{lines_left_of, time_left};
 ghost use Rattle.srcp_peers.specs.Waiting.{IsWithin, longest_wait};
 ghost use Rattle.srcp_door.specs.Calls.{ExpectCall, NowCall, ReadCall, WriteCall, CloseCall};
 ghost use Rattle.srcp_peers.specs.Steps.{Answers, Closes, GrowsBy, SaysNothing, SaysOne};
-ghost use Rattle.srcp_peers.specs.AllPeers.{AreShared, AreOffered};
+ghost use Rattle.srcp_peers.specs.AllPeers.{AreOffered, AreShared, AreThose};
 ghost use Rattle.srcp_sockets.specs.Doors.{AreRead, IsMissing, IsPresent, Stands, flushed_in};
 
 mod accepting;
 mod reading;
 
 use crate::delivering::deliver;
+use accepting::make_queues;
 use srcp_core::MOST_CONNECTIONS;
 use srcp_door::{DoorFault, Got, MOST_WRITES};
 use srcp_peers::peers::{begin_visits, flush, listen, wake};
@@ -50,7 +50,7 @@ const MOST_PEERS: usize = MOST_CONNECTIONS + 1 + MOST_LINGERING;
 /// Holds the system's sockets, with their peers. Only `deliver` drops a value: the type is not `Drop`.
 pub(crate) struct Sockets<S: System> {
     pub system: Logged<S>,
-    pub peers: Vec<Peer>,
+    peers: Vec<Peer>,
     listening: Listening,
     // The number of the last peer that came.
     last: u32,
@@ -58,20 +58,21 @@ pub(crate) struct Sockets<S: System> {
     recent: usize,
     turn: Turn,
     // The longest wait of a turn, in milliseconds, if a limit was set.
-    pub most: Option<u64>,
+    most: Option<u64>,
     // What the clock showed when all queued bytes were last flushed, in milliseconds.
     flushed: u64,
     // True if a line of a peer's share was kept back since the turn began: each peer then keeps the rest of its share.
     starved: bool,
-    // The queues made for a connection that was not accepted: the next connection has these.
-    spare: Option<Queues>,
+    // The queues of the places that no peer has.
+    spare: Vec<Queues>,
     ghost stands: { Stands system.log.steps peers.items listening last } by { Stands-prop _ _ _ _ },
     ghost named: { IsNamed system.log.steps last } by { IsNamed-prop system.log.steps _ },
     ghost timed: { IsTimed system.log.steps turn } by { IsTimed-prop system.log.steps _ },
     ghost asked: { AreAsked system.log.steps } by { AreAsked-prop _ },
     ghost done: { AreDone turn.timekeeper.wall turn.timekeeper.start system.log.steps } by { AreDone-prop _ _ _ },
     ghost ending: { AreAsFar system.log.steps peers.items } by { AreAsFar-prop system.log.steps _ },
-    ghost places: { (length peers.items ≤ most_peers) × (most_peers ≤ vec_capacity peers) },
+    ghost places: { (length peers.items + length spare.items ≡ most_peers) × (most_peers ≤ vec_capacity peers)
+        × (most_peers ≤ vec_capacity spare) },
 }
 
 impl<S: System> Sockets<S> {
@@ -81,7 +82,7 @@ impl<S: System> Sockets<S> {
         ensures log { self.new.system.log.steps ≡ self.old.system.log.steps ++ Answers (ExpectCall due slack) ∷ [] }
         ensures keeps { (self.new.flushed ≡ self.old.flushed) × (self.new.starved ≡ self.old.starved)
             × (self.new.most ≡ self.old.most) × (self.new.last ≡ self.old.last)
-            × (self.new.listening ≡ self.old.listening) }
+            × (self.new.listening ≡ self.old.listening) × (self.new.peers ≡ self.old.peers) }
     {
         self.system.answer(&Answer::Expect(due, slack));
         self.turn.expect(due, slack);
@@ -91,7 +92,8 @@ impl<S: System> Sockets<S> {
     pub(crate) fn wait_at_most(&mut self, milliseconds: u64)
         ensures most { self.new.most ≡ Some milliseconds }
         ensures keeps { (self.new.flushed ≡ self.old.flushed) × (self.new.starved ≡ self.old.starved)
-            × (self.new.last ≡ self.old.last) × (self.new.listening ≡ self.old.listening) }
+            × (self.new.last ≡ self.old.last) × (self.new.listening ≡ self.old.listening)
+            × (self.new.peers ≡ self.old.peers) }
         ensures system { self.new.system ≡ self.old.system }
     {
         self.most = Some(milliseconds);
@@ -112,6 +114,13 @@ impl<S: System> Sockets<S> {
             self.old.peers.items self.old.system.log.steps self.new.system.log.steps }
         ensures waits { HasWaited (cond (goes_on self.old.turn self.old.flushed self.old.peers.items) 0 1)
             self.old.system.log.steps self.new.system.log.steps }
+        ensures rests { goes_on self.old.turn self.old.flushed self.old.peers.items ≡ true
+            → self.new.listening ≡ self.old.listening }
+        ensures heard { goes_on self.old.turn self.old.flushed self.old.peers.items ≡ false
+            → WaitsAmong self.old.turn self.old.most self.old.listening self.new.listening self.old.peers.items
+            self.old.system.log.steps self.new.system.log.steps }
+        ensures shares { AreFrom (IsShared (not (self.old.starved || self.old.turn.late)) self.old.turn.clock)
+            self.old.peers.items self.new.peers.items }
         ensures lines_left { All (λ peer. peer.lines_left
             ≡ lines_left_of (list_any holds_input self.old.peers.items) self.old.turn.slack) self.new.peers.items }
         ensures flushed { self.new.flushed ≡ self.old.turn.clock }
@@ -189,7 +198,8 @@ impl<S: System> Sockets<S> {
         ensures heard { held ≡ false
             → IsWaiting (longest_wait self.old.peers.items self.old.listening self.old.turn self.old.most)
             self.old.listening self.new.listening self.old.system.log.steps self.new.system.log.steps }
-        ensures slack { self.new.turn.slack ≡ self.old.turn.slack }
+        ensures shares { AreFrom KeepsShare self.old.peers.items self.new.peers.items }
+        ensures turn { self.new.turn ≡ record self.old.turn { busy = held && self.old.turn.busy } }
         ensures flushed { self.new.flushed ≡ self.old.flushed }
         ensures starved { self.new.starved ≡ self.old.starved }
         ensures keeps { (self.new.most ≡ self.old.most) × (self.new.last ≡ self.old.last) }
@@ -208,6 +218,7 @@ impl<S: System> Sockets<S> {
         ensures as_many { length self.new.peers.items ≡ length self.old.peers.items }
         ensures offered { AreOffered what self.old.peers.items self.old.system.log.steps self.new.system.log.steps }
         ensures out { AreFlushed (flushes_all what) self.new.system.log.steps }
+        ensures left { AreFrom KeepsRest self.old.peers.items self.new.peers.items }
         ensures times { KeepsTimes self.old.system.log.steps self.new.system.log.steps }
         ensures keeps { (self.new.turn ≡ self.old.turn) × (self.new.starved ≡ self.old.starved)
             × (self.new.most ≡ self.old.most) × (self.new.last ≡ self.old.last)
@@ -230,6 +241,7 @@ impl<S: System> Sockets<S> {
         ensures waits { IsWaiting (longest_wait self.old.peers.items self.old.listening self.old.turn self.old.most)
             self.old.listening self.new.listening self.old.system.log.steps self.new.system.log.steps }
         ensures looked { has_waited self.new.system.log.steps ≡ true }
+        ensures shares { AreFrom KeepsShare self.old.peers.items self.new.peers.items }
         ensures turn { self.new.turn ≡ after_wait self.old.turn }
         ensures flushed { self.new.flushed ≡ self.old.flushed }
         ensures starved { self.new.starved ≡ self.old.starved }
@@ -257,6 +269,8 @@ impl<S: System> Sockets<S> {
         ensures most { GrowsBy (length self.old.peers.items) self.old.system.log.steps self.new.system.log.steps }
         ensures read { AreRead self.new.system.log.steps }
         ensures visited { AreVisited self.new.system.log.steps self.new.peers.items }
+        ensures as_many { length self.new.peers.items ≡ length self.old.peers.items }
+        ensures those { AreThose self.old.peers.items self.new.peers.items }
         ensures shares { AreShared (not (self.old.starved || self.old.turn.late)) self.old.turn.clock
             self.old.peers.items self.new.peers.items }
         ensures lines_left { All (λ peer. peer.lines_left ≡ lines_left_of holds self.old.turn.slack)
@@ -336,7 +350,7 @@ impl<S: System> Sockets<S> {
             most: None,
             flushed: 0,
             starved: false,
-            spare: None,
+            spare: make_queues(alloc)?,
         })
     }
 
@@ -349,6 +363,7 @@ impl<S: System> Sockets<S> {
             × (self.new.most ≡ self.old.most) × (self.new.last ≡ self.old.last)
             × (self.new.listening ≡ self.old.listening) }
         ensures fault { IfErr result (λ fault. fault ≡ DoorFault.Close) }
+        ensures shares { AreFrom KeepsShare self.old.peers.items self.new.peers.items }
     {
         let Some(index) = self.index_of(number) else {
             self.system
@@ -367,6 +382,7 @@ impl<S: System> Sockets<S> {
         ensures calls { SaysNothing self.old.system.log.steps self.new.system.log.steps }
         ensures most { GrowsBy most_lingering self.old.system.log.steps self.new.system.log.steps }
         ensures as_few { length self.new.peers.items ≤ length self.old.peers.items }
+        ensures left { AreFrom KeepsRest self.old.peers.items self.new.peers.items }
         ensures last { self.new.last ≡ self.old.last }
         ensures times { KeepsTimes self.old.system.log.steps self.new.system.log.steps }
         ensures keeps { (self.new.turn ≡ self.old.turn) × (self.new.starved ≡ self.old.starved)
@@ -393,6 +409,7 @@ impl<S: System> Sockets<S> {
         ensures calls { SaysNothing self.old.system.log.steps self.new.system.log.steps }
         ensures most { GrowsBy 1 self.old.system.log.steps self.new.system.log.steps }
         ensures as_few { length self.new.peers.items ≤ length self.old.peers.items }
+        ensures left { AreFrom KeepsRest self.old.peers.items self.new.peers.items }
         ensures last { self.new.last ≡ self.old.last }
         ensures times { KeepsTimes self.old.system.log.steps self.new.system.log.steps }
         ensures keeps { (self.new.turn ≡ self.old.turn) × (self.new.starved ≡ self.old.starved)
@@ -405,7 +422,8 @@ impl<S: System> Sockets<S> {
         ensures one { (who : ℕ) × (self.new.system.log.steps ≡ self.old.system.log.steps ++ Closes who ∷ []) }
     {
         let number = self.peers[index].number;
-        self.peers.remove(index);
+        let peer = self.peers.remove(index);
+        self.spare.push(peer.into_queues()).unwrap();
         self.system.close(number);
     }
 
@@ -486,6 +504,7 @@ impl<S: System> Sockets<S> {
         ensures count { IfOk result (λ n. n ≤ length bytes.now) }
         ensures fault { IfErr result (λ fault. fault ≡ DoorFault.Write) }
         ensures exact { IsPeerWritten self.old.peers.items number bytes.now result }
+        ensures shares { AreFrom KeepsShare self.old.peers.items self.new.peers.items }
         ensures keeps { (self.new.flushed ≡ self.old.flushed) × (self.new.starved ≡ self.old.starved)
             × (self.new.most ≡ self.old.most) × (self.new.last ≡ self.old.last)
             × (self.new.listening ≡ self.old.listening) }

@@ -1,13 +1,15 @@
 //! How a pending connection is accepted.
 
-ghost use Rattle.std.specs.Prelude.{false, true, ◌≡◌, ◌<◌, ◌+◌, ◌⊎◌, None, Ok, Err, IfErr, length};
-ghost use Rattle.std.specs.Prelude.{◌++◌, ◌∷◌, [], ℕ, OnErr};
+ghost use Rattle.std.specs.Prelude.{All, false, true, ◌≡◌, ◌<◌, ◌≤◌, ◌+◌, ◌⊎◌, None, Ok, Err, IfErr, length};
+ghost use Rattle.std.specs.Prelude.{◌++◌, ◌∷◌, [], ℕ, IfOk, OnErr, vec_capacity};
 ghost use Rattle.srcp_info.specs.Limits.{greatest_id};
 ghost use Rattle.srcp_sockets.specs.Asked.{IsExcused};
 ghost use Rattle.srcp_sockets.specs.Doors.{is_quiet};
 ghost use Rattle.srcp_sockets.specs.Limits.{most_peers};
 ghost use Rattle.srcp_sockets.specs.Loads.{AnswersWithin};
-ghost use Rattle.srcp_sockets.specs.Work.{IsAccepting, FreesPlace, is_crowded, last_after, may_accept};
+ghost use Rattle.srcp_sockets.specs.Work.{AreFrom, IsAccepting, IsFrom, FreesPlace, is_crowded, last_after};
+ghost use Rattle.srcp_sockets.specs.Work.{may_accept};
+ghost use Rattle.srcp_peers.specs.Peers.{KeepsShare};
 ghost use Rattle.srcp_peers.specs.Times.{failed_accept};
 ghost use Rattle.srcp_door.specs.Calls.{AcceptCall};
 ghost use Rattle.srcp_peers.specs.Steps.{Answers, Closes, GrowsBy, SaysNothing};
@@ -19,24 +21,26 @@ use srcp_peers::{
     failure_of, first_shut,
 };
 use std::alloc::{AllocError, Global};
+use std::vec::Vec;
 
 impl<S: System> Sockets<S> {
     /// Accepts the next pending connection, if there is one. Its number is above those of all peers before it.
     ///
     /// # Errors
-    /// `Accept` if the system failed to accept it. It is answered without a call of the system only if the numbers ran
-    /// out, or if no queues were spare. New ones are made then, which fails if memory is refused.
-    pub(crate) fn accept(&mut self, alloc: Global) -> Result<Option<u32>, DoorFault>
+    /// `Accept` if the system failed to accept it, or if the numbers ran out.
+    pub(crate) fn accept(&mut self) -> Result<Option<u32>, DoorFault>
         ensures answers { AnswersWithin self.old.system.log.steps (AcceptCall result) self.new.system.log.steps }
         ensures fault { IfErr result (λ fault. fault ≡ DoorFault.Accept) }
         ensures rests { OnErr result (self.new.listening ≡ Listening.BackingOff) }
         ensures asks { may_accept self.old.listening self.old.peers.items ≡ true
-            → ((result ≡ Err DoorFault.Accept) × ((self.old.last ≡ greatest_id) ⊎ (self.old.spare ≡ None)))
+            → ((result ≡ Err DoorFault.Accept) × (self.old.last ≡ greatest_id))
             ⊎ IsAccepting (self.old.last + 1) result self.old.listening self.new.listening
             self.old.system.log.steps self.new.system.log.steps }
         ensures keeps { (self.new.flushed ≡ self.old.flushed) × (self.new.starved ≡ self.old.starved)
             × (self.new.most ≡ self.old.most) }
         ensures last { self.new.last ≡ last_after self.old.last result }
+        ensures shares { All (λ peer. peer.number ≤ self.old.last
+            → IsFrom KeepsShare self.old.peers.items peer) self.new.peers.items }
         ensures quiet { is_quiet self.old.listening ≡ true → (self.new.listening ≡ self.old.listening)
             × (self.new.system.log.steps ≡ self.old.system.log.steps ++ Answers (AcceptCall (Ok None)) ∷ []) }
         ensures makes { is_quiet self.old.listening ≡ false
@@ -50,10 +54,7 @@ impl<S: System> Sockets<S> {
         let Some(number) = self.last.checked_add(1) else {
             return self.put_off();
         };
-        let Ok(queues) = spare_or_new(&mut self.spare, alloc) else {
-            return self.put_off();
-        };
-        self.accept_next(number, queues)
+        self.accept_next(number)
     }
 
     /// Returns whether the next pending connection may be accepted now. If too many linger, one of them is closed
@@ -67,8 +68,9 @@ impl<S: System> Sockets<S> {
         ensures excused { result ≡ false → IsExcused self.new.system.log.steps }
         ensures keeps { (self.new.flushed ≡ self.old.flushed) × (self.new.starved ≡ self.old.starved)
             × (self.new.most ≡ self.old.most) }
+        ensures shares { AreFrom KeepsShare self.old.peers.items self.new.peers.items }
         ensures same { result ≡ true → (self.new.listening ≡ self.old.listening) × (self.new.last ≡ self.old.last)
-            × (self.new.system.log.steps ≡ self.old.system.log.steps) × (self.new.spare ≡ self.old.spare) }
+            × (self.new.system.log.steps ≡ self.old.system.log.steps) }
         ensures quiet { is_quiet self.old.listening ≡ true → (self.new.listening ≡ self.old.listening)
             × (self.new.system.log.steps ≡ self.old.system.log.steps) }
         ensures makes { is_quiet self.old.listening ≡ false
@@ -86,14 +88,13 @@ impl<S: System> Sockets<S> {
         true
     }
 
-    /// Puts off a pending connection for which memory or the numbers ran out: it is accepted after a rest, if there is
-    /// some by then.
+    /// Puts off a pending connection for which the numbers ran out.
     fn put_off(&mut self) -> Result<Option<u32>, DoorFault>
         requires { is_quiet self.old.listening ≡ false }
         ensures log { self.new.system.log.steps ≡ self.old.system.log.steps ++ Answers (AcceptCall result) ∷ [] }
         ensures fault { result ≡ Err DoorFault.Accept }
         ensures keeps { (self.new.flushed ≡ self.old.flushed) × (self.new.starved ≡ self.old.starved)
-            × (self.new.most ≡ self.old.most) }
+            × (self.new.most ≡ self.old.most) × (self.new.peers ≡ self.old.peers) }
         ensures last { self.new.last ≡ last_after self.old.last result }
         ensures rests { self.new.listening ≡ Listening.BackingOff }
     {
@@ -112,7 +113,7 @@ impl<S: System> Sockets<S> {
         ensures same { result ≡ answer }
         ensures listening { self.new.listening ≡ self.old.listening }
         ensures keeps { (self.new.flushed ≡ self.old.flushed) × (self.new.starved ≡ self.old.starved)
-            × (self.new.most ≡ self.old.most) }
+            × (self.new.most ≡ self.old.most) × (self.new.peers ≡ self.old.peers) }
         ensures last { self.new.last ≡ last_after self.old.last result }
     {
         self.system.answer(&Answer::Accept(answer));
@@ -121,7 +122,7 @@ impl<S: System> Sockets<S> {
     }
 
     /// Accepts the next pending connection under that number, if there is one.
-    fn accept_next(&mut self, number: u32, queues: Queues) -> Result<Option<u32>, DoorFault>
+    fn accept_next(&mut self, number: u32) -> Result<Option<u32>, DoorFault>
         requires next { number ≡ self.old.last + 1 }
         requires place { length self.old.peers.items < most_peers }
         requires loud { is_quiet self.old.listening ≡ false }
@@ -132,9 +133,12 @@ impl<S: System> Sockets<S> {
         ensures keeps { (self.new.flushed ≡ self.old.flushed) × (self.new.starved ≡ self.old.starved)
             × (self.new.most ≡ self.old.most) }
         ensures last { self.new.last ≡ last_after self.old.last result }
+        ensures shares { All (λ peer. peer.number ≤ self.old.last
+            → IsFrom KeepsShare self.old.peers.items peer) self.new.peers.items }
     {
         match self.system.accept(number) {
             Ok(()) => {
+                let queues = self.spare.pop().unwrap();
                 self.peers
                     .push(Peer::new(number, self.turn.clock, queues))
                     .unwrap();
@@ -144,7 +148,6 @@ impl<S: System> Sockets<S> {
                 Ok(Some(number))
             }
             Err(fault) => {
-                self.spare = Some(queues);
                 let said = failure_of(fault);
                 self.listening = Listening::after_failure(said);
                 let answer = nobody(said);
@@ -171,6 +174,7 @@ impl<S: System> Sockets<S> {
         ensures last { self.new.last ≡ self.old.last }
         ensures keeps { (self.new.flushed ≡ self.old.flushed) × (self.new.starved ≡ self.old.starved)
             × (self.new.most ≡ self.old.most) }
+        ensures shares { AreFrom KeepsShare self.old.peers.items self.new.peers.items }
         ensures closes { (self.new.system.log.steps ≡ self.old.system.log.steps)
             ⊎ ((who : ℕ) × (self.new.system.log.steps ≡ self.old.system.log.steps ++ Closes who ∷ [])) }
         ensures makes { FreesPlace self.old.peers.items self.old.listening self.new.listening
@@ -183,14 +187,18 @@ impl<S: System> Sockets<S> {
     }
 }
 
-/// Returns the queues that are spare, or new ones. Fails only if none are spare and memory is refused.
-fn spare_or_new(spare: &mut Option<Queues>, alloc: Global) -> Result<Queues, AllocError>
-    ensures { OnErr result (spare.old ≡ None) }
+/// Makes the queues of all places.
+///
+/// # Errors
+/// Returns an error if memory is refused.
+pub(super) fn make_queues(alloc: Global) -> Result<Vec<Queues>, AllocError>
+    ensures { IfOk result (λ all. (length all.items ≡ most_peers) × (most_peers ≤ vec_capacity all)) }
 {
-    match spare.take() {
-        Some(queues) => Ok(queues),
-        None => Queues::new(alloc),
+    let mut all = Vec::with_capacity(alloc, MOST_PEERS)?;
+    for _ in 0..MOST_PEERS {
+        all.push(Queues::new(alloc)?).unwrap();
     }
+    Ok(all)
 }
 
 /// Answers for an accept that failed.

@@ -1,13 +1,13 @@
 //! How a peer is read.
 
-ghost use Rattle.std.specs.Prelude.{◌≡◌, ◌<◌, ◌≤◌, ◌⊎◌, ◌++◌, ◌∷◌, [], ℕ, false, true, Ok, Err, IfErr, length};
+ghost use Rattle.std.specs.Prelude.{◌≡◌, ◌≢◌, ◌<◌, ◌≤◌, ◌⊎◌, ◌++◌, ◌∷◌, [], ℕ, false, true, Ok, Err, IfErr, length};
 ghost use Rattle.std.specs.List.{list_any};
 ghost use Rattle.srcp_door.specs.Calls.{ReadCall};
-ghost use Rattle.srcp_peers.specs.Peers.{goes_first};
+ghost use Rattle.srcp_peers.specs.Peers.{KeepsShare, goes_first};
 ghost use Rattle.srcp_peers.specs.Steps.{Answers, SaysOne};
 ghost use Rattle.srcp_peers.specs.Turns.{got_bytes};
 ghost use Rattle.srcp_sockets.specs.Doors.{IsMissing};
-ghost use Rattle.srcp_sockets.specs.Work.{IsPeerRead, goes_behind};
+ghost use Rattle.srcp_sockets.specs.Work.{AreFrom, IsPeerRead, goes_behind};
 
 use super::Sockets;
 use srcp_door::{DoorFault, Got};
@@ -31,7 +31,7 @@ impl<S: System> Sockets<S> {
         ensures nothing { result ≡ Ok Got.Nothing }
         ensures keeps { (self.new.flushed ≡ self.old.flushed) × (self.new.starved ≡ self.old.starved)
             × (self.new.most ≡ self.old.most) × (self.new.last ≡ self.old.last)
-            × (self.new.listening ≡ self.old.listening) }
+            × (self.new.listening ≡ self.old.listening) × (self.new.peers ≡ self.old.peers) }
     {
         let answer = Ok(Got::Nothing);
         self.system.answer(&Answer::Read(number, answer, buffer));
@@ -66,8 +66,10 @@ impl<S: System> Sockets<S> {
             ≡ self.old.system.log.steps ++ Answers (ReadCall number result buffer.new) ∷ [] }
         ensures count { (n : ℕ) → result ≡ Ok (Got.Bytes n) → (0 < n) × (n ≤ length buffer.old) }
         ensures fault { IfErr result (λ fault. fault ≡ DoorFault.Read) }
-        ensures answered { IsPeerRead self.old.turn self.old.peers.items number (length buffer.old) result
-            (got_bytes result buffer.new) self.old.starved self.new.starved }
+        ensures answered { IsPeerRead self.old.turn self.old.peers.items self.new.peers.items number
+            (length buffer.old) result (got_bytes result buffer.new) self.old.starved self.new.starved }
+        ensures shares { AreFrom (λ was p. p.number ≢ number → KeepsShare was p) self.old.peers.items
+            self.new.peers.items }
         ensures flushed { self.new.flushed ≡ self.old.flushed }
         ensures keeps { (self.new.most ≡ self.old.most) × (self.new.last ≡ self.old.last)
             × (self.new.listening ≡ self.old.listening) }
@@ -96,7 +98,7 @@ impl<S: System> Sockets<S> {
         ensures nothing { (result ≡ Ok Got.Nothing) ⊎ (result ≡ Err DoorFault.Read) }
         ensures keeps { (self.new.flushed ≡ self.old.flushed) × (self.new.starved ≡ self.old.starved)
             × (self.new.most ≡ self.old.most) × (self.new.last ≡ self.old.last)
-            × (self.new.listening ≡ self.old.listening) }
+            × (self.new.listening ≡ self.old.listening) × (self.new.peers ≡ self.old.peers) }
     {
         let answer = self.turn.report_fault();
         self.system.answer(&Answer::Read(number, answer, buffer));

@@ -1,4 +1,4 @@
-use Rattle.std.proofs.Common.{List, length, ap, subst, sym}
+use Rattle.std.proofs.Common.{List, length, ap, arith, subst, sym}
 use Rattle.srcp_door.specs.Calls.{NowCall}
 use Rattle.srcp_peers.specs.Steps.{SaysOne, Step}
 use Rattle.srcp_peers.proofs.CallsAreOfTheDoor.{says_after}
@@ -29,5 +29,6 @@ invariant_of-self-clause-fair g c =
     let new = c.now-answer.new.self.system.log.steps in
     let clock = c.now-answer.ensures.clock in
     answered_more sockets.system.log.steps new (NowCall c.now-answer.result)
-    (answered_now (length sockets.peers.items) sockets.system.log.steps begun new clock.0 c.now-answer.result sockets.places.0
+    (answered_now (length sockets.peers.items) sockets.system.log.steps begun new clock.0 c.now-answer.result
+    (omega (arith, sockets.places.0))
     c.begin_turn.ensures.calls c.begin_turn.ensures.most clock.2) tt c.args.self.now.fair

@@ -1,4 +1,4 @@
-use Rattle.std.proofs.Common.{◌≡◌, ◌∙◌, ◌+◌, ℕ, Bool, List, [], ◌∷◌, ◌++◌}
+use Rattle.std.proofs.Common.{◌≡◌, ◌∙◌, ◌+◌, ◌≤◌, ℕ, Bool, List, [], ◌∷◌, ◌++◌}
 use Rattle.std.proofs.Common.{Option, ap, arith, inl, inr, not, refl, rules, subst, sym, true, false}
 use Rattle.std.proofs.Common.{true≢false, None, Ok}
 use Rattle.std.specs.Prelude.{Result, cond, count_by}
@@ -7,12 +7,15 @@ use Rattle.srcp_door.specs.Calls.{AcceptCall}
 use Rattle.srcp_door.specs.declared.door.DoorFault.{DoorFault}
 use Rattle.srcp_peers.specs.declared.peer.Peer.{Peer}
 use Rattle.srcp_peers.specs.declared.turn.Listening.{Listening}
-use Rattle.srcp_peers.specs.Peers.{Makes}
+use Rattle.srcp_peers.specs.Peers.{KeepsShare, Makes}
 use Rattle.srcp_peers.specs.Steps.{Accepts, Answers, Step}
 use Rattle.srcp_peers.proofs.PeersRestByAccount.{and_left, and_right}
 use Rattle.srcp_sockets.specs.Doors.{is_quiet}
 use Rattle.srcp_sockets.specs.Work.{IsAccepting, is_close, is_crowded, may_accept}
 use Rattle.srcp_sockets.proofs.AnswersAreBounded.{answered_after}
+use Rattle.std.specs.Prelude.{All, slice_index_or}
+use Rattle.srcp_sockets.specs.Work.{AreFrom, IsFrom}
+use Rattle.srcp_sockets.proofs.PeersAreFrom.{share_then, since}
 use Rattle.srcp_sockets.proofs.sockets.Sockets.accept.Goals as goal
 
 pub returns-clause-answers : goal.returns-clause-answers
@@ -35,12 +38,6 @@ pub returns-in_default-clause-answers : goal.returns-in_default-clause-answers
 returns-in_default-clause-answers g c = answered_after c.args.self.now.system.log.steps
     c.may_accept.new.self.system.log.steps c.put_off.new.self.system.log.steps (AcceptCall c.put_off.result)
     c.may_accept.ensures.calls c.may_accept.ensures.few c.put_off.ensures.log
-
-pub returns-in_default-spare_or_new-clause-answers : goal.returns-in_default-spare_or_new-clause-answers
-returns-in_default-spare_or_new-clause-answers g c =
-    let none = c.put_off-in_default-spare_or_new in
-    answered_after c.args.self.now.system.log.steps c.may_accept.new.self.system.log.steps none.new.self.system.log.steps
-    (AcceptCall none.result) c.may_accept.ensures.calls c.may_accept.ensures.few none.ensures.log
 
 pub note_nobody-requires : goal.note_nobody-requires
 note_nobody-requires g c = record { nobody = inl refl; excused = λ e. c.may_accept.ensures.excused (search rules) }
@@ -149,14 +146,23 @@ returns-in_default-clause-quiet g c quiet =
     absurd (true≢false (sym quiet ∙ is_loud self.listening self.peers.items
     (sym c.may_accept.ensures.is ∙ c.if-not-may_accept.false)))
 
-pub returns-in_default-spare_or_new-clause-makes : goal.returns-in_default-spare_or_new-clause-makes
-returns-in_default-spare_or_new-clause-makes g c quiet crowded =
-    let self = c.args.self.now in
-    absurd (has_place self.listening self.peers.items
-    (sym c.may_accept.ensures.is ∙ c.if-not-may_accept.false) crowded)
+-- nobody came behind that
+nobody_new : (last : ℕ) (old mid new : List Peer) → new ≡ mid → AreFrom KeepsShare old mid
+    → All (λ peer. peer.number ≤ last → IsFrom KeepsShare old peer) new
+nobody_new last old mid new same from = subst (All (λ peer. peer.number ≤ last → IsFrom KeepsShare old peer)) (sym same)
+    (λ k d lt below. from k d lt)
 
-pub returns-in_default-spare_or_new-clause-quiet : goal.returns-in_default-spare_or_new-clause-quiet
-returns-in_default-spare_or_new-clause-quiet g c quiet =
-    let self = c.args.self.now in
-    absurd (true≢false (sym quiet ∙ is_loud self.listening self.peers.items
-    (sym c.may_accept.ensures.is ∙ c.if-not-may_accept.false)))
+pub returns-then-not-may_accept-clause-shares : goal.returns-then-not-may_accept-clause-shares
+returns-then-not-may_accept-clause-shares g c = nobody_new c.args.self.now.last c.args.self.now.peers.items
+    c.may_accept.new.self.peers.items c.note_nobody.new.self.peers.items (ap (λ peers. peers.items) c.note_nobody.ensures.keeps.3)
+    c.may_accept.ensures.shares
+
+pub returns-in_default-clause-shares : goal.returns-in_default-clause-shares
+returns-in_default-clause-shares g c = nobody_new c.args.self.now.last c.args.self.now.peers.items
+    c.may_accept.new.self.peers.items c.put_off.new.self.peers.items (ap (λ peers. peers.items) c.put_off.ensures.keeps.3)
+    c.may_accept.ensures.shares
+
+pub returns-clause-shares : goal.returns-clause-shares
+returns-clause-shares g c k d lt below = since KeepsShare KeepsShare KeepsShare share_then c.args.self.now.peers.items
+    c.may_accept.new.self.peers.items (slice_index_or c.accept_next.new.self.peers.items k d) c.may_accept.ensures.shares
+    (c.accept_next.ensures.shares k d lt (omega (arith, below, c.may_accept.ensures.last)))

@@ -1,6 +1,6 @@
 use Rattle.std.specs.declared.io.ErrorKind.{ErrorKind}
 use Rattle.std.specs.Prelude.{Result, filter_map}
-use Rattle.std.proofs.Common.{◌≡◌, ◌∙◌, ℕ, ◌∷◌, ◌++◌, [], ap, le_trans, refl, rules, sym, subst, arith, true, Ok, Err, Some}
+use Rattle.std.proofs.Common.{◌≡◌, ◌∙◌, ℕ, ◌∷◌, ◌++◌, [], ap, le_trans, refl, rules, sym, subst, arith, true, Ok, Err, Some, length, length-append}
 use Rattle.srcp_door.specs.Calls.{AcceptCall, peer_of}
 use Rattle.srcp_peers.specs.declared.system.IoFailure.{IoFailure}
 use Rattle.srcp_peers.specs.declared.system.IoFailure.TheVariants.{WouldBlock, Interrupted, Fatal}
@@ -20,6 +20,9 @@ use Rattle.srcp_sockets.proofs.AcceptsKeepSockets.{stands_came, stands_refused}
 use Rattle.srcp_sockets.proofs.SocketsStayStanding.{stands_answered}
 use Rattle.srcp_sockets.proofs.TimesGoOn.{timed_asked}
 use Rattle.srcp_sockets.proofs.EndsAreTold.{far_pushed, far_same}
+use Rattle.srcp_peers.specs.Peers.{KeepsShare}
+use Rattle.srcp_peers.specs.declared.peer.Peer.{Peer}
+use Rattle.srcp_sockets.proofs.PeersAreFrom.{from_pushed, from_same, share_stays}
 use Rattle.srcp_sockets.proofs.sockets.Sockets.accept_next.Goals as goal
 
 pub invariant_of-self : goal.invariant_of-self
@@ -50,7 +53,11 @@ invariant_of-self g c =
       ending = far_same mid new c.push.new.self.items (Answers call) c.answer.ensures.log (λ s x. refl)
           (far_pushed old mid self.peers.items c.push.new.self.items c.new.result self.turn.clock number c.in-Ok.field-0 pushed
           c.new.ensures c.in-Ok.ensures.log self.ending);
-      places = (search rules, le_trans self.places.1 c.push.ensures.capacity);
+      places = (
+        grind (arith, self.places.0, c.pop.ensures.cases, ap length pushed, length-append self.peers.items (c.new.result ∷ [])),
+        le_trans self.places.1 c.push.ensures.capacity,
+        search rules,
+      );
     }
 
 -- what is answered is what the system said
@@ -131,3 +138,13 @@ pub returns-in-Err-clause-last : goal.returns-in-Err-clause-last
 returns-in-Err-clause-last g c =
     let last = c.args.self.now.last in
     last_of_nobody last c.failure_of-said.result ∙ sym (ap (last_after last) c.nobody-answer.ensures.answer)
+
+pub returns-in-Ok-clause-shares : goal.returns-in-Ok-clause-shares
+returns-in-Ok-clause-shares g c =
+    let self = c.args.self.now in
+    let number : c.new.result.number ≡ c.args.number = ap (λ (p : Peer). p.number) c.new.ensures in
+    from_pushed KeepsShare share_stays self.peers.items c.push.new.self.items c.new.result self.last (search rules)
+    (omega (arith, number, c.requires.next))
+
+pub returns-in-Err-clause-shares : goal.returns-in-Err-clause-shares
+returns-in-Err-clause-shares g c k d lt below = from_same KeepsShare share_stays c.args.self.now.peers.items k d lt

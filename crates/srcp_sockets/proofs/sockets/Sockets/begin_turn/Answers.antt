@@ -1,9 +1,9 @@
-use Rattle.std.proofs.Common.{◌≡◌, ◌∙◌, Bool, false, ap, subst, sym}
-use Rattle.std.specs.Prelude.{◌&&◌, cond, not}
+use Rattle.std.proofs.Common.{◌≡◌, ◌∙◌, ℕ, Bool, false, ap, subst, sym}
+use Rattle.std.specs.Prelude.{◌&&◌, ◌||◌, cond, not}
 use Rattle.srcp_peers.specs.declared.readiness.Flush.{Flush}
 use Rattle.srcp_peers.specs.declared.turn.Turn.{Turn}
 use Rattle.srcp_peers.specs.AllPeers.{AreOffered}
-use Rattle.srcp_peers.specs.Peers.{flushes_all}
+use Rattle.srcp_peers.specs.Peers.{IsShared, KeepsRest, flushes_all}
 use Rattle.srcp_peers.specs.Turns.{flushing, has_ticked}
 use Rattle.srcp_peers.proofs.QueuedIsOffered.{all_offered_then}
 use Rattle.srcp_peers.proofs.PeersRestByAccount.{and_right}
@@ -11,11 +11,12 @@ use Rattle.srcp_peers.proofs.CallsAreOfTheDoor.{keeps_then, says_then}
 use Rattle.srcp_sockets.specs.Delivery.{HasWaited}
 use Rattle.srcp_sockets.specs.Doors.{flushed_in}
 use Rattle.srcp_sockets.specs.Waits.{AreFlushed}
-use Rattle.srcp_sockets.specs.Work.{AreClosedUp, goes_on}
+use Rattle.srcp_sockets.specs.Work.{AreClosedUp, AreFrom, goes_on}
 use Rattle.srcp_sockets.proofs.EndsAreDelivered.{waited_after, waited_keeps}
 use Rattle.srcp_sockets.proofs.WorkIsDone.{looked_silent, may_tell}
 use Rattle.srcp_sockets.proofs.WaitsAreFlushed.{all_closed, may_wait}
 use Rattle.std.proofs.Common.{arith}
+use Rattle.srcp_sockets.proofs.PeersAreFrom.{all_shared, from_then, rest_then}
 use Rattle.srcp_sockets.proofs.sockets.Sockets.begin_turn.Goals as goal
 
 pub returns-clause-calls : goal.returns-clause-calls
@@ -103,3 +104,59 @@ returns-clause-most g c =
     let looked = c.poll_unless_held.ensures.most in
     let begun = c.begin_visits.ensures.most in
     omega (arith, a, b, d, flushed, gone, looked, begun)
+
+pub returns-clause-shares : goal.returns-clause-shares
+returns-clause-shares g c =
+    let was = c.args.self.now in
+    let flushed = c.flush.new.self in
+    let gone = c.close_gone.new.self in
+    let looked = c.poll_unless_held.new.self in
+    let new = c.begin_visits.new.self in
+    let begun = c.begin_visits.ensures in
+    let turn = ap (λ t. t.late) c.poll_unless_held.ensures.turn ∙ ap (λ t. t.late) c.close_gone.ensures.keeps.0
+    ∙ ap (λ t. t.late) c.flush.ensures.keeps.0 in
+    let clock : looked.turn.clock ≡ was.turn.clock = ap (λ t. t.clock) c.poll_unless_held.ensures.turn
+    ∙ ap (λ t. t.clock) c.close_gone.ensures.keeps.0 ∙ ap (λ t. t.clock) c.flush.ensures.keeps.0 in
+    let starved : looked.starved ≡ was.starved = c.poll_unless_held.ensures.starved ∙ c.close_gone.ensures.keeps.1
+    ∙ c.flush.ensures.keeps.1 in
+    let anew : not (looked.starved || looked.turn.late) ≡ not (was.starved || was.turn.late) =
+    ap (λ s. not (s || looked.turn.late)) starved ∙ ap (λ l. not (was.starved || l)) turn in
+    subst (λ (a : Bool). AreFrom (IsShared a was.turn.clock) was.peers.items new.peers.items) anew
+    (subst (λ (t : ℕ). AreFrom (IsShared (not (looked.starved || looked.turn.late)) t) was.peers.items new.peers.items) clock
+    (all_shared (not (looked.starved || looked.turn.late)) looked.turn.clock was.peers.items gone.peers.items looked.peers.items
+    new.peers.items
+    (from_then KeepsRest KeepsRest KeepsRest rest_then was.peers.items flushed.peers.items gone.peers.items c.flush.ensures.left
+    c.close_gone.ensures.left)
+    c.poll_unless_held.ensures.shares begun.as_many begun.those begun.shares))
+
+pub returns-clause-rests : goal.returns-clause-rests
+returns-clause-rests g c goes =
+    let was = c.args.self.now in
+    let ticked = has_ticked was.turn was.flushed in
+    let held = c.goes_on-held.ensures ∙ ap (λ holds. not ticked && holds) c.holds_input-holds.ensures ∙ goes in
+    c.begin_visits.ensures.keeps.2 ∙ c.poll_unless_held.ensures.rests held ∙ c.close_gone.ensures.keeps.3 ∙ c.flush.ensures.keeps.4
+
+pub returns-clause-heard : goal.returns-clause-heard
+returns-clause-heard g c goes =
+    let was = c.args.self.now in
+    let gone = c.close_gone.new.self in
+    let looked = c.poll_unless_held.new.self in
+    let old = was.system.log.steps in
+    let flushed = c.flush.new.self.system.log.steps in
+    let ticked = has_ticked was.turn was.flushed in
+    let held = c.goes_on-held.ensures ∙ ap (λ holds. not ticked && holds) c.holds_input-holds.ensures ∙ goes in
+    let waits = c.poll_unless_held.ensures.heard held in
+    let heard : gone.listening ≡ was.listening = c.close_gone.ensures.keeps.3 ∙ c.flush.ensures.keeps.4 in
+    let turn : gone.turn ≡ was.turn = c.close_gone.ensures.keeps.0 ∙ c.flush.ensures.keeps.0 in
+    let limit : gone.most ≡ was.most = c.close_gone.ensures.keeps.2 ∙ c.flush.ensures.keeps.2 in
+    record {
+      peers = gone.peers.items;
+      log = gone.system.log.steps;
+      later = looked.system.log.steps;
+      left = from_then KeepsRest KeepsRest KeepsRest rest_then was.peers.items c.flush.new.self.peers.items gone.peers.items
+          c.flush.ensures.left c.close_gone.ensures.left;
+      stands = (gone.listening, gone.last, gone.stands);
+      begins = says_then old flushed gone.system.log.steps c.flush.ensures.calls c.close_gone.ensures.calls;
+      waits = rw (c.begin_visits.ensures.keeps.2, ← heard, ← turn, ← limit) waits;
+      ends = c.begin_visits.ensures.calls;
+    }

@@ -2,7 +2,7 @@ use Rattle.std.proofs.Common.{◌≡◌, ◌∙◌, ℕ, not, List, rules, subst
 use Rattle.std.specs.Prelude.{◌||◌, Bool, All}
 use Rattle.std.proofs.lemmas.List.{with_items_is}
 use Rattle.srcp_peers.specs.declared.peer.Peer.{Peer}
-use Rattle.srcp_peers.specs.AllPeers.{AreShared}
+use Rattle.srcp_peers.specs.AllPeers.{AreShared, AreThose}
 use Rattle.srcp_sockets.specs.Doors.{Stands}
 use Rattle.srcp_peers.specs.Turns.{lines_left_of}
 use Rattle.srcp_sockets.proofs.AcceptsAreAsked.{asked_silent}
@@ -48,6 +48,7 @@ invariant_of-self g c =
               c.begin_visits.auto.peers c.as_mut_slice.ensures.value,
         ),
         c.args.self.now.places.1,
+        c.args.self.now.places.2,
       );
     }
 
@@ -94,3 +95,14 @@ pub returns-clause-most : goal.returns-clause-most
 returns-clause-most g c =
     subst (λ (ps : List Peer). GrowsBy (length ps) c.args.self.now.system.log.steps c.begin_visits.new.system.log.steps)
     c.as_mut_slice.ensures.value c.begin_visits.ensures.most
+
+pub returns-clause-as_many : goal.returns-clause-as_many
+returns-clause-as_many g c = as_many c.as_mut_slice.result.now c.begin_visits.new.peers c.args.self.now.peers.items _
+    (with_items_is c.args.self.now.peers c.begin_visits.new.peers (c.begin_visits.auto.peers ∙ search rules)) c.begin_visits.auto.peers
+    c.as_mut_slice.ensures.value
+
+pub returns-clause-those : goal.returns-clause-those
+returns-clause-those g c =
+    subst (AreThose c.args.self.now.peers.items)
+    (sym (with_items_is c.args.self.now.peers c.begin_visits.new.peers (c.begin_visits.auto.peers ∙ search rules)))
+    (subst (λ (ps : List Peer). AreThose ps c.begin_visits.new.peers) c.as_mut_slice.ensures.value c.begin_visits.ensures.those)

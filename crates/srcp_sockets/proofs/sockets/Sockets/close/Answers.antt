@@ -12,6 +12,8 @@ use Rattle.srcp_sockets.proofs.NumbersDiffer.{named_call}
 use Rattle.srcp_sockets.proofs.SocketsLingerAndClose.{stands_left, stands_missing}
 use Rattle.srcp_sockets.proofs.TimesGoOn.{timed_close}
 use Rattle.srcp_sockets.proofs.EndsAreTold.{far_left, far_same, slackens_step}
+use Rattle.srcp_peers.specs.Peers.{KeepsShare}
+use Rattle.srcp_sockets.proofs.PeersAreFrom.{from_same, from_set, share_stays}
 use Rattle.srcp_sockets.proofs.sockets.Sockets.close.Goals as goal
 
 pub returns-in_default-clause-trace : goal.returns-in_default-clause-trace
@@ -70,3 +72,11 @@ invariant_of-self-2 g c =
 pub returns-clause-trace : goal.returns-clause-trace
 returns-clause-trace g c = says_call c.args.self.now.system.log.steps c.answer-2.new.self.log.steps
     (CloseCall c.args.number (Ok tt)) c.answer-2.ensures.log
+
+pub returns-clause-shares : goal.returns-clause-shares
+returns-clause-shares g c = from_set KeepsShare share_stays c.args.self.now.peers.items c.in-Some.index c.index_mut.result.now
+    c.linger.new.self c.in-Some.ensures.found.0 c.index_mut.ensures.value (ap (λ (p : Peer). p.number) c.linger.ensures)
+    (ap (λ (p : Peer). p.share) c.linger.ensures, ap (λ (p : Peer). p.heard) c.linger.ensures)
+
+pub returns-in_default-clause-shares : goal.returns-in_default-clause-shares
+returns-in_default-clause-shares g c = from_same KeepsShare share_stays c.args.self.now.peers.items

@@ -18,6 +18,9 @@ use Rattle.srcp_sockets.proofs.EndsAreTold.{far_goes, removed_of, slackens_step}
 use Rattle.srcp_peers.proofs.StepsAreCounted.{grows_step}
 use Rattle.std.proofs.lemmas.List.Edits.{length-remove}
 use Rattle.std.proofs.Common.{ap, arith, length}
+use Rattle.srcp_peers.specs.Peers.{KeepsRest}
+use Rattle.srcp_sockets.specs.Work.{AreFrom}
+use Rattle.srcp_sockets.proofs.PeersAreFrom.{from_removed, rest_stays}
 use Rattle.srcp_sockets.proofs.sockets.Sockets.close_at.Goals as goal
 
 pub invariant_of-self : goal.invariant_of-self
@@ -27,7 +30,7 @@ invariant_of-self g c =
     let self = c.args.self.now in
     let peer = c.index.result.now in
     record {
-      stands = subst (λ (ps : List Peer). Stands new ps self.listening self.last) (sym c.remove.ensures.items)
+      stands = subst (λ (ps : List Peer). Stands new ps self.listening self.last) (sym c.remove-peer.ensures.items)
           (stands_closed_at old new self.peers.items c.args.index peer self.listening self.last self.turn.clock c.requires.within
           (sym c.index.ensures) (c.requires.closable peer)
           (clock_is old self.turn peer.number self.timed) c.close.ensures.log self.stands);
@@ -36,7 +39,7 @@ invariant_of-self g c =
       asked = asked_step old new (Closes peer.number) c.close.ensures.log refl self.asked;
       done = done_step self.turn.timekeeper.wall self.turn.timekeeper.start old new (Closes peer.number) c.close.ensures.log tt
           self.done;
-      ending = subst (AreAsFar new) (sym c.remove.ensures.items)
+      ending = subst (AreAsFar new) (sym c.remove-peer.ensures.items)
           (far_goes old new self.peers.items (remove self.peers.items c.args.index)
           (slackens_step old new (Closes peer.number) c.close.ensures.log (λ s x. refl))
           (removed_of self.peers.items c.args.index peer c.requires.within (sym c.index.ensures) self.stands.apart) self.ending);
@@ -76,4 +79,11 @@ returns-clause-most g c = grows_step c.args.self.now.system.log.steps c.close.ne
 pub returns-clause-as_few : goal.returns-clause-as_few
 returns-clause-as_few g c =
     let items = c.args.self.now.peers.items in
-    omega (arith, length-remove items c.args.index c.requires.within, ap length c.remove.ensures.items)
+    omega (arith, length-remove items c.args.index c.requires.within, ap length c.remove-peer.ensures.items)
+
+pub returns-clause-left : goal.returns-clause-left
+returns-clause-left g c =
+    let self = c.args.self.now in
+    subst (AreFrom KeepsRest self.peers.items) (sym c.remove-peer.ensures.items)
+    (from_removed KeepsRest rest_stays self.peers.items c.args.index c.index.result.now c.requires.within (sym c.index.ensures)
+    self.stands.apart)

@@ -1,7 +1,8 @@
 use Rattle.std.proofs.Common.{◌≡◌, ◌∙◌, ℕ, arith, inr, refl, subst}
-use Rattle.srcp_peers.specs.Peers.{Makes}
+use Rattle.srcp_peers.specs.Peers.{KeepsRest, Makes}
 use Rattle.srcp_peers.proofs.CallsAreOfTheDoor.{keeps_then, says_none, says_then}
 use Rattle.srcp_sockets.specs.Work.{is_close}
+use Rattle.srcp_sockets.proofs.PeersAreFrom.{from_same, from_then, rest_stays, rest_then}
 use Rattle.srcp_sockets.proofs.sockets.Sockets.close_gone.Goals as goal
 
 pub loop-init : goal.loop-init
@@ -18,6 +19,7 @@ loop-init g c =
       heard = refl;
       made = omega arith;
       most = λ n le. omega arith;
+      left = from_same KeepsRest rest_stays c.args.self.now.peers.items;
       as_few = omega arith;
       out = λ all flushed. flushed;
     }
@@ -40,6 +42,8 @@ loop-preserved g c =
       heard = now.heard ∙ was.heard;
       made = (let a = now.closed in let b = was.made in omega (arith, a, b));
       most = λ n le. (let a = now.most in let b = was.most c.loop.counter (omega arith) in omega (arith, le, a, b));
+      left = from_then KeepsRest KeepsRest KeepsRest rest_then c.args.self.now.peers.items c.loop.self.peers.items
+          c.close_at.new.self.peers.items was.left now.left;
       as_few = (let a = now.as_few in let b = was.as_few in omega (arith, a, b));
       out = λ all flushed. now.out all (was.out all flushed);
     }

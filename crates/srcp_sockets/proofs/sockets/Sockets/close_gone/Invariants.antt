@@ -1,9 +1,9 @@
 use Rattle.std.proofs.Common.{◌≡◌, ◌≤◌, ℕ, Bool, length}
-use Rattle.srcp_peers.specs.Peers.{Makes}
+use Rattle.srcp_peers.specs.Peers.{KeepsRest, Makes}
 use Rattle.srcp_peers.specs.Steps.{GrowsBy, SaysNothing}
 use Rattle.srcp_peers.specs.Times.{KeepsTimes}
 use Rattle.srcp_sockets.specs.Waits.{AreFlushed}
-use Rattle.srcp_sockets.specs.Work.{is_close}
+use Rattle.srcp_sockets.specs.Work.{AreFrom, is_close}
 use Rattle.srcp_sockets.proofs.sockets.Sockets.close_gone.Given as goal
 
 abbrev pub invariant-loop : goal.invariant-loop
@@ -18,6 +18,7 @@ invariant-loop g l = record {
   heard : l.self.listening ≡ l.fn.self.listening;
   made : Makes is_close l.counter l.fn.self.system.log.steps l.self.system.log.steps;
   most : (n : ℕ) → l.counter ≤ n → GrowsBy n l.fn.self.system.log.steps l.self.system.log.steps;
+  left : AreFrom KeepsRest l.fn.self.peers.items l.self.peers.items;
   as_few : length l.self.peers.items ≤ length l.fn.self.peers.items;
   out : (all : Bool) → AreFlushed all l.fn.self.system.log.steps → AreFlushed all l.self.system.log.steps;
 }

@@ -14,6 +14,9 @@ use Rattle.srcp_sockets.proofs.EndsAreTold.{far_goes, flushed_of, slackens_silen
 use Rattle.std.proofs.Common.{◌+◌, ◌*◌, length}
 use Rattle.srcp_peers.specs.Steps.{GrowsBy}
 use Rattle.srcp_sockets.proofs.SocketsStayStanding.{as_many}
+use Rattle.srcp_peers.specs.Peers.{KeepsRest}
+use Rattle.srcp_sockets.specs.Work.{AreFrom}
+use Rattle.srcp_sockets.proofs.PeersAreFrom.{from_each}
 use Rattle.srcp_sockets.proofs.sockets.Sockets.flush.Goals as goal
 
 pub invariant_of-self : goal.invariant_of-self
@@ -37,7 +40,7 @@ invariant_of-self g c =
           (sym (with_items_is c.args.self.now.peers c.flush.new.peers (c.flush.auto.peers ∙ search rules)))
           (far_goes old new c.as_mut_slice.result.now c.flush.new.peers (slackens_silent old new c.flush.ensures.calls)
           (flushed_of c.as_mut_slice.result.now c.flush.new.peers c.flush.auto.peers c.flush.ensures.those c.flush.ensures.shut
-          c.flush.ensures.endings)
+          c.flush.ensures.keeps)
           (subst (AreAsFar old) (sym c.as_mut_slice.ensures.value) c.args.self.now.ending));
       places = (
         omega (
@@ -48,6 +51,7 @@ invariant_of-self g c =
               c.as_mut_slice.ensures.value,
         ),
         c.args.self.now.places.1,
+        c.args.self.now.places.2,
       );
     }
 
@@ -80,3 +84,12 @@ pub returns-clause-as_many : goal.returns-clause-as_many
 returns-clause-as_many g c = as_many c.as_mut_slice.result.now c.flush.new.peers c.args.self.now.peers.items _
     (with_items_is c.args.self.now.peers c.flush.new.peers (c.flush.auto.peers ∙ search rules)) c.flush.auto.peers
     c.as_mut_slice.ensures.value
+
+pub returns-clause-left : goal.returns-clause-left
+returns-clause-left g c =
+    let before = c.as_mut_slice.result.now in
+    let after = c.flush.new.peers in
+    subst (AreFrom KeepsRest c.args.self.now.peers.items)
+    (sym (with_items_is c.args.self.now.peers after (c.flush.auto.peers ∙ search rules)))
+    (subst (λ (ps : List Peer). AreFrom KeepsRest ps after) c.as_mut_slice.ensures.value
+    (from_each KeepsRest before after c.flush.auto.peers c.flush.ensures.those c.flush.ensures.keeps))

@@ -1,8 +1,9 @@
 use Rattle.std.proofs.Common.{◌≡◌, ◌<◌, List, length, subst, true}
 use Rattle.std.specs.Prelude.{slice_index_or}
 use Rattle.srcp_peers.specs.declared.peer.Peer.{Peer}
-use Rattle.srcp_peers.specs.Peers.{is_closable}
+use Rattle.srcp_peers.specs.Peers.{KeepsRest, KeepsShare, is_closable}
 use Rattle.srcp_sockets.proofs.AcceptsKeepSockets.{stands_later}
+use Rattle.srcp_sockets.proofs.PeersAreFrom.{from_same, from_weaker, rest_shares, share_stays}
 use Rattle.srcp_sockets.proofs.sockets.Sockets.free_place.Goals as goal
 
 pub close_at-requires : goal.close_at-requires
@@ -19,3 +20,10 @@ pub invariant_of-self-clause-stands : goal.invariant_of-self-clause-stands
 invariant_of-self-clause-stands g c =
     let self = c.args.self.now in
     stands_later self.system.log.steps self.peers.items self.listening self.last c.requires self.stands
+
+pub returns-in-Some-clause-shares : goal.returns-in-Some-clause-shares
+returns-in-Some-clause-shares g c = from_weaker KeepsRest KeepsShare rest_shares c.args.self.now.peers.items
+    c.close_at.new.self.peers.items c.close_at.ensures.left
+
+pub returns-in-None-clause-shares : goal.returns-in-None-clause-shares
+returns-in-None-clause-shares g c = from_same KeepsShare share_stays c.args.self.now.peers.items

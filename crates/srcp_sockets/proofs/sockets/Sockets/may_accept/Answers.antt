@@ -4,6 +4,8 @@ use Rattle.srcp_sockets.specs.Asked.{IsExcused}
 use Rattle.srcp_sockets.specs.Work.{is_crowded}
 use Rattle.srcp_peers.proofs.StepsAreCounted.{grows_step}
 use Rattle.srcp_sockets.proofs.AcceptsAreAsked.{may_closed, may_crowded}
+use Rattle.srcp_peers.specs.Peers.{KeepsShare}
+use Rattle.srcp_sockets.proofs.PeersAreFrom.{from_same, share_stays}
 use Rattle.srcp_sockets.proofs.sockets.Sockets.may_accept.Goals as goal
 
 pub returns-then-is_crowded-clause-excused : goal.returns-then-is_crowded-clause-excused
@@ -27,3 +29,9 @@ returns-then-is_crowded-clause-few g c =
     (λ (same : new ≡ old). omega (arith, ap length same))
     (λ (one : (who : ℕ) × (new ≡ old ++ Closes who ∷ [])). grows_step old new (Closes one.0) one.1)
     c.free_place.ensures.closes
+
+pub returns-then-is_quiet-clause-shares : goal.returns-then-is_quiet-clause-shares
+returns-then-is_quiet-clause-shares g c = from_same KeepsShare share_stays c.args.self.now.peers.items
+
+pub returns-clause-shares : goal.returns-clause-shares
+returns-clause-shares g c = from_same KeepsShare share_stays c.args.self.now.peers.items

@@ -1,10 +1,13 @@
-use Rattle.std.proofs.Common.{◌∙◌, subst, sym, true≢false, Bool}
-use Rattle.std.specs.Prelude.{cond}
+use Rattle.std.proofs.Common.{◌≡◌, ◌∙◌, ap, subst, sym, true, true≢false, Bool}
+use Rattle.std.specs.Prelude.{◌&&◌, cond}
 use Rattle.srcp_peers.specs.Waiting.{longest_wait}
 use Rattle.srcp_peers.proofs.CallsAreOfTheDoor.{says_none}
 use Rattle.srcp_sockets.specs.Delivery.{HasWaited}
 use Rattle.srcp_sockets.proofs.EndsAreDelivered.{waited_more, waited_none}
 use Rattle.std.proofs.Common.{arith}
+use Rattle.srcp_peers.specs.Peers.{KeepsShare}
+use Rattle.srcp_peers.specs.declared.turn.Turn.{Turn}
+use Rattle.srcp_sockets.proofs.PeersAreFrom.{from_same, share_stays}
 use Rattle.srcp_sockets.proofs.sockets.Sockets.poll_unless_held.Goals as goal
 
 pub returns-then-held-clause-calls : goal.returns-then-held-clause-calls
@@ -38,3 +41,16 @@ returns-clause-rests g c held = absurd (true≢false (sym held ∙ c.if-held.fal
 
 pub returns-then-held-clause-most : goal.returns-then-held-clause-most
 returns-then-held-clause-most g c = omega arith
+
+pub returns-then-held-clause-shares : goal.returns-then-held-clause-shares
+returns-then-held-clause-shares g c = from_same KeepsShare share_stays c.args.self.now.peers.items
+
+turn_stays : (turn : Turn) (held : Bool) → held ≡ true → turn ≡ record turn { busy = held && turn.busy }
+turn_stays turn held e = ap (λ (h : Bool). record turn { busy = h && turn.busy }) (sym e)
+
+pub returns-then-held-clause-turn : goal.returns-then-held-clause-turn
+returns-then-held-clause-turn g c = turn_stays c.args.self.now.turn c.args.held c.if-held.true
+
+pub returns-clause-turn : goal.returns-clause-turn
+returns-clause-turn g c = c.wait.ensures.turn
+    ∙ ap (λ (h : Bool). record c.args.self.now.turn { busy = h && c.args.self.now.turn.busy }) (sym c.if-held.false)

@@ -1,10 +1,11 @@
 use Rattle.std.proofs.Common.{◌++◌, ◌∷◌, [], ◌≡◌, ◌∙◌, ℕ, length, ap, refl, rules, sym, subst, true≢false}
-use Rattle.std.specs.Prelude.{slice_index_or}
+use Rattle.std.specs.Prelude.{◌==◌, ◌≢◌, cond, slice_index_or}
+use Rattle.srcp_door.specs.Pacing.{share_after}
 use Rattle.srcp_peers.specs.Reports.{IsAnswered}
 use Rattle.srcp_peers.specs.Turns.{after_read, got_bytes}
 use Rattle.srcp_peers.specs.declared.peer.Peer.{Peer}
 use Rattle.srcp_door.specs.Calls.{ReadCall}
-use Rattle.srcp_peers.specs.Peers.{IsKept}
+use Rattle.srcp_peers.specs.Peers.{IsKept, KeepsShare}
 use Rattle.srcp_peers.specs.Steps.{Answers, SaysOne}
 use Rattle.srcp_peers.proofs.CallsAreOfTheDoor.{says_call}
 use Rattle.srcp_sockets.proofs.AcceptsAreAsked.{asked_step}
@@ -16,9 +17,10 @@ use Rattle.srcp_sockets.proofs.TimesGoOn.{line_kept, read_time, timed_read}
 use Rattle.std.proofs.Common.{Bool, set, true}
 use Rattle.srcp_peers.specs.declared.stay.Stay.TheVariants as stay
 use Rattle.srcp_sockets.specs.Endings.{ending_of, is_as_far}
-use Rattle.srcp_sockets.specs.Work.{goes_behind}
+use Rattle.srcp_sockets.specs.Work.{AreFrom, goes_behind}
 use Rattle.srcp_sockets.proofs.EndsAreTold.{far_goes, set_one, slackens_step}
-use Rattle.srcp_sockets.proofs.ThePeer.{the_one}
+use Rattle.srcp_sockets.proofs.ThePeer.{the_changed, the_one}
+use Rattle.srcp_sockets.proofs.PeersAreFrom.{from_same, from_set}
 use Rattle.srcp_sockets.proofs.sockets.Sockets.read.Goals as goal
 
 pub invariant_of-self : goal.invariant_of-self
@@ -53,7 +55,7 @@ invariant_of-self g c =
           (ap (λ m. m.wall) (read_time turn x.share.line answer buffer)) (ap (λ m. m.start) (read_time turn x.share.line answer buffer))
           (done_step turn.timekeeper.wall turn.timekeeper.start old new (Answers (ReadCall x.number answer buffer))
           c.read-handed.ensures.log
-          (λ early. read_done turn.timekeeper.wall turn.timekeeper.start old turn c.goes_behind-waits.result x answer
+          (λ early. read_done turn.timekeeper.wall turn.timekeeper.start old turn _ x answer
           buffer (length c.args.buffer.now) c.read-handed.result.starved c.args.self.now.timed
           (subst (IsKept old) (sym is) (c.args.self.now.stands.kept c.in-Some.index x within))
           here (subst (λ (p : Peer). is_as_far (ending_of p.number old) p.ending ≡ true) (sym is)
@@ -91,6 +93,8 @@ returns-clause-answered g c k d lt there =
     (there.0 ∙ sym (found.1 d).0) in
     let seen = the_one self.peers.items c.in-Some.index k c.index.result.now d c.index.ensures found.0 self.stands.apart lt
     (there.0 ∙ sym (found.1 d).0) in
+    let now = the_changed self.peers.items c.in-Some.index k handed.new.self d found.0 self.stands.apart lt
+    (there.0 ∙ sym (found.1 d).0) in
     let space = length c.args.buffer.now in
     let bytes = got_bytes handed.result.got handed.new.buffer in
     let behind = c.goes_behind-waits.ensures ∙ ap (goes_behind self.turn self.peers.items) seen in (
@@ -100,6 +104,9 @@ returns-clause-answered g c k d lt there =
           (subst (λ (p : Peer). IsAnswered self.turn c.goes_behind-waits.result p space handed.result.got bytes handed.result.starved)
           is handed.ensures.answered),
       search rules,
+      ap (λ (p : Peer). p.share) now ∙ handed.ensures.share ∙ ap (λ (p : Peer). share_after p.share bytes handed.result.starved) is,
+      ap (λ (p : Peer). p.heard) now ∙ handed.ensures.heard
+          ∙ ap (λ (p : Peer). cond {A = ℕ} (length bytes == 0) p.heard self.turn.clock) is,
     )
 
 pub returns-clause-log : goal.returns-clause-log
@@ -109,3 +116,18 @@ returns-clause-log g c =
     subst (λ (n : ℕ). c.read-handed.new.system.log.steps
     ≡ c.args.self.now.system.log.steps ++ Answers (ReadCall n c.read-handed.result.got c.read-handed.new.buffer) ∷ [])
     e c.read-handed.ensures.log
+
+pub returns-clause-shares : goal.returns-clause-shares
+returns-clause-shares g c =
+    let x = c.index_mut.result.now in
+    let number : x.number ≡ c.args.number = ap (λ (p : Peer). p.number) c.index_mut.ensures.value ∙ (c.in-Some.ensures.found.1 x).0 in
+    from_set (λ was p. p.number ≢ c.args.number → KeepsShare was p) (λ p differ. (refl, refl)) c.args.self.now.peers.items
+    c.in-Some.index x c.read-handed.new.self c.in-Some.ensures.found.0 c.index_mut.ensures.value c.read-handed.ensures.number
+    (λ differ. absurd (differ (c.read-handed.ensures.number ∙ number)))
+
+pub returns-in_default-clause-shares : goal.returns-in_default-clause-shares
+returns-in_default-clause-shares g c =
+    let self = c.args.self.now in
+    subst (AreFrom (λ was p. p.number ≢ c.args.number → KeepsShare was p) self.peers.items)
+    (sym (ap (λ peers. peers.items) c.read_nobody.ensures.keeps.5))
+    (from_same (λ was p. p.number ≢ c.args.number → KeepsShare was p) (λ p differ. (refl, refl)) self.peers.items)

@@ -6,7 +6,7 @@ use Rattle.srcp_peers.specs.declared.turn.Turn.{Turn}
 use Rattle.srcp_peers.specs.declared.turn.Listening.{Listening}
 use Rattle.srcp_peers.specs.Accounts.{is_short_wait}
 use Rattle.srcp_sockets.specs.Doors.{Stands}
-use Rattle.srcp_peers.specs.Peers.{is_resting}
+use Rattle.srcp_peers.specs.Peers.{KeepsShare, is_resting}
 use Rattle.srcp_peers.specs.Steps.{Waits}
 use Rattle.srcp_peers.specs.Turns.{after_wait}
 use Rattle.srcp_sockets.specs.KeptTimes.{IsTimed}
@@ -21,6 +21,8 @@ use Rattle.srcp_sockets.specs.Endings.{AreAsFar}
 use Rattle.srcp_sockets.proofs.EndsAreTold.{far_goes, slackens_step, woken_of}
 use Rattle.srcp_peers.proofs.StepsAreCounted.{grows_step}
 use Rattle.srcp_sockets.proofs.SocketsStayStanding.{as_many}
+use Rattle.srcp_sockets.specs.Work.{AreFrom}
+use Rattle.srcp_sockets.proofs.PeersAreFrom.{woken_from}
 use Rattle.srcp_sockets.proofs.sockets.Sockets.wait.Goals as goal
 
 pub invariant_of-self : goal.invariant_of-self
@@ -66,6 +68,7 @@ invariant_of-self g c =
               c.as_mut_slice.ensures.value,
         ),
         c.args.self.now.places.1,
+        c.args.self.now.places.2,
       );
     }
 
@@ -95,3 +98,12 @@ pub returns-clause-as_many : goal.returns-clause-as_many
 returns-clause-as_many g c = as_many c.as_mut_slice.result.now c.wake.new.peers c.args.self.now.peers.items _
     (with_items_is c.args.self.now.peers c.wake.new.peers (c.wake.auto.peers ∙ search rules)) c.wake.auto.peers
     c.as_mut_slice.ensures.value
+
+pub returns-clause-shares : goal.returns-clause-shares
+returns-clause-shares g c =
+    let before = c.as_mut_slice.result.now in
+    let after = c.wake.new.peers in
+    subst (AreFrom KeepsShare c.args.self.now.peers.items)
+    (sym (with_items_is c.args.self.now.peers after (c.wake.auto.peers ∙ search rules)))
+    (subst (λ (ps : List Peer). AreFrom KeepsShare ps after) c.as_mut_slice.ensures.value
+    (woken_from before after (take c.wait-count.result c.wait-count.new.ready) c.wake.auto.peers c.wake.ensures))

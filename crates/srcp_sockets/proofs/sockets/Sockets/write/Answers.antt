@@ -2,7 +2,7 @@ use Rattle.std.proofs.Common.{◌++◌, ◌∷◌, [], ◌≡◌, ◌∙◌, ℕ
 use Rattle.srcp_peers.specs.declared.peer.Peer.{Peer}
 use Rattle.srcp_door.specs.declared.door.DoorFault.TheVariants.{Write}
 use Rattle.srcp_door.specs.Calls.{WriteCall}
-use Rattle.srcp_peers.specs.Peers.{enqueued, is_here}
+use Rattle.srcp_peers.specs.Peers.{KeepsShare, enqueued, is_here}
 use Rattle.srcp_peers.specs.Steps.{Answers, SaysOne}
 use Rattle.srcp_peers.specs.Turns.{after_call}
 use Rattle.srcp_peers.proofs.CallsAreOfTheDoor.{says_call}
@@ -14,6 +14,7 @@ use Rattle.srcp_sockets.proofs.SocketsStayStanding.{stands_one}
 use Rattle.srcp_sockets.proofs.TimesGoOn.{timed_write}
 use Rattle.srcp_sockets.proofs.EndsAreTold.{far_same, far_wrote}
 use Rattle.srcp_sockets.proofs.ThePeer.{the_one}
+use Rattle.srcp_sockets.proofs.PeersAreFrom.{from_same, from_set, share_stays}
 use Rattle.srcp_sockets.proofs.sockets.Sockets.write.Goals as goal
 
 pub returns-in_default-clause-trace : goal.returns-in_default-clause-trace
@@ -115,3 +116,11 @@ returns-clause-exact g c k d lt there =
 pub returns-in_default-clause-exact : goal.returns-in_default-clause-exact
 returns-in_default-clause-exact g c k d lt there =
     absurd (true≢false (sym (ap is_here there.1) ∙ c.in_default.ensures.none k d lt there.0))
+
+pub returns-clause-shares : goal.returns-clause-shares
+returns-clause-shares g c = from_set KeepsShare share_stays c.args.self.now.peers.items c.in-Some.index c.index_mut.result.now
+    c.write-count.new.self c.in-Some.ensures.found.0 c.index_mut.ensures.value c.write-count.ensures.number
+    (ap (λ (p : Peer). p.share) c.write-count.ensures.same, ap (λ (p : Peer). p.heard) c.write-count.ensures.same)
+
+pub returns-in_default-clause-shares : goal.returns-in_default-clause-shares
+returns-in_default-clause-shares g c = from_same KeepsShare share_stays c.args.self.now.peers.items
