@@ -21,16 +21,20 @@ pub offered_now : (p q : Peer) (old new : List Step) → Offers p q old new → 
 offered_now p q old new offers = ([], offers.0, [], offers.1)
 
 -- steps came behind it
-pub offered_then : (socket : ℕ) (bytes : List ℕ) (old mid new : List Step) → IsOffered socket bytes old mid
-    → SaysNothing mid new → IsOffered socket bytes old new
-offered_then socket bytes old mid new o s =
+offered_more : (socket : ℕ) (bytes : List ℕ) (old mid came new : List Step) → IsOffered socket bytes old mid
+    → new ≡ mid ++ came → IsOffered socket bytes old new
+offered_more socket bytes old mid came new o tells =
     let write = Writes socket bytes o.1 in (
       o.0,
       o.1,
-      o.2 ++ s.0,
-      s.1 ∙ ap (λ (l : List Step). l ++ s.0) o.3 ∙ append_assoc old (o.0 ++ write ∷ o.2) s.0
-          ∙ ap (λ (l : List Step). old ++ l) (append_assoc o.0 (write ∷ o.2) s.0),
+      o.2 ++ came,
+      tells ∙ ap (λ (l : List Step). l ++ came) o.3 ∙ append_assoc old (o.0 ++ write ∷ o.2) came
+          ∙ ap (λ (l : List Step). old ++ l) (append_assoc o.0 (write ∷ o.2) came),
     )
+
+pub offered_then : (socket : ℕ) (bytes : List ℕ) (old mid new : List Step) → IsOffered socket bytes old mid
+    → SaysNothing mid new → IsOffered socket bytes old new
+offered_then socket bytes old mid new o s = offered_more socket bytes old mid s.0 new o s.1
 
 -- steps came before it
 pub offered_after : (socket : ℕ) (bytes : List ℕ) (old mid new : List Step) → SaysNothing old mid
@@ -89,11 +93,15 @@ set_offered first old new what before peers i p within rest earlier now here bel
     (cases_eq k i)
 
 -- and steps came behind that
+pub all_offered_more : (what : Flush) (peers : List Peer) (old mid came new : List Step) → AreOffered what peers old mid
+    → new ≡ mid ++ came → AreOffered what peers old new
+all_offered_more what peers old mid came new offered tells k d lt due =
+    let p = slice_index_or peers k d in
+    offered_more p.number p.outgoing old mid came new (offered k d lt due) tells
+
 pub all_offered_then : (what : Flush) (peers : List Peer) (old mid new : List Step) → AreOffered what peers old mid
     → SaysNothing mid new → AreOffered what peers old new
-all_offered_then what peers old mid new offered says k d lt due =
-    let p = slice_index_or peers k d in
-    offered_then p.number p.outgoing old mid new (offered k d lt due) says
+all_offered_then what peers old mid new offered says = all_offered_more what peers old mid says.0 new offered says.1
 
 -- they were by the first of several turns
 pub offered_first : (turns : ℕ) (what : Flush) (before peers : List Peer) (first old new : List Step)

@@ -3,8 +3,10 @@
 ghost use Rattle.std.specs.Prelude.{◌≡◌, ◌<◌, ◌≤◌, IfErr, Ok, true, false, ℕ, None, Some, []};
 ghost use Rattle.std.specs.Prelude.{IfOk, OnOk, OnErr, length, vec_capacity};
 ghost use Rattle.srcp_door.specs.Calls.{AcceptCall, CloseCall, ExpectCall, NowCall, ReadCall, WriteCall, one_more};
+ghost use Rattle.srcp_peers.specs.AllPeers.{AreOffered};
 ghost use Rattle.srcp_peers.specs.Steps.{SaysOne};
 ghost use Rattle.srcp_peers.specs.Turns.{first_turn, got_bytes};
+ghost use Rattle.srcp_sockets.specs.Doors.{flushed_in};
 ghost use Rattle.srcp_sockets.specs.Limits.{most_peers, most_ready};
 ghost use Rattle.srcp_sockets.specs.Loads.{AnswersFairly, AnswersFairly-prop};
 ghost use Rattle.srcp_sockets.specs.Work.{IsPeerRead, IsPeerWritten};
@@ -129,6 +131,9 @@ impl<S: System> Door for SocketDoor<S> {
         ensures trace { SaysOne self.old.sockets.system.log.steps (NowCall result)
             self.new.sockets.system.log.steps }
         ensures limit { self.new.sockets.most ≡ self.old.sockets.most }
+        ensures offered { AreOffered (flushed_in self.old.sockets.turn self.old.sockets.flushed
+            self.old.sockets.peers.items) self.old.sockets.peers.items self.old.sockets.system.log.steps
+            self.new.sockets.system.log.steps }
     {
         self.sockets.begin_turn(self.ready.as_mut_slice());
         let answer = self.sockets.now();

@@ -1,7 +1,9 @@
-use Rattle.std.proofs.Common.{List, length, ap, arith, subst, sym}
+use Rattle.std.proofs.Common.{◌∙◌, List, [], ◌∷◌, length, ap, arith, subst, sym}
 use Rattle.srcp_door.specs.Calls.{NowCall}
-use Rattle.srcp_peers.specs.Steps.{SaysOne, Step}
+use Rattle.srcp_peers.specs.Steps.{Answers, Clocks, SaysOne, Step}
 use Rattle.srcp_peers.proofs.CallsAreOfTheDoor.{says_after}
+use Rattle.srcp_peers.proofs.QueuedIsOffered.{all_offered_more}
+use Rattle.srcp_sockets.specs.Doors.{flushed_in}
 use Rattle.srcp_sockets.proofs.AnswersAreBounded.{answered_more, answered_now}
 use Rattle.srcp_sockets.proofs.door.SocketDoorDoor.now.Goals as goal
 
@@ -32,3 +34,20 @@ invariant_of-self-clause-fair g c =
     (answered_now (length sockets.peers.items) sockets.system.log.steps begun new clock.0 c.now-answer.result
     (omega (arith, sockets.places.0))
     c.begin_turn.ensures.calls c.begin_turn.ensures.most clock.2) tt c.args.self.now.fair
+
+pub returns-else-is_err-clause-offered : goal.returns-else-is_err-clause-offered
+returns-else-is_err-clause-offered g c =
+    let was = c.args.self.now.sockets in
+    let clock = c.now-answer.ensures.clock in
+    all_offered_more (flushed_in was.turn was.flushed was.peers.items) was.peers.items was.system.log.steps
+    c.begin_turn.new.self.system.log.steps (Clocks clock.0 ∷ Answers (NowCall c.now-answer.result) ∷ [])
+    c.now-answer.new.self.system.log.steps c.begin_turn.ensures.offered clock.2
+
+pub returns-then-is_err-clause-offered : goal.returns-then-is_err-clause-offered
+returns-then-is_err-clause-offered g c =
+    let was = c.args.self.now.sockets in
+    let clock = c.now-answer.ensures.clock in
+    all_offered_more (flushed_in was.turn was.flushed was.peers.items) was.peers.items was.system.log.steps
+    c.begin_turn.new.self.system.log.steps (Clocks clock.0 ∷ Answers (NowCall c.now-answer.result) ∷ [])
+    c.failed.new.self.sockets.system.log.steps c.begin_turn.ensures.offered
+    (ap (λ sockets. sockets.system.log.steps) c.failed.ensures.sockets ∙ clock.2)
