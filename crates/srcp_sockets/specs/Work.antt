@@ -61,9 +61,9 @@ IsWaiting most before after old new = (count : ℕ) × (ready : List Ready) × (
 -- flushed, and some were closed
 pub record WaitsAmong (turn : Turn) (most : Option ℕ) (before after : Listening) (first : List Peer)
     (old new : List Step) : Type 0 where
-  pub peers : List Peer
-  pub log : List Step
-  pub later : List Step
+  pub peers : List Peer  -- those that were left
+  pub log : List Step  -- the steps before the wait
+  pub later : List Step  -- those steps, and the wait
   pub left : AreFrom KeepsRest first peers
   pub stands : AreStanding log peers
   pub begins : SaysNothing old log
