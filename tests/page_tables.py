@@ -11,9 +11,9 @@ KEYS = {"port": (1, "GREATEST_PORT", "DEFAULT_PORT"), "number": (1, "GREATEST_BU
 # The milliseconds of a second, which are as many as the most steps of a decoder.
 OTHER_NUMBERS = (1000,)
 # A number in a definition or a clause that is as great as a limit and is none: what a byte is less than, what a number
-# of four digits is less than, and the nanoseconds of a millisecond.
+# of four digits is less than, the nanoseconds of a millisecond, and the bytes of the longest stamp.
 NO_LIMITS = (("srcp_info/specs/WellFormed.antt", 256), ("srcp_text/src/put.rt", 10_000),
-             ("srcp_sockets/src/mio_system.rt", 1_000_000))
+             ("srcp_sockets/src/mio_system.rt", 1_000_000), ("srcp_text_tests/src/stamps.rt", 21))
 
 
 def rows_under(page, heading):
