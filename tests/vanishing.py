@@ -15,6 +15,7 @@ MOST_HELD = 2 * 131_072
 SMALL = 4096
 ATTACH_FILTER = 26
 LOST_SECONDS = 30
+LINGER_SECONDS = 10
 
 
 def vanish(client):
@@ -75,4 +76,20 @@ def peers_that_vanish(program):
     return f"{LOST_SECONDS + SECONDS} s later it answers {sorted(left)}" if left else None
 
 
-VANISHING_CASES = (panels_that_do_not_read, peers_that_vanish)
+def panel_that_was_closed_and_does_not_read(program):
+    """The system holds something for it for 10 seconds, and then nothing: the connection is reset."""
+    with served(program) as (port, _):
+        throttle = Client(port, "COMMAND")
+        panel = Client(port, "INFO", SMALL)
+        for _ in range(ROUNDS):
+            throttle.asks_many(["SET 1 FB 8 1", "SET 1 FB 8 0"] * COMMANDS)
+            if " ERROR " in throttle.asks(f"GET 0 SESSION {panel.session}"):
+                break
+        at_once = max(held_by_the_system(port))
+        time.sleep(LINGER_SECONDS + 2)
+        later = max(held_by_the_system(port))
+        panel.close()
+    return None if later == 0 < at_once else f"it holds {at_once} bytes, and {LINGER_SECONDS + 2} s later {later}"
+
+
+VANISHING_CASES = (panels_that_do_not_read, peers_that_vanish, panel_that_was_closed_and_does_not_read)

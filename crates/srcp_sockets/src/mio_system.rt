@@ -10,7 +10,7 @@ ghost use Rattle.srcp_sockets.specs.Early.{is_early};
 ghost use Rattle.srcp_sockets.specs.Limits.{failed_wait};
 
 use crate::door::MOST_READY;
-use crate::options::set_options;
+use crate::options::{reset, set_options};
 use mio::net::{TcpListener, TcpStream};
 use mio::{Events, Interest, Poll, Token};
 use srcp_peers::{Ready, System};
@@ -32,6 +32,23 @@ const FAILED_WAIT: u64 = 8;
 struct Socket {
     number: u32,
     stream: TcpStream,
+    // True if the socket was shut down: the system still delivers what it holds.
+    shut: bool,
+}
+
+impl Socket {
+    /// Shuts down the way to the peer.
+    fn shutdown(&mut self) {
+        self.shut = true;
+        let _ = self.stream.shutdown(Shutdown::Write);
+    }
+
+    /// Resets a connection that was not shut down. Its peer was lost, or did not take all in time.
+    fn give_up(&self) {
+        if !self.shut {
+            reset(&self.stream);
+        }
+    }
 }
 
 /// Makes the calls of a door, with the sockets of the machine and a clock.
@@ -97,7 +114,11 @@ impl<C: Clock + Drop> MioSystem<C> {
             Interest::READABLE | Interest::WRITABLE | Interest::PRIORITY,
         )?;
         stream.set_nodelay(true)?;
-        self.sockets.push(Socket { number, stream })?;
+        self.sockets.push(Socket {
+            number,
+            stream,
+            shut: false,
+        })?;
         Ok(())
     }
 
@@ -180,11 +201,14 @@ impl<C: Clock + Drop> System for MioSystem<C> {
 
     fn shutdown(&mut self, socket: u32) {
         if let Ok(socket) = self.socket(socket) {
-            let _ = socket.stream.shutdown(Shutdown::Write);
+            socket.shutdown();
         }
     }
 
     fn close(&mut self, socket: u32) {
+        if let Ok(socket) = self.socket(socket) {
+            socket.give_up();
+        }
         self.sockets.retain(|one| one.number != socket);
     }
 

@@ -1,9 +1,10 @@
-//! The options of the sockets. They are set at the listener, and each accepted socket takes them over.
+//! The options of the sockets, which are set at the listener and which each accepted socket takes over. And how a socket
+//! is reset, so that the system holds nothing for it any more.
 
 ghost use Rattle.std.specs.Prelude.{◌↔◌, pos, ◌≤ℤ◌, IsOk};
 
 use libc::net as c;
-use mio::net::TcpListener;
+use mio::net::{TcpListener, TcpStream};
 use std::io;
 use std::os::fd::AsRawFd;
 
@@ -39,6 +40,13 @@ pub(crate) fn set_options(listener: &TcpListener) -> io::Result<()> {
     check(unsafe { c::setsockopt(fd, tcp, c::TCP_KEEPINTVL, &every, 4) })?;
     let lost = value_of(LOST_AFTER);
     check(unsafe { c::setsockopt(fd, tcp, c::TCP_USER_TIMEOUT, &lost, 4) })
+}
+
+/// Resets a connection: the system drops what it holds for the peer, and the peer finds the connection lost. Linux does
+/// so if a socket is connected to an address of no family, whose bytes are 0.
+pub(crate) fn reset(stream: &TcpStream) {
+    let nowhere = [0; c::_SS_SIZE];
+    let _ = unsafe { c::connect(stream.as_raw_fd(), &nowhere, 16) };
 }
 
 /// Returns the value of an option as the system reads the value: the first four bytes.
