@@ -57,7 +57,8 @@ pub fn steps_can_be_told()
 {}
 
 /// States: what the three laws above say of a step holds of the changes of each kind of step. The kinds are a command,
-/// a moment, and a session's end and beginning. The change of a beginning can be written as a line in any registry (`told`).
+/// a moment, and a session's end and beginning. The change of a beginning can be written as a line in any registry
+/// (`told`).
 pub fn steps_by_kind()
     ensures commands { CommandsAreSteps }
     ensures moments { MomentsAreSteps }
