@@ -52,8 +52,8 @@ pub fn run<R: Rows>(alloc: Global, layout: &Layout, events: &[Event]) -> Result<
     carry_out::<R, Full>(alloc, layout, events)
 }
 
-/// Carries out the events as `run` does, and returns the outline of the record: no steps, and of each connection only
-/// what was sent and how the connection is at the end. The rows and the refused events are the same.
+/// Carries out the events as `run` does, and returns the outline of the record. The outline has no steps. Of each
+/// connection it has what was sent, and how the connection is at the end. The rows and the refused events are the same.
 ///
 /// Allocates less than `run`, since no change is kept beside each line of a panel.
 ///

@@ -182,7 +182,7 @@ impl<'a, R: Rows> Core<'a, R> {
         }
     }
 
-    /// Removes a connection, and ends the session of the connection if the session goes on: the locks are removed in
+    /// Removes a connection, and ends the session of the connection if the session goes on. The locks are removed in
     /// key order, and then the session's row. Locks end with their session in SRCP 0.8. Laws: `shut`, `shuts` and
     /// `there` of `laws::calls_follow`.
     ///

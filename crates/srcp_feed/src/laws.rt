@@ -1,8 +1,8 @@
 //! Laws of every history. Each function does nothing: its `ensures` is the law.
 ghost use Rattle.srcp_feed.specs.History.{ToldOverAnyHistory, ReadOverAnyHistory};
 
-/// States for any rows in key order, any steps of changes, and a panel that is given its lines at any times between
-/// (`told`, by `IsToldRightly`):
+/// States what a panel is told (`told`, by `IsToldRightly`). This holds for any rows in key order and any steps of
+/// changes, if the panel is given its lines at any times between:
 /// - Listed keys rise (`rising`), no row is listed twice (`never_twice`), and each row is listed as the row was then
 ///   (`held`).
 /// - Once a client applies what was given and what waits, the client holds the rows passed by the listing (`passed`).

@@ -138,7 +138,7 @@ fn is_value_at(group: Group, port: u8, value: &Value) -> bool
     }
 }
 
-/// Returns whether the change has a line: its numbers are in the ranges of their group, and the row at its key can
+/// Returns whether the change has a line. Its numbers are in the ranges of their group then, and the row at its key can
 /// have its value.
 pub(crate) fn is_well_formed(change: Change) -> bool
     ensures { IsTrue result ↔ IsWellFormed change }

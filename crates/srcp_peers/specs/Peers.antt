@@ -275,8 +275,8 @@ MayFail p = (p.input ≡ input.Failed) ⊎ (is_lost p.output ≡ true)
 abbrev pub KeepsShare : (old new : Peer) → Type 0
 KeepsShare old new = (new.share ≡ old.share) × (new.heard ≡ old.heard)
 
--- a flush leaves its share, how far it is on the way to its end and whether the core has more for it. If it is there, it
--- stays so, and what came of it stays
+-- a flush leaves its share, how far it is on the way to its end and whether the core has more for it. If it is there,
+-- it stays so, and what came of it stays
 abbrev pub KeepsRest : (old new : Peer) → Type 0
 KeepsRest old new = KeepsShare old new × (new.ending ≡ old.ending) × (new.backpressured ≡ old.backpressured)
     × (is_here old.stay ≡ true

@@ -27,8 +27,8 @@ use toml::{Table, Value};
 /// # Errors
 /// Returns the first fault, in this order: the document (`NotToml`), the bus, the routes. Then route by route, in the
 /// order of the document: the route's number, and whether an earlier route has this number (`Twice`). The turnouts
-/// follow from left to right, and whether the route named a turnout before (`Repeated`); then the blocks, the signal,
-/// and the sensor by which the route is freed. At last the route is compared with each earlier route (`Mixed`,
+/// follow from left to right, and whether the route named a turnout before (`Repeated`). Then come the blocks, the
+/// signal, and the sensor by which the route is freed. At last the route is compared with each earlier route (`Mixed`,
 /// `Crossed`). Returns `Memory` if memory is refused.
 pub fn read_plan(alloc: Global, bytes: &[u8]) -> Result<Plan, PlanFault>
     ensures reads { Gives planned PlanFault.Memory result (plan_of bytes.now) }

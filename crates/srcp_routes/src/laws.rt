@@ -33,8 +33,8 @@ pub fn wanted_are_served()
     ensures { WantedAreServed }
 {}
 
-/// States for any plan and any list of events: if nothing but replies comes then, some number of replies is enough for
-/// no order to wait, whichever accept and whichever refuse.
+/// States for any plan and any list of events that replies settle the routes. If nothing but replies comes then, some
+/// number of replies is enough for no order to wait. It does not matter which accept and which refuse.
 pub fn replies_settle()
     ensures { RepliesSettle }
 {}

@@ -1,5 +1,5 @@
-//! The interlocking of a signal box: which command the routes send next, and what a reply, an ask, a give-back and a
-//! sensor make of the routes; and what two routes share.
+//! The interlocking of a signal box. It says which command the routes send next, and what two routes share. It says too
+//! what a reply, an ask, a give-back and a sensor make of the routes.
 //!
 //! The crate sends nothing; callers carry out the orders. The crate knows no file, no line of the protocol and no
 //! socket.

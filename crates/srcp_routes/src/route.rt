@@ -3,6 +3,11 @@
 use std::vec::Vec;
 
 /// Names an accessory or a sensor.
+///
+/// ```
+/// let sensor = Device { bus: 1, address: 17 };
+/// blocks.push(sensor)?;
+/// ```
 #[derive(Clone, Copy, Debug, PartialEq, Eq)]
 pub struct Device {
     /// The bus.

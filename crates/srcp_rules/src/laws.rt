@@ -56,8 +56,9 @@ pub fn steps_can_be_told()
     ensures replies { RepliesCanBeTold }
 {}
 
-/// States: what the three laws above say of a step holds of the changes of a command, of a moment, and of a session's
-/// end and beginning. The change of a beginning can be written as a line in any registry (`told`).
+/// States: what the three laws above say of a step holds of the changes of each kind of step. The kinds are a command,
+/// a moment, and a session's end and beginning. The change of a beginning can be written as a line in any registry
+/// (`told`).
 pub fn steps_by_kind()
     ensures commands { CommandsAreSteps }
     ensures moments { MomentsAreSteps }
@@ -113,7 +114,7 @@ pub fn locks_are_set()
     ensures { LocksAreSet }
 {}
 
-/// States: a port set to 1 for a time is 1 at each moment before the end of the time, and 0 from the end on.
+/// States: a port set to 1 for a time is 1 at each moment before the end of the time. From the end on it is 0.
 pub fn ports_fall_back()
     ensures { PortsFallBack }
 {}
@@ -158,8 +159,8 @@ pub fn inits_stand_still()
     ensures { InitsStandStill }
 {}
 
-/// States: a session keeps a lock of its own over each of its commands but TERM of the lock and TERM and INIT of the
-/// device.
+/// States: a session keeps a lock of its own over each of its commands but three. These are TERM of the lock, and TERM
+/// and INIT of the device.
 pub fn own_locks_last()
     ensures { OwnLocksLast }
 {}

@@ -1,8 +1,8 @@
-//! Scripts, and what is printed of their run. `read_script` reads a script into the events of a run, and
-//! `ScriptFault` names the script's first fault. `print_shown` prints the row of a registry. Three functions print
-//! parts of the record of a run: the line of each connection (`connection_line`), the end of the last line sent to a
-//! connection (`line_end`), and what follows the connections (`print_end`). `cut_at` cuts a text at a byte, as the
-//! lines and words of a script are cut.
+//! Scripts, and what is printed of their run. `read_script` reads a script into the events of a run, and `ScriptFault`
+//! names the script's first fault. `print_shown` prints the row of a registry. Three functions print parts of the
+//! record of a run. `connection_line` prints the line of each connection, and `line_end` the end of the last line sent
+//! to a connection. `print_end` prints what follows the connections. `cut_at` cuts a text at a byte, as the lines and
+//! words of a script are cut.
 //!
 //! This crate runs no event: `srcp_core` does. This crate does no input or output, and knows no configuration.
 #![tactic(auto)]

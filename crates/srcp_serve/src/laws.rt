@@ -52,9 +52,9 @@ pub fn pieces_weigh_enough()
     ensures line { LinesGoOn }
 {}
 
-/// States that the lines that end in the bytes of a turn weigh no more than the door weighs what it handed out in the
-/// turn. The calls are those of `sent_is_taken`. Of the bytes that the door handed out of a peer before, it knows only
-/// whether a line began in them.
+/// States that the lines that end in the bytes of a turn weigh no more than what the door handed out in the turn, as
+/// the door weighs that. The calls are those of `sent_is_taken`. Of the bytes that the door handed out of a peer
+/// before, it knows only whether a line began in them.
 pub fn turns_weigh_enough()
     ensures { (buses : List Bus) → TurnsWeighEnough buses }
 {}

@@ -1,6 +1,7 @@
 use Rattle.std.specs.declared.io.ErrorKind.{ErrorKind}
 use Rattle.std.specs.Prelude.{Result, filter_map}
-use Rattle.std.proofs.Common.{◌≡◌, ◌∙◌, ℕ, ◌∷◌, ◌++◌, [], ap, le_trans, refl, rules, sym, subst, arith, true, Ok, Err, Some, length, length-append}
+use Rattle.std.proofs.Common.{◌≡◌, ◌∙◌, ℕ, ◌∷◌, ◌++◌, [], ap, le_trans, refl, rules, sym, subst, arith, true, Ok, Err, Some}
+use Rattle.std.proofs.Common.{length, length-append}
 use Rattle.srcp_door.specs.Calls.{AcceptCall, peer_of}
 use Rattle.srcp_peers.specs.declared.system.IoFailure.{IoFailure}
 use Rattle.srcp_peers.specs.declared.system.IoFailure.TheVariants.{WouldBlock, Interrupted, Fatal}
