@@ -123,8 +123,8 @@ def is_defined_in(name, place):
         return True
     if (CRATES / place).is_dir():
         return any(name == Path(path).stem for path, _ in pieces)
-    heads = [(path, code) for path, code in pieces if re.match(rf"{CITES}{re.escape(place.rpartition('::')[2])}\b", code)]
-    cited = {word for _, code in heads for word in re.findall(r"\b[A-Z][a-z]\w*", code)}
+    head = re.compile(rf"{CITES}{re.escape(place.rpartition('::')[2])}\b")
+    cited = {word for _, code in pieces if head.match(code) for word in re.findall(r"\b[A-Z][a-z]\w*", code)}
     return any(name in names_in(path, code) for word in cited for path, code in code_of(word)
                if re.match(r" *(?:pub )?record ", code))
 
