@@ -33,6 +33,10 @@ ANSWER = 0xC0182101
 CARRY_ON = 1
 COMMANDS = 300
 MOST_CLIENTS = 63
+# Seconds in which a peer is greeted or closed that comes to a server at rest.
+SOON = 5
+# Bytes of memory that are left for connections. The allocator takes them of the system by 132 KB.
+LEFT = (0, 160 << 10, 320 << 10)
 
 
 class Filter(ctypes.Structure):
@@ -233,26 +237,33 @@ def memory_of(pid):
     return int(Path(f"/proc/{pid}/statm").read_text().split()[0]) * resource.getpagesize()
 
 
-def clients_until_one_is_closed(port):
-    """Connects clients until one is closed and not greeted. Returns all of them, that one last; or None if all are
-    greeted."""
-    clients = []
-    for _ in range(MOST_CLIENTS):
-        clients.append(socket.create_connection(("127.0.0.1", port), timeout=SECONDS))
-        if not clients[-1].recv(100):
-            return clients
-    return None
+def clients_until_one_is_not_greeted(port):
+    """Connects clients until one is not greeted. Returns all of them, and what the last one was told: nothing if it is
+    closed, None if it waits."""
+    clients, told = [], WELCOME
+    while told == WELCOME and len(clients) < MOST_CLIENTS:
+        clients.append(socket.create_connection(("127.0.0.1", port), timeout=SOON))
+        try:
+            told = clients[-1].recv(100)
+        except TimeoutError:
+            told = None
+    return clients, told
 
 
 def connection_without_memory(program):
     """If memory is refused for a connection, its peer is closed at once, open peers are served, the server rests, and
-    who comes once there is some is greeted."""
+    who comes once there is some is greeted. That is so at whichever step of an accept the memory runs out."""
+    faults = (fault_without_memory(program, left) for left in LEFT)
+    return next((fault for fault in faults if fault), None)
+
+
+def fault_without_memory(program, left):
+    """Returns what is wrong with a server that has so many bytes of memory left for connections, or None."""
     with served(program) as (port, server):
         throttle = Client(port, "COMMAND")
         limits = resource.prlimit(server.pid, resource.RLIMIT_AS)
-        resource.prlimit(server.pid, resource.RLIMIT_AS, (memory_of(server.pid), limits[1]))
-        if (clients := clients_until_one_is_closed(port)) is None:
-            return f"{MOST_CLIENTS} clients find memory"
+        resource.prlimit(server.pid, resource.RLIMIT_AS, (memory_of(server.pid) + left, limits[1]))
+        clients, refused = clients_until_one_is_not_greeted(port)
         busy = work_without_rest(server, 1)
         reply = throttle.asks("GET 1 POWER")
         resource.prlimit(server.pid, resource.RLIMIT_AS, limits)
@@ -260,9 +271,9 @@ def connection_without_memory(program):
             told = late.recv(100)
         for client in clients:
             client.close()
-    if busy or reply != "100 INFO 1 POWER OFF":
-        return f"{busy}; a command is answered {reply}"
-    return None if told == WELCOME else f"with memory it was told {told!r}"
+    got = {f"client {len(clients)}": refused, "work": busy, "a command": reply, "with memory": told}
+    want = (b"", None, "100 INFO 1 POWER OFF", WELCOME)
+    return None if tuple(got.values()) == want else f"with {left} bytes left: {got}"
 
 
 FAULT_CASES = (calls_that_are_interrupted, wait_that_fails, accept_that_is_refused, connection_without_memory)

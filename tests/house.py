@@ -16,6 +16,8 @@ PYTHON_FOLDERS = ("bridges", "examples", "packaging", "tests", "tools")
 LEFT_OUT = {".git", "out", "__pycache__", ".mypy_cache", "cases", "must-fail"}
 NO_TEXT = {".png", ".deb", ".ico"}
 MINUTES = 60
+# How many columns a line may have, by the pattern of .editorconfig.
+LENGTHS = {"*.{py,rt}": 120, "*.antt": 120, "crates/*/proofs/**.antt": 140}
 
 
 @cache
@@ -29,44 +31,53 @@ def files_of_the_repository():
     return [file for file in found if file.suffix not in NO_TEXT and file.parent != inputs and file.is_file()]
 
 
+def form_of(pattern):
+    """Returns the form of the paths that a pattern of .editorconfig is for. One without a folder is for all folders."""
+    words = {"**": ".*", "*": "[^/]*", "?": "[^/]", "{": "(?:", ",": "|", "}": ")"}
+    parts = re.split(r"(\*\*|[*?{,}])", pattern)
+    form = "".join(words.get(part, re.escape(part)) for part in parts)
+    return re.compile(form.removeprefix("/") if "/" in pattern else rf"(?:.*/)?{form}")
+
+
+@cache
 def lengths():
     """Returns how long lines may be, by the pattern of .editorconfig."""
     parts = re.split(r"^\[(.*)\]$", (TOP / ".editorconfig").read_text(), flags=re.M)[1:]
-    found = {}
-    for pattern, text in zip(parts[::2], parts[1::2]):
-        if length := re.search(r"^max_line_length = (\d+)$", text, re.M):
-            names = re.search(r"\{(.*)\}", pattern)
-            for name in names[1].split(",") if names else [""]:
-                found[re.sub(r"\{.*\}", name, pattern)] = int(length[1])
+    said = zip(parts[::2], (re.search(r"^max_line_length = (\d+)$", text, re.M) for text in parts[1::2]))
+    return {pattern: int(length[1]) for pattern, length in said if length}
+
+
+def longest_of(path):
+    """Returns how long the lines of a file may be, by its path from the top: the last pattern counts. None if it has no
+    limit."""
+    told = [length for pattern, length in lengths().items() if form_of(pattern).fullmatch(path)]
+    return told[-1] if told else None
+
+
+def faults_of_form(file):
+    """Returns what of a file is not as .editorconfig says, with the numbers of the lines."""
+    content = file.read_bytes()
+    try:
+        text = content.decode()
+    except UnicodeDecodeError:
+        return ["it is no UTF-8"]
+    found = ["the end of a line"] if content and not text.endswith("\n") or "\r" in text else []
+    longest = longest_of(str(file.relative_to(TOP)))
+    for number, line in enumerate(text.split("\n"), 1):
+        if line != line.rstrip():
+            found.append(f"line {number} ends in a space")
+        if longest and len(line) > longest:
+            found.append(f"line {number} has {len(line)} columns")
     return found
 
 
-def fault_of_form(file, longest):
-    """Returns what of a file is not as .editorconfig says, or None."""
-    content = file.read_bytes()
-    text = content.decode()
-    if content and not text.endswith("\n") or "\r" in text:
-        return "the end of a line"
-    for number, line in enumerate(text.split("\n"), 1):
-        if line != line.rstrip():
-            return f"line {number} ends in a space"
-        if longest and len(line) > longest:
-            return f"line {number} has {len(line)} columns"
-    return None
-
-
 def files_have_their_form(_):
-    """Each is UTF-8, its lines end in LF and in no space, and those of Python are no longer than .editorconfig says."""
-    limits = lengths()
-    for file in files_of_the_repository():
-        longest = limits["*.py"] if file.suffix == ".py" else None
-        try:
-            fault = fault_of_form(file, longest)
-        except UnicodeDecodeError:
-            fault = "it is no UTF-8"
-        if fault:
-            return f"{file.relative_to(TOP)}: {fault}"
-    return None if limits == {"*.py": 120, "*.rt": 120, "*.antt": 140} else f"limits: {limits}"
+    """Each is UTF-8, its lines end in LF and in no space, and none is longer than .editorconfig says."""
+    faults = [f"{file.relative_to(TOP)}: {fault}" for file in sorted(files_of_the_repository())
+              for fault in faults_of_form(file)]
+    if lengths() != LENGTHS:
+        faults.append(f"limits: {lengths()}")
+    return "; ".join(faults)[:1000] or None
 
 
 def programs_can_be_executed(_):

@@ -11,17 +11,26 @@ CODE = {".rt", ".antt", ".py", ".c", ".h"}
 PLACEHOLDERS = {"F", "X", "NAME"}  # stand for any name, as srcp_X for any crate
 # What others define and pages name: words of Rattle, of Rust's library, of systems and of git.
 OTHERS = {"BTreeMap", "Drop", "IfErr", "IfSome", "Net", "OnErr", "SO_KEEPALIVE", "SO_LINGER", "SO_SNDBUF",
-          "TCP_USER_TIMEOUT", "VecDeque", "circular_buffer", "console", "ensures", "nc", "requires", "result", "return",
-          "ssh", "SHA256SUMS"}
-# These name words of the protocol and of systems.
-FOR_USERS = {TOP / "README.md", TOP / "CHANGELOG.md", TOP / "bridges" / "README.md", *(
+          "TCP_USER_TIMEOUT", "VecDeque", "acl_file", "binutils", "circular_buffer", "console", "ensures",
+          "max_queued_messages", "nc", "requires", "result", "return", "ssh", "SHA256SUMS"}
+# A single word of these may be of the protocol or of a system. It is a name of code only if it has the form of one.
+FOR_USERS = {TOP / "README.md", TOP / "bridges" / "README.md", *(
     TOP / "docs" / f"{name}.md" for name in ("protocol", "configuration", "install", "replay"))}
+# This tells of names that were.
+OF_THE_PAST = TOP / "CHANGELOG.md"
+CALL = r"([A-Za-z_]\w*)(?:\(.*\))?"
+# A name of a file, a crate or a type: `a` of `b`, `a` of the B.
+OF = r"`(\w+)(?:\([^`]*\))?` of (?:(?:the|an?|each|every) )?(?:`([^`]*)`|([A-Z][a-z]\w*))"
 # What defines a name in a language: `name` stands for it.
 DEFINES = {".rt": r"(?:fn|struct|enum|trait|type|const|mod|section) (name)\b|^ +(?:pub )?(?:ghost )?(name): |"
                   r"^ +(name)(?:\(.*\))?,|^ +(name) \{$|(?:ensures|invariant)\*? (name) \{",
            ".antt": r"^ *(?:(?:abbrev|pub|data|record|type|module|open|private|constructor|unfolding|let|where) )*"
                     r"(name)[◌ ]*(?:[:{(\[]|$)|\b(?:data|record|module|section) (?:pub )?(name)\b",
            ".py": r"^ *(?:def|class) (name)\b|^(name)\b[^=\n]* = ", ".c": r"\b(name)\(", ".h": r"\b(name)\("}
+# What begins a function or a definition, and what begins that or a type or a module of that name.
+CITES = r" *(?:(?:pub|pub\(\w+\)|ghost|abbrev|fn) )+"
+BEGINS = (r" *(?:(?:pub|pub\(\w+\)|ghost|abbrev|fn|struct|enum|trait|type|mod|record|data|module|section|class|def) )+"
+          r"(?:name)\b| *impl\b.*\b(?:name)\b")
 
 
 @cache
@@ -31,13 +40,17 @@ def code_files():
     return {str(file.relative_to(TOP)): file.read_text() for file in files}
 
 
+def names_in(path, code):
+    """Returns the names that a piece of a file of code defines."""
+    form = DEFINES[Path(path).suffix].replace("name", r"[^\W\d][\w']*")
+    groups = [[names] if isinstance(names, str) else names for names in re.findall(form, code, re.M)]
+    return {name for names in groups for name in names if name}
+
+
 @cache
 def names_defined(path):
     """Returns the names that a file of code defines, and its own."""
-    form = DEFINES[Path(path).suffix].replace("name", r"[^\W\d][\w']*")
-    found = re.findall(form, code_files()[path], re.M)
-    groups = [[names] if isinstance(names, str) else names for names in found]
-    return {Path(path).stem, *(name for names in groups for name in names if name)}
+    return {Path(path).stem} | names_in(path, code_files()[path])
 
 
 def pages():
@@ -46,12 +59,13 @@ def pages():
     return [(page, BLOCK.sub("", page.read_text())) for page in found]
 
 
-def pages_on_the_code():
-    return [(page, text) for page, text in pages() if page not in FOR_USERS]
+def pages_on_the_present():
+    return [(page, text) for page, text in pages() if page != OF_THE_PAST]
 
 
 def spans_of(text):
-    return re.findall(r"`([^`\n]*)`", text)
+    """Returns what stands between backticks, also if it goes on in the next line of its paragraph."""
+    return [span for part in re.split(r"\n\s*\n", text) for span in re.findall(r"`([^`]*)`", " ".join(part.split()))]
 
 
 def is_placeholder(word):
@@ -70,41 +84,89 @@ def files_that_pages_name(_):
     return None if count > 100 else f"{count} files are named"
 
 
-def places_of(where):
-    """Returns the files that `where` names: a file, those of a crate, or those that define a type or a function."""
-    if (CRATES / where).is_dir():
-        return [path for path in code_files() if path.startswith(f"crates/{where}/")]
-    if re.search(r"\.\w+$", where):
-        return [path for path in code_files() if f"/{path}".endswith(f"/{where}")]
-    return [path for path in code_files() if where.rpartition("::")[2].rpartition(" ")[2] in names_defined(path)]
+def block_at(lines, at, name):
+    """Returns the text of what begins at a line: that line, what stands further in, and in its column the braces and
+    the equations of a definition of that name."""
+    column = len(lines[at]) - len(lines[at].lstrip())
+    form = re.compile(rf" {{{column}}}(?:[ {{}})]|{re.escape(name)} |$)|\s*$")
+    end = at + 1
+    while end < len(lines) and form.match(lines[end]):
+        end += 1
+    return "\n".join(lines[at:end])
+
+
+@cache
+def code_of(place):
+    """Returns the pieces of code that a place names, each with its path: the files of a crate, those of that name, and
+    what defines a type, a function or a module. `a::b` is a `b` of an `a`."""
+    within, _, name = place.rpartition("::")
+    name = name.rpartition(" ")[2]
+    outer = code_of(within) if within else [*code_files().items()]
+    if (CRATES / name).is_dir():
+        return [(path, code) for path, code in outer if path.startswith(f"crates/{name}/")]
+    if re.search(r"\.\w+$", name):
+        return [(path, code) for path, code in outer if f"/{path}".endswith(f"/{name}")]
+    found = [(path, code) for path, code in outer if Path(path).stem == name]
+    head = re.compile(BEGINS.replace("name", re.escape(name)))
+    for path, code in outer:
+        if name in code:
+            lines = code.splitlines()
+            found += [(path, block_at(lines, at, name)) for at, line in enumerate(lines) if head.match(line)]
+    return found
+
+
+def is_defined_in(name, place):
+    """Returns if a place defines a name: in its code, or in a record that a clause or a definition of its code
+    cites."""
+    pieces = code_of(place)
+    if any(name in names_in(path, code) for path, code in pieces):
+        return True
+    if (CRATES / place).is_dir():
+        return any(name == Path(path).stem for path, _ in pieces)
+    head = re.compile(rf"{CITES}{re.escape(place.rpartition('::')[2])}\b")
+    cited = {word for _, code in pieces if head.match(code) for word in re.findall(r"\b[A-Z][a-z]\w*", code)}
+    return any(name in names_in(path, code) for word in cited for path, code in code_of(word)
+               if re.match(r" *(?:pub )?record ", code))
 
 
 def names_of_places(_):
-    """A name that a page says of a file, a crate or a type, as `a` of `b` and `b::a`, stands there."""
+    """A name that a page says of a file, a crate, a type or a function is defined there. A page says so by `a` of `b`,
+    by `a` of the B, and by `b::a`."""
     count = 0
-    for page, text in pages_on_the_code():
+    for page, text in pages_on_the_present():
         flat = " ".join(text.split())
-        said = re.findall(r"`(\w+)` of (?:the )?`([^`]*)`", flat) + [
-            (name, place) for place, name in re.findall(r"`([A-Z]\w*)::(\w+)`", flat)]
+        said = [(name, quoted or plain) for name, quoted, plain in re.findall(OF, flat)]
+        said += [(name, place) for place, name in re.findall(r"`([A-Za-z_][\w:]*)::(\w+)(?:\([^`]*\))?`", flat)]
         for item in re.findall(r"^- `([A-Z]\w+)`: ((?:.+\n?(?!- |\n))*)", text, re.M):
             said += [(name, item[0]) for name in re.findall(r"`([a-z]\w*)`(?! of\b)", item[1])]
         for name, place in said:
             count += 1
-            texts = [code_files()[path] for path in places_of(place)]
-            if not any(re.search(rf"\b{name}\b", code) for code in texts):
+            is_judged = place not in OTHERS and Path(place).suffix in {"", *CODE} and not is_placeholder(name)
+            if is_judged and not is_defined_in(name, place):
                 return f"{page.relative_to(TOP)}: no {name} in {place}"
-    return None if count > 40 else f"{count} names are said of places"
+    return None if count > 140 else f"{count} names are said of places"
+
+
+def names_said_by(page, text):
+    """Returns the single names of code in backticks on a page. On one for users they are what is called, what has an
+    underscore or a capital behind a small letter, and what is called a function, a law or a type."""
+    spans = spans_of(text)
+    if page not in FOR_USERS:
+        return re.findall(rf"^{CALL}$", "\n".join(spans), re.M)
+    said = [name for span in spans for name in re.findall(r"^([A-Za-z_]\w*)\(.*\)$", span)]
+    said += [span for span in spans if re.fullmatch(r"\w*[a-z]+(?:_[a-z]|[A-Z])\w*|[A-Z]+_[A-Z_]+", span)]
+    return said + re.findall(rf"\b(?:function|law|type|clause)s? `{CALL}`", " ".join(text.split()))
 
 
 def names_that_pages_say(_):
-    """A single name on a page for those who change the program is defined in the code, or is a crate that is used."""
+    """A single name of code on a page is defined in the code, or is a crate that is used."""
     defined = OTHERS.union(*map(names_defined, code_files()))
     defined |= set(re.findall(r"\w+", (TOP / "crates.txt").read_text())) | {file.name for file in TOP.iterdir()}
     of_the_gate = "".join((TOP / name).read_text() for name in ("test", "tests/run_cases.py"))
     defined |= set(re.findall(r"\b[A-Z_]{3,}\b", of_the_gate))
     count = 0
-    for page, text in pages_on_the_code():
-        for name in re.findall(r"^([A-Za-z_]\w*)(?:\(\))?$", "\n".join(spans_of(text)), re.M):
+    for page, text in pages_on_the_present():
+        for name in names_said_by(page, text):
             count += 1
             if name not in defined and not is_placeholder(name) and not re.fullmatch(r"[A-Z]{2,5}", name):
                 return f"{page.relative_to(TOP)}: nothing defines {name}"

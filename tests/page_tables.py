@@ -8,12 +8,49 @@ CRATES = TOP / "crates"
 KEYS = {"port": (1, "GREATEST_PORT", "DEFAULT_PORT"), "number": (1, "GREATEST_BUS"), "gl_max": (1, "GREATEST_GL"),
         "ga_max": (1, "GREATEST_GA"), "ga_ports": ("FEWEST_PORTS", "MOST_PORTS", "FEWEST_PORTS"),
         "fb_ports": (1, "GREATEST_FB")}
-# The milliseconds of a second, which are as many as the most steps of a decoder.
-OTHER_NUMBERS = (1000,)
-# A number in a definition or a clause that is as great as a limit and is none: what a byte is less than, what a number
-# of four digits is less than, the nanoseconds of a millisecond, and the bytes of the longest stamp.
-NO_LIMITS = (("srcp_info/specs/WellFormed.antt", 256), ("srcp_text/src/put.rt", 10_000),
-             ("srcp_sockets/src/mio_system.rt", 1_000_000), ("srcp_text_tests/src/stamps.rt", 21))
+# The numbers that stand bare in the code of a file and are no limits, and what they are.
+NO_LIMITS = (
+    ("srcp_core/specs/Handshake.antt", {4, 5}, "bytes of a version"),
+    ("srcp_core/src/handshake.rt", {4, 5}, "bytes of a version"),
+    ("srcp_grammar/specs/Grammar.antt", {3, 4, 5}, "words of a command"),
+    ("srcp_info/specs/Key.antt", {3, 4, 5, 6}, "places of groups"),
+    ("srcp_info/specs/WellFormed.antt", {32, 256}, "bytes of a text"),
+    ("srcp_info/src/scan.rt", {999, 1000}, "milliseconds of a second"),
+    ("srcp_info/src/well_formed.rt", {127}, "byte"),
+    ("srcp_info/src/words.rt", {3}, "digits of a code"),
+    ("srcp_info/src/write.rt", {3, 10}, "digits of a code, and the base"),
+    ("srcp_interlock/specs/Hearing.antt", {2, 52, 53}, "port, and the bytes of digits"),
+    ("srcp_peers/specs/Peers.antt", {2}, "calls"),
+    ("srcp_peers/src/lingering.rt", {2}, "calls"),
+    ("srcp_rules/specs/Effect.antt", {3, 1000}, "place of a letter, and milliseconds of a second"),
+    ("srcp_rules/specs/Laws.antt", {1000}, "milliseconds of a second"),
+    ("srcp_rules/src/lock.rt", {1000}, "milliseconds of a second"),
+    ("srcp_rules/src/new_device.rt", {3, 4, 5, 6, 7, 8}, "ports one by one"),
+    ("srcp_script/specs/Script.antt", {16, 35}, "base, and the byte of #"),
+    ("srcp_script/src/script/escape.rt", {2, 16}, "digits of a byte, and the base"),
+    ("srcp_sockets/specs/Loads.antt", {3}, "calls"),
+    ("srcp_sockets/src/mio_system.rt", {1_000_000}, "nanoseconds of a millisecond"),
+    ("srcp_sockets/src/options.rt", {4, 16}, "bytes of a number and of a value of the system"),
+    ("srcp_sockets/src/sockets/turns.rt", {3}, "calls"),
+    ("srcp_text/specs/Marks.antt", {13}, "byte"),
+    ("srcp_text/specs/Stamp.antt", {10, 48, 100, 1000}, "digits, the byte of 0, milliseconds of a second"),
+    ("srcp_text/specs/Words.antt", {10, 48, 49}, "base, and the bytes of digits"),
+    ("srcp_text/src/iter.rt", {3}, "bytes of a word of one byte between blanks"),
+    ("srcp_text/src/number.rt", {10}, "base"),
+    ("srcp_text/src/put.rt", {10, 20, 100, 1000, 10_000}, "numbers of one digit more, and the most digits"),
+    ("srcp_text_tests/src/stamps.rt", {21}, "bytes of the longest stamp"),
+)
+# What is no code: comments, texts, and the constants and definitions that give a number its name.
+NO_CODE = {".rt": r"""//[^\n]*|"(?:[^"\\]|\\.)*"|'(?:[^'\\\n]|\\[^'\n]+)'"""
+                  r"|^ *(?:pub(?:\(\w+\))? )?(?:const|static) (?!fn\b).*?;$",
+           ".antt": r'--[^\n]*|"[^"]*"|^\w+ = \d+$'}
+# A power of two, a byte of a list or of a text, and the strength of an operator.
+FORMS = r"\b2 \^ \d+|\b\d+ ∷|\b(?:join_with_byte|parts_behind|byte ==|infix[lr]) \d+"
+# A number, unless it is a part of a name or a field, as in `x.0`.
+NUMBER = r"(?<![\w'])(?<![\w)\]]\.)(0x[\da-fA-F_]+|\d[\d_]*)(?:[iu](?:\d+|size))?(?![\w']|\.\d)"
+# What is compared with two.
+COMPARED = (r"(?: [<>]=? |[≤≥] |== |\bnat_l[te] |\bm(?:in|ax)[( ])2\b(?! \^)"
+            r"|\b2 (?:[<>]=?|[≤≥]) |\bnat_l[te] \S+ 2\b")
 
 
 def rows_under(page, heading):
@@ -158,23 +195,35 @@ def clauses_of(code):
         yield from code[begun.start():end].splitlines()
 
 
+def bare_numbers(code, suffix):
+    """Returns the numbers over 2 that stand in code without a name, and 2 if something is compared with it."""
+    said = re.sub(FORMS, "", re.sub(NO_CODE[suffix], "", code, flags=re.M | re.S))
+    found = {int(word.replace("_", ""), 16 if word.startswith("0x") else 10) for word in re.findall(NUMBER, said)}
+    return {number for number in found if number > 2} | ({2} if re.search(COMPARED, said) else set())
+
+
 def limits_that_stand_once(_):
-    """Asserts that no limit has two definitions, and that its number stands nowhere else in definitions or clauses."""
+    """Asserts that no limit has two definitions, and that no number stands bare in definitions, clauses or bodies, but
+    for those that are known to be no limits. The clauses of tests have no number of a limit."""
     pins = pins_of_the_definitions()
     names = [name for _, name, _ in pins]
     if twice := sorted({name for name in names if names.count(name) > 1}):
         return f"defined twice: {twice}"
-    numbers = {number for _, _, number in pins if number > 9 and number not in OTHER_NUMBERS}
-    stated = [(file, file.read_text().splitlines()) for file in CRATES.glob("*/specs/**/*.antt")]
-    stated += [(file, clauses_of(file.read_text())) for file in CRATES.glob("*/src/**/*.rt")]
-    for file, lines in stated:
-        place = file.relative_to(CRATES)
-        for line in lines:
-            said = re.sub(r'--.*|codes "[^"]*"|^\w+ = \d+$|\^ \d+', "", line)
-            for number in numbers & {int(word) for word in re.findall(r"(?<![\w.])\d+", said)}:
-                if (str(place), number) not in NO_LIMITS:
-                    return f"{place}: {number} has a name: {[name for _, name, value in pins if value == number]}"
-    return None if len(numbers) > 15 else f"{len(numbers)} limits"
+    files = [*CRATES.glob("*/specs/**/*.antt"), *CRATES.glob("*/src/**/*.rt")]
+    found = {}
+    for file in files:
+        place, code = str(file.relative_to(CRATES)), file.read_text()
+        if "_tests/" not in place:
+            found[place] = bare_numbers(code, file.suffix)
+        elif file.suffix == ".rt":
+            of_limits = {number for _, _, number in pins if number > 9}
+            found[place] = bare_numbers("\n".join(clauses_of(code)), file.suffix) & of_limits
+    known = {place: numbers for place, numbers, _ in NO_LIMITS}
+    for place, numbers in found.items():
+        if bare := sorted(numbers - known.get(place, set())):
+            return f"{place}: {bare[0]} has no name; limits: {[name for _, name, value in pins if value == bare[0]]}"
+    gone = [(place, number) for place, numbers in known.items() for number in numbers - found.get(place, set())]
+    return f"not there: {gone}" if gone else None if len(pins) > 30 else f"{len(pins)} limits"
 
 
 def calls_of_the_proofs_page(_):
