@@ -17,7 +17,7 @@ use Rattle.srcp_peers.specs.Accounts.{may_close, may_end, may_fail}
 use Rattle.srcp_peers.specs.Peers.{Agrees, ComesAs, IsKept, MayFail, ReadsAs, StaysAs, WritesAs, closable_as, is_closable, is_here, is_lost}
 use Rattle.srcp_peers.specs.Peers.{is_wanting}
 use Rattle.srcp_peers.proofs.PeersRestByAccount.{held_is, owed_is}
-use Rattle.srcp_peers.proofs.StatesFollowSteps.{comes_starts, reads_here}
+use Rattle.srcp_peers.proofs.StatesFollowSteps.{comes_finds, comes_starts, reads_here}
 use Rattle.srcp_peers.proofs.UnreadPeersAreRead.{wants_less}
 
 -- its socket took something of what is queued
@@ -50,7 +50,9 @@ left_agrees a p since here clock h =
     let stays : StaysAs false (left_by_core a).lingering p.outgoing (stay.Draining since) =
     (refl, s.1, ap (λ w. cond w a.lingering.clock a.lingering.since) s.0 ∙ clock, s.2) in
     let unread : false ≡ true → is_wanting p.input p.incoming ≡ true = λ e. absurd (true≢false (sym e)) in
-    assumption (comes_starts a.received p.incoming p.input p.stay h.reads, stays, unread)
+    let starts = comes_starts a.received p.incoming p.input p.stay h.reads in
+    let finds = comes_finds a.received p.incoming p.input p.stay h.reads in
+    assumption (starts, finds, stays, unread)
 
 -- one that the core closed before
 stays_gone : (a : Account) (outgoing : List ℕ) (here : Stay) → is_here here ≡ false → StaysAs a.watched a.lingering outgoing here

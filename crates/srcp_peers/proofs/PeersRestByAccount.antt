@@ -62,9 +62,9 @@ silent_as received incoming outgoing state owed o h r =
     by input.Ready h r none = absurd (true≢false (sym r))
     by input.Emptying h r none = absurd (true≢false (sym r))
     by input.Quiet h r none = silent_quiet (is_held received) received.quiet received.ended received.failed owed
-        (held_is received incoming h.0 ∙ ap not none) h.4 h.2 h.1
+        (held_is received incoming h.0 ∙ ap not none) h.1.3 h.1.1 h.1.0
     by input.Ended h r none = silent_ended (is_held received) received.quiet received.ended received.failed owed
-        (held_is received incoming h.0 ∙ ap not none) h.2 (o ∙ r)
+        (held_is received incoming h.0 ∙ ap not none) h.1.1 (o ∙ r)
     by input.Failed h r none = absurd (true≢false (sym r))
 
 at_rest : (lost owed full either : Bool) → lost ≡ false → (not owed || full) ≡ true → either ≡ true

@@ -118,7 +118,7 @@ got_agrees a p q (Ok got.Ended) buffer here same is lined ended failed h =
     agrees_own (p.number == p.number) (record a { honest = a.honest && may_end a }) a q (own p.number)
     (handed_agrees a p q a.received (a.honest && may_end a) [] same is
     (subst (λ (b : List ℕ). ComesAs a.received b p.input p.stay) is h.reads) (lined ∙ h.line)
-    (ap (λ b. b && may_end a) h.honest ∙ may_end_then a p.incoming p.outgoing p.output r.0 r.2 e.1 e.3 e.4 h.writes) h)
+    (ap (λ b. b && may_end a) h.honest ∙ may_end_then a p.incoming p.outgoing p.output r.0 r.1.1 e.1 e.3 e.4 h.writes) h)
 got_agrees a p q (Err fault) buffer here same is lined ended failed h =
     agrees_own (p.number == p.number) (record a { honest = a.honest && may_fail a }) a q (own p.number)
     (handed_agrees a p q a.received (a.honest && may_fail a) [] same is

@@ -12,7 +12,7 @@ use Rattle.srcp_peers.specs.declared.readiness.Output.TheVariants as output
 use Rattle.srcp_peers.specs.declared.stay.Stay.{Stay}
 use Rattle.srcp_peers.specs.declared.stay.Stay.TheVariants as stay
 use Rattle.srcp_peers.specs.Accounts.{Sent, Received, wrote, woken_sent, woken_came}
-use Rattle.srcp_peers.specs.Peers.{ComesAs, ReadsAs, WritesAs, output_after}
+use Rattle.srcp_peers.specs.Peers.{ComesAs, FindsAs, ReadsAs, WritesAs, output_after}
 use Rattle.srcp_peers.specs.Peers.{woken_input, woken_output}
 
 -- ---- the output
@@ -57,23 +57,26 @@ handed_more received bytes rest is = is ∙ sym (append_assoc received.handed by
 
 pub handed_as : (received : Received) (bytes rest : List ℕ) (state : Input) → ReadsAs received (bytes ++ rest) state
     → ReadsAs (record received { handed = received.handed ++ bytes }) rest state
-handed_as received bytes rest input.Ready h = (handed_more received bytes rest h.0, h.1, h.2, h.3)
-handed_as received bytes rest input.Emptying h = (handed_more received bytes rest h.0, h.1, h.2)
-handed_as received bytes rest input.Quiet h = (handed_more received bytes rest h.0, h.1, h.2, h.3, h.4)
-handed_as received bytes rest input.Ended h = (handed_more received bytes rest h.0, h.1, h.2)
-handed_as received bytes rest input.Failed h = (handed_more received bytes rest h.0, h.1)
+handed_as received bytes rest state h = (handed_more received bytes rest h.0, by state h.1)
+  where
+    by : (s : Input) → FindsAs received s → FindsAs (record received { handed = received.handed ++ bytes }) s
+    by input.Ready f = f
+    by input.Emptying f = f
+    by input.Quiet f = f
+    by input.Ended f = f
+    by input.Failed f = f
 
 -- its socket was found ready
-pub woken_reads : (received : Received) (incoming : List ℕ) (state : Input) (readable closed : Bool) → ReadsAs received incoming state
-    → ReadsAs (woken_came received readable closed) incoming (woken_input state readable closed)
-woken_reads received incoming input.Ready readable true h = (h.0, h.1, h.2)
-woken_reads received incoming input.Ready readable false h = (h.0, h.1, h.2, ap (λ b. b || false) h.3)
-woken_reads received incoming input.Emptying readable closed h = h
-woken_reads received incoming input.Quiet readable true h = (h.0, h.1, h.2)
-woken_reads received incoming input.Quiet true false h = (h.0, h.1, h.2, ap (λ b. b || false) h.3)
-woken_reads received incoming input.Quiet false false h = (h.0, h.1, h.2, ap (λ b. b || false) h.3, ap (λ b. b && true) h.4)
-woken_reads received incoming input.Ended readable closed h = h
-woken_reads received incoming input.Failed readable closed h = h
+woken_finds : (received : Received) (state : Input) (readable closed : Bool) → FindsAs received state
+    → FindsAs (woken_came received readable closed) (woken_input state readable closed)
+woken_finds received input.Ready readable true h = (h.0, h.1)
+woken_finds received input.Ready readable false h = (h.0, h.1, ap (λ b. b || false) h.2)
+woken_finds received input.Emptying readable closed h = h
+woken_finds received input.Quiet readable true h = (h.0, h.1)
+woken_finds received input.Quiet true false h = (h.0, h.1, ap (λ b. b || false) h.2)
+woken_finds received input.Quiet false false h = (h.0, h.1, ap (λ b. b || false) h.2, ap (λ b. b && true) h.3)
+woken_finds received input.Ended readable closed h = h
+woken_finds received input.Failed readable closed h = h
 
 -- ---- the input of a peer that may linger
 
@@ -89,20 +92,20 @@ reads_here received incoming state now e h = subst (ComesAs received incoming st
 pub woken_comes : (received : Received) (incoming : List ℕ) (state : Input) (here : Stay) (readable closed : Bool)
     → ComesAs received incoming state here
     → ComesAs (woken_came received readable closed) incoming (woken_input state readable closed) here
-woken_comes received incoming state stay.Here readable closed h = woken_reads received incoming state readable closed h
-woken_comes received incoming state (stay.Draining since) readable closed h = h
-woken_comes received incoming state (stay.Shut since) readable closed h = h
+woken_comes received incoming state stay.Here readable closed h = (h.0, woken_finds received state readable closed h.1)
+woken_comes received incoming state (stay.Draining since) readable closed h = (h.0, woken_finds received state readable closed h.1)
+woken_comes received incoming state (stay.Shut since) readable closed h = (h.0, woken_finds received state readable closed h.1)
 
 -- what came of any peer starts with what was handed out
 pub comes_starts : (received : Received) (incoming : List ℕ) (state : Input) (here : Stay) → ComesAs received incoming state here
     → StartsWith received.gave received.handed
-comes_starts received incoming state stay.Here h = by state h
-  where
-    by : (s : Input) → ReadsAs received incoming s → StartsWith received.gave received.handed
-    by input.Ready r = starts received.gave received.handed incoming r.0
-    by input.Emptying r = starts received.gave received.handed incoming r.0
-    by input.Quiet r = starts received.gave received.handed incoming r.0
-    by input.Ended r = starts received.gave received.handed incoming r.0
-    by input.Failed r = starts received.gave received.handed incoming r.0
-comes_starts received incoming state (stay.Draining since) h = h
-comes_starts received incoming state (stay.Shut since) h = h
+comes_starts received incoming state stay.Here h = starts received.gave received.handed incoming h.0
+comes_starts received incoming state (stay.Draining since) h = h.0
+comes_starts received incoming state (stay.Shut since) h = h.0
+
+-- what reads found of any peer is as its input is
+pub comes_finds : (received : Received) (incoming : List ℕ) (state : Input) (here : Stay) → ComesAs received incoming state here
+    → FindsAs received state
+comes_finds received incoming state stay.Here h = h.1
+comes_finds received incoming state (stay.Draining since) h = h.1
+comes_finds received incoming state (stay.Shut since) h = h.1

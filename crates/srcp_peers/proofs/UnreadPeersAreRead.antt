@@ -60,9 +60,9 @@ wanted_here : (received : Received) (incoming : List ℕ) (state : Input) → Re
     → is_wanting state incoming ≡ true
 wanted_here received incoming input.Ready h e = held_less received incoming h.0 e
 wanted_here received incoming input.Emptying h e = held_less received incoming h.0 e
-wanted_here received incoming input.Quiet h e = absurd (true≢false (sym (not_true received.quiet h.4
+wanted_here received incoming input.Quiet h e = absurd (true≢false (sym (not_true received.quiet h.1.3
     (and_left (not received.quiet) (not received.ended && not received.failed) (might received e)))))
-wanted_here received incoming input.Ended h e = absurd (true≢false (sym (not_true received.ended h.2
+wanted_here received incoming input.Ended h e = absurd (true≢false (sym (not_true received.ended h.1.1
     (and_left (not received.ended) (not received.failed)
     (and_right (not received.quiet) (not received.ended && not received.failed) (might received e))))))
 wanted_here received incoming input.Failed h e = absurd (true≢false (sym (not_true received.failed h.1

@@ -24,17 +24,18 @@ use Rattle.srcp_peers.specs.Steps.{Step, Reads, Writes, failure_of}
 use Rattle.srcp_peers.specs.Accounts.{Account, Lingering, Sent, Received, account, is_overdue}
 use Rattle.srcp_peers.specs.Limits.{flush_threshold, most_drained, most_outgoing, silence}
 
+-- what reads and waits found, if the input is in this state
+abbrev pub FindsAs : Received → Input → Type 0
+FindsAs received input.Ready = (received.failed ≡ false) × (received.ended ≡ false) × (received.emptying ≡ false)
+FindsAs received input.Emptying = (received.failed ≡ false) × (received.ended ≡ false)
+FindsAs received input.Quiet = (received.failed ≡ false) × (received.ended ≡ false) × (received.emptying ≡ false)
+    × (received.quiet ≡ true)
+FindsAs received input.Ended = (received.failed ≡ false) × (received.ended ≡ true)
+FindsAs received input.Failed = received.failed ≡ true
+
 -- what a state of the input means, if `incoming` is held of it
 abbrev pub ReadsAs : Received → List ℕ → Input → Type 0
-ReadsAs received incoming input.Ready = (received.gave ≡ received.handed ++ incoming) × (received.failed ≡ false)
-    × (received.ended ≡ false) × (received.emptying ≡ false)
-ReadsAs received incoming input.Emptying = (received.gave ≡ received.handed ++ incoming) × (received.failed ≡ false)
-    × (received.ended ≡ false)
-ReadsAs received incoming input.Quiet = (received.gave ≡ received.handed ++ incoming) × (received.failed ≡ false)
-    × (received.ended ≡ false) × (received.emptying ≡ false) × (received.quiet ≡ true)
-ReadsAs received incoming input.Ended = (received.gave ≡ received.handed ++ incoming) × (received.failed ≡ false)
-    × (received.ended ≡ true)
-ReadsAs received incoming input.Failed = (received.gave ≡ received.handed ++ incoming) × (received.failed ≡ true)
+ReadsAs received incoming state = (received.gave ≡ received.handed ++ incoming) × FindsAs received state
 
 -- what a state of the output means, if `outgoing` is queued for it
 abbrev pub WritesAs : Sent → List ℕ → Output → Type 0
@@ -45,8 +46,8 @@ WritesAs sent outgoing output.Lost = StartsWith sent.written sent.took × (sent.
 -- what is known of what came of a peer: what comes of one that lingers is dropped
 abbrev pub ComesAs : Received → List ℕ → Input → Stay → Type 0
 ComesAs received incoming state stay.Here = ReadsAs received incoming state
-ComesAs received incoming state (stay.Draining since) = StartsWith received.gave received.handed
-ComesAs received incoming state (stay.Shut since) = StartsWith received.gave received.handed
+ComesAs received incoming state (stay.Draining since) = StartsWith received.gave received.handed × FindsAs received state
+ComesAs received incoming state (stay.Shut since) = StartsWith received.gave received.handed × FindsAs received state
 
 -- what it means that a peer stays so, if `outgoing` is queued for it
 abbrev pub StaysAs : (watched : Bool) → Lingering → List ℕ → Stay → Type 0

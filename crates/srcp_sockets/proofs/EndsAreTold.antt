@@ -313,12 +313,12 @@ not_twice false = refl
 -- the input of a peer is over when its account says so
 pub over_as : (received : Received) (incoming : List ℕ) (state : Input) → ReadsAs received incoming state
     → is_over incoming state ≡ is_all_read received
-over_as received incoming input.Ready h = sym (ap (λ e. e && (not received.failed && not (is_held received))) h.2)
-over_as received incoming input.Emptying h = sym (ap (λ e. e && (not received.failed && not (is_held received))) h.2)
-over_as received incoming input.Quiet h = sym (ap (λ e. e && (not received.failed && not (is_held received))) h.2)
+over_as received incoming input.Ready h = sym (ap (λ e. e && (not received.failed && not (is_held received))) h.1.1)
+over_as received incoming input.Emptying h = sym (ap (λ e. e && (not received.failed && not (is_held received))) h.1.1)
+over_as received incoming input.Quiet h = sym (ap (λ e. e && (not received.failed && not (is_held received))) h.1.1)
 over_as received incoming input.Ended h =
     let held : is_held received ≡ not (length incoming == 0) = held_is received incoming h.0 in
-    sym (ap (λ e. e && (not received.failed && not (is_held received))) h.2 ∙ ap (λ f. not f && not (is_held received)) h.1
+    sym (ap (λ e. e && (not received.failed && not (is_held received))) h.1.1 ∙ ap (λ f. not f && not (is_held received)) h.1.0
     ∙ ap not held ∙ not_twice (length incoming == 0))
 over_as received incoming input.Failed h =
     sym (ap (λ f. received.ended && (not f && not (is_held received))) h.1 ∙ and_none received.ended)

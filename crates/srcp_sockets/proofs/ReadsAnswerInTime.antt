@@ -24,7 +24,7 @@ use Rattle.srcp_peers.specs.declared.readiness.Output.TheVariants as output
 use Rattle.srcp_peers.specs.declared.stay.Stay.TheVariants as stay
 use Rattle.srcp_peers.specs.declared.turn.Turn.{Turn}
 use Rattle.srcp_peers.specs.Accounts.{Account, Received, Sent, account, is_held, is_owed, may_end}
-use Rattle.srcp_peers.specs.Peers.{Agrees, IsKept, ReadsAs, StaysAs, WritesAs, is_lost, is_over}
+use Rattle.srcp_peers.specs.Peers.{Agrees, FindsAs, IsKept, ReadsAs, StaysAs, WritesAs, is_lost, is_over}
 use Rattle.srcp_peers.specs.Reports.{IsAnswered, has_failed, is_ended, is_failed, is_settled, piece_of}
 use Rattle.srcp_peers.specs.Steps.{Step}
 use Rattle.srcp_peers.specs.Times.{times}
@@ -34,7 +34,6 @@ use Rattle.srcp_peers.proofs.StatesFollowSteps.{reads_here}
 use Rattle.srcp_sockets.specs.Duties.{IsHandedOut, IsReadDone, held_piece, is_end, is_failing, is_fault}
 use Rattle.srcp_sockets.specs.Endings.{ending_of, is_all_read, is_as_far}
 use Rattle.srcp_sockets.specs.KeptTimes.{Timed}
-use Rattle.srcp_sockets.proofs.WorkIsDone.{gave_as}
 use Rattle.srcp_sockets.proofs.EndsAreTold.{over_as, settled_so}
 use Rattle.srcp_sockets.proofs.TimesGoOn.{line_kept}
 
@@ -68,13 +67,12 @@ lost_as sent outgoing output.Open h = sym h.1
 lost_as sent outgoing output.Full h = sym h.1
 lost_as sent outgoing output.Lost h = sym h.1
 
-failed_as : (received : Received) (incoming : List ℕ) (state : Input) → ReadsAs received incoming state
-    → has_failed state ≡ received.failed
-failed_as received incoming input.Ready h = sym h.1
-failed_as received incoming input.Emptying h = sym h.1
-failed_as received incoming input.Quiet h = sym h.1
-failed_as received incoming input.Ended h = sym h.1
-failed_as received incoming input.Failed h = sym h.1
+failed_as : (received : Received) (state : Input) → FindsAs received state → has_failed state ≡ received.failed
+failed_as received input.Ready h = sym h.0
+failed_as received input.Emptying h = sym h.0
+failed_as received input.Quiet h = sym h.0
+failed_as received input.Ended h = sym h.0
+failed_as received input.Failed h = sym h
 
 none_held : (incoming : List ℕ) → not (length incoming == 0) ≡ false → incoming ≡ []
 none_held [] e = refl
@@ -135,14 +133,14 @@ leaves a p wanted h here far may sound settled =
     let held : is_held a.received ≡ false = not_so (is_held a.received) (and_left (not (is_held a.received)) (not (is_owed a.sent)) rest) in
     let owed : is_owed a.sent ≡ false = not_so (is_owed a.sent) (and_right (not (is_held a.received)) (not (is_owed a.sent)) rest) in
     let is : is_held a.received ≡ not (length p.incoming == 0) =
-    held_is a.received p.incoming (gave_as a.received p.incoming p.input reads) in
+    held_is a.received p.incoming reads.0 in
     let none : p.incoming ≡ [] = none_held p.incoming (sym is ∙ held) in
     let both = sound_so a.watched (is_held a.received) a.sent.lost a.received.failed stays.0 held sound in
     let over : is_over [] p.input ≡ true = ap (λ xs. is_over xs p.input) (sym none)
     ∙ over_as a.received p.incoming p.input reads ∙ all_read a.received ended both.1 held in (
       none,
       ap (λ b. b || has_failed p.input) (lost_as a.sent p.outgoing p.output h.writes ∙ both.0)
-          ∙ failed_as a.received p.incoming p.input reads ∙ both.1,
+          ∙ failed_as a.received p.input reads.1 ∙ both.1,
       three (is_over [] p.input) (is_settled p.ending) (length p.outgoing == 0) over (settled_so wanted p.ending far settled)
           (none_queued a.sent p.outgoing p.output h.writes both.0 owed),
     )
@@ -159,7 +157,7 @@ read_done wall start log turn waits p answer buffer space kept timed agrees here
     let a : Account = account p.number log in
     let h : Agrees a p = agrees in
     let reads : ReadsAs a.received p.incoming p.input = reads_here a.received p.incoming p.input p.stay here h.reads in
-    let gave : a.received.gave ≡ a.received.handed ++ p.incoming = gave_as a.received p.incoming p.input reads in
+    let gave : a.received.gave ≡ a.received.handed ++ p.incoming = reads.0 in
     let held : is_held a.received ≡ not (length p.incoming == 0) = held_is a.received p.incoming gave in
     let stays : StaysAs a.watched a.lingering p.outgoing stay.Here = subst (StaysAs a.watched a.lingering p.outgoing) here h.stays in
     let some : is_held a.received ≡ true → p.incoming ≢ [] = λ e none.
@@ -173,7 +171,7 @@ read_done wall start log turn waits p answer buffer space kept timed agrees here
           let rest = watched_fails a.watched (not (is_held a.received) && (a.sent.lost || a.received.failed)) stays.0 failing in
           let none = none_held p.incoming (sym held ∙ not_held (is_held a.received) (a.sent.lost || a.received.failed) rest) in
           let fails : is_failed p ≡ true = ap (λ b. b || has_failed p.input) (lost_as a.sent p.outgoing p.output h.writes)
-          ∙ ap (λ b. a.sent.lost || b) (failed_as a.received p.incoming p.input reads)
+          ∙ ap (λ b. a.sent.lost || b) (failed_as a.received p.input reads.1)
           ∙ and_right (not (is_held a.received)) (a.sent.lost || a.received.failed) rest in
           let may : turn.may_report_end ≡ true = ap (λ (t : Turn). t.may_report_end) (sym timed.same) ∙ ends in
           let end : Result Got DoorFault = cond (is_ended p) (Ok got.Ended) (Ok got.Nothing) in

@@ -11,17 +11,19 @@ use Rattle.srcp_door.specs.declared.door.DoorFault.{DoorFault}
 use Rattle.srcp_peers.specs.declared.peer.Peer.{Peer}
 use Rattle.srcp_peers.specs.declared.readiness.Flush.{Flush}
 use Rattle.srcp_peers.specs.declared.readiness.Flush.TheVariants as flush
+use Rattle.srcp_peers.specs.declared.readiness.Input.{Input}
+use Rattle.srcp_peers.specs.declared.readiness.Input.TheVariants as input
 use Rattle.srcp_peers.specs.declared.readiness.Output.{Output}
 use Rattle.srcp_peers.specs.declared.readiness.Output.TheVariants as output
 use Rattle.srcp_peers.specs.declared.stay.Stay.{Stay}
 use Rattle.srcp_peers.specs.declared.stay.Stay.TheVariants as stay
 use Rattle.srcp_peers.specs.declared.turn.Listening.{Listening}
 use Rattle.srcp_peers.specs.declared.turn.Turn.{Turn}
-use Rattle.srcp_peers.specs.Accounts.{Account, Sent, account, account_step, closed, is_lingering, is_overdue, is_owed, may_shut}
+use Rattle.srcp_peers.specs.Accounts.{Account, Received, Sent, account, account_step, closed, is_lingering, is_overdue, is_owed, may_shut}
 use Rattle.srcp_peers.specs.Accounts.{untouched, wrote}
 use Rattle.srcp_peers.specs.AllPeers.{AreOffered, AreShutDown, IsAbsent}
 use Rattle.srcp_peers.specs.Limits.{flush_threshold}
-use Rattle.srcp_peers.specs.Peers.{Agrees, IsFlushed, IsKept, IsOffered, Makes, OffersDue, Spares, StaysAs, WritesAs}
+use Rattle.srcp_peers.specs.Peers.{Agrees, FindsAs, IsFlushed, IsKept, IsOffered, Makes, OffersDue, Spares, StaysAs, WritesAs}
 use Rattle.srcp_peers.specs.Peers.{flush_of, flushes_all, gone_as, is_gone}
 use Rattle.srcp_peers.specs.Peers.{has_ended, is_due, is_lost, stay_after, tries_again, woken_output}
 use Rattle.srcp_peers.specs.Steps.{Accepts, Answers, Clocks, Closes, Reads, SaysNothing, Shuts, Step, Waits, Writes, call_of, calls}
@@ -30,8 +32,10 @@ use Rattle.srcp_peers.specs.Turns.{flushing, is_pending, is_short}
 use Rattle.srcp_peers.proofs.AccountsHoldStreams.{if_same}
 use Rattle.srcp_peers.proofs.PeersStayKept.{account_more, own}
 use Rattle.srcp_peers.proofs.PeersRestByAccount.{and_left, and_right, owed_is}
+use Rattle.srcp_peers.proofs.StatesFollowSteps.{comes_finds}
 use Rattle.srcp_sockets.specs.Doors.{IsThere, Stands}
-use Rattle.srcp_sockets.specs.Waits.{AreFlushed, IsFlushedOut, IsWaitDone, closes, closes_after, has_to_close, is_written, written_after}
+use Rattle.srcp_sockets.specs.Waits.{AreFlushed, IsFlushedOut, IsWaitDone, closes, closes_after, has_no_more, has_to_close}
+use Rattle.srcp_sockets.specs.Waits.{is_written, written_after}
 use Rattle.srcp_sockets.specs.KeptTimes.{IsTimed}
 use Rattle.srcp_sockets.specs.Work.{AreClosedUp, is_close}
 use Rattle.srcp_sockets.proofs.AccountsReadTheClock.{clock_is}
@@ -98,8 +102,16 @@ neither : (a b : Bool) → (a || b) ≡ false → (a ≡ false) × (b ≡ false)
 neither true b e = absurd (true≢false e)
 neither false b e = (refl, e)
 
-remains : (lingers lost over : Bool) → lost ≡ false → over ≡ false → (lingers && (lost || over)) ≡ false
-remains lingers lost over l o = ap (λ b. lingers && (b || over)) l ∙ ap (λ b. lingers && b) o ∙ and_none lingers
+remains : (lingers lost none over : Bool) → lost ≡ false → none ≡ false → over ≡ false → (lingers && (lost || (none || over))) ≡ false
+remains lingers lost none over l n o = rw (l, n, o) (and_none lingers)
+
+-- a read found the end or failed if its input is so
+no_more : (received : Received) (state : Input) → FindsAs received state → has_no_more received ≡ has_ended state
+no_more received input.Ready h = ap (λ b. b || received.failed) h.1 ∙ h.0
+no_more received input.Emptying h = ap (λ b. b || received.failed) h.1 ∙ h.0
+no_more received input.Quiet h = ap (λ b. b || received.failed) h.1 ∙ h.0
+no_more received input.Ended h = ap (λ b. b || received.failed) h.1
+no_more received input.Failed h = ap (λ b. received.ended || b) h ∙ or_last received.ended
 
 not_gone : (a : Account) (p : Peer) (clock : ℕ) → Agrees a p → a.lingering.clock ≡ clock → is_gone clock p ≡ false
     → has_to_close a ≡ false
@@ -112,16 +124,24 @@ not_gone a p clock h shown stays = by p.stay h.stays stays
     lost : a.sent.lost ≡ is_lost p.output
     lost = sym (lost_as a.sent p.outgoing p.output h.writes)
 
+    none : has_no_more a.received ≡ has_ended p.input
+    none = no_more a.received p.input (comes_finds a.received p.incoming p.input p.stay h.reads)
+
     by : (here : Stay) → StaysAs a.watched a.lingering p.outgoing here → gone_as clock p.input p.output here ≡ false
         → has_to_close a ≡ false
-    by stay.Here s e = ap (λ w. (not w && a.lingering.kept) && (a.sent.lost || is_overdue a.lingering.clock a.lingering.since)) s.0
+    by stay.Here s e = ap (λ w. (not w && a.lingering.kept) && (a.sent.lost
+        || ((a.lingering.shut && has_no_more a.received) || is_overdue a.lingering.clock a.lingering.since))) s.0
     by (stay.Draining since) s e =
         let n = neither (is_lost p.output) (is_overdue clock since) e in
-        remains (is_lingering a) a.sent.lost (is_overdue a.lingering.clock a.lingering.since) (lost ∙ n.0) (overdue since s.2 ∙ n.1)
+        remains (is_lingering a) a.sent.lost (a.lingering.shut && has_no_more a.received)
+        (is_overdue a.lingering.clock a.lingering.since) (lost ∙ n.0) (ap (λ b. b && has_no_more a.received) s.3)
+        (overdue since s.2 ∙ n.1)
     by (stay.Shut since) s e =
         let n = neither (is_lost p.output) (has_ended p.input || is_overdue clock since) e in
         let o = neither (has_ended p.input) (is_overdue clock since) n.1 in
-        remains (is_lingering a) a.sent.lost (is_overdue a.lingering.clock a.lingering.since) (lost ∙ n.0) (overdue since s.2 ∙ o.1)
+        remains (is_lingering a) a.sent.lost (a.lingering.shut && has_no_more a.received)
+        (is_overdue a.lingering.clock a.lingering.since) (lost ∙ n.0) (ap (λ b. b && has_no_more a.received) s.3 ∙ none ∙ o.0)
+        (overdue since s.2 ∙ o.1)
 
 pub all_closed : (old new : List Step) (turn : Turn) (peers : List Peer) (l : Listening) (last : ℕ) → Stands new peers l last
     → IsTimed new turn → SaysNothing old new → AreClosedUp turn.clock peers old new
@@ -135,8 +155,9 @@ all_closed old new turn peers l last stands timed says closed few socket = ⊎_e
     (clock_is new turn p.number timed) (none_first (is_gone turn.clock) peers there.index nobody none there.within)))
     (λ (absent : IsAbsent socket peers).
     let a = account socket new in
-    ap (λ k. (not a.watched && k) && (a.sent.lost || is_overdue a.lingering.clock a.lingering.since)) (stands.closed socket absent).kept
-    ∙ ap (λ b. b && (a.sent.lost || is_overdue a.lingering.clock a.lingering.since)) (and_none (not a.watched)))
+    let has = a.sent.lost
+    || ((a.lingering.shut && has_no_more a.received) || is_overdue a.lingering.clock a.lingering.since) in
+    ap (λ k. (not a.watched && k) && has) (stands.closed socket absent).kept ∙ ap (λ b. b && has) (and_none (not a.watched)))
     (find socket peers))
     (λ (made : Makes is_close 64 old new). absurd (true≢false (sym few ∙ many_closed old new says made)))
     closed

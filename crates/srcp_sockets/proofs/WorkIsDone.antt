@@ -13,8 +13,6 @@ use Rattle.std.specs.declared.io.ErrorKind.{ErrorKind}
 use Rattle.srcp_door.specs.Calls.{Call, NowCall}
 use Rattle.srcp_door.specs.declared.door.DoorFault.{DoorFault}
 use Rattle.srcp_peers.specs.declared.peer.Peer.{Peer}
-use Rattle.srcp_peers.specs.declared.readiness.Input.{Input}
-use Rattle.srcp_peers.specs.declared.readiness.Input.TheVariants as input
 use Rattle.srcp_peers.specs.declared.stay.Stay.{Stay}
 use Rattle.srcp_peers.specs.declared.stay.Stay.TheVariants as stay
 use Rattle.srcp_peers.specs.declared.system.Ready.{Ready}
@@ -22,9 +20,9 @@ use Rattle.srcp_peers.specs.declared.system.IoFailure.{IoFailure}
 use Rattle.srcp_peers.specs.declared.system.IoFailure.TheVariants.{WouldBlock, Interrupted, Fatal}
 use Rattle.srcp_peers.specs.declared.turn.Listening.{Listening}
 use Rattle.srcp_peers.specs.declared.turn.Turn.{Turn}
-use Rattle.srcp_peers.specs.Accounts.{Account, Received, accepted, account, account_step, closed, heard_refusal, is_held, read_in, read_of}
+use Rattle.srcp_peers.specs.Accounts.{Account, accepted, account, account_step, closed, heard_refusal, is_held, read_in, read_of}
 use Rattle.srcp_peers.specs.Accounts.{failed_read, failed_write, shut_down, untouched, waited, woken, woken_came, woken_sent}
-use Rattle.srcp_peers.specs.Peers.{Agrees, ComesAs, ReadsAs, StaysAs, holds_input, is_here}
+use Rattle.srcp_peers.specs.Peers.{Agrees, ComesAs, StaysAs, holds_input, is_here}
 use Rattle.srcp_peers.specs.Steps.{Accepts, Answers, Clocks, Closes, Reads, SaysNothing, Shuts, Step, Waits, Writes}
 use Rattle.srcp_peers.specs.Steps.{call_of, calls, failure_of}
 use Rattle.srcp_peers.specs.Times.{KeepsTimes, Times, first_times, times, times_step}
@@ -261,14 +259,6 @@ held_peer (p ∷ peers) e = ⊎_elim
     (suc one.0, omega (arith, lt), λ d. one.2 d))
     (or_cases (holds_input p) (list_any holds_input peers) e)
 
-pub gave_as : (received : Received) (incoming : List ℕ) (state : Input) → ReadsAs received incoming state
-    → received.gave ≡ received.handed ++ incoming
-gave_as received incoming input.Ready h = h.0
-gave_as received incoming input.Emptying h = h.0
-gave_as received incoming input.Quiet h = h.0
-gave_as received incoming input.Ended h = h.0
-gave_as received incoming input.Failed h = h.0
-
 takes_so : (watched cut held other none : Bool) → watched ≡ true → cut ≡ other → held ≡ not none → (not other && not none) ≡ true
     → (watched && (not cut && held)) ≡ true
 takes_so watched cut held other none w c h e = rw (w, c, h) e
@@ -279,7 +269,7 @@ takes_as a p h holds = by p.stay h.reads h.stays holds
     by : (here : Stay) → ComesAs a.received p.incoming p.input here → StaysAs a.watched a.lingering p.outgoing here
         → (is_here here && (not p.backpressured && not (length p.incoming == 0))) ≡ true → takes_input a ≡ true
     by stay.Here reads stays e = takes_so a.watched a.sent.cut (is_held a.received) p.backpressured (length p.incoming == 0) stays.0 h.cut
-        (held_is a.received p.incoming (gave_as a.received p.incoming p.input reads)) e
+        (held_is a.received p.incoming reads.0) e
     by (stay.Draining since) reads stays e = absurd (true≢false (sym e))
     by (stay.Shut since) reads stays e = absurd (true≢false (sym e))
 

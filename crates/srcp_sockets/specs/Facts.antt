@@ -11,15 +11,15 @@ use Rattle.srcp_peers.specs.declared.stay.Stay.TheVariants as stay
 use Rattle.srcp_peers.specs.declared.turn.Listening.{Listening}
 use Rattle.srcp_peers.specs.Steps.{Step}
 use Rattle.srcp_peers.specs.Accounts.{Lingering, Received, Sent}
-use Rattle.srcp_peers.specs.Peers.{ComesAs, ReadsAs, StaysAs, WritesAs}
+use Rattle.srcp_peers.specs.Peers.{ComesAs, FindsAs, StaysAs, WritesAs}
 use Rattle.srcp_sockets.specs.Doors.{Stands}
 
-ReadsAs-prop : (received : Received) (incoming : List ℕ) (state : Input) → IsProp (ReadsAs received incoming state)
-ReadsAs-prop received incoming input.Ready = hlevel props
-ReadsAs-prop received incoming input.Emptying = hlevel props
-ReadsAs-prop received incoming input.Quiet = hlevel props
-ReadsAs-prop received incoming input.Ended = hlevel props
-ReadsAs-prop received incoming input.Failed = hlevel props
+FindsAs-prop : (received : Received) (state : Input) → IsProp (FindsAs received state)
+FindsAs-prop received input.Ready = hlevel props
+FindsAs-prop received input.Emptying = hlevel props
+FindsAs-prop received input.Quiet = hlevel props
+FindsAs-prop received input.Ended = hlevel props
+FindsAs-prop received input.Failed = hlevel props
 
 WritesAs-prop : (sent : Sent) (outgoing : List ℕ) (state : Output) → IsProp (WritesAs sent outgoing state)
 WritesAs-prop sent outgoing output.Open = hlevel props
@@ -28,9 +28,9 @@ WritesAs-prop sent outgoing output.Lost = hlevel props
 
 ComesAs-prop : (received : Received) (incoming : List ℕ) (state : Input) (here : Stay) → IsProp
     (ComesAs received incoming state here)
-ComesAs-prop received incoming state stay.Here = ReadsAs-prop received incoming state
-ComesAs-prop received incoming state (stay.Draining since) = hlevel props
-ComesAs-prop received incoming state (stay.Shut since) = hlevel props
+ComesAs-prop received incoming state stay.Here = hlevel (props, FindsAs-prop)
+ComesAs-prop received incoming state (stay.Draining since) = hlevel (props, FindsAs-prop)
+ComesAs-prop received incoming state (stay.Shut since) = hlevel (props, FindsAs-prop)
 
 StaysAs-prop : (watched : Bool) (lingering : Lingering) (outgoing : List ℕ) (here : Stay) → IsProp
     (StaysAs watched lingering outgoing here)

@@ -1,7 +1,7 @@
 -- What a door has done when it waits.
 use Rattle.std.specs.Prelude.{◌≡◌, ℕ, ◌+◌, ◌==◌, ◌&&◌, ◌||◌, nat_lt, Bool, true, false, not, List, fold}
 use Rattle.srcp_door.specs.Calls.{NowCall}
-use Rattle.srcp_peers.specs.Accounts.{Account, account, is_lingering, is_overdue, is_owed, may_shut}
+use Rattle.srcp_peers.specs.Accounts.{Account, Received, account, is_lingering, is_overdue, is_owed, may_shut}
 use Rattle.srcp_peers.specs.Steps.{Answers, Closes, Step, Writes}
 use Rattle.srcp_peers.specs.Times.{times}
 use Rattle.srcp_peers.specs.Turns.{is_pending}
@@ -16,9 +16,14 @@ closes_after count other = count
 abbrev pub closes : List Step → ℕ
 closes log = fold closes_after 0 log
 
--- it lingers, and a write found that its socket takes no more, or its time is over
+-- no read of it finds anything any more: one found its end, or failed
+abbrev pub has_no_more : Received → Bool
+has_no_more received = received.ended || received.failed
+
+-- it lingers, and a write found that its socket takes no more, or its time is over, or it was shut down and has no more
 abbrev pub has_to_close : Account → Bool
-has_to_close a = is_lingering a && (a.sent.lost || is_overdue a.lingering.clock a.lingering.since)
+has_to_close a = is_lingering a && (a.sent.lost
+    || ((a.lingering.shut && has_no_more a.received) || is_overdue a.lingering.clock a.lingering.since))
 
 -- a socket was written to since the door answered a call
 abbrev pub written_after : ℕ → Bool → Step → Bool

@@ -139,8 +139,8 @@ pub fn turns_wait<S: System>(door: &SocketDoor<S>)
 
 /// States that a wait found no lingering socket that has to be closed, unless 64 sockets were closed since the moment
 /// before. A socket has to be closed if a write found that it takes no more, or 10 seconds are over by the clock read.
-/// By then each lingering socket that took all bytes taken for its peer was shut down, unless a write found that it
-/// takes no more.
+/// So has one that was shut down and whose input ended, or of which a read failed. By then each lingering socket that
+/// took all bytes taken for its peer was shut down, unless a write found that it takes no more.
 pub fn gone_are_closed<S: System>(door: &SocketDoor<S>)
     ensures closed { (before after : List Step) (most : Option ℕ) (count : ℕ) (ready : List Ready)
         → door.now.sockets.system.log.steps ≡ before ++ Waits most count ready ∷ after
