@@ -1,4 +1,5 @@
--- Nobody is accepted only if the system was asked, or had nobody, or there is no place.
+-- Nobody is accepted only if the system was asked, or had nobody, or there is no place. A fault is answered only if it
+-- was asked, or the numbers ran out.
 use Rattle.std.proofs.Common.{◌≡◌, ◌∙◌, ℕ, zero, suc, ◌<◌, ◌≤◌, Bool, true, false, cond, List, [], ◌∷◌, ◌++◌, length, map, refl}
 use Rattle.std.proofs.Common.{ap, sym, subst}
 use Rattle.std.proofs.Common.{arith, ⊎_elim, inl, inr, ◌⊎◌, ◌==◌, ◌||◌, ◌&&◌, not, nat_le, filter, Option, Some, None, Ok, Err, true≢false}
@@ -24,20 +25,20 @@ use Rattle.srcp_peers.specs.Steps.{Accepts, Answers, Clocks, Closes, Reads, Says
 use Rattle.srcp_peers.specs.Times.{Times, accept_answer, times}
 use Rattle.srcp_peers.proofs.PeersStayKept.{account_more, alien, skips}
 use Rattle.srcp_peers.proofs.CallsAreOfTheDoor.{times_more}
-use Rattle.srcp_sockets.specs.Asked.{AreAsked, Covers, IsExcused}
+use Rattle.srcp_sockets.specs.Asked.{AreAsked, Covers, IsExcused, MayAnswer}
 use Rattle.srcp_sockets.specs.Doors.{Stands}
 use Rattle.srcp_sockets.specs.Work.{is_crowded}
 use Rattle.srcp_sockets.proofs.AcceptsKeepSockets.{new_peer}
 
 -- ---- steps that came
 
--- the door answers that it accepted nobody
-abbrev nobody : Step
-nobody = Answers (AcceptCall (Ok None))
+-- the door answers an accept
+abbrev accepting : Result (Option ℕ) DoorFault → Step
+accepting answer = Answers (AcceptCall answer)
 
-abbrev pub is_nobody : Step → Bool
-is_nobody (Answers (AcceptCall (Ok None))) = true
-is_nobody other = false
+abbrev pub is_accepting : Step → Bool
+is_accepting (Answers (AcceptCall answer)) = true
+is_accepting other = false
 
 -- a step stands in what was there, or in what came
 pub splits : (log came before after : List Step) (step : Step) → log ++ came ≡ before ++ step ∷ after
@@ -59,19 +60,20 @@ pub or_last : (a : Bool) → (a || true) ≡ true
 or_last true = refl
 or_last false = refl
 
-any_in : (mid after : List Step) → list_any is_nobody (mid ++ nobody ∷ after) ≡ true
-any_in [] after = refl
-any_in (step ∷ mid) after = ap (λ b. is_nobody step || b) (any_in mid after) ∙ or_last (is_nobody step)
+any_in : (mid after : List Step) (answer : Result (Option ℕ) DoorFault)
+    → list_any is_accepting (mid ++ accepting answer ∷ after) ≡ true
+any_in [] after answer = refl
+any_in (step ∷ mid) after answer = ap (λ b. is_accepting step || b) (any_in mid after answer) ∙ or_last (is_accepting step)
 
-asked_came : (old came : List Step) → list_any is_nobody came ≡ false → AreAsked old → AreAsked (old ++ came)
-asked_came old came none asked before after is =
+asked_came : (old came : List Step) → list_any is_accepting came ≡ false → AreAsked old → AreAsked (old ++ came)
+asked_came old came none asked before after answer is =
     ⊎_elim
-    (λ (here : (rest : List Step) × (old ≡ before ++ nobody ∷ rest)). asked before here.0 here.1)
-    (λ (there : (mid : List Step) × (came ≡ mid ++ nobody ∷ after) × (before ≡ old ++ mid)).
-    absurd (true≢false (sym (any_in there.0 after) ∙ ap (list_any is_nobody) (sym there.1) ∙ none)))
-    (splits old came before after nobody is)
+    (λ (here : (rest : List Step) × (old ≡ before ++ accepting answer ∷ rest)). asked before here.0 answer here.1)
+    (λ (there : (mid : List Step) × (came ≡ mid ++ accepting answer ∷ after) × (before ≡ old ++ mid)).
+    absurd (true≢false (sym (any_in there.0 after answer) ∙ ap (list_any is_accepting) (sym there.1) ∙ none)))
+    (splits old came before after (accepting answer) is)
 
-none_silent : (came : List Step) → calls came ≡ [] → list_any is_nobody came ≡ false
+none_silent : (came : List Step) → calls came ≡ [] → list_any is_accepting came ≡ false
 none_silent [] e = refl
 none_silent (Accepts number answer ∷ came) e = none_silent came e
 none_silent (Reads who buffer answer ∷ came) e = none_silent came e
@@ -86,43 +88,47 @@ pub asked_silent : (old new : List Step) → SaysNothing old new → AreAsked ol
 asked_silent old new says asked =
     subst AreAsked (sym says.1) (asked_came old says.0 (none_silent says.0 says.2) asked)
 
-pub asked_step : (old new : List Step) (step : Step) → new ≡ old ++ step ∷ [] → is_nobody step ≡ false → AreAsked old → AreAsked new
+pub asked_step : (old new : List Step) (step : Step) → new ≡ old ++ step ∷ [] → is_accepting step ≡ false → AreAsked old
+    → AreAsked new
 asked_step old new step tells none asked =
     subst AreAsked (sym tells) (asked_came old (step ∷ []) (ap (λ b. b || false) none) asked)
 
--- ---- nobody is accepted
+-- ---- an accept is answered
 
-alone : (mid after : List Step) → nobody ∷ [] ≡ mid ++ nobody ∷ after → mid ≡ []
-alone [] after e = refl
-alone (step ∷ mid) after e =
-    let none : [] ≡ mid ++ nobody ∷ after = cc in
-    absurd (true≢false (sym (any_in mid after) ∙ ap (list_any is_nobody) (sym none)))
-
-asked_nobody : (old new : List Step) → new ≡ old ++ nobody ∷ [] → IsExcused old → AreAsked old → AreAsked new
-asked_nobody old new tells excused asked before after is =
-    ⊎_elim
-    (λ (here : (rest : List Step) × (old ≡ before ++ nobody ∷ rest)). asked before here.0 here.1)
-    (λ (there : (mid : List Step) × (nobody ∷ [] ≡ mid ++ nobody ∷ after) × (before ≡ old ++ mid)).
-    let same : old ≡ before = sym (there.2 ∙ ap (λ (l : List Step). old ++ l) (alone there.0 after there.1) ∙ append-nil old) in
-    subst IsExcused same excused)
-    (splits old (nobody ∷ []) before after nobody (sym tells ∙ is))
+alone : (mid after : List Step) (answer one : Result (Option ℕ) DoorFault) → accepting one ∷ [] ≡ mid ++ accepting answer ∷ after
+    → (mid ≡ []) × (one ≡ answer)
+alone [] after answer one e = (refl, (let same : accepting one ≡ accepting answer = cc in cc))
+alone (step ∷ mid) after answer one e =
+    let none : [] ≡ mid ++ accepting answer ∷ after = cc in
+    absurd (true≢false (sym (any_in mid after answer) ∙ ap (list_any is_accepting) (sym none)))
 
 pub asked_accept : (old new : List Step) (answer : Result (Option ℕ) DoorFault) → new ≡ old ++ Answers (AcceptCall answer) ∷ []
-    → (answer ≡ Ok None → IsExcused old) → AreAsked old → AreAsked new
-asked_accept old new (Ok (Some number)) tells may asked = asked_step old new (Answers (AcceptCall (Ok (Some number)))) tells refl asked
-asked_accept old new (Ok None) tells may asked = asked_nobody old new tells (may refl) asked
-asked_accept old new (Err fault) tells may asked = asked_step old new (Answers (AcceptCall (Err fault))) tells refl asked
+    → MayAnswer old answer → AreAsked old → AreAsked new
+asked_accept old new one tells may asked before after answer is =
+    ⊎_elim
+    (λ (here : (rest : List Step) × (old ≡ before ++ accepting answer ∷ rest)). asked before here.0 answer here.1)
+    (λ (there : (mid : List Step) × (accepting one ∷ [] ≡ mid ++ accepting answer ∷ after) × (before ≡ old ++ mid)).
+    let only = alone there.0 after answer one there.1 in
+    let same : old ≡ before = sym (there.2 ∙ ap (λ (l : List Step). old ++ l) only.0 ∙ append-nil old) in
+    subst (λ (l : List Step). MayAnswer l answer) same (subst (MayAnswer old) only.1 may))
+    (splits old (accepting one ∷ []) before after (accepting answer) (sym tells ∙ is))
 
 -- the system was asked
-pub was_asked : (old new : List Step) (number : ℕ) (said : Result Unit ErrorKind) → new ≡ old ++ Accepts number said ∷ []
-    → IsExcused new
-was_asked old new number said tells wall start none =
-    let some : (times wall start new).heard ≡ Some (accept_answer number said) =
-    ap (λ (x : Times). x.heard) (ap (times wall start) tells ∙ times_more wall start old (Accepts number said)) in
-    absurd (nothing (sym none ∙ some))
+pub was_asked : (old new : List Step) (number : ℕ) (said : Result Unit ErrorKind) (answer : Result (Option ℕ) DoorFault)
+    → new ≡ old ++ Accepts number said ∷ [] → MayAnswer new answer
+was_asked old new number said answer tells = by answer
   where
     nothing : None ≡ Some (accept_answer number said) → ⊥
     nothing e = cc
+
+    asked : (wall start : ℕ) → (times wall start new).heard ≡ None → ⊥
+    asked wall start none = nothing (sym none
+        ∙ ap (λ (x : Times). x.heard) (ap (times wall start) tells ∙ times_more wall start old (Accepts number said)))
+
+    by : (a : Result (Option ℕ) DoorFault) → MayAnswer new a
+    by (Ok None) = λ wall start none. absurd (asked wall start none)
+    by (Ok (Some peer)) = tt
+    by (Err fault) = λ wall start none. absurd (asked wall start none)
 
 -- ---- there is no place
 
@@ -307,5 +313,5 @@ may_closed old new peers l last who stands crowded tells wall start none loud ke
 
 -- no step was made
 pub asked_first : (log : List Step) → log ≡ [] → AreAsked log
-asked_first log none before after is =
-    absurd (true≢false (sym (any_in before after) ∙ ap (list_any is_nobody) (sym is ∙ none)))
+asked_first log none before after answer is =
+    absurd (true≢false (sym (any_in before after answer) ∙ ap (list_any is_accepting) (sym is ∙ none)))

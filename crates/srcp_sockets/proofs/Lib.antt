@@ -16,6 +16,7 @@ pub mod WorkIsDone
 pub mod EndsAreTold
 pub mod ReadsAnswerInTime
 pub mod WaitsAreFlushed
+pub mod WaitsOverWorkAreBrief
 pub mod AnswersAreBounded
 pub mod SettledPanelsHold
 pub mod PeersAreFrom

@@ -1,5 +1,5 @@
 -- The numbers of the peers differ.
-use Rattle.std.proofs.Common.{◌≡◌, ◌∙◌, ℕ, suc, ◌<◌, ◌≤◌, false, List, [], ◌∷◌, ◌++◌, length, refl, ap, sym, subst}
+use Rattle.std.proofs.Common.{◌≡◌, ◌∙◌, ℕ, suc, ◌+◌, ◌<◌, ◌≤◌, false, List, [], ◌∷◌, ◌++◌, length, refl, ap, sym, subst}
 use Rattle.std.proofs.Common.{arith, ⊎_elim, ◌==◌, Some, Ok, append-nil}
 use Rattle.std.specs.Prelude.{filter_map, slice_index}
 use Rattle.std.specs.List.{AllByRecursion, IsDistinct}
@@ -27,17 +27,18 @@ differ_push [] n below h = (tt, tt)
 differ_push (x ∷ xs) n below h =
     (unequal_push x n xs (below 0 (omega arith)) h.0, differ_push xs n (λ k lt. below (suc k) (omega (arith, lt))) h.1)
 
-named_push : (xs : List ℕ) (last n : ℕ) → last < n → Named xs last → Named (xs ++ n ∷ []) n
-named_push xs last n below h = record {
-  differ = differ_push xs n (λ k lt. let w = h.within k lt in omega (arith, w, below)) h.differ;
+named_push : (xs : List ℕ) (last n : ℕ) → n ≡ last + 1 → Named xs last → Named (xs ++ n ∷ []) n
+named_push xs last n next h = record {
+  differ = differ_push xs n (λ k lt. let w = h.within k lt in omega (arith, w, next)) h.differ;
   within = λ k lt. ⊎_elim
       (λ (low : k < length xs).
       let e : slice_index (xs ++ n ∷ []) k ≡ slice_index xs k = get_or_append_left xs (n ∷ []) 0 k low in
-      let w = h.within k low in omega (arith, e, w, below))
+      let w = h.within k low in omega (arith, e, w, next))
       (λ (high : length xs ≤ k).
       let e : slice_index (xs ++ n ∷ []) k ≡ n = get_or_push xs n 0 k (omega (arith, lt, high, length-append xs (n ∷ []))) in omega
       (arith, e))
       (cases_lt k (length xs));
+  count = (let as_many = h.count in omega (arith, as_many, next, length-append xs (n ∷ [])));
 }
 
 pub named_silent : (old new : List Step) (last : ℕ) → SaysNothing old new → IsNamed old last → IsNamed new last
@@ -55,11 +56,11 @@ named_call old new last call says none named =
     ∙ ap (λ xs. filter_map peer_of (calls old) ++ xs) none ∙ append-nil (filter_map peer_of (calls old)))) named
 
 -- one came
-pub named_come : (old new : List Step) (last n : ℕ) → last < n → SaysOne old (AcceptCall (Ok (Some n))) new → IsNamed old last
+pub named_come : (old new : List Step) (last n : ℕ) → n ≡ last + 1 → SaysOne old (AcceptCall (Ok (Some n))) new → IsNamed old last
     → IsNamed new n
-named_come old new last n below says named =
+named_come old new last n next says named =
     subst (λ (xs : List ℕ). Named xs n) (sym (more_of old new (AcceptCall (Ok (Some n))) says))
-    (named_push (filter_map peer_of (calls old)) last n below named)
+    (named_push (filter_map peer_of (calls old)) last n next named)
 
 -- nobody came
 pub nobody_named : (said : IoFailure) → filter_map peer_of (AcceptCall (failed_accept said) ∷ []) ≡ []
@@ -67,7 +68,7 @@ nobody_named WouldBlock = refl
 nobody_named Interrupted = refl
 nobody_named Fatal = refl
 
-pub named_first : (log : List Step) (last : ℕ) → log ≡ [] → IsNamed log last
+pub named_first : (log : List Step) → log ≡ [] → IsNamed log 0
 unfolding IsDistinct
-named_first log last none = subst (λ (l : List Step). IsNamed l last) (sym none)
-    (record { differ = tt; within = λ k lt. absurd (omega (arith, lt)) })
+named_first log none = subst (λ (l : List Step). IsNamed l 0) (sym none)
+    (record { differ = tt; within = λ k lt. absurd (omega (arith, lt)); count = refl })

@@ -1,11 +1,13 @@
--- When nobody is accepted though the system was not asked.
-use Rattle.std.specs.Prelude.{◌≡◌, ℕ, ◌==◌, ◌∷◌, ◌++◌, ◌-◌, ◌||◌, nat_le, Bool, true, false, List, length}
-use Rattle.std.specs.Prelude.{None, Ok}
+-- When nobody is accepted, or a fault is answered, though the system was not asked.
+use Rattle.std.specs.Prelude.{⊤, ◌≡◌, ℕ, ◌==◌, ◌∷◌, ◌++◌, ◌-◌, ◌||◌, nat_le, Bool, true, false, List, filter_map, length}
+use Rattle.std.specs.Prelude.{Option, Some, None, Result, Ok, Err}
 use Rattle.std.specs.List.{list_any}
 use Rattle.std.proofs.Props.{props}
-use Rattle.srcp_door.specs.Calls.{AcceptCall}
+use Rattle.srcp_info.specs.Limits.{greatest_id}
+use Rattle.srcp_door.specs.Calls.{AcceptCall, peer_of}
+use Rattle.srcp_door.specs.declared.door.DoorFault.{DoorFault}
 use Rattle.srcp_peers.specs.Accounts.{Account, account, is_lingering}
-use Rattle.srcp_peers.specs.Steps.{Answers, Step}
+use Rattle.srcp_peers.specs.Steps.{Answers, Step, calls}
 use Rattle.srcp_peers.specs.Times.{times}
 use Rattle.srcp_sockets.specs.Limits.{most_lingering, most_peers}
 
@@ -26,9 +28,27 @@ abbrev pub IsExcused : List Step → Type 0
 IsExcused log = (wall start : ℕ) → (times wall start log).heard ≡ None → (account 0 log).received.quiet ≡ false
     → IsCrowded log
 
--- so it was each time when `accept` answered nobody
+-- a fault may be answered: the system was asked since `accept` was answered last, or the numbers ran out, since as many
+-- peers came as there are
+abbrev pub MayFault : List Step → Type 0
+MayFault log = (wall start : ℕ) → (times wall start log).heard ≡ None
+    → length (filter_map peer_of (calls log)) ≡ greatest_id
+
+-- `accept` may answer so
+abbrev pub MayAnswer : List Step → Result (Option ℕ) DoorFault → Type 0
+MayAnswer log (Ok None) = IsExcused log
+MayAnswer log (Ok (Some number)) = ⊤
+MayAnswer log (Err fault) = MayFault log
+
+-- so it might each time
 abbrev pub AreAsked : List Step → Type 0
-AreAsked log = (before after : List Step) → log ≡ before ++ Answers (AcceptCall (Ok None)) ∷ after → IsExcused before
+AreAsked log = (before after : List Step) (answer : Result (Option ℕ) DoorFault)
+    → log ≡ before ++ Answers (AcceptCall answer) ∷ after → MayAnswer before answer
+
+MayAnswer-prop : (log : List Step) (answer : Result (Option ℕ) DoorFault) → IsProp (MayAnswer log answer)
+MayAnswer-prop log (Ok None) = hlevel props
+MayAnswer-prop log (Ok (Some number)) = hlevel props
+MayAnswer-prop log (Err fault) = hlevel props
 
 pub AreAsked-prop : (log : List Step) → IsProp (AreAsked log)
-AreAsked-prop log = hlevel props
+AreAsked-prop log = hlevel (props, MayAnswer-prop)

@@ -1,10 +1,11 @@
 -- What a door has done when it waits.
-use Rattle.std.specs.Prelude.{◌≡◌, ℕ, ◌+◌, ◌==◌, ◌&&◌, ◌||◌, nat_lt, Bool, true, false, not, List, fold}
+use Rattle.std.specs.Prelude.{◌≡◌, ℕ, ◌+◌, ◌==◌, ◌&&◌, ◌||◌, nat_lt, Bool, true, false, not, List, Option, fold}
 use Rattle.srcp_door.specs.Calls.{NowCall}
-use Rattle.srcp_peers.specs.Accounts.{Account, Received, account, is_lingering, is_overdue, is_owed, may_shut}
+use Rattle.srcp_peers.specs.Accounts.{Account, Received, account, is_at_rest, is_lingering, is_overdue, is_owed}
+use Rattle.srcp_peers.specs.Accounts.{may_shut}
 use Rattle.srcp_peers.specs.Steps.{Answers, Closes, Step, Writes}
-use Rattle.srcp_peers.specs.Times.{times}
-use Rattle.srcp_peers.specs.Turns.{is_pending}
+use Rattle.srcp_peers.specs.Times.{ends_by, times}
+use Rattle.srcp_peers.specs.Turns.{backpressure_delay, is_pending}
 use Rattle.srcp_sockets.specs.Limits.{most_lingering}
 
 -- how many sockets were closed since a moment was reported
@@ -54,3 +55,17 @@ is_calm wall start log = let turn = (times wall start log).turn in not (is_pendi
 pub record IsWaitDone (wall start : ℕ) (log : List Step) : Type 0 where
   pub closed : nat_lt (closes log) most_lingering ≡ true → (socket : ℕ) → has_to_close (account socket log) ≡ false
   pub flushed : (socket : ℕ) → IsFlushedOut (is_calm wall start log) (account socket log) (is_written socket log)
+
+-- it is there, and not at rest: input of it is held that the core takes, or something is to be read, written or reported
+abbrev pub has_work : Account → Bool
+has_work a = a.watched && not (is_at_rest a.sent a.received)
+
+-- a wait stands still for no longer than the clock takes to go on, if at all
+abbrev pub is_brief : (wall start : ℕ) → List Step → (most : Option ℕ) → Bool
+is_brief wall start log most = ends_by (backpressure_delay (times wall start log).turn) most
+
+-- so it does over work for a peer, and while something happened that a panel may have to be told
+pub record IsBriefOverWork (wall start : ℕ) (log : List Step) (most : Option ℕ) : Type 0 where
+  pub peers : (socket : ℕ) → has_work (account socket log) ≡ true → is_brief wall start log most ≡ true
+  pub panels : (let turn = (times wall start log).turn in is_pending turn.slack turn.busy ≡ true)
+      → is_brief wall start log most ≡ true

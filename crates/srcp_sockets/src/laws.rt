@@ -16,14 +16,14 @@ ghost use Rattle.srcp_sockets.specs.Asked.{AreAsked};
 ghost use Rattle.srcp_sockets.specs.Duties.{IsHandedOut, has_waited, held_piece, is_end, is_failing, is_fault};
 ghost use Rattle.srcp_sockets.specs.Duties.{is_leaving, is_shown, last_shown, takes_input};
 ghost use Rattle.srcp_sockets.specs.Doors.{IsThere};
-ghost use Rattle.srcp_sockets.specs.Waits.{closes, has_to_close, is_calm, is_written};
+ghost use Rattle.srcp_sockets.specs.Waits.{closes, has_to_close, has_work, is_brief, is_calm, is_written};
 ghost use Rattle.srcp_sockets.specs.KeptTimes.{AreKeptTimes, ArePaced};
 ghost use Rattle.srcp_sockets.specs.Limits.{most_lingering};
 ghost use Rattle.srcp_sockets.specs.Loads.{AreBounded, load};
 ghost use Rattle.srcp_sockets.specs.Panels.{PanelsAreKept};
 ghost use Rattle.srcp_sockets.specs.Settled.{SettledPanelsHold};
 ghost use Rattle.srcp_peers.specs.Times.{times};
-ghost use Rattle.srcp_peers.specs.Turns.{got_bytes, reports_end};
+ghost use Rattle.srcp_peers.specs.Turns.{got_bytes, is_pending, reports_end};
 ghost use Rattle.srcp_peers.specs.Streams.{gave, handed, taken, took};
 
 use crate::door::SocketDoor;
@@ -78,12 +78,22 @@ pub fn peers_are_read<S: System>(door: &SocketDoor<S>)
 {}
 
 /// States that a wait longer than the retry delay found at rest each peer that was there, and the listener, which is
-/// socket 0.
+/// socket 0. A wait longer than the back-pressure delay, which is 0 or 1 ms, found at rest each peer that was there. So
+/// no input was held that the core takes. Nor had anything happened since the wait before that a panel may be told.
 pub fn waits_are_safe<S: System>(door: &SocketDoor<S>)
-    ensures { (before after : List Step) (most : Option ℕ) (count : ℕ) (ready : List Ready)
+    ensures long { (before after : List Step) (most : Option ℕ) (count : ℕ) (ready : List Ready)
         → door.now.sockets.system.log.steps ≡ before ++ Waits most count ready ∷ after → is_short_wait most ≡ false
         → (socket : ℕ) → ((account socket before).watched || (socket == 0)) ≡ true
         → is_at_rest (account socket before).sent (account socket before).received ≡ true }
+    ensures peers { (before after : List Step) (most : Option ℕ) (count : ℕ) (ready : List Ready)
+        → door.now.sockets.system.log.steps ≡ before ++ Waits most count ready ∷ after
+        → (socket : ℕ) → has_work (account socket before) ≡ true
+        → is_brief door.now.sockets.turn.timekeeper.wall door.now.sockets.turn.timekeeper.start before most ≡ true }
+    ensures panels { (before after : List Step) (most : Option ℕ) (count : ℕ) (ready : List Ready)
+        → door.now.sockets.system.log.steps ≡ before ++ Waits most count ready ∷ after
+        → (let turn = (times door.now.sockets.turn.timekeeper.wall door.now.sockets.turn.timekeeper.start before).turn
+        in is_pending turn.slack turn.busy ≡ true)
+        → is_brief door.now.sockets.turn.timekeeper.wall door.now.sockets.turn.timekeeper.start before most ≡ true }
 {}
 
 /// States that a socket was shut down and closed at most once, after the core closed its peer. The socket was shut down
@@ -120,7 +130,8 @@ pub fn accepts_are_true<S: System>(door: &SocketDoor<S>)
 /// States what is true if the door answered `accept` by nobody. The door had asked the system since the last answer of
 /// `accept`, or the listener (socket 0) was found quiet, or there was no place. No place means that at least 128
 /// accepted sockets are not closed, or 63 linger. With one more there is no place, and one may have been closed just
-/// now to make a place.
+/// now to make a place. If the door answered by a fault, it had asked the system since then, or the numbers ran out: as
+/// many peers had come as there are numbers.
 pub fn accepts_are_asked<S: System>(door: &SocketDoor<S>)
     ensures { AreAsked door.now.sockets.system.log.steps }
 {}

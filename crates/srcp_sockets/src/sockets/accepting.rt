@@ -3,7 +3,7 @@
 ghost use Rattle.std.specs.Prelude.{All, false, true, ◌≡◌, ◌<◌, ◌≤◌, ◌+◌, ◌⊎◌, None, Ok, Err, IfErr, length};
 ghost use Rattle.std.specs.Prelude.{◌++◌, ◌∷◌, [], ℕ, IfOk, OnErr, vec_capacity};
 ghost use Rattle.srcp_info.specs.Limits.{greatest_id};
-ghost use Rattle.srcp_sockets.specs.Asked.{IsExcused};
+ghost use Rattle.srcp_sockets.specs.Asked.{IsExcused, MayAnswer};
 ghost use Rattle.srcp_sockets.specs.Doors.{is_quiet};
 ghost use Rattle.srcp_sockets.specs.Limits.{most_peers};
 ghost use Rattle.srcp_sockets.specs.Loads.{AnswersWithin};
@@ -90,7 +90,8 @@ impl<S: System> Sockets<S> {
 
     /// Puts off a pending connection for which the numbers ran out.
     fn put_off(&mut self) -> Result<Option<u32>, DoorFault>
-        requires { is_quiet self.old.listening ≡ false }
+        requires loud { is_quiet self.old.listening ≡ false }
+        requires last { self.old.last ≡ greatest_id }
         ensures log { self.new.system.log.steps ≡ self.old.system.log.steps ++ Answers (AcceptCall result) ∷ [] }
         ensures fault { result ≡ Err DoorFault.Accept }
         ensures keeps { (self.new.flushed ≡ self.old.flushed) × (self.new.starved ≡ self.old.starved)
@@ -108,7 +109,7 @@ impl<S: System> Sockets<S> {
         answer: Result<Option<u32>, DoorFault>,
     ) -> Result<Option<u32>, DoorFault>
         requires nobody { (answer ≡ Ok None) ⊎ (answer ≡ Err DoorFault.Accept) }
-        requires excused { answer ≡ Ok None → IsExcused self.old.system.log.steps }
+        requires excused { MayAnswer self.old.system.log.steps answer }
         ensures log { self.new.system.log.steps ≡ self.old.system.log.steps ++ Answers (AcceptCall result) ∷ [] }
         ensures same { result ≡ answer }
         ensures listening { self.new.listening ≡ self.old.listening }

@@ -40,7 +40,7 @@ returns-in_default-clause-answers g c = answered_after c.args.self.now.system.lo
     c.may_accept.ensures.calls c.may_accept.ensures.few c.put_off.ensures.log
 
 pub note_nobody-requires : goal.note_nobody-requires
-note_nobody-requires g c = record { nobody = inl refl; excused = λ e. c.may_accept.ensures.excused (search rules) }
+note_nobody-requires g c = record { nobody = inl refl; excused = c.may_accept.ensures.excused (search rules) }
 
 -- there is a place for one that may be accepted
 has_place : (heard : Listening) (peers : List Peer) → may_accept heard peers ≡ true
@@ -60,8 +60,8 @@ loud_after : (heard before : Listening) (peers : List Peer) → heard ≡ before
     → is_quiet heard ≡ false
 loud_after heard before peers same may = ap is_quiet same ∙ is_loud before peers may
 
-pub put_off-requires : goal.put_off-requires
-put_off-requires g c =
+pub put_off-requires-clause-loud : goal.put_off-requires-clause-loud
+put_off-requires-clause-loud g c =
     let self = c.args.self.now in
     loud_after c.may_accept.new.self.listening self.listening self.peers.items
     (c.may_accept.ensures.same c.if-not-may_accept.false).0 (sym c.may_accept.ensures.is ∙ c.if-not-may_accept.false)

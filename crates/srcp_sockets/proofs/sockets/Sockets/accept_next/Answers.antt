@@ -40,12 +40,12 @@ invariant_of-self g c =
       stands = stands_answered mid new c.push.new.self.items self.listening number call (λ s a. refl) c.answer.ensures.log
           (stands_came old mid self.peers.items c.push.new.self.items c.new.result self.listening self.turn.clock self.last number
           c.in-Ok.field-0 c.requires.next pushed c.new.ensures c.in-Ok.ensures.log self.stands);
-      named = named_come mid new self.last number (omega (arith, c.requires.next)) (says_call mid new call c.answer.ensures.log)
+      named = named_come mid new self.last number c.requires.next (says_call mid new call c.answer.ensures.log)
           (named_silent old mid self.last (says_step old mid (Accepts number said) c.in-Ok.ensures.log refl) self.named);
       timed = timed_asked old mid new self.turn c.note_accept.new.self number said (Ok (Some number)) c.note_accept.ensures
           (own number)
           c.in-Ok.ensures.log c.answer.ensures.log self.timed;
-      asked = asked_step mid new (Answers call) c.answer.ensures.log refl
+      asked = asked_accept mid new (Ok (Some number)) c.answer.ensures.log tt
           (asked_step old mid (Accepts number said) c.in-Ok.ensures.log refl self.asked);
       done = done_turn new self.turn c.note_accept.new.self (after_call self.turn call) c.note_accept.ensures refl refl
           (done_step self.turn.timekeeper.wall self.turn.timekeeper.start mid new (Answers call) c.answer.ensures.log tt
@@ -91,7 +91,7 @@ invariant_of-self-in-Err g c =
           (ap (λ a. is_as_heard (Some a) answer) (ap failed_accept (sym c.failure_of-said.ensures))
           ∙ ap (is_as_heard (Some (failed_accept c.failure_of-said.result))) is ∙ answered_so c.failure_of-said.result)
           c.in-Err.ensures.log c.answer-in-Err.ensures.log self.timed;
-      asked = asked_accept mid new answer c.answer-in-Err.ensures.log (λ e. was_asked old mid number said c.in-Err.ensures.log)
+      asked = asked_accept mid new answer c.answer-in-Err.ensures.log (was_asked old mid number said answer c.in-Err.ensures.log)
           (asked_step old mid (Accepts number said) c.in-Err.ensures.log refl self.asked);
       done = done_turn new self.turn c.note_accept-in-Err.new.self (after_call self.turn call) c.note_accept-in-Err.ensures refl refl
           (done_step self.turn.timekeeper.wall self.turn.timekeeper.start mid new (Answers call) c.answer-in-Err.ensures.log

@@ -6,7 +6,7 @@ use Rattle.std.proofs.Common.{◌≡◌, [], ap, arith, length}
 use Rattle.srcp_sockets.proofs.sockets.Sockets.new.Goals as goal
 
 pub invariant_of-result-clause-named : goal.invariant_of-result-clause-named
-invariant_of-result-clause-named g c = named_first c.new.result.log.steps 0 c.new.ensures.log
+invariant_of-result-clause-named g c = named_first c.new.result.log.steps c.new.ensures.log
 
 pub invariant_of-result-clause-timed : goal.invariant_of-result-clause-timed
 invariant_of-result-clause-timed g c = timed_first c.new.result.log.steps c.args.turn c.requires.turn c.new.ensures.log

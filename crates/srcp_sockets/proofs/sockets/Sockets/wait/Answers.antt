@@ -15,6 +15,7 @@ use Rattle.srcp_sockets.proofs.AcceptsAreAsked.{asked_step}
 use Rattle.srcp_sockets.proofs.WorkIsDone.{done_step, done_turn, looked_wait}
 use Rattle.srcp_sockets.proofs.NumbersDiffer.{named_silent}
 use Rattle.srcp_sockets.proofs.WaitsKeepSockets.{stands_waited}
+use Rattle.srcp_sockets.proofs.WaitsOverWorkAreBrief.{brief_over_work}
 use Rattle.srcp_sockets.proofs.TimesGoOn.{timed_wait}
 use Rattle.std.specs.Prelude.{take}
 use Rattle.srcp_sockets.specs.Endings.{AreAsFar}
@@ -52,7 +53,12 @@ invariant_of-self g c =
       asked = asked_step old new (Waits most count ready) c.wait-count.ensures.log refl c.args.self.now.asked;
       done = done_turn new c.args.self.now.turn c.wait.new.self (after_wait c.args.self.now.turn) c.wait.ensures refl refl
           (done_step c.args.self.now.turn.timekeeper.wall c.args.self.now.turn.timekeeper.start old new (Waits most count ready)
-          c.wait-count.ensures.log c.requires.may c.args.self.now.done);
+          c.wait-count.ensures.log (
+            c.requires.may,
+            brief_over_work old c.args.self.now.peers.items listening last c.args.self.now.turn c.args.self.now.most most
+                c.args.self.now.stands c.args.self.now.timed c.longest_wait-most.ensures.exact,
+          )
+          c.args.self.now.done);
       ending = subst (AreAsFar new)
           (sym (with_items_is c.args.self.now.peers c.wake.new.peers (c.wake.auto.peers ∙ search rules)))
           (far_goes old new before c.wake.new.peers
