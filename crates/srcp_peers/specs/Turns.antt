@@ -25,6 +25,7 @@ abbrev pub first_turn : (wall start : ℕ) → Turn
 first_turn wall start = record {
   timekeeper = record { wall = wall; start = start; last = wall };
   clock = 0;
+  previous_clock = 0;
   due = None;
   slack = None;
   previous_slack = None;
@@ -119,9 +120,14 @@ moment_at turn time =
 abbrev pub ticks : Turn → (time : ℕ) → Bool
 ticks turn time = not (time == turn.clock) && nat_le turn.next_line time
 
--- the moment was asked for: from then on lines of a turn's weight may be handed out, and one end be reported
+-- the moment was asked for: from then on lines of a turn's weight may be handed out, and one end be reported. What the
+-- clock showed before is kept
 abbrev pub begun : Turn → (tick : Bool) → Turn
-begun turn tick = record turn { pace = pace_of turn.slack tick; may_report_end = true }
+begun turn tick = record turn {
+  previous_clock = turn.clock;
+  pace = pace_of turn.slack tick;
+  may_report_end = true;
+}
 
 -- after a moment was reported; the turn is late if the moment is behind the time
 abbrev pub reported_at : Turn → (time moment : ℕ) → Turn
@@ -172,9 +178,9 @@ lines_left_of false slack = most_writes
 abbrev pub backpressure_delay : Turn → ℕ
 backpressure_delay turn = cond (is_behind turn.previous_slack && is_behind turn.slack) tick 0
 
--- the clock went on since it showed that, or the turn stands still until it does
-abbrev pub has_ticked : Turn → (flushed : ℕ) → Bool
-has_ticked turn flushed = not (turn.clock == flushed) || nat_lt 0 (backpressure_delay turn)
+-- the clock went on since the turn before, or the turn stands still until it does
+abbrev pub has_ticked : Turn → Bool
+has_ticked turn = not (turn.clock == turn.previous_clock) || nat_lt 0 (backpressure_delay turn)
 
 -- what is flushed: all once the clock went on, and before a wait for more than what is ready; the sockets that refused
 -- more are tried again then if not every line may go

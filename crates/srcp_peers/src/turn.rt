@@ -46,6 +46,8 @@ pub struct Turn {
     pub timekeeper: Timekeeper,
     /// What the monotonic clock showed when the last moment was reported, in milliseconds; 0 before the first.
     pub clock: u64,
+    /// What `clock` was in the turn before.
+    pub previous_clock: u64,
     /// The moment at which something falls due next, if anything does.
     pub due: Option<u64>,
     /// How many more changes each panel can take, or `None` without a panel.
@@ -73,6 +75,7 @@ impl Turn {
         Turn {
             timekeeper: Timekeeper::new(wall, start),
             clock: 0,
+            previous_clock: 0,
             due: None,
             slack: None,
             previous_slack: None,
@@ -201,10 +204,12 @@ impl Turn {
         time != self.clock && self.next_line <= time
     }
 
-    /// Begins the pace of a turn; `tick` says whether the clock lets a line through.
+    /// Begins the pace of a turn, and keeps what the clock showed before. `tick` says whether the clock lets a line
+    /// through.
     fn begin(&mut self, tick: bool)
         ensures { self.new ≡ begun self.old tick }
     {
+        self.previous_clock = self.clock;
         self.pace = Pace::of_turn(self.slack, tick);
         self.may_report_end = true;
     }

@@ -28,7 +28,7 @@ use Rattle.srcp_peers.specs.Peers.{flush_of, flushes_all, gone_as, is_gone}
 use Rattle.srcp_peers.specs.Peers.{has_ended, is_due, is_lost, stay_after, tries_again, woken_output}
 use Rattle.srcp_peers.specs.Steps.{Accepts, Answers, Clocks, Closes, Reads, SaysNothing, Shuts, Step, Waits, Writes, call_of, calls}
 use Rattle.srcp_peers.specs.Times.{KeepsTimes, Times, first_times, times, times_step}
-use Rattle.srcp_peers.specs.Turns.{flushing, is_pending, is_short}
+use Rattle.srcp_peers.specs.Turns.{flushing, has_ticked, is_pending, is_short}
 use Rattle.srcp_peers.proofs.AccountsHoldStreams.{if_same}
 use Rattle.srcp_peers.proofs.PeersStayKept.{account_more, own}
 use Rattle.srcp_peers.proofs.PeersRestByAccount.{and_left, and_right, owed_is}
@@ -445,30 +445,26 @@ flushed_close all old new who tells flushed socket =
 
 -- ---- a wait
 
-every : (ticked : Bool) (turn : Turn) → is_pending turn.slack turn.busy ≡ false → flushes_all (flushing ticked false turn) ≡ true
-every true turn none = by (is_short turn.slack)
+every : (ticked pending : Bool) (turn : Turn) → is_pending turn.slack turn.busy ≡ pending → (ticked || not pending) ≡ true
+    → flushes_all (flushing ticked false turn) ≡ true
+every true pending turn is due = by (is_short turn.slack)
   where
     by : (b : Bool) → flushes_all (cond b flush.Again flush.All) ≡ true
     by true = refl
     by false = refl
-every false turn none = ap (λ b. flushes_all (cond b flush.Answers flush.All)) none
+every false true turn is due = absurd (true≢false (sym due))
+every false false turn is due = ap (λ b. flushes_all (cond b flush.Answers flush.All)) is
 
-quiet_is : (pending : Bool) → not pending ≡ true → pending ≡ false
-quiet_is true e = absurd (true≢false (sym e))
-quiet_is false e = refl
-
-pub may_wait : (log : List Step) (turn : Turn) (ticked : Bool) → IsTimed log turn
-    → AreFlushed (flushes_all (flushing ticked false turn)) log
+pub may_wait : (log : List Step) (turn : Turn) → IsTimed log turn
+    → AreFlushed (flushes_all (flushing (has_ticked turn) false turn)) log
     → (nat_lt (closes log) 64 ≡ true → (socket : ℕ) → has_to_close (account socket log) ≡ false)
     → IsWaitDone turn.timekeeper.wall turn.timekeeper.start log
-may_wait log turn ticked timed flushed closed = record {
+may_wait log turn timed flushed closed = record {
   closed = closed;
   flushed = λ socket. record {
     shut = (flushed socket).shut;
-    offered = λ quiet kept. (flushed socket).offered
-        (every ticked turn (ap (λ (t : Turn). is_pending t.slack t.busy) (sym timed.same)
-        ∙ quiet_is (is_pending (times turn.timekeeper.wall turn.timekeeper.start log).turn.slack
-        (times turn.timekeeper.wall turn.timekeeper.start log).turn.busy) quiet)) kept;
+    offered = λ due kept. (flushed socket).offered (every (has_ticked turn) (is_pending turn.slack turn.busy) turn refl
+        (ap (λ (t : Turn). has_ticked t || not (is_pending t.slack t.busy)) (sym timed.same) ∙ due)) kept;
   };
 }
 

@@ -25,11 +25,14 @@ use Rattle.srcp_peers.specs.Accounts.{failed_read, failed_write, shut_down, unto
 use Rattle.srcp_peers.specs.Peers.{Agrees, ComesAs, StaysAs, holds_input, is_here}
 use Rattle.srcp_peers.specs.Steps.{Accepts, Answers, Clocks, Closes, Reads, SaysNothing, Shuts, Step, Waits, Writes}
 use Rattle.srcp_peers.specs.Steps.{call_of, calls, failure_of}
-use Rattle.srcp_peers.specs.Times.{KeepsTimes, Times, first_times, times, times_step}
+use Rattle.srcp_peers.specs.Times.{KeepsTimes, Times, clocked, first_times, times, times_step}
+use Rattle.srcp_peers.specs.Turns.{has_ticked}
+use Rattle.srcp_peers.proofs.CallsAreOfTheDoor.{times_more}
 use Rattle.srcp_peers.proofs.AccountsHoldStreams.{if_same}
 use Rattle.srcp_peers.proofs.PeersStayKept.{account_more}
 use Rattle.srcp_peers.proofs.PeersRestByAccount.{and_left, and_right, held_is}
 use Rattle.srcp_sockets.specs.Doors.{Stands}
+use Rattle.srcp_sockets.specs.KeptTimes.{IsTimed}
 use Rattle.srcp_sockets.specs.Duties.{AreDone, IsDone, MayTell, has_waited, is_shown, last_shown, shown_by}
 use Rattle.srcp_sockets.specs.Duties.{takes_input, waited_after}
 use Rattle.srcp_sockets.proofs.AcceptsAreAsked.{splits}
@@ -302,23 +305,49 @@ looked_silent old new says looked =
 
 -- ---- a moment may be reported
 
-pub may_tell : (old new : List Step) (peers : List Peer) (l : Listening) (last : ℕ) (held : Bool) → Stands old peers l last
-    → SaysNothing old new → (held ≡ true → list_any holds_input peers ≡ true) → (held ≡ false → has_waited new ≡ true) → MayTell new
-may_tell old new peers l last true stands says holds looked none =
-    let one = held_peer peers (holds refl) in
-    let p : Peer = slice_index_or peers one.0 nobody in
-    let takes = takes_silent p.number old new says
-    (takes_as (account p.number old) p (stands.kept one.0 nobody one.1) (one.2 nobody)) in
-    absurd (true≢false (sym takes ∙ none p.number))
-may_tell old new peers l last false stands says holds looked none = looked refl
+pub may_tell : (turn : Turn) (old new : List Step) (peers : List Peer) (l : Listening) (last : ℕ) (held : Bool)
+    → Stands old peers l last → SaysNothing old new → (held ≡ true → list_any holds_input peers ≡ true)
+    → (held ≡ true → has_ticked turn ≡ false) → (held ≡ false → has_waited new ≡ true) → MayTell turn new
+may_tell turn old new peers l last true stands says holds stood looked = record {
+  waits = λ none.
+      let one = held_peer peers (holds refl) in
+      let p : Peer = slice_index_or peers one.0 nobody in
+      let takes = takes_silent p.number old new says
+      (takes_as (account p.number old) p (stands.kept one.0 nobody one.1) (one.2 nobody)) in
+      absurd (true≢false (sym takes ∙ none p.number));
+  ticked = λ ticked. absurd (true≢false (sym ticked ∙ stood refl));
+}
+may_tell turn old new peers l last false stands says holds stood looked = record {
+  waits = λ none. looked refl;
+  ticked = λ ticked. looked refl;
+}
 
-pub moment_done : (wall start : ℕ) (old mid : List Step) (shown : Option ℕ) (answer : Result ℕ DoorFault)
-    → mid ≡ old ++ Clocks shown ∷ [] → is_shown (Some shown) answer ≡ true → MayTell old
-    → IsDone wall start mid (Answers (NowCall answer))
-moment_done wall start old mid shown answer tells is_so may = record {
+clocked_turn : (t : Times) (shown : Option ℕ) → (clocked t shown).turn ≡ t.turn
+clocked_turn t None = refl
+clocked_turn t (Some time) = refl
+
+pub moment_done : (turn : Turn) (old mid : List Step) (shown : Option ℕ) (answer : Result ℕ DoorFault)
+    → mid ≡ old ++ Clocks shown ∷ [] → is_shown (Some shown) answer ≡ true → IsTimed old turn → MayTell turn old
+    → IsDone turn.timekeeper.wall turn.timekeeper.start mid (Answers (NowCall answer))
+moment_done turn old mid shown answer tells is_so timed may = record {
   clock = ap (λ l. is_shown (last_shown l) answer) tells
       ∙ ap (λ s. is_shown s answer) (fold-append (λ before step. shown_by step) None old (Clocks shown ∷ [])) ∙ is_so;
-  waits = λ none. ap has_waited tells ∙ fold-append waited_after false old (Clocks shown ∷ [])
-      ∙ may (λ socket. sym (ap takes_input (account_more socket old (Clocks shown)))
-      ∙ ap (λ l. takes_input (account socket l)) (sym tells) ∙ none socket);
+  may = record {
+    waits = λ none. waited ∙ may.waits (λ socket. sym (ap takes_input (account_more socket old (Clocks shown)))
+        ∙ ap (λ l. takes_input (account socket l)) (sym tells) ∙ none socket);
+    ticked = λ ticked. waited ∙ may.ticked (ap has_ticked (sym same) ∙ ticked);
+  };
 }
+  where
+    wall : ℕ
+    wall = turn.timekeeper.wall
+
+    start : ℕ
+    start = turn.timekeeper.start
+
+    waited : has_waited mid ≡ has_waited old
+    waited = ap has_waited tells ∙ fold-append waited_after false old (Clocks shown ∷ [])
+
+    same : (times wall start mid).turn ≡ turn
+    same = ap (λ l. (times wall start l).turn) tells ∙ ap (λ (t : Times). t.turn) (times_more wall start old (Clocks shown))
+        ∙ clocked_turn (times wall start old) shown ∙ timed.same

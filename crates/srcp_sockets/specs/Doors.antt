@@ -74,10 +74,9 @@ AreRead log = (socket : ℕ) → IsRead log socket
 
 -- ---- what a turn flushes
 
--- if the clock showed `flushed` when it was flushed last: a turn goes on with held input until the clock goes on
-abbrev pub flushed_in : Turn → (flushed : ℕ) → List Peer → Flush
-flushed_in turn flushed peers =
-    flushing (has_ticked turn flushed) (not (has_ticked turn flushed) && list_any holds_input peers) turn
+-- a turn goes on with held input until the clock goes on
+abbrev pub flushed_in : Turn → List Peer → Flush
+flushed_in turn peers = flushing (has_ticked turn) (not (has_ticked turn) && list_any holds_input peers) turn
 
 -- ---- the listener
 

@@ -9,11 +9,12 @@ use Rattle.srcp_door.specs.declared.door.DoorFault.{DoorFault}
 use Rattle.srcp_door.specs.declared.door.Got.{Got}
 use Rattle.srcp_door.specs.declared.door.Got.TheVariants as got
 use Rattle.srcp_door.specs.declared.pacing.LineBoundary.{LineBoundary}
+use Rattle.srcp_peers.specs.declared.turn.Turn.{Turn}
 use Rattle.srcp_peers.specs.Accounts.{Account, Received, account, is_held, may_end}
 use Rattle.srcp_peers.specs.Reports.{is_settled}
 use Rattle.srcp_peers.specs.Steps.{Accepts, Answers, Clocks, Closes, Reads, Shuts, Step, Waits, Writes}
 use Rattle.srcp_peers.specs.Times.{times}
-use Rattle.srcp_peers.specs.Turns.{got_bytes, reports_end}
+use Rattle.srcp_peers.specs.Turns.{got_bytes, has_ticked, reports_end}
 use Rattle.srcp_sockets.specs.Endings.{ending_of}
 use Rattle.srcp_sockets.specs.Waits.{IsBriefOverWork, IsWaitDone}
 
@@ -47,10 +48,15 @@ is_shown (Some (Some time)) (Ok moment) = true
 is_shown (Some None) (Err fault) = true
 is_shown other answer = false
 
--- the last step before it is a look at the clock. If the door did not wait, input is held that the core takes
-pub record IsMomentDone (log : List Step) (answer : Result ℕ DoorFault) : Type 0 where
-  pub clock : is_shown (last_shown log) answer ≡ true
+-- if the door did not wait, input is held that the core takes, and the clock did not go on
+pub record MayTell (turn : Turn) (log : List Step) : Type 0 where
   pub waits : ((socket : ℕ) → takes_input (account socket log) ≡ false) → has_waited log ≡ true
+  pub ticked : has_ticked turn ≡ true → has_waited log ≡ true
+
+-- the last step before it is a look at the clock, and the door waited if it had to
+pub record IsMomentDone (wall start : ℕ) (log : List Step) (answer : Result ℕ DoorFault) : Type 0 where
+  pub clock : is_shown (last_shown log) answer ≡ true
+  pub may : MayTell (times wall start log).turn log
 
 -- ---- a read
 
@@ -101,7 +107,7 @@ pub record IsReadDone (wall start : ℕ) (log : List Step) (who : ℕ) (answer :
 -- what is done when the step is made
 abbrev pub IsDone : (wall start : ℕ) → List Step → Step → Type 0
 IsDone wall start log (Waits most count ready) = IsWaitDone wall start log × IsBriefOverWork wall start log most
-IsDone wall start log (Answers (NowCall answer)) = IsMomentDone log answer
+IsDone wall start log (Answers (NowCall answer)) = IsMomentDone wall start log answer
 IsDone wall start log (Answers (ReadCall who answer buffer)) =
     (times wall start log).turn.late ≡ false → IsReadDone wall start log who answer buffer
 IsDone wall start log other = ⊤
@@ -128,7 +134,3 @@ IsDone-prop wall start log (Answers (CloseCall who answer)) = hlevel props
 
 pub AreDone-prop : (wall start : ℕ) (log : List Step) → IsProp (AreDone wall start log)
 AreDone-prop wall start log = hlevel (props, IsDone-prop)
-
--- the door may report a moment once the clock is read
-abbrev pub MayTell : List Step → Type 0
-MayTell log = ((socket : ℕ) → takes_input (account socket log) ≡ false) → has_waited log ≡ true

@@ -5,7 +5,7 @@ use Rattle.srcp_peers.specs.Accounts.{Account, Received, account, is_at_rest, is
 use Rattle.srcp_peers.specs.Accounts.{may_shut}
 use Rattle.srcp_peers.specs.Steps.{Answers, Closes, Step, Writes}
 use Rattle.srcp_peers.specs.Times.{ends_by, times}
-use Rattle.srcp_peers.specs.Turns.{backpressure_delay, is_pending}
+use Rattle.srcp_peers.specs.Turns.{backpressure_delay, has_ticked, is_pending}
 use Rattle.srcp_sockets.specs.Limits.{most_lingering}
 
 -- how many sockets were closed since a moment was reported
@@ -46,15 +46,17 @@ pub record IsFlushedOut (all : Bool) (a : Account) (written : Bool) : Type 0 whe
 abbrev pub AreFlushed : (all : Bool) → List Step → Type 0
 AreFlushed all log = (socket : ℕ) → IsFlushedOut all (account socket log) (is_written socket log)
 
--- nothing happened since the last wait, or there is no panel
-abbrev pub is_calm : (wall start : ℕ) → List Step → Bool
-is_calm wall start log = let turn = (times wall start log).turn in not (is_pending turn.slack turn.busy)
+-- all that is queued is flushed before a wait: the clock went on, nothing happened since the last wait, or there is no
+-- panel
+abbrev pub is_flush_due : (wall start : ℕ) → List Step → Bool
+is_flush_due wall start log =
+    let turn = (times wall start log).turn in has_ticked turn || not (is_pending turn.slack turn.busy)
 
 -- nobody is left that has to be closed, or 64 were since a moment was reported; and each was shut down and offered what
 -- is queued
 pub record IsWaitDone (wall start : ℕ) (log : List Step) : Type 0 where
   pub closed : nat_lt (closes log) most_lingering ≡ true → (socket : ℕ) → has_to_close (account socket log) ≡ false
-  pub flushed : (socket : ℕ) → IsFlushedOut (is_calm wall start log) (account socket log) (is_written socket log)
+  pub flushed : (socket : ℕ) → IsFlushedOut (is_flush_due wall start log) (account socket log) (is_written socket log)
 
 -- it is there, and not at rest: input of it is held that the core takes, or something is to be read, written or reported
 abbrev pub has_work : Account → Bool

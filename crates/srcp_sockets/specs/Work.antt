@@ -48,9 +48,9 @@ AreFrom Holds old new = All (IsFrom Holds old) new
 
 -- ---- when the door waits, and what time it is
 
--- the turn goes on with held input, and does not wait: the clock did not go on since it showed `flushed`
-abbrev pub goes_on : Turn → (flushed : ℕ) → List Peer → Bool
-goes_on turn flushed peers = not (has_ticked turn flushed) && list_any holds_input peers
+-- the turn goes on with held input, and does not wait: the clock did not go on since the turn before
+abbrev pub goes_on : Turn → List Peer → Bool
+goes_on turn peers = not (has_ticked turn) && list_any holds_input peers
 
 -- the step that came is a wait of that length, and the listener is heard as that found it
 abbrev pub IsWaiting : (most : Option ℕ) → (before after : Listening) → (old new : List Step) → Type 0

@@ -131,9 +131,8 @@ impl<S: System> Door for SocketDoor<S> {
         ensures trace { SaysOne self.old.sockets.system.log.steps (NowCall result)
             self.new.sockets.system.log.steps }
         ensures limit { self.new.sockets.most ≡ self.old.sockets.most }
-        ensures offered { AreOffered (flushed_in self.old.sockets.turn self.old.sockets.flushed
-            self.old.sockets.peers.items) self.old.sockets.peers.items self.old.sockets.system.log.steps
-            self.new.sockets.system.log.steps }
+        ensures offered { AreOffered (flushed_in self.old.sockets.turn self.old.sockets.peers.items)
+            self.old.sockets.peers.items self.old.sockets.system.log.steps self.new.sockets.system.log.steps }
     {
         self.sockets.begin_turn(self.ready.as_mut_slice());
         let answer = self.sockets.now();

@@ -16,14 +16,14 @@ ghost use Rattle.srcp_sockets.specs.Asked.{AreAsked};
 ghost use Rattle.srcp_sockets.specs.Duties.{IsHandedOut, has_waited, held_piece, is_end, is_failing, is_fault};
 ghost use Rattle.srcp_sockets.specs.Duties.{is_leaving, is_shown, last_shown, takes_input};
 ghost use Rattle.srcp_sockets.specs.Doors.{IsThere};
-ghost use Rattle.srcp_sockets.specs.Waits.{closes, has_to_close, has_work, is_brief, is_calm, is_written};
+ghost use Rattle.srcp_sockets.specs.Waits.{closes, has_to_close, has_work, is_brief, is_flush_due, is_written};
 ghost use Rattle.srcp_sockets.specs.KeptTimes.{AreKeptTimes, ArePaced};
 ghost use Rattle.srcp_sockets.specs.Limits.{most_lingering};
 ghost use Rattle.srcp_sockets.specs.Loads.{AreBounded, load};
 ghost use Rattle.srcp_sockets.specs.Panels.{PanelsAreKept};
 ghost use Rattle.srcp_sockets.specs.Settled.{SettledPanelsHold};
 ghost use Rattle.srcp_peers.specs.Times.{times};
-ghost use Rattle.srcp_peers.specs.Turns.{got_bytes, is_pending, reports_end};
+ghost use Rattle.srcp_peers.specs.Turns.{got_bytes, has_ticked, is_pending, reports_end};
 ghost use Rattle.srcp_peers.specs.Streams.{gave, handed, taken, took};
 
 use crate::door::SocketDoor;
@@ -137,8 +137,9 @@ pub fn accepts_are_asked<S: System>(door: &SocketDoor<S>)
 {}
 
 /// States that each moment was reported as the next step behind a look at the clock: as a fault if the clock could not
-/// be read, else as a time. If the door had not waited since it answered the call before, input of a peer was held that
-/// the core takes.
+/// be read, else as a time. Consider a door that had not waited since it answered the call before. Input of a peer was
+/// held that the core takes (`waits`). The clock had not gone on since the turn before, and no panel was so far behind
+/// for the second turn that no line may go (`ticked`).
 pub fn turns_wait<S: System>(door: &SocketDoor<S>)
     ensures clock { (before after : List Step) (answer : Result ℕ DoorFault)
         → door.now.sockets.system.log.steps ≡ before ++ Answers (NowCall answer) ∷ after
@@ -146,6 +147,10 @@ pub fn turns_wait<S: System>(door: &SocketDoor<S>)
     ensures waits { (before after : List Step) (answer : Result ℕ DoorFault)
         → door.now.sockets.system.log.steps ≡ before ++ Answers (NowCall answer) ∷ after
         → ((socket : ℕ) → takes_input (account socket before) ≡ false) → has_waited before ≡ true }
+    ensures ticked { (before after : List Step) (answer : Result ℕ DoorFault)
+        → door.now.sockets.system.log.steps ≡ before ++ Answers (NowCall answer) ∷ after
+        → has_ticked (times door.now.sockets.turn.timekeeper.wall door.now.sockets.turn.timekeeper.start before).turn
+        ≡ true → has_waited before ≡ true }
 {}
 
 /// States that a wait found no lingering socket that has to be closed, unless 64 sockets were closed since the moment
@@ -161,14 +166,14 @@ pub fn gone_are_closed<S: System>(door: &SocketDoor<S>)
         → (socket : ℕ) → may_shut (account socket before) ≡ true → (account socket before).sent.lost ≡ true }
 {}
 
-/// States that a flush came before two kinds of waits: in a turn in which nothing happened since the wait before, and
-/// without a panel. Consider each socket that was not closed, and had not taken all bytes taken for its peer. The
-/// socket was written to since the door answered the call before; or a write had found that it takes nothing now, or no
-/// more.
+/// States that a flush came before three kinds of waits. The clock had gone on since the turn before, so all is written
+/// once a millisecond; or nothing happened since the wait before; or there was no panel. Consider each socket that was
+/// not closed, and had not taken all bytes taken for its peer. The socket was written to since the door answered the
+/// call before; or a write had found that it takes nothing now, or no more.
 pub fn queued_is_offered<S: System>(door: &SocketDoor<S>)
     ensures { (before after : List Step) (most : Option ℕ) (count : ℕ) (ready : List Ready)
         → door.now.sockets.system.log.steps ≡ before ++ Waits most count ready ∷ after
-        → is_calm door.now.sockets.turn.timekeeper.wall door.now.sockets.turn.timekeeper.start before ≡ true
+        → is_flush_due door.now.sockets.turn.timekeeper.wall door.now.sockets.turn.timekeeper.start before ≡ true
         → (socket : ℕ) → (account socket before).lingering.kept ≡ true
         → is_owed (account socket before).sent ≡ true
         → (((account socket before).sent.full || (account socket before).sent.lost) || is_written socket before)

@@ -52,8 +52,6 @@ pub(crate) struct Sockets<S: System> {
     turn: Turn,
     // The longest wait of a turn, in milliseconds, if a limit was set.
     most: Option<u64>,
-    // What the clock showed when all queued bytes were last flushed, in milliseconds.
-    flushed: u64,
     // True if a line of a peer's share was kept back since the turn began: each peer then keeps the rest of its share.
     starved: bool,
     // The queues of the places that no peer has.
@@ -73,9 +71,9 @@ impl<S: System> Sockets<S> {
     pub(crate) fn expect(&mut self, due: Option<u64>, slack: Option<usize>)
         ensures trace { SaysOne self.old.system.log.steps (ExpectCall due slack) self.new.system.log.steps }
         ensures log { self.new.system.log.steps ≡ self.old.system.log.steps ++ Answers (ExpectCall due slack) ∷ [] }
-        ensures keeps { (self.new.flushed ≡ self.old.flushed) × (self.new.starved ≡ self.old.starved)
-            × (self.new.most ≡ self.old.most) × (self.new.last ≡ self.old.last)
-            × (self.new.listening ≡ self.old.listening) × (self.new.peers ≡ self.old.peers) }
+        ensures keeps { (self.new.starved ≡ self.old.starved) × (self.new.most ≡ self.old.most)
+            × (self.new.last ≡ self.old.last) × (self.new.listening ≡ self.old.listening)
+            × (self.new.peers ≡ self.old.peers) }
     {
         self.system.answer(&Answer::Expect(due, slack));
         self.turn.expect(due, slack);
@@ -84,9 +82,8 @@ impl<S: System> Sockets<S> {
     /// Limits how long a turn waits, in milliseconds.
     pub(crate) fn wait_at_most(&mut self, milliseconds: u64)
         ensures most { self.new.most ≡ Some milliseconds }
-        ensures keeps { (self.new.flushed ≡ self.old.flushed) × (self.new.starved ≡ self.old.starved)
-            × (self.new.last ≡ self.old.last) × (self.new.listening ≡ self.old.listening)
-            × (self.new.peers ≡ self.old.peers) }
+        ensures keeps { (self.new.starved ≡ self.old.starved) × (self.new.last ≡ self.old.last)
+            × (self.new.listening ≡ self.old.listening) × (self.new.peers ≡ self.old.peers) }
         ensures system { self.new.system ≡ self.old.system }
     {
         self.most = Some(milliseconds);
@@ -106,7 +103,6 @@ impl<S: System> Sockets<S> {
             recent: _,
             turn,
             most: _,
-            flushed: _,
             starved: _,
             spare: _,
         } = self;
@@ -133,7 +129,6 @@ impl<S: System> Sockets<S> {
             recent: 0,
             turn,
             most: None,
-            flushed: 0,
             starved: false,
             spare: make_queues(alloc)?,
         })
@@ -144,9 +139,8 @@ impl<S: System> Sockets<S> {
     pub(crate) fn close(&mut self, number: u32) -> Result<(), DoorFault>
         ensures trace { SaysOne self.old.system.log.steps (CloseCall number result) self.new.system.log.steps }
         ensures log { self.new.system.log.steps ≡ self.old.system.log.steps ++ Answers (CloseCall number result) ∷ [] }
-        ensures keeps { (self.new.flushed ≡ self.old.flushed) × (self.new.starved ≡ self.old.starved)
-            × (self.new.most ≡ self.old.most) × (self.new.last ≡ self.old.last)
-            × (self.new.listening ≡ self.old.listening) }
+        ensures keeps { (self.new.starved ≡ self.old.starved) × (self.new.most ≡ self.old.most)
+            × (self.new.last ≡ self.old.last) × (self.new.listening ≡ self.old.listening) }
         ensures fault { IfErr result (λ fault. fault ≡ DoorFault.Close) }
         ensures shares { AreFrom KeepsShare self.old.peers.items self.new.peers.items }
     {
@@ -172,7 +166,6 @@ impl<S: System> Sockets<S> {
         ensures times { KeepsTimes self.old.system.log.steps self.new.system.log.steps }
         ensures keeps { (self.new.turn ≡ self.old.turn) × (self.new.starved ≡ self.old.starved)
             × (self.new.most ≡ self.old.most) × (self.new.listening ≡ self.old.listening) }
-        ensures flushed { self.new.flushed ≡ self.old.flushed }
         ensures closed { AreClosedUp self.old.turn.clock self.new.peers.items
             self.old.system.log.steps self.new.system.log.steps }
         ensures out { (all : Bool) → AreFlushed all self.old.system.log.steps
@@ -200,7 +193,6 @@ impl<S: System> Sockets<S> {
         ensures keeps { (self.new.turn ≡ self.old.turn) × (self.new.starved ≡ self.old.starved)
             × (self.new.most ≡ self.old.most) }
         ensures heard { self.new.listening ≡ self.old.listening }
-        ensures flushed { self.new.flushed ≡ self.old.flushed }
         ensures closed { Makes is_close 1 self.old.system.log.steps self.new.system.log.steps }
         ensures out { (all : Bool) → AreFlushed all self.old.system.log.steps
             → AreFlushed all self.new.system.log.steps }
@@ -218,12 +210,11 @@ impl<S: System> Sockets<S> {
     /// Returns `Now` if the clock cannot be read.
     pub(crate) fn now(&mut self) -> Result<u64, DoorFault>
         requires read { AreRead self.old.system.log.steps }
-        requires may { MayTell self.old.system.log.steps }
+        requires may { MayTell self.old.turn self.old.system.log.steps }
         requires visited { AreVisited self.old.system.log.steps self.old.peers.items }
         ensures trace { SaysOne self.old.system.log.steps (NowCall result) self.new.system.log.steps }
         ensures fault { IfErr result (λ fault. fault ≡ DoorFault.Now) }
         ensures clock { IsClocked self.old.turn result self.old.system.log.steps self.new.system.log.steps }
-        ensures flushed { self.new.flushed ≡ self.old.flushed }
         ensures starved { self.new.starved ≡ self.old.starved }
         ensures keeps { (self.new.most ≡ self.old.most) × (self.new.last ≡ self.old.last)
             × (self.new.listening ≡ self.old.listening) × (self.new.peers ≡ self.old.peers) }
@@ -290,9 +281,8 @@ impl<S: System> Sockets<S> {
         ensures fault { IfErr result (λ fault. fault ≡ DoorFault.Write) }
         ensures exact { IsPeerWritten self.old.peers.items number bytes.now result }
         ensures shares { AreFrom KeepsShare self.old.peers.items self.new.peers.items }
-        ensures keeps { (self.new.flushed ≡ self.old.flushed) × (self.new.starved ≡ self.old.starved)
-            × (self.new.most ≡ self.old.most) × (self.new.last ≡ self.old.last)
-            × (self.new.listening ≡ self.old.listening) }
+        ensures keeps { (self.new.starved ≡ self.old.starved) × (self.new.most ≡ self.old.most)
+            × (self.new.last ≡ self.old.last) × (self.new.listening ≡ self.old.listening) }
     {
         let Some(index) = self.index_of(number) else {
             self.system

@@ -36,8 +36,7 @@ impl<S: System> Sockets<S> {
             → ((result ≡ Err DoorFault.Accept) × (self.old.last ≡ greatest_id))
             ⊎ IsAccepting (self.old.last + 1) result self.old.listening self.new.listening
             self.old.system.log.steps self.new.system.log.steps }
-        ensures keeps { (self.new.flushed ≡ self.old.flushed) × (self.new.starved ≡ self.old.starved)
-            × (self.new.most ≡ self.old.most) }
+        ensures keeps { (self.new.starved ≡ self.old.starved) × (self.new.most ≡ self.old.most) }
         ensures last { self.new.last ≡ last_after self.old.last result }
         ensures shares { All (λ peer. peer.number ≤ self.old.last
             → IsFrom KeepsShare self.old.peers.items peer) self.new.peers.items }
@@ -66,8 +65,7 @@ impl<S: System> Sockets<S> {
         ensures last { self.new.last ≡ self.old.last }
         ensures is { result ≡ may_accept self.old.listening self.old.peers.items }
         ensures excused { result ≡ false → IsExcused self.new.system.log.steps }
-        ensures keeps { (self.new.flushed ≡ self.old.flushed) × (self.new.starved ≡ self.old.starved)
-            × (self.new.most ≡ self.old.most) }
+        ensures keeps { (self.new.starved ≡ self.old.starved) × (self.new.most ≡ self.old.most) }
         ensures shares { AreFrom KeepsShare self.old.peers.items self.new.peers.items }
         ensures same { result ≡ true → (self.new.listening ≡ self.old.listening) × (self.new.last ≡ self.old.last)
             × (self.new.system.log.steps ≡ self.old.system.log.steps) }
@@ -94,8 +92,8 @@ impl<S: System> Sockets<S> {
         requires last { self.old.last ≡ greatest_id }
         ensures log { self.new.system.log.steps ≡ self.old.system.log.steps ++ Answers (AcceptCall result) ∷ [] }
         ensures fault { result ≡ Err DoorFault.Accept }
-        ensures keeps { (self.new.flushed ≡ self.old.flushed) × (self.new.starved ≡ self.old.starved)
-            × (self.new.most ≡ self.old.most) × (self.new.peers ≡ self.old.peers) }
+        ensures keeps { (self.new.starved ≡ self.old.starved) × (self.new.most ≡ self.old.most)
+            × (self.new.peers ≡ self.old.peers) }
         ensures last { self.new.last ≡ last_after self.old.last result }
         ensures rests { self.new.listening ≡ Listening.BackingOff }
     {
@@ -113,8 +111,8 @@ impl<S: System> Sockets<S> {
         ensures log { self.new.system.log.steps ≡ self.old.system.log.steps ++ Answers (AcceptCall result) ∷ [] }
         ensures same { result ≡ answer }
         ensures listening { self.new.listening ≡ self.old.listening }
-        ensures keeps { (self.new.flushed ≡ self.old.flushed) × (self.new.starved ≡ self.old.starved)
-            × (self.new.most ≡ self.old.most) × (self.new.peers ≡ self.old.peers) }
+        ensures keeps { (self.new.starved ≡ self.old.starved) × (self.new.most ≡ self.old.most)
+            × (self.new.peers ≡ self.old.peers) }
         ensures last { self.new.last ≡ last_after self.old.last result }
     {
         self.system.answer(&Answer::Accept(answer));
@@ -131,8 +129,7 @@ impl<S: System> Sockets<S> {
         ensures rests { OnErr result (self.new.listening ≡ Listening.BackingOff) }
         ensures exact { IsAccepting number result self.old.listening self.new.listening
             self.old.system.log.steps self.new.system.log.steps }
-        ensures keeps { (self.new.flushed ≡ self.old.flushed) × (self.new.starved ≡ self.old.starved)
-            × (self.new.most ≡ self.old.most) }
+        ensures keeps { (self.new.starved ≡ self.old.starved) × (self.new.most ≡ self.old.most) }
         ensures last { self.new.last ≡ last_after self.old.last result }
         ensures shares { All (λ peer. peer.number ≤ self.old.last
             → IsFrom KeepsShare self.old.peers.items peer) self.new.peers.items }
@@ -173,8 +170,7 @@ impl<S: System> Sockets<S> {
         requires { is_quiet self.old.listening ≡ false }
         ensures calls { SaysNothing self.old.system.log.steps self.new.system.log.steps }
         ensures last { self.new.last ≡ self.old.last }
-        ensures keeps { (self.new.flushed ≡ self.old.flushed) × (self.new.starved ≡ self.old.starved)
-            × (self.new.most ≡ self.old.most) }
+        ensures keeps { (self.new.starved ≡ self.old.starved) × (self.new.most ≡ self.old.most) }
         ensures shares { AreFrom KeepsShare self.old.peers.items self.new.peers.items }
         ensures closes { (self.new.system.log.steps ≡ self.old.system.log.steps)
             ⊎ ((who : ℕ) × (self.new.system.log.steps ≡ self.old.system.log.steps ++ Closes who ∷ [])) }

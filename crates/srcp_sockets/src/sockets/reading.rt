@@ -29,9 +29,9 @@ impl<S: System> Sockets<S> {
         ensures log { self.new.system.log.steps
             ≡ self.old.system.log.steps ++ Answers (ReadCall number result buffer.now) ∷ [] }
         ensures nothing { result ≡ Ok Got.Nothing }
-        ensures keeps { (self.new.flushed ≡ self.old.flushed) × (self.new.starved ≡ self.old.starved)
-            × (self.new.most ≡ self.old.most) × (self.new.last ≡ self.old.last)
-            × (self.new.listening ≡ self.old.listening) × (self.new.peers ≡ self.old.peers) }
+        ensures keeps { (self.new.starved ≡ self.old.starved) × (self.new.most ≡ self.old.most)
+            × (self.new.last ≡ self.old.last) × (self.new.listening ≡ self.old.listening)
+            × (self.new.peers ≡ self.old.peers) }
     {
         let answer = Ok(Got::Nothing);
         self.system.answer(&Answer::Read(number, answer, buffer));
@@ -70,7 +70,6 @@ impl<S: System> Sockets<S> {
             (length buffer.old) result (got_bytes result buffer.new) self.old.starved self.new.starved }
         ensures shares { AreFrom (λ was p. p.number ≢ number → KeepsShare was p) self.old.peers.items
             self.new.peers.items }
-        ensures flushed { self.new.flushed ≡ self.old.flushed }
         ensures keeps { (self.new.most ≡ self.old.most) × (self.new.last ≡ self.old.last)
             × (self.new.listening ≡ self.old.listening) }
         ensures stays { self.old.starved ≡ true → self.new.starved ≡ true }
@@ -96,9 +95,9 @@ impl<S: System> Sockets<S> {
         ensures log { self.new.system.log.steps
             ≡ self.old.system.log.steps ++ Answers (ReadCall number result buffer.now) ∷ [] }
         ensures nothing { (result ≡ Ok Got.Nothing) ⊎ (result ≡ Err DoorFault.Read) }
-        ensures keeps { (self.new.flushed ≡ self.old.flushed) × (self.new.starved ≡ self.old.starved)
-            × (self.new.most ≡ self.old.most) × (self.new.last ≡ self.old.last)
-            × (self.new.listening ≡ self.old.listening) × (self.new.peers ≡ self.old.peers) }
+        ensures keeps { (self.new.starved ≡ self.old.starved) × (self.new.most ≡ self.old.most)
+            × (self.new.last ≡ self.old.last) × (self.new.listening ≡ self.old.listening)
+            × (self.new.peers ≡ self.old.peers) }
     {
         let answer = self.turn.report_fault();
         self.system.answer(&Answer::Read(number, answer, buffer));

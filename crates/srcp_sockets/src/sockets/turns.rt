@@ -34,22 +34,20 @@ impl<S: System> Sockets<S> {
         ensures most { GrowsBy (3 * length self.old.peers.items + (most_drained + most_lingering + 1))
             self.old.system.log.steps self.new.system.log.steps }
         ensures read { AreRead self.new.system.log.steps }
-        ensures may { MayTell self.new.system.log.steps }
+        ensures may { MayTell self.new.turn self.new.system.log.steps }
         ensures visited { AreVisited self.new.system.log.steps self.new.peers.items }
-        ensures offered { AreOffered (flushed_in self.old.turn self.old.flushed self.old.peers.items)
-            self.old.peers.items self.old.system.log.steps self.new.system.log.steps }
-        ensures waits { HasWaited (cond (goes_on self.old.turn self.old.flushed self.old.peers.items) 0 1)
+        ensures offered { AreOffered (flushed_in self.old.turn self.old.peers.items) self.old.peers.items
             self.old.system.log.steps self.new.system.log.steps }
-        ensures rests { goes_on self.old.turn self.old.flushed self.old.peers.items ≡ true
-            → self.new.listening ≡ self.old.listening }
-        ensures heard { goes_on self.old.turn self.old.flushed self.old.peers.items ≡ false
+        ensures waits { HasWaited (cond (goes_on self.old.turn self.old.peers.items) 0 1)
+            self.old.system.log.steps self.new.system.log.steps }
+        ensures rests { goes_on self.old.turn self.old.peers.items ≡ true → self.new.listening ≡ self.old.listening }
+        ensures heard { goes_on self.old.turn self.old.peers.items ≡ false
             → WaitsAmong self.old.turn self.old.most self.old.listening self.new.listening self.old.peers.items
             self.old.system.log.steps self.new.system.log.steps }
         ensures shares { AreFrom (IsShared (not (self.old.starved || self.old.turn.late)) self.old.turn.clock)
             self.old.peers.items self.new.peers.items }
         ensures lines_left { All (λ peer. peer.lines_left
             ≡ lines_left_of (list_any holds_input self.old.peers.items) self.old.turn.slack) self.new.peers.items }
-        ensures flushed { self.new.flushed ≡ self.old.turn.clock }
         ensures reset { self.new.starved ≡ false }
         ensures keeps { (self.new.most ≡ self.old.most) × (self.new.last ≡ self.old.last) }
     {
@@ -62,17 +60,17 @@ impl<S: System> Sockets<S> {
         self.begin_visits(holds);
     }
 
-    /// Returns whether the clock went on since the flush before, or the turn waits until the clock does.
+    /// Returns whether the clock went on since the turn before, or the turn waits until the clock does.
     fn has_ticked(&self) -> bool
-        ensures { result ≡ has_ticked self.now.turn self.now.flushed }
+        ensures { result ≡ has_ticked self.now.turn }
     {
-        self.turn.clock != self.flushed || self.turn.backpressure_delay() > 0
+        self.turn.clock != self.turn.previous_clock || self.turn.backpressure_delay() > 0
     }
 
     /// Returns whether the turn goes on with held input. `holds` says whether input is held. The turn does so until the
     /// clock goes on.
     fn goes_on(&self, holds: bool) -> bool
-        ensures { result ≡ (not (has_ticked self.now.turn self.now.flushed) && holds) }
+        ensures { result ≡ (not (has_ticked self.now.turn) && holds) }
     {
         !self.has_ticked() && holds
     }
@@ -81,7 +79,7 @@ impl<S: System> Sockets<S> {
     /// on with held input. If the clock went on and the panels can take less than a line may bring, their sockets are
     /// tried again.
     fn flushing(&self, held: bool) -> Flush
-        ensures { result ≡ flushing (has_ticked self.now.turn self.now.flushed) held self.now.turn }
+        ensures { result ≡ flushing (has_ticked self.now.turn) held self.now.turn }
     {
         if self.has_ticked() && self.turn.is_short() {
             Flush::Again
@@ -126,7 +124,6 @@ impl<S: System> Sockets<S> {
             self.old.listening self.new.listening self.old.system.log.steps self.new.system.log.steps }
         ensures shares { AreFrom KeepsShare self.old.peers.items self.new.peers.items }
         ensures turn { self.new.turn ≡ record self.old.turn { busy = held && self.old.turn.busy } }
-        ensures flushed { self.new.flushed ≡ self.old.flushed }
         ensures starved { self.new.starved ≡ self.old.starved }
         ensures keeps { (self.new.most ≡ self.old.most) × (self.new.last ≡ self.old.last) }
     {
@@ -149,9 +146,7 @@ impl<S: System> Sockets<S> {
         ensures keeps { (self.new.turn ≡ self.old.turn) × (self.new.starved ≡ self.old.starved)
             × (self.new.most ≡ self.old.most) × (self.new.last ≡ self.old.last)
             × (self.new.listening ≡ self.old.listening) }
-        ensures flushed { self.new.flushed ≡ self.old.turn.clock }
     {
-        self.flushed = self.turn.clock;
         flush(&mut self.system, self.peers.as_mut_slice(), what);
     }
 
@@ -169,7 +164,6 @@ impl<S: System> Sockets<S> {
         ensures looked { has_waited self.new.system.log.steps ≡ true }
         ensures shares { AreFrom KeepsShare self.old.peers.items self.new.peers.items }
         ensures turn { self.new.turn ≡ after_wait self.old.turn }
-        ensures flushed { self.new.flushed ≡ self.old.flushed }
         ensures starved { self.new.starved ≡ self.old.starved }
         ensures keeps { (self.new.most ≡ self.old.most) × (self.new.last ≡ self.old.last) }
     {
@@ -202,10 +196,9 @@ impl<S: System> Sockets<S> {
         ensures lines_left { All (λ peer. peer.lines_left ≡ lines_left_of holds self.old.turn.slack)
             self.new.peers.items }
         ensures times { KeepsTimes self.old.system.log.steps self.new.system.log.steps }
-        ensures flushed { self.new.flushed ≡ self.old.flushed }
         ensures reset { self.new.starved ≡ false }
         ensures keeps { (self.new.most ≡ self.old.most) × (self.new.last ≡ self.old.last)
-            × (self.new.listening ≡ self.old.listening) }
+            × (self.new.listening ≡ self.old.listening) × (self.new.turn ≡ self.old.turn) }
     {
         let anew = self.renews_shares();
         let lines_left = self.lines_left(holds);

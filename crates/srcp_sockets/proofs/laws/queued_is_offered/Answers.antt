@@ -6,7 +6,7 @@ use Rattle.srcp_sockets.proofs.WaitsAreFlushed.{if_owed}
 use Rattle.srcp_sockets.proofs.laws.queued_is_offered.Goals as goal
 
 pub returns : goal.returns
-returns g c before after most count ready is calm socket kept owed =
+returns g c before after most count ready is due socket kept owed =
     let done = (c.args.door.now.sockets.done before after (Waits most count ready) is).0 in
     let sent = (account socket before).sent in
-    if_owed (is_owed sent) ((sent.full || sent.lost) || is_written socket before) ((done.flushed socket).offered calm kept) owed
+    if_owed (is_owed sent) ((sent.full || sent.lost) || is_written socket before) ((done.flushed socket).offered due kept) owed

@@ -6,4 +6,7 @@ pub returns-clause-clock : goal.returns-clause-clock
 returns-clause-clock g c before after answer is = (c.args.door.now.sockets.done before after (Answers (NowCall answer)) is).clock
 
 pub returns-clause-waits : goal.returns-clause-waits
-returns-clause-waits g c before after answer is = (c.args.door.now.sockets.done before after (Answers (NowCall answer)) is).waits
+returns-clause-waits g c before after answer is = (c.args.door.now.sockets.done before after (Answers (NowCall answer)) is).may.waits
+
+pub returns-clause-ticked : goal.returns-clause-ticked
+returns-clause-ticked g c before after answer is = (c.args.door.now.sockets.done before after (Answers (NowCall answer)) is).may.ticked

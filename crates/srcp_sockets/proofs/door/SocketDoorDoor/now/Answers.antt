@@ -39,7 +39,7 @@ pub returns-else-is_err-clause-offered : goal.returns-else-is_err-clause-offered
 returns-else-is_err-clause-offered g c =
     let was = c.args.self.now.sockets in
     let clock = c.now-answer.ensures.clock in
-    all_offered_more (flushed_in was.turn was.flushed was.peers.items) was.peers.items was.system.log.steps
+    all_offered_more (flushed_in was.turn was.peers.items) was.peers.items was.system.log.steps
     c.begin_turn.new.self.system.log.steps (Clocks clock.0 ∷ Answers (NowCall c.now-answer.result) ∷ [])
     c.now-answer.new.self.system.log.steps c.begin_turn.ensures.offered clock.2
 
@@ -47,7 +47,7 @@ pub returns-then-is_err-clause-offered : goal.returns-then-is_err-clause-offered
 returns-then-is_err-clause-offered g c =
     let was = c.args.self.now.sockets in
     let clock = c.now-answer.ensures.clock in
-    all_offered_more (flushed_in was.turn was.flushed was.peers.items) was.peers.items was.system.log.steps
+    all_offered_more (flushed_in was.turn was.peers.items) was.peers.items was.system.log.steps
     c.begin_turn.new.self.system.log.steps (Clocks clock.0 ∷ Answers (NowCall c.now-answer.result) ∷ [])
     c.failed.new.self.sockets.system.log.steps c.begin_turn.ensures.offered
     (ap (λ sockets. sockets.system.log.steps) c.failed.ensures.sockets ∙ clock.2)

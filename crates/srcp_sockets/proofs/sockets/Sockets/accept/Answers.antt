@@ -154,12 +154,12 @@ nobody_new last old mid new same from = subst (All (λ peer. peer.number ≤ las
 
 pub returns-then-not-may_accept-clause-shares : goal.returns-then-not-may_accept-clause-shares
 returns-then-not-may_accept-clause-shares g c = nobody_new c.args.self.now.last c.args.self.now.peers.items
-    c.may_accept.new.self.peers.items c.note_nobody.new.self.peers.items (ap (λ peers. peers.items) c.note_nobody.ensures.keeps.3)
+    c.may_accept.new.self.peers.items c.note_nobody.new.self.peers.items (ap (λ peers. peers.items) c.note_nobody.ensures.keeps.2)
     c.may_accept.ensures.shares
 
 pub returns-in_default-clause-shares : goal.returns-in_default-clause-shares
 returns-in_default-clause-shares g c = nobody_new c.args.self.now.last c.args.self.now.peers.items
-    c.may_accept.new.self.peers.items c.put_off.new.self.peers.items (ap (λ peers. peers.items) c.put_off.ensures.keeps.3)
+    c.may_accept.new.self.peers.items c.put_off.new.self.peers.items (ap (λ peers. peers.items) c.put_off.ensures.keeps.2)
     c.may_accept.ensures.shares
 
 pub returns-clause-shares : goal.returns-clause-shares

@@ -1,4 +1,4 @@
-use Rattle.std.proofs.Common.{◌≡◌, ◌∙◌, ℕ, Bool, false, ap, subst, sym}
+use Rattle.std.proofs.Common.{◌≡◌, ◌∙◌, ℕ, Bool, true, false, ap, refl, subst, sym, true≢false}
 use Rattle.std.specs.Prelude.{◌&&◌, ◌||◌, cond, not}
 use Rattle.srcp_peers.specs.declared.readiness.Flush.{Flush}
 use Rattle.srcp_peers.specs.declared.turn.Turn.{Turn}
@@ -6,7 +6,7 @@ use Rattle.srcp_peers.specs.AllPeers.{AreOffered}
 use Rattle.srcp_peers.specs.Peers.{IsShared, KeepsRest, flushes_all}
 use Rattle.srcp_peers.specs.Turns.{flushing, has_ticked}
 use Rattle.srcp_peers.proofs.QueuedIsOffered.{all_offered_then}
-use Rattle.srcp_peers.proofs.PeersRestByAccount.{and_right}
+use Rattle.srcp_peers.proofs.PeersRestByAccount.{and_left, and_right}
 use Rattle.srcp_peers.proofs.CallsAreOfTheDoor.{keeps_then, says_then}
 use Rattle.srcp_sockets.specs.Delivery.{HasWaited}
 use Rattle.srcp_sockets.specs.Doors.{flushed_in}
@@ -37,8 +37,8 @@ returns-clause-offered g c =
     let gone = c.close_gone.new.self.system.log.steps in
     let looked = c.poll_unless_held.new.self.system.log.steps in
     let new = c.begin_visits.new.self.system.log.steps in
-    let what = flushed_in was.turn was.flushed was.peers.items in
-    let ticked = has_ticked was.turn was.flushed in
+    let what = flushed_in was.turn was.peers.items in
+    let ticked = has_ticked was.turn in
     let same : c.flushing-what.result ≡ what = c.flushing-what.ensures
     ∙ ap (λ held. flushing ticked held was.turn) (c.goes_on-held.ensures ∙ ap (λ holds. not ticked && holds) c.holds_input-holds.ensures) in
     all_offered_then what was.peers.items old flushed new
@@ -54,14 +54,18 @@ returns-clause-waits g c =
     let gone = c.close_gone.new.self.system.log.steps in
     let looked = c.poll_unless_held.new.self.system.log.steps in
     let new = c.begin_visits.new.self.system.log.steps in
-    let ticked = has_ticked was.turn was.flushed in
-    let held : c.goes_on-held.result ≡ goes_on was.turn was.flushed was.peers.items = c.goes_on-held.ensures
+    let ticked = has_ticked was.turn in
+    let held : c.goes_on-held.result ≡ goes_on was.turn was.peers.items = c.goes_on-held.ensures
     ∙ ap (λ holds. not ticked && holds) c.holds_input-holds.ensures in
     subst (λ (h : Bool). HasWaited (cond h 0 1) old new) held
     (waited_keeps (cond c.goes_on-held.result 0 1) old looked new
     (waited_after (cond c.goes_on-held.result 0 1) old gone looked
     (keeps_then old flushed gone c.flush.ensures.times c.close_gone.ensures.times) c.poll_unless_held.ensures.waits)
     c.begin_visits.ensures.times)
+
+not_true : (b : Bool) → not b ≡ true → b ≡ false
+not_true true e = absurd (true≢false (sym e))
+not_true false e = refl
 
 pub returns-clause-may : goal.returns-clause-may
 returns-clause-may g c =
@@ -71,11 +75,16 @@ returns-clause-may g c =
     let gone = c.close_gone.new.self.system.log.steps in
     let looked = c.poll_unless_held.new.self.system.log.steps in
     let new = c.begin_visits.new.self.system.log.steps in
-    may_tell old new was.peers.items was.listening was.last c.goes_on-held.result was.stands
+    let same : c.begin_visits.new.self.turn ≡ record was.turn { busy = c.goes_on-held.result && was.turn.busy } =
+    c.begin_visits.ensures.keeps.3 ∙ c.poll_unless_held.ensures.turn
+    ∙ ap (λ (t : Turn). record t { busy = c.goes_on-held.result && t.busy }) (c.close_gone.ensures.keeps.0 ∙ c.flush.ensures.keeps.0) in
+    may_tell c.begin_visits.new.self.turn old new was.peers.items was.listening was.last c.goes_on-held.result was.stands
     (says_then old gone new (says_then old flushed gone c.flush.ensures.calls c.close_gone.ensures.calls)
     (says_then gone looked new c.poll_unless_held.ensures.calls c.begin_visits.ensures.calls))
     (λ held. sym c.holds_input-holds.ensures
-    ∙ and_right (not (has_ticked was.turn was.flushed)) c.holds_input-holds.result (sym c.goes_on-held.ensures ∙ held))
+    ∙ and_right (not (has_ticked was.turn)) c.holds_input-holds.result (sym c.goes_on-held.ensures ∙ held))
+    (λ held. ap has_ticked same
+    ∙ not_true (has_ticked was.turn) (and_left (not (has_ticked was.turn)) c.holds_input-holds.result (sym c.goes_on-held.ensures ∙ held)))
     (λ none. looked_silent looked new c.begin_visits.ensures.calls (c.poll_unless_held.ensures.looked none))
 
 pub poll_unless_held-requires-clause-may : goal.poll_unless_held-requires-clause-may
@@ -84,11 +93,10 @@ poll_unless_held-requires-clause-may g c none =
     let at = c.close_gone.new.self in
     let flushed = c.flush.new.self.system.log.steps in
     let gone = at.system.log.steps in
-    let ticked = has_ticked was.turn was.flushed in
     let kept : at.turn ≡ was.turn = c.close_gone.ensures.keeps.0 ∙ c.flush.ensures.keeps.0 in
-    let what : c.flushing-what.result ≡ flushing ticked false at.turn = c.flushing-what.ensures
-    ∙ ap (λ held. flushing ticked held was.turn) none ∙ ap (flushing ticked false) (sym kept) in
-    may_wait gone at.turn ticked at.timed
+    let what : c.flushing-what.result ≡ flushing (has_ticked at.turn) false at.turn = c.flushing-what.ensures
+    ∙ ap (λ held. flushing (has_ticked was.turn) held was.turn) none ∙ ap (λ (t : Turn). flushing (has_ticked t) false t) (sym kept) in
+    may_wait gone at.turn at.timed
     (subst (λ (f : Flush). AreFlushed (flushes_all f) gone) what
     (c.close_gone.ensures.out (flushes_all c.flushing-what.result) c.flush.ensures.out))
     (all_closed flushed gone at.turn at.peers.items at.listening at.last at.stands at.timed c.close_gone.ensures.calls
@@ -132,7 +140,7 @@ returns-clause-shares g c =
 pub returns-clause-rests : goal.returns-clause-rests
 returns-clause-rests g c goes =
     let was = c.args.self.now in
-    let ticked = has_ticked was.turn was.flushed in
+    let ticked = has_ticked was.turn in
     let held = c.goes_on-held.ensures ∙ ap (λ holds. not ticked && holds) c.holds_input-holds.ensures ∙ goes in
     c.begin_visits.ensures.keeps.2 ∙ c.poll_unless_held.ensures.rests held ∙ c.close_gone.ensures.keeps.3 ∙ c.flush.ensures.keeps.4
 
@@ -143,7 +151,7 @@ returns-clause-heard g c goes =
     let looked = c.poll_unless_held.new.self in
     let old = was.system.log.steps in
     let flushed = c.flush.new.self.system.log.steps in
-    let ticked = has_ticked was.turn was.flushed in
+    let ticked = has_ticked was.turn in
     let held = c.goes_on-held.ensures ∙ ap (λ holds. not ticked && holds) c.holds_input-holds.ensures ∙ goes in
     let waits = c.poll_unless_held.ensures.heard held in
     let heard : gone.listening ≡ was.listening = c.close_gone.ensures.keeps.3 ∙ c.flush.ensures.keeps.4 in

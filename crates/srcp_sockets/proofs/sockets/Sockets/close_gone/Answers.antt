@@ -14,7 +14,6 @@ loop-init g c =
       times = λ wall start. refl;
       turn = refl;
       starved = refl;
-      flushed = refl;
       limit = refl;
       heard = refl;
       made = omega arith;
@@ -37,7 +36,6 @@ loop-preserved g c =
       times = keeps_then first old new was.times now.times;
       turn = now.keeps.0 ∙ was.turn;
       starved = now.keeps.1 ∙ was.starved;
-      flushed = now.flushed ∙ was.flushed;
       limit = now.keeps.2 ∙ was.limit;
       heard = now.heard ∙ was.heard;
       made = (let a = now.closed in let b = was.made in omega (arith, a, b));

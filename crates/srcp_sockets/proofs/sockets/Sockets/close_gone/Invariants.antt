@@ -13,7 +13,6 @@ invariant-loop g l = record {
   times : KeepsTimes l.fn.self.system.log.steps l.self.system.log.steps;
   turn : l.self.turn ≡ l.fn.self.turn;
   starved : l.self.starved ≡ l.fn.self.starved;
-  flushed : l.self.flushed ≡ l.fn.self.flushed;
   limit : l.self.most ≡ l.fn.self.most;
   heard : l.self.listening ≡ l.fn.self.listening;
   made : Makes is_close l.counter l.fn.self.system.log.steps l.self.system.log.steps;

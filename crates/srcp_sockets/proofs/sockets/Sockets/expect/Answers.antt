@@ -36,4 +36,4 @@ returns-clause-trace g c = says_call c.args.self.now.system.log.steps c.answer.n
     (ExpectCall c.args.due c.args.slack) c.answer.ensures.log
 
 pub returns-clause-keeps : goal.returns-clause-keeps
-returns-clause-keeps g c = (refl, refl, refl, refl, refl, refl)
+returns-clause-keeps g c = (refl, refl, refl, refl, refl)

@@ -62,11 +62,11 @@ invariant_of-self g c =
       done = done_moment new turn c.report_moment-answer.new.self c.clock-shown.result answer
           c.report_moment-answer.ensures.none c.report_moment-answer.ensures.some
           (done_step turn.timekeeper.wall turn.timekeeper.start mid new (Answers (NowCall answer)) c.answer.ensures.log
-          (moment_done turn.timekeeper.wall turn.timekeeper.start old mid c.clock-shown.result answer c.clock-shown.ensures.log
+          (moment_done turn old mid c.clock-shown.result answer c.clock-shown.ensures.log
           (moment_shown turn answer c.clock-shown.result
           (moment_is turn answer c.clock-shown.result (λ e. (c.report_moment-answer.ensures.none e).0)
           (λ time e. (c.report_moment-answer.ensures.some time e).0)))
-          c.requires.may)
+          c.args.self.now.timed c.requires.may)
           (done_step turn.timekeeper.wall turn.timekeeper.start old mid (Clocks c.clock-shown.result) c.clock-shown.ensures.log
           tt c.args.self.now.done));
       ending = far_told old mid new c.args.self.now.peers.items c.clock-shown.result answer c.clock-shown.ensures.log c.answer.ensures.log

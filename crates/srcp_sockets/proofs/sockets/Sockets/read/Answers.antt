@@ -129,5 +129,5 @@ pub returns-in_default-clause-shares : goal.returns-in_default-clause-shares
 returns-in_default-clause-shares g c =
     let self = c.args.self.now in
     subst (AreFrom (λ was p. p.number ≢ c.args.number → KeepsShare was p) self.peers.items)
-    (sym (ap (λ peers. peers.items) c.read_nobody.ensures.keeps.5))
+    (sym (ap (λ peers. peers.items) c.read_nobody.ensures.keeps.4))
     (from_same (λ was p. p.number ≢ c.args.number → KeepsShare was p) (λ p differ. (refl, refl)) self.peers.items)
