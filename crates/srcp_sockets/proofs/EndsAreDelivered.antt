@@ -1,21 +1,25 @@
 -- What a door has delivered when it ends.
 use Rattle.std.proofs.Common.{◌++◌, ◌∷◌, [], ◌≡◌, ◌∙◌, ℕ, ◌+◌, Bool, true, false, not, List, length, refl, ap, arith, ◌==◌, ◌⊎◌, inl, inr}
 use Rattle.std.proofs.Common.{get_or, Option, Some, None, sym, subst, ⊎_elim, true≢false}
+use Rattle.std.proofs.Common.{append-nil, append_assoc}
 use Rattle.std.specs.Prelude.{All, ◌&&◌}
+use Rattle.std.specs.List.{list_all}
+use Rattle.std.proofs.lemmas.List.Folds.{list_all-append}
 use Rattle.srcp_peers.specs.declared.peer.Peer.{Peer}
 use Rattle.srcp_peers.specs.declared.readiness.Output.{Output}
 use Rattle.srcp_peers.specs.declared.readiness.Output.TheVariants as output
 use Rattle.srcp_peers.specs.declared.system.Ready.{Ready}
 use Rattle.srcp_peers.specs.Accounts.{Sent, account, is_owed}
 use Rattle.srcp_sockets.specs.Limits.{most_last_waits}
-use Rattle.srcp_sockets.specs.Delivery.{AreDelivered, HasEnded, HasWaited, HaveEnded, IsAllDelivered, IsOver}
+use Rattle.srcp_sockets.specs.Delivery.{AreDelivered, HasEnded, HasLooked, HasWaited, HaveEnded, IsAllDelivered, IsOver, is_last_wait}
 use Rattle.srcp_sockets.specs.Doors.{AreStanding, IsThere}
 use Rattle.srcp_peers.specs.AllPeers.{AreKept, IsAbsent}
 use Rattle.srcp_peers.specs.Peers.{WritesAs, is_lost, is_waiting}
-use Rattle.srcp_peers.specs.Steps.{Clocks, Step, Waits}
+use Rattle.srcp_peers.specs.Steps.{Accepts, Answers, Clocks, Closes, Reads, SaysNothing, Shuts, Step, Waits, Writes}
 use Rattle.srcp_peers.specs.Times.{KeepsTimes, Times, times, times_step}
-use Rattle.srcp_peers.proofs.PeersRestByAccount.{owed_is}
+use Rattle.srcp_peers.proofs.PeersRestByAccount.{and_left, and_right, owed_is}
 use Rattle.srcp_sockets.proofs.SocketsStayStanding.{find, nobody}
+use Rattle.srcp_sockets.proofs.WorkIsDone.{free_came, is_free}
 use Rattle.srcp_peers.proofs.CallsAreOfTheDoor.{times_more}
 
 -- nothing is queued that its socket may take
@@ -82,3 +86,37 @@ waited_more count old mid new most n ready tells waited wall start =
     ap (λ l. (times wall start l).waits) tells ∙ ap (λ x. x.waits) (times_more wall start mid (Waits most n ready)) in
     let before = waited wall start in
     omega (arith, one, before)
+
+-- ---- how long it waited
+
+pub looked_none : (log : List Step) → HasLooked log log
+looked_none log = ([], sym (append-nil log), refl)
+
+pub looked_then : (old mid new : List Step) → HasLooked old mid → HasLooked mid new → HasLooked old new
+looked_then old mid new first then = (
+  first.0 ++ then.0,
+  then.1 ∙ ap (λ (l : List Step). l ++ then.0) first.1 ∙ append_assoc old first.0 then.0,
+  list_all-append is_last_wait first.0 then.0 ∙ ap (λ b. b && list_all is_last_wait then.0) first.2 ∙ then.2,
+)
+
+pub looked_step : (old new : List Step) (step : Step) → new ≡ old ++ step ∷ [] → is_last_wait step ≡ true → HasLooked old new
+looked_step old new step tells is = (step ∷ [], tells, ap (λ b. b && true) is)
+
+-- no wait came
+free_waits : (step : Step) → is_free step ≡ true → is_last_wait step ≡ true
+free_waits (Accepts number answer) e = refl
+free_waits (Reads who buffer answer) e = refl
+free_waits (Writes who bytes answer) e = refl
+free_waits (Waits most count ready) e = absurd (true≢false (sym e))
+free_waits (Shuts who) e = refl
+free_waits (Closes who) e = refl
+free_waits (Clocks answer) e = refl
+free_waits (Answers call) e = refl
+
+all_free : (came : List Step) → list_all is_free came ≡ true → list_all is_last_wait came ≡ true
+all_free [] e = refl
+all_free (step ∷ came) e = ap (λ b. b && list_all is_last_wait came) (free_waits step (and_left (is_free step) (list_all is_free came) e))
+    ∙ all_free came (and_right (is_free step) (list_all is_free came) e)
+
+pub looked_free : (old new : List Step) → SaysNothing old new → KeepsTimes old new → HasLooked old new
+looked_free old new says keeps = (says.0, says.1, all_free says.0 (free_came old new says keeps))

@@ -1,6 +1,6 @@
 -- When nobody is accepted, or a fault is answered, though the system was not asked.
-use Rattle.std.specs.Prelude.{⊤, ◌≡◌, ℕ, ◌==◌, ◌∷◌, ◌++◌, ◌-◌, ◌||◌, nat_le, Bool, true, false, List, filter_map, length}
-use Rattle.std.specs.Prelude.{Option, Some, None, Result, Ok, Err}
+use Rattle.std.specs.Prelude.{⊤, ◌≡◌, ℕ, ◌==◌, ◌∷◌, ◌++◌, ◌-◌, ◌||◌, nat_le, Bool, true, false, List}
+use Rattle.std.specs.Prelude.{filter_map, length, Option, Some, None, Result, Ok, Err}
 use Rattle.std.specs.List.{list_any}
 use Rattle.std.proofs.Props.{props}
 use Rattle.srcp_info.specs.Limits.{greatest_id}

@@ -1,12 +1,13 @@
 -- When a door ends: what its sockets took of what is queued.
-use Rattle.std.specs.Prelude.{◌≡◌, ◌⊎◌, ℕ, ◌+◌, ◌<◌, ◌∷◌, ◌++◌, nat_le, Bool, true, false, List, [], length}
+use Rattle.std.specs.Prelude.{◌≡◌, ◌⊎◌, ℕ, ◌+◌, ◌<◌, ◌==◌, ◌&&◌, ◌∷◌, ◌++◌, nat_le, Bool, true, false, List, [], length}
 use Rattle.std.specs.Prelude.{min, slice_index_or, Option, Some, None}
+use Rattle.std.specs.List.{list_all}
 use Rattle.srcp_info.specs.Limits.{greatest_u64}
 use Rattle.srcp_peers.specs.declared.peer.Peer.{Peer}
 use Rattle.srcp_peers.specs.Accounts.{account, is_owed}
-use Rattle.srcp_peers.specs.Limits.{linger}
-use Rattle.srcp_sockets.specs.Limits.{most_last_waits}
-use Rattle.srcp_peers.specs.Steps.{Clocks, Step}
+use Rattle.srcp_peers.specs.Limits.{linger, retry_delay}
+use Rattle.srcp_sockets.specs.Limits.{most_last_waits, most_ready}
+use Rattle.srcp_peers.specs.Steps.{Clocks, Step, Waits}
 use Rattle.srcp_peers.specs.Times.{times}
 
 -- the socket of each of these peers took all that was taken for it, or a write found that it takes no more
@@ -36,6 +37,16 @@ IsOver until log = (before : List Step) × (answer : Option ℕ) × (log ≡ bef
 -- `count` waits were made
 abbrev pub HasWaited : (count : ℕ) (old new : List Step) → Type 0
 HasWaited count old new = (wall start : ℕ) → (times wall start new).waits ≡ (times wall start old).waits + count
+
+-- if it is a wait, it is one for as long as the retry delay, that can find as many sockets ready as may be at once
+abbrev pub is_last_wait : Step → Bool
+is_last_wait (Waits (Some most) count ready) = (most == retry_delay) && (length ready == most_ready)
+is_last_wait (Waits None count ready) = false
+is_last_wait other = true
+
+-- each wait that came is such
+abbrev pub HasLooked : (old new : List Step) → Type 0
+HasLooked old new = (came : List Step) × (new ≡ old ++ came) × (list_all is_last_wait came ≡ true)
 
 -- these peers are delivered, or the time is over, or a million waits were made
 abbrev pub HaveEnded : (until : ℕ) (old new : List Step) → List Peer → Type 0

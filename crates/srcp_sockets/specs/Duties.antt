@@ -16,6 +16,7 @@ use Rattle.srcp_peers.specs.Steps.{Accepts, Answers, Clocks, Closes, Reads, Shut
 use Rattle.srcp_peers.specs.Times.{times}
 use Rattle.srcp_peers.specs.Turns.{got_bytes, has_ticked, reports_end}
 use Rattle.srcp_sockets.specs.Endings.{ending_of}
+use Rattle.srcp_sockets.specs.Limits.{most_ready}
 use Rattle.srcp_sockets.specs.Waits.{IsBriefOverWork, IsWaitDone}
 
 -- ---- a moment
@@ -107,6 +108,7 @@ pub record IsReadDone (wall start : ℕ) (log : List Step) (who : ℕ) (answer :
 -- what is done when the step is made
 abbrev pub IsDone : (wall start : ℕ) → List Step → Step → Type 0
 IsDone wall start log (Waits most count ready) = IsWaitDone wall start log × IsBriefOverWork wall start log most
+    × (length ready ≡ most_ready)
 IsDone wall start log (Answers (NowCall answer)) = IsMomentDone wall start log answer
 IsDone wall start log (Answers (ReadCall who answer buffer)) =
     (times wall start log).turn.late ≡ false → IsReadDone wall start log who answer buffer

@@ -58,15 +58,15 @@ pub record IsWaitDone (wall start : ℕ) (log : List Step) : Type 0 where
   pub closed : nat_lt (closes log) most_lingering ≡ true → (socket : ℕ) → has_to_close (account socket log) ≡ false
   pub flushed : (socket : ℕ) → IsFlushedOut (is_flush_due wall start log) (account socket log) (is_written socket log)
 
--- it is there, and not at rest: input of it is held that the core takes, or something is to be read, written or reported
+-- it is there, and not at rest: input of it is held that the core takes, or something is to be read, written or told
 abbrev pub has_work : Account → Bool
 has_work a = a.watched && not (is_at_rest a.sent a.received)
 
--- a wait stands still for no longer than the clock takes to go on, if at all
+-- a wait is no longer than the back-pressure delay, which is 0 or 1 ms
 abbrev pub is_brief : (wall start : ℕ) → List Step → (most : Option ℕ) → Bool
 is_brief wall start log most = ends_by (backpressure_delay (times wall start log).turn) most
 
--- so it does over work for a peer, and while something happened that a panel may have to be told
+-- so it is while there is work for a peer, and after a turn in which something happened that a panel may be told
 pub record IsBriefOverWork (wall start : ℕ) (log : List Step) (most : Option ℕ) : Type 0 where
   pub peers : (socket : ℕ) → has_work (account socket log) ≡ true → is_brief wall start log most ≡ true
   pub panels : (let turn = (times wall start log).turn in is_pending turn.slack turn.busy ≡ true)

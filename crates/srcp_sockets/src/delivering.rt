@@ -1,7 +1,7 @@
 //! What a door does at its end: delivers the bytes that were taken.
 
 ghost use Rattle.std.specs.Prelude.{◌≡◌, length, All, true, false};
-ghost use Rattle.srcp_sockets.specs.Delivery.{HasEnded, HaveEnded, is_over};
+ghost use Rattle.srcp_sockets.specs.Delivery.{HasEnded, HasLooked, HaveEnded, is_over};
 ghost use Rattle.srcp_sockets.specs.Doors.{AreStanding};
 ghost use Rattle.srcp_sockets.specs.Limits.{most_ready};
 ghost use Rattle.srcp_peers.specs.AllPeers.{AreApart, AreKept, AreOffered};
@@ -29,6 +29,7 @@ pub(crate) fn deliver<S: System>(
     ensures standing { AreStanding system.old.log.steps peers.old → AreStanding system.new.log.steps peers.new }
     ensures all { AreStanding system.old.log.steps peers.old
         → HasEnded until system.old.log.steps system.new.log.steps }
+    ensures looked { HasLooked system.old.log.steps system.new.log.steps }
     ensures offered { AreOffered Flush.All peers.old system.old.log.steps system.new.log.steps }
 {
     for _look in 0..MOST_LAST_WAITS {

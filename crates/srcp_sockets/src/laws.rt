@@ -18,7 +18,7 @@ ghost use Rattle.srcp_sockets.specs.Duties.{is_leaving, is_shown, last_shown, ta
 ghost use Rattle.srcp_sockets.specs.Doors.{IsThere};
 ghost use Rattle.srcp_sockets.specs.Waits.{closes, has_to_close, has_work, is_brief, is_flush_due, is_written};
 ghost use Rattle.srcp_sockets.specs.KeptTimes.{AreKeptTimes, ArePaced};
-ghost use Rattle.srcp_sockets.specs.Limits.{most_lingering};
+ghost use Rattle.srcp_sockets.specs.Limits.{most_lingering, most_ready};
 ghost use Rattle.srcp_sockets.specs.Loads.{AreBounded, load};
 ghost use Rattle.srcp_sockets.specs.Panels.{PanelsAreKept};
 ghost use Rattle.srcp_sockets.specs.Settled.{SettledPanelsHold};
@@ -79,7 +79,8 @@ pub fn peers_are_read<S: System>(door: &SocketDoor<S>)
 
 /// States that a wait longer than the retry delay found at rest each peer that was there, and the listener, which is
 /// socket 0. A wait longer than the back-pressure delay, which is 0 or 1 ms, found at rest each peer that was there. So
-/// no input was held that the core takes. Nor had anything happened since the wait before that a panel may be told.
+/// no input was held that the core takes. The wait came after a turn in which nothing happened, unless there was no
+/// panel.
 pub fn waits_are_safe<S: System>(door: &SocketDoor<S>)
     ensures long { (before after : List Step) (most : Option ℕ) (count : ℕ) (ready : List Ready)
         → door.now.sockets.system.log.steps ≡ before ++ Waits most count ready ∷ after → is_short_wait most ≡ false
@@ -139,7 +140,8 @@ pub fn accepts_are_asked<S: System>(door: &SocketDoor<S>)
 /// States that each moment was reported as the next step behind a look at the clock: as a fault if the clock could not
 /// be read, else as a time. Consider a door that had not waited since it answered the call before. Input of a peer was
 /// held that the core takes (`waits`). The clock had not gone on since the turn before, and no panel was so far behind
-/// for the second turn that no line may go (`ticked`).
+/// for the second turn that no line may go (`ticked`). Each wait could find 128 sockets
+/// ready (`hears`).
 pub fn turns_wait<S: System>(door: &SocketDoor<S>)
     ensures clock { (before after : List Step) (answer : Result ℕ DoorFault)
         → door.now.sockets.system.log.steps ≡ before ++ Answers (NowCall answer) ∷ after
@@ -151,6 +153,8 @@ pub fn turns_wait<S: System>(door: &SocketDoor<S>)
         → door.now.sockets.system.log.steps ≡ before ++ Answers (NowCall answer) ∷ after
         → has_ticked (times door.now.sockets.turn.timekeeper.wall door.now.sockets.turn.timekeeper.start before).turn
         ≡ true → has_waited before ≡ true }
+    ensures hears { (before after : List Step) (most : Option ℕ) (count : ℕ) (ready : List Ready)
+        → door.now.sockets.system.log.steps ≡ before ++ Waits most count ready ∷ after → length ready ≡ most_ready }
 {}
 
 /// States that a wait found no lingering socket that has to be closed, unless 64 sockets were closed since the moment

@@ -4,7 +4,7 @@ ghost use Rattle.std.specs.Prelude.{not, vec_capacity, All, false, true, ◌≡�
 ghost use Rattle.std.specs.Prelude.{◌+◌, Bool, None, Ok, Err, IfErr, IfNone, IfOk, IfSome, [], length, slice_index_or};
 ghost use Rattle.srcp_peers.specs.declared.peer.Peer.{Peer};
 ghost use Rattle.srcp_sockets.specs.Asked.{AreAsked, AreAsked-prop};
-ghost use Rattle.srcp_sockets.specs.Delivery.{HasEnded, linger_end};
+ghost use Rattle.srcp_sockets.specs.Delivery.{HasEnded, HasLooked, linger_end};
 ghost use Rattle.srcp_sockets.specs.Duties.{AreDone, AreDone-prop, MayTell};
 ghost use Rattle.srcp_sockets.specs.Endings.{AreAsFar, AreAsFar-prop, AreVisited};
 ghost use Rattle.srcp_sockets.specs.Waits.{AreFlushed};
@@ -93,6 +93,7 @@ impl<S: System> Sockets<S> {
     pub(crate) fn deliver(self, ready: &mut [Ready]) -> Logged<S>
         requires ready { length ready.old ≡ most_ready }
         ensures ended { HasEnded (linger_end self.turn.clock) self.system.log.steps result.log.steps }
+        ensures looked { HasLooked self.system.log.steps result.log.steps }
         ensures offered { AreOffered Flush.All self.peers.items self.system.log.steps result.log.steps }
     {
         let Sockets {

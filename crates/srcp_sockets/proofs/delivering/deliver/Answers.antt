@@ -1,4 +1,4 @@
-use Rattle.std.proofs.Common.{◌≡◌, ℕ, Some, arith, refl, subst, sym, ◌∙◌, inl, inr, true≢false}
+use Rattle.std.proofs.Common.{◌≡◌, ◌==◌, ℕ, Some, ap, arith, length, refl, subst, sym, ◌∙◌, inl, inr, true≢false}
 use Rattle.std.specs.Prelude.{fold, take}
 use Rattle.srcp_peers.specs.AllPeers.{AreApart}
 use Rattle.srcp_peers.specs.declared.readiness.Flush.TheVariants as flush
@@ -9,6 +9,7 @@ use Rattle.srcp_peers.proofs.CallsAreOfTheDoor.{says_none, says_step, says_then}
 use Rattle.srcp_peers.proofs.OnePeerChanges.{apart_later, clocked_all, waited_all, woken_apart}
 use Rattle.srcp_sockets.specs.Delivery.{HasWaited, HaveEnded}
 use Rattle.srcp_sockets.specs.Doors.{AreStanding}
+use Rattle.srcp_sockets.proofs.EndsAreDelivered.{looked_free, looked_none, looked_step, looked_then}
 use Rattle.srcp_sockets.proofs.EndsAreDelivered.{are_delivered, has_ended, waited_clocked, waited_keeps, waited_more, waited_none}
 use Rattle.srcp_sockets.proofs.SocketsLingerAndClose.{stands_clocked}
 use Rattle.srcp_sockets.proofs.SocketsStayStanding.{stands_turned}
@@ -23,6 +24,8 @@ loop-look-init g c = record {
   calls = says_none c.args.system.now.log.steps;
   first = λ e. (refl, refl);
   offered = λ some. absurd (omega (arith, some));
+  ready = c.requires.ready;
+  looked = looked_none c.args.system.now.log.steps;
   waited = waited_none c.args.system.now.log.steps;
 }
 
@@ -46,6 +49,7 @@ returns-then-are_delivered g c =
       ended = ended;
       standing = stands;
       all = λ stood. has_ended c.args.until first new peers (stands stood) ended;
+      looked = looked_then first old new c.loop-look.invariant.looked (looked_free old new f.calls f.times);
       offered = offered_first c.loop-look._look flush.All c.args.peers.now c.loop-look.peers first old new c.loop-look.invariant.first
           c.loop-look.invariant.offered f.calls f.offered;
     }
@@ -72,6 +76,9 @@ returns-then-is_over g c =
       ended = ended;
       standing = stands;
       all = λ stood. has_ended c.args.until first clocked peers (stands stood) ended;
+      looked = looked_then first turned clocked
+          (looked_then first old turned c.loop-look.invariant.looked (looked_free old turned f.calls f.times))
+          (looked_step turned clocked (Clocks c.clock-clock.result) c.clock-clock.ensures.log refl);
       offered = all_offered_then flush.All c.args.peers.now first turned clocked
           (offered_first c.loop-look._look flush.All c.args.peers.now c.loop-look.peers first old turned c.loop-look.invariant.first
           c.loop-look.invariant.offered f.calls f.offered)
@@ -90,6 +97,7 @@ loop-look-preserved g c =
     let peers = c.flush.new.peers in
     let count = c.wait-count.result in
     let ready = c.wait-count.new.ready in
+    let all : length ready ≡ 128 = c.wait-count.auto.ready ∙ was.ready in
     let more : SaysNothing turned waited = says_then turned clocked waited
     (says_step turned clocked (Clocks c.clock-clock.result) c.clock-clock.ensures.log refl)
     (says_step clocked waited (Waits (Some 8) count ready) c.wait-count.ensures.log refl) in
@@ -113,6 +121,12 @@ loop-look-preserved g c =
                 (stands_clocked turned clocked peers stands.0 stands.1 c.clock-clock.result c.clock-clock.ensures.log
                 (stands_turned old turned c.loop-look.peers peers stands.0 stands.1 c.flush.auto.peers f.kept f.those f.others stands.2)),
           );
+      ready = all;
+      looked = looked_then first turned waited
+          (looked_then first old turned was.looked (looked_free old turned f.calls f.times))
+          (looked_then turned clocked waited
+          (looked_step turned clocked (Clocks c.clock-clock.result) c.clock-clock.ensures.log refl)
+          (looked_step clocked waited (Waits (Some 8) count ready) c.wait-count.ensures.log (ap (λ n. n == 128) all)));
       waited = waited_more c.loop-look._look first clocked waited (Some 8) count ready c.wait-count.ensures.log
           (waited_clocked c.loop-look._look first turned clocked c.clock-clock.result c.clock-clock.ensures.log
           (waited_keeps c.loop-look._look first old turned was.waited f.times));

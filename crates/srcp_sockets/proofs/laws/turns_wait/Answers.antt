@@ -1,5 +1,5 @@
 use Rattle.srcp_door.specs.Calls.{NowCall}
-use Rattle.srcp_peers.specs.Steps.{Answers}
+use Rattle.srcp_peers.specs.Steps.{Answers, Waits}
 use Rattle.srcp_sockets.proofs.laws.turns_wait.Goals as goal
 
 pub returns-clause-clock : goal.returns-clause-clock
@@ -10,3 +10,6 @@ returns-clause-waits g c before after answer is = (c.args.door.now.sockets.done 
 
 pub returns-clause-ticked : goal.returns-clause-ticked
 returns-clause-ticked g c before after answer is = (c.args.door.now.sockets.done before after (Answers (NowCall answer)) is).may.ticked
+
+pub returns-clause-hears : goal.returns-clause-hears
+returns-clause-hears g c before after most count ready is = (c.args.door.now.sockets.done before after (Waits most count ready) is).2

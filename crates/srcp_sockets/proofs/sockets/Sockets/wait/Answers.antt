@@ -57,6 +57,7 @@ invariant_of-self g c =
             c.requires.may,
             brief_over_work old c.args.self.now.peers.items listening last c.args.self.now.turn c.args.self.now.most most
                 c.args.self.now.stands c.args.self.now.timed c.longest_wait-most.ensures.exact,
+            c.wait-count.auto.ready ∙ c.requires.ready,
           )
           c.args.self.now.done);
       ending = subst (AreAsFar new)
