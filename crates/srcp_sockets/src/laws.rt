@@ -140,8 +140,7 @@ pub fn accepts_are_asked<S: System>(door: &SocketDoor<S>)
 /// States that each moment was reported as the next step behind a look at the clock: as a fault if the clock could not
 /// be read, else as a time. Consider a door that had not waited since it answered the call before. Input of a peer was
 /// held that the core takes (`waits`). The clock had not gone on since the turn before, and no panel was so far behind
-/// for the second turn that no line may go (`ticked`). Each wait could find 128 sockets
-/// ready (`hears`).
+/// for the second turn that no line may go (`ticked`). Each wait could find 128 sockets ready (`hears`).
 pub fn turns_wait<S: System>(door: &SocketDoor<S>)
     ensures clock { (before after : List Step) (answer : Result ℕ DoorFault)
         → door.now.sockets.system.log.steps ≡ before ++ Answers (NowCall answer) ∷ after
