@@ -1,10 +1,13 @@
 -- What a door has done when it waits.
-use Rattle.std.specs.Prelude.{◌≡◌, ℕ, ◌+◌, ◌==◌, ◌&&◌, ◌||◌, nat_lt, Bool, true, false, not, List, fold}
+use Rattle.std.specs.Prelude.{◌≡◌, ℕ, ◌+◌, ◌==◌, ◌&&◌, ◌||◌, nat_le, nat_lt, Bool, true, false, not, List, fold}
+use Rattle.std.specs.Prelude.{Option, Some, None}
 use Rattle.srcp_door.specs.Calls.{NowCall}
-use Rattle.srcp_peers.specs.Accounts.{Account, Received, account, is_lingering, is_overdue, is_owed, may_shut}
+use Rattle.srcp_peers.specs.Accounts.{Account, Received, account, is_at_rest, is_lingering, is_overdue, is_owed}
+use Rattle.srcp_peers.specs.Accounts.{may_shut}
+use Rattle.srcp_peers.specs.Limits.{longest_sleep, retry_delay}
 use Rattle.srcp_peers.specs.Steps.{Answers, Closes, Step, Writes}
 use Rattle.srcp_peers.specs.Times.{times}
-use Rattle.srcp_peers.specs.Turns.{is_pending}
+use Rattle.srcp_peers.specs.Turns.{is_pending, time_left}
 use Rattle.srcp_sockets.specs.Limits.{most_lingering}
 
 -- how many sockets were closed since a moment was reported
@@ -54,3 +57,37 @@ is_calm wall start log = let turn = (times wall start log).turn in not (is_pendi
 pub record IsWaitDone (wall start : ℕ) (log : List Step) : Type 0 where
   pub closed : nat_lt (closes log) most_lingering ≡ true → (socket : ℕ) → has_to_close (account socket log) ≡ false
   pub flushed : (socket : ℕ) → IsFlushedOut (is_calm wall start log) (account socket log) (is_written socket log)
+
+-- ---- how long a wait is
+
+-- each peer that is there, and the listener, which is socket 0, is at rest
+abbrev pub AreAtRest : List Step → Type 0
+AreAtRest log = (socket : ℕ) → ((account socket log).watched || (socket == 0)) ≡ true
+    → is_at_rest (account socket log).sent (account socket log).received ≡ true
+
+-- no socket lingers
+abbrev pub NoneLingers : List Step → Type 0
+NoneLingers log = (socket : ℕ) → is_lingering (account socket log) ≡ false
+
+-- something that falls due after `left` milliseconds does so before a wait of `most` is over
+abbrev pub falls_due : (left most : Option ℕ) → Bool
+falls_due None most = false
+falls_due (Some left) None = true
+falls_due (Some left) (Some most) = nat_le left most
+
+-- a wait goes on for so many milliseconds, if no socket is found ready
+abbrev pub lasts : ℕ → (most : Option ℕ) → Bool
+lasts left None = true
+lasts left (Some most) = nat_le left most
+
+-- a wait of `most` has no reason to be short: nothing happened, or there is no panel; who is there is at rest, and the
+-- listener; and nothing falls due before it is over
+pub record IsIdle (wall start : ℕ) (log : List Step) (most : Option ℕ) : Type 0 where
+  pub calm : is_calm wall start log ≡ true
+  pub resting : AreAtRest log
+  pub early : falls_due (time_left (times wall start log).turn) most ≡ false
+
+-- without a reason a wait is no shorter than the retry delay, and an hour if no socket lingers
+pub record IsLongEnough (wall start : ℕ) (log : List Step) (most : Option ℕ) : Type 0 where
+  pub delay : IsIdle wall start log most → lasts retry_delay most ≡ true
+  pub sleep : IsIdle wall start log most → NoneLingers log → lasts longest_sleep most ≡ true

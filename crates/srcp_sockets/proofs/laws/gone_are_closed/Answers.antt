@@ -5,9 +5,9 @@ use Rattle.srcp_sockets.proofs.laws.gone_are_closed.Goals as goal
 
 pub returns-clause-closed : goal.returns-clause-closed
 returns-clause-closed g c before after most count ready is few socket =
-    (c.args.door.now.sockets.done before after (Waits most count ready) is).closed few socket
+    (c.args.door.now.sockets.done before after (Waits most count ready) is).0.closed few socket
 
 pub returns-clause-shut : goal.returns-clause-shut
 returns-clause-shut g c before after most count ready is socket may =
     let done = c.args.door.now.sockets.done before after (Waits most count ready) is in
-    unless_lost (may_shut (account socket before)) (account socket before).sent.lost (done.flushed socket).shut may
+    unless_lost (may_shut (account socket before)) (account socket before).sent.lost (done.0.flushed socket).shut may

@@ -9,4 +9,4 @@ pub returns : goal.returns
 returns g c before after most count ready is calm socket kept owed =
     let done = c.args.door.now.sockets.done before after (Waits most count ready) is in
     let sent = (account socket before).sent in
-    if_owed (is_owed sent) ((sent.full || sent.lost) || is_written socket before) ((done.flushed socket).offered calm kept) owed
+    if_owed (is_owed sent) ((sent.full || sent.lost) || is_written socket before) ((done.0.flushed socket).offered calm kept) owed
