@@ -174,6 +174,7 @@ done_limited limit most wall start log done before after x is = by x (done befor
     by (Answers (ReadCall who answer buffer)) h = h
     by (Answers (WriteCall who bytes answer)) h = h
     by (Answers (CloseCall who answer)) h = h
+
 -- ---- input is held
 
 woken_takes : (socket : ℕ) (a : Account) (ready : List Ready) → takes_input (fold (woken socket) a ready) ≡ takes_input a

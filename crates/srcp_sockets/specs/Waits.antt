@@ -77,8 +77,8 @@ falls_due (Some left) (Some most) = nat_le left most
 
 -- a wait goes on for so many milliseconds, if no socket is found ready
 abbrev pub lasts : ℕ → (most : Option ℕ) → Bool
-lasts left None = true
-lasts left (Some most) = nat_le left most
+lasts ms None = true
+lasts ms (Some most) = nat_le ms most
 
 -- a wait of `most` has no reason to be short: nothing happened, or there is no panel; who is there is at rest, and the
 -- listener; and nothing falls due before it is over
