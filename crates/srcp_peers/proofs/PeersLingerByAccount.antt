@@ -172,7 +172,7 @@ may_fail_then a p here failed h = ⊎_elim
     (λ (e : p.input ≡ input.Failed).
     let r : ReadsAs a.received p.incoming input.Failed = subst (ReadsAs a.received p.incoming) e
     (reads_here a.received p.incoming p.input p.stay here h.reads) in
-    fails_read (not a.watched) a.received.failed a.sent.lost r.1)
+    fails_read (not a.watched) a.received.failed a.sent.lost r.1.0)
     (λ (e : is_lost p.output ≡ true).
     fails_write (not a.watched) a.received.failed a.sent.lost (lost_is a.sent p.outgoing p.output e h.writes))
     failed

@@ -11,7 +11,7 @@ use Rattle.srcp_peers.specs.declared.peer.Peer.{Peer}
 use Rattle.srcp_peers.specs.Accounts.{Account, Sent, Received, is_at_rest, is_full, is_held, is_owed, is_silent}
 use Rattle.srcp_peers.specs.declared.stay.Stay.{Stay}
 use Rattle.srcp_peers.specs.declared.stay.Stay.TheVariants as stay
-use Rattle.srcp_peers.specs.Peers.{Agrees, ComesAs, ReadsAs, WritesAs, has_rest, is_here, is_resting, rests_reading, rests_writing}
+use Rattle.srcp_peers.specs.Peers.{Agrees, ComesAs, FindsAs, ReadsAs, WritesAs, has_rest, is_here, is_resting, rests_reading, rests_writing}
 
 -- more is longer if it is not nothing
 longer : (prefix all n : ℕ) → all ≡ prefix + n → nat_lt prefix all ≡ not (n == 0)
@@ -41,76 +41,84 @@ pub and_right : (a b : Bool) → (a && b) ≡ true → b ≡ true
 and_right true b h = h
 and_right false b h = absurd (true≢false (sym h))
 
-silent_quiet : (held quiet ended failed owed : Bool) → held ≡ false → quiet ≡ true → ended ≡ false → failed ≡ false
-    → (not held && ((quiet && (not ended && not failed)) || (ended && owed))) ≡ true
-silent_quiet held quiet ended failed owed h q e f = rw (h, q, e, f) refl
+-- ---- what is to be handed out or reported of it
 
-silent_ended : (held quiet ended failed owed : Bool) → held ≡ false → ended ≡ true → owed ≡ true
-    → (not held && ((quiet && (not ended && not failed)) || (ended && owed))) ≡ true
-silent_ended held true ended failed owed h e o = rw (h, e, o) refl
-silent_ended held false ended failed owed h e o = rw (h, e, o) refl
+silent_so : (held none rest is : Bool) → held ≡ not none → rest ≡ is → (not held && rest) ≡ (none && is)
+silent_so held true rest is h e = rw (h, e) refl
+silent_so held false rest is h e = rw h refl
 
--- nothing is to be handed out or reported of it
-silent_as : (received : Received) (incoming outgoing : List ℕ) (state : Input) (owed : Bool) → owed ≡ not (length outgoing == 0)
-    → ReadsAs received incoming state → ((length incoming == 0) && rests_reading outgoing state) ≡ true → is_silent received owed ≡ true
-silent_as received incoming outgoing state owed o h r =
-    by state h (and_right (length incoming == 0) (rests_reading outgoing state) r)
-    (and_left (length incoming == 0) (rests_reading outgoing state) r)
+none_comes : (quiet ended failed owed : Bool) → quiet ≡ false → ended ≡ false
+    → ((quiet && (not ended && not failed)) || (ended && owed)) ≡ false
+none_comes quiet ended failed owed q e = rw (q, e) refl
+
+all_came : (quiet ended failed owed : Bool) → quiet ≡ true → ended ≡ false → failed ≡ false
+    → ((quiet && (not ended && not failed)) || (ended && owed)) ≡ true
+all_came quiet ended failed owed q e f = rw (q, e, f) refl
+
+is_owing : (quiet ended failed owed : Bool) → ended ≡ true → ((quiet && (not ended && not failed)) || (ended && owed)) ≡ owed
+is_owing true ended failed owed e = rw e refl
+is_owing false ended failed owed e = rw e refl
+
+has_failed : (quiet ended failed owed : Bool) → ended ≡ false → failed ≡ true
+    → ((quiet && (not ended && not failed)) || (ended && owed)) ≡ false
+has_failed true ended failed owed e f = rw (e, f) refl
+has_failed false ended failed owed e f = rw e refl
+
+silent_is : (received : Received) (incoming outgoing : List ℕ) (state : Input) (owed : Bool) → owed ≡ not (length outgoing == 0)
+    → ReadsAs received incoming state → is_silent received owed ≡ ((length incoming == 0) && rests_reading outgoing state)
+silent_is received incoming outgoing state owed o h = silent_so (is_held received) (length incoming == 0)
+    ((received.quiet && (not received.ended && not received.failed)) || (received.ended && owed)) (rests_reading outgoing state)
+    (held_is received incoming h.0) (by state h.1)
   where
-    by : (s : Input) → ReadsAs received incoming s → rests_reading outgoing s ≡ true → (length incoming == 0) ≡ true
-        → is_silent received owed ≡ true
-    by input.Ready h r none = absurd (true≢false (sym r))
-    by input.Emptying h r none = absurd (true≢false (sym r))
-    by input.Quiet h r none = silent_quiet (is_held received) received.quiet received.ended received.failed owed
-        (held_is received incoming h.0 ∙ ap not none) h.1.3 h.1.1 h.1.0
-    by input.Ended h r none = silent_ended (is_held received) received.quiet received.ended received.failed owed
-        (held_is received incoming h.0 ∙ ap not none) h.1.1 (o ∙ r)
-    by input.Failed h r none = absurd (true≢false (sym r))
+    by : (s : Input) → FindsAs received s
+        → ((received.quiet && (not received.ended && not received.failed)) || (received.ended && owed)) ≡ rests_reading outgoing s
+    by input.Ready f = none_comes received.quiet received.ended received.failed owed f.3 f.1
+    by input.Emptying f = none_comes received.quiet received.ended received.failed owed f.3 f.1
+    by input.Quiet f = all_came received.quiet received.ended received.failed owed f.3 f.1 f.0
+    by input.Ended f = is_owing received.quiet received.ended received.failed owed f.1 ∙ o
+    by input.Failed f = has_failed received.quiet received.ended received.failed owed f.1 f.0
 
-at_rest : (lost owed full either : Bool) → lost ≡ false → (not owed || full) ≡ true → either ≡ true
-    → (not lost && ((not owed || full) && either)) ≡ true
-at_rest lost owed full either l f e = rw (l, f, e) refl
+-- ---- it rests
 
-none_owed : (owed full none : Bool) → owed ≡ not none → none ≡ true → (not owed || full) ≡ true
-none_owed owed full none o n = rw (o, n) refl
+is_open : (lost owed full none x y : Bool) → lost ≡ false → full ≡ false → owed ≡ not none → x ≡ y
+    → (not lost && ((not owed || full) && x)) ≡ (none && y)
+is_open lost owed full true x y l f o e = rw (l, f, o, e) refl
+is_open lost owed full false x y l f o e = rw (l, f, o) refl
 
-all_full : (owed full : Bool) → full ≡ true → (not owed || full) ≡ true
-all_full true full f = f
-all_full false full f = refl
+is_stuck : (lost owed full x y : Bool) → lost ≡ false → full ≡ true → x ≡ y → (not lost && ((not owed || full) && x)) ≡ y
+is_stuck lost true full x y l f e = rw (l, f, e) refl
+is_stuck lost false full x y l f e = rw (l, e) refl
 
-pub rests_as : (sent : Sent) (received : Received) (outgoing incoming : List ℕ) (reading : Input) (writing : Output) (cut : Bool)
+rests_as : (sent : Sent) (received : Received) (outgoing incoming : List ℕ) (reading : Input) (writing : Output) (cut : Bool)
     → WritesAs sent outgoing writing → ReadsAs received incoming reading → sent.cut ≡ cut
-    → (rests_writing outgoing writing && cond cut (length outgoing == 40960) ((length incoming == 0) && rests_reading outgoing reading))
-    ≡ true
-    → is_at_rest sent received ≡ true
-rests_as sent received outgoing incoming state out is_cut w h c r =
-    let e = cond is_cut (length outgoing == 40960) ((length incoming == 0) && rests_reading outgoing state) in
-    by out w (and_left (rests_writing outgoing out) e r) (and_right (rests_writing outgoing out) e r)
+    → is_at_rest sent received
+    ≡ (rests_writing outgoing writing
+    && cond cut (length outgoing == 40960) ((length incoming == 0) && rests_reading outgoing reading))
+rests_as sent received outgoing incoming reading writing is_cut w h c = by writing w
   where
     either : sent.written ≡ sent.took ++ outgoing → (b : Bool) → sent.cut ≡ b
-        → cond b (length outgoing == 40960) ((length incoming == 0) && rests_reading outgoing state) ≡ true
-        → cond sent.cut (is_full sent) (is_silent received (is_owed sent)) ≡ true
-    either is true c e = ap (λ b. cond b (is_full sent) (is_silent received (is_owed sent))) c ∙ brimful_is sent outgoing is ∙ e
-    either is false c e = ap (λ b. cond b (is_full sent) (is_silent received (is_owed sent))) c
-        ∙ silent_as received incoming outgoing state (is_owed sent) (owed_is sent outgoing is) h e
+        → cond sent.cut (is_full sent) (is_silent received (is_owed sent))
+        ≡ cond b (length outgoing == 40960) ((length incoming == 0) && rests_reading outgoing reading)
+    either is true c = ap (λ b. cond b (is_full sent) (is_silent received (is_owed sent))) c ∙ brimful_is sent outgoing is
+    either is false c = ap (λ b. cond b (is_full sent) (is_silent received (is_owed sent))) c
+        ∙ silent_is received incoming outgoing reading (is_owed sent) (owed_is sent outgoing is) h
 
-    by : (o : Output) → WritesAs sent outgoing o → rests_writing outgoing o ≡ true
-        → cond is_cut (length outgoing == 40960) ((length incoming == 0) && rests_reading outgoing state) ≡ true
-        → is_at_rest sent received ≡ true
-    by output.Open w out e = at_rest sent.lost (is_owed sent) sent.full
-        (cond sent.cut (is_full sent) (is_silent received (is_owed sent))) w.1
-        (none_owed (is_owed sent) sent.full (length outgoing == 0) (owed_is sent outgoing w.0) out) (either w.0 is_cut c e)
-    by output.Full w out e = at_rest sent.lost (is_owed sent) sent.full
-        (cond sent.cut (is_full sent) (is_silent received (is_owed sent))) w.1
-        (all_full (is_owed sent) sent.full w.2) (either w.0 is_cut c e)
-    by output.Lost w out e = absurd (true≢false (sym out))
+    by : (o : Output) → WritesAs sent outgoing o → is_at_rest sent received
+        ≡ (rests_writing outgoing o && cond is_cut (length outgoing == 40960) ((length incoming == 0) && rests_reading outgoing reading))
+    by output.Open w = is_open sent.lost (is_owed sent) sent.full (length outgoing == 0) _ _ w.1 w.2 (owed_is sent outgoing w.0)
+        (either w.0 is_cut c)
+    by output.Full w = is_stuck sent.lost (is_owed sent) sent.full _ _ w.1 w.2 (either w.0 is_cut c)
+    by output.Lost w = ap (λ l. not l && ((not (is_owed sent) || sent.full)
+        && cond sent.cut (is_full sent) (is_silent received (is_owed sent)))) w.1
 
--- a peer that rests is at rest by its account
-pub resting : (a : Account) (p : Peer) → Agrees a p → is_resting p ≡ true → is_at_rest a.sent a.received ≡ true
-resting a p h r = by p.stay h.reads (and_left (is_here p.stay) (has_rest p) r)
+-- a peer that is there rests exactly if it is at rest by its account
+pub rest_is : (a : Account) (p : Peer) → Agrees a p → is_here p.stay ≡ true → is_at_rest a.sent a.received ≡ has_rest p
+rest_is a p h here = by p.stay h.reads here
   where
-    by : (here : Stay) → ComesAs a.received p.incoming p.input here → is_here here ≡ true → is_at_rest a.sent a.received ≡ true
+    by : (s : Stay) → ComesAs a.received p.incoming p.input s → is_here s ≡ true → is_at_rest a.sent a.received ≡ has_rest p
     by stay.Here reads e = rests_as a.sent a.received p.outgoing p.incoming p.input p.output p.backpressured h.writes reads h.cut
-        (and_right (is_here p.stay) (has_rest p) r)
     by (stay.Draining since) reads e = absurd (true≢false (sym e))
     by (stay.Shut since) reads e = absurd (true≢false (sym e))
+
+pub resting : (a : Account) (p : Peer) → Agrees a p → is_resting p ≡ true → is_at_rest a.sent a.received ≡ true
+resting a p h r = rest_is a p h (and_left (is_here p.stay) (has_rest p) r) ∙ and_right (is_here p.stay) (has_rest p) r

@@ -1,31 +1,34 @@
 -- How what is known of a peer goes on from step to step.
-use Rattle.std.proofs.Common.{◌≡◌, ◌∙◌, ℕ, Bool, true, false, not, List, [], ◌∷◌, ◌++◌, take, drop, length, if◌then◌else◌, Ok, Err}
+use Rattle.std.proofs.Common.{◌≡◌, ◌∙◌, ℕ, Bool, true, false, not, List, [], ◌∷◌, ◌++◌, take, if◌then◌else◌, Ok, Err}
 use Rattle.std.proofs.Common.{refl, ap, sym, subst, arith, ◌==◌, Option}
 use Rattle.std.specs.Prelude.{◌≢◌, OnErr, Result, ◌&&◌, ◌||◌, fold}
 use Rattle.std.proofs.lemmas.List.Sums.{fold-append}
 use Rattle.std.proofs.lemmas.Bool.Decides.{nat_tests}
+use Rattle.std.specs.declared.io.ErrorKind.{ErrorKind}
+use Rattle.srcp_peers.specs.declared.system.IoFailure.{IoFailure}
+use Rattle.srcp_peers.specs.declared.system.IoFailure.TheVariants.{WouldBlock, Interrupted, Fatal}
 use Rattle.srcp_peers.specs.declared.system.Ready.{Ready}
 use Rattle.srcp_peers.specs.declared.readiness.Input.TheVariants as input
 use Rattle.srcp_peers.specs.declared.readiness.Output.TheVariants as output
 use Rattle.srcp_peers.specs.declared.peer.Peer.{Peer}
 use Rattle.srcp_peers.specs.declared.stay.Stay.TheVariants as stay
-use Rattle.srcp_peers.specs.Steps.{Step, Writes, Waits, Answers}
+use Rattle.srcp_peers.specs.Steps.{Step, Writes, Waits, Answers, failure_of}
 use Rattle.srcp_door.specs.Calls.{ReadCall}
 use Rattle.srcp_door.specs.declared.door.DoorFault.{DoorFault}
 use Rattle.srcp_door.specs.declared.door.Got.{Got}
 use Rattle.srcp_door.specs.declared.door.Got.TheVariants as got
 use Rattle.srcp_peers.specs.Accounts.{Account, account, account_step, answered_step, is_at_rest, is_short_wait, Received, wrote}
-use Rattle.srcp_peers.specs.Accounts.{may_end, may_fail}
+use Rattle.srcp_peers.specs.Accounts.{failed_write, may_end, may_fail}
 use Rattle.srcp_peers.specs.Accounts.{untouched, waited, woken, woken_sent}
 use Rattle.srcp_peers.specs.Accounts.{woken_came}
 use Rattle.srcp_door.specs.Pacing.{line_after}
 use Rattle.srcp_door.specs.declared.pacing.LineBoundary.{LineBoundary}
 use Rattle.srcp_door.specs.declared.pacing.LineBoundary.TheVariants as boundary
-use Rattle.srcp_peers.specs.Peers.{Agrees, ComesAs, IsKept, MayEnd, MayFail, ReadsAs, Spares, WritesAs, after_wake}
-use Rattle.srcp_peers.specs.Peers.{is_resting, is_wanting, output_after, woken_input, woken_output}
+use Rattle.srcp_peers.specs.Peers.{Agrees, ComesAs, IsKept, MayEnd, MayFail, ReadsAs, Spares, after_failure, after_wake, after_write}
+use Rattle.srcp_peers.specs.Peers.{is_lost, is_resting, is_wanting, woken_input, woken_output}
 use Rattle.srcp_peers.specs.Turns.{got_bytes}
 use Rattle.srcp_peers.proofs.StatesFollowSteps.{comes_here, handed_as, reads_here, woken_comes}
-use Rattle.srcp_peers.proofs.StatesFollowSteps.{woken_writes, wrote_as}
+use Rattle.srcp_peers.proofs.StatesFollowSteps.{failed_as, woken_writes, wrote_as}
 use Rattle.srcp_peers.proofs.LinesAreHandedOut.{line_after-append}
 use Rattle.srcp_peers.proofs.PeersLingerByAccount.{may_end_then, may_fail_then, stays_drop}
 use Rattle.srcp_peers.proofs.UnreadPeersAreRead.{noted_agrees, wants_less, wants_woken}
@@ -69,18 +72,31 @@ skips b x y e = ap (λ c. if c then x else y) e
 agrees_own : (b : Bool) (x y : Account) (p : Peer) → b ≡ true → Agrees x p → Agrees (if b then x else y) p
 agrees_own b x y p e h = subst (λ (a : Account). Agrees a p) (sym (picks b x y e)) h
 
-pub kept_write : (old new : List Step) (p : Peer) (count : ℕ) (awaits : Bool) → p.output ≡ output.Open
-    → new ≡ old ++ Writes p.number p.outgoing (Ok count) ∷ [] → IsKept old p
-    → IsKept new (record p { outgoing = drop count p.outgoing; output = output_after count (length p.outgoing); awaits_reply = awaits })
-kept_write old new p count awaits is_open tells kept =
-    let q : Peer = record p { outgoing = drop count p.outgoing; output = output_after count (length p.outgoing); awaits_reply = awaits } in
+-- a write of what is queued, to a socket that takes more for all that is known
+pub kept_write : (old new : List Step) (p : Peer) (answer : Result ℕ ErrorKind) → is_lost p.output ≡ false
+    → new ≡ old ++ Writes p.number p.outgoing answer ∷ [] → IsKept old p
+    → IsKept new (after_write (record p { output = output.Open }) answer)
+kept_write old new p (Ok count) sound tells kept =
+    let q : Peer = after_write (record p { output = output.Open }) (Ok count) in
     kept_after old new (Writes p.number p.outgoing (Ok count)) p q tells refl
     (λ (a : Account) (h : Agrees a p). agrees_own (p.number == p.number)
     (record a { sent = wrote a.sent p.outgoing (Ok count) }) a q (own p.number)
     (assumption (
       stays_drop a.watched a.lingering p.outgoing p.stay count h.stays,
-      wrote_as a.sent p.outgoing count (subst (WritesAs a.sent p.outgoing) is_open h.writes),
+      wrote_as a.sent p.outgoing count p.output sound h.writes,
     ))) kept
+kept_write old new p (Err fault) sound tells kept =
+    let q : Peer = after_write (record p { output = output.Open }) (Err fault) in
+    kept_after old new (Writes p.number p.outgoing (Err fault)) p q tells refl
+    (λ (a : Account) (h : Agrees a p). agrees_own (p.number == p.number)
+    (record a { sent = wrote a.sent p.outgoing (Err fault) }) a q (own p.number)
+    (refused a (failure_of fault) h)) kept
+  where
+    refused : (a : Account) (said : IoFailure) → Agrees a p → Agrees (record a { sent = failed_write a.sent said })
+        (record p { output = after_failure output.Open said; awaits_reply = false })
+    refused a WouldBlock h = assumption (failed_as a.sent p.outgoing WouldBlock p.output sound h.writes)
+    refused a Interrupted h = assumption (failed_as a.sent p.outgoing Interrupted p.output sound h.writes)
+    refused a Fatal h = assumption (failed_as a.sent p.outgoing Fatal p.output sound h.writes)
 
 -- some of what is held was handed out
 handed_agrees : (a : Account) (p q : Peer) (received : Received) (honest : Bool) (bytes : List ℕ)

@@ -1,7 +1,8 @@
 -- What each step makes of the meaning of a peer's states.
 use Rattle.std.proofs.Common.{◌≡◌, ◌∙◌, ℕ, Bool, true, false, List, ◌++◌, take, drop, length, if◌then◌else◌, Ok, refl}
 use Rattle.std.proofs.Common.{ap, sym, subst, append_assoc, ◌==◌}
-use Rattle.std.specs.Prelude.{◌&&◌, ◌||◌, nat_lt}
+use Rattle.std.proofs.Common.{true≢false}
+use Rattle.std.specs.Prelude.{◌&&◌, ◌||◌, nat_lt, not}
 use Rattle.std.specs.Io.{StartsWith}
 use Rattle.std.proofs.lemmas.List.{take-append-drop}
 use Rattle.std.proofs.Math.Seq.{take-append_seam}
@@ -9,10 +10,12 @@ use Rattle.srcp_peers.specs.declared.readiness.Input.{Input}
 use Rattle.srcp_peers.specs.declared.readiness.Input.TheVariants as input
 use Rattle.srcp_peers.specs.declared.readiness.Output.{Output}
 use Rattle.srcp_peers.specs.declared.readiness.Output.TheVariants as output
+use Rattle.srcp_peers.specs.declared.system.IoFailure.{IoFailure}
+use Rattle.srcp_peers.specs.declared.system.IoFailure.TheVariants.{WouldBlock, Interrupted, Fatal}
 use Rattle.srcp_peers.specs.declared.stay.Stay.{Stay}
 use Rattle.srcp_peers.specs.declared.stay.Stay.TheVariants as stay
-use Rattle.srcp_peers.specs.Accounts.{Sent, Received, wrote, woken_sent, woken_came}
-use Rattle.srcp_peers.specs.Peers.{ComesAs, FindsAs, ReadsAs, WritesAs, output_after}
+use Rattle.srcp_peers.specs.Accounts.{Sent, Received, failed_write, wrote, woken_sent, woken_came}
+use Rattle.srcp_peers.specs.Peers.{ComesAs, FindsAs, ReadsAs, WritesAs, after_failure, is_lost, output_after}
 use Rattle.srcp_peers.specs.Peers.{woken_input, woken_output}
 
 -- ---- the output
@@ -27,24 +30,46 @@ parted : (sent : Sent) (outgoing : List ℕ) (count : ℕ) → sent.written ≡ 
 parted sent outgoing count is = is ∙ ap (λ g. sent.took ++ g) (sym (take-append-drop count outgoing))
     ∙ sym (append_assoc sent.took (take count outgoing) (drop count outgoing))
 
-taken_as : (sent : Sent) (outgoing : List ℕ) (count : ℕ) (zero short : Bool) → WritesAs sent outgoing output.Open
-    → WritesAs (record sent { took = sent.took ++ take count outgoing; full = short; lost = sent.lost || zero })
+taken_as : (sent : Sent) (outgoing : List ℕ) (count : ℕ) (zero short : Bool) → sent.written ≡ sent.took ++ outgoing
+    → sent.lost ≡ false → WritesAs (record sent { took = sent.took ++ take count outgoing; full = short; lost = sent.lost || zero })
     (drop count outgoing) (if zero then output.Lost else if short then output.Full else output.Open)
-taken_as sent outgoing count true short h =
-    (starts sent.written (sent.took ++ take count outgoing) (drop count outgoing) (parted sent outgoing count h.0), ap (λ b. b || true) h.1)
-taken_as sent outgoing count false true h = (parted sent outgoing count h.0, ap (λ b. b || false) h.1, refl)
-taken_as sent outgoing count false false h = (parted sent outgoing count h.0, ap (λ b. b || false) h.1)
+taken_as sent outgoing count true short is sound = (
+  starts sent.written (sent.took ++ take count outgoing) (drop count outgoing) (parted sent outgoing count is),
+  ap (λ b. b || true) sound,
+)
+taken_as sent outgoing count false true is sound = (parted sent outgoing count is, ap (λ b. b || false) sound, refl)
+taken_as sent outgoing count false false is sound = (parted sent outgoing count is, ap (λ b. b || false) sound, refl)
+
+-- what was taken and what is queued, if the socket may take more
+queued_as : (sent : Sent) (outgoing : List ℕ) (state : Output) → is_lost state ≡ false → WritesAs sent outgoing state
+    → (sent.written ≡ sent.took ++ outgoing) × (sent.lost ≡ false)
+queued_as sent outgoing output.Open sound h = (h.0, h.1)
+queued_as sent outgoing output.Full sound h = (h.0, h.1)
+queued_as sent outgoing output.Lost sound h = absurd (true≢false sound)
 
 -- a write that the system answered
-pub wrote_as : (sent : Sent) (outgoing : List ℕ) (count : ℕ) → WritesAs sent outgoing output.Open
+pub wrote_as : (sent : Sent) (outgoing : List ℕ) (count : ℕ) (state : Output) → is_lost state ≡ false → WritesAs sent outgoing state
     → WritesAs (wrote sent outgoing (Ok count)) (drop count outgoing) (output_after count (length outgoing))
-wrote_as sent outgoing count h = taken_as sent outgoing count (count == 0) (nat_lt count (length outgoing)) h
+wrote_as sent outgoing count state sound h =
+    let queued = queued_as sent outgoing state sound h in
+    taken_as sent outgoing count (count == 0) (nat_lt count (length outgoing)) queued.0 queued.1
+
+-- a write that failed
+pub failed_as : (sent : Sent) (outgoing : List ℕ) (said : IoFailure) (state : Output) → is_lost state ≡ false
+    → WritesAs sent outgoing state → WritesAs (failed_write sent said) outgoing (after_failure output.Open said)
+failed_as sent outgoing said state sound h = by said (queued_as sent outgoing state sound h)
+  where
+    by : (s : IoFailure) → (sent.written ≡ sent.took ++ outgoing) × (sent.lost ≡ false)
+        → WritesAs (failed_write sent s) outgoing (after_failure output.Open s)
+    by WouldBlock queued = (queued.0, queued.1, refl)
+    by Interrupted queued = (queued.0, queued.1, refl)
+    by Fatal queued = (starts sent.written sent.took outgoing queued.0, refl)
 
 -- its socket was found ready
 pub woken_writes : (sent : Sent) (outgoing : List ℕ) (state : Output) (writable : Bool) → WritesAs sent outgoing state
     → WritesAs (woken_sent sent writable) outgoing (woken_output state writable)
-woken_writes sent outgoing output.Open writable h = h
-woken_writes sent outgoing output.Full true h = (h.0, h.1)
+woken_writes sent outgoing output.Open writable h = (h.0, h.1, ap (λ b. b && not writable) h.2)
+woken_writes sent outgoing output.Full true h = (h.0, h.1, ap (λ b. b && false) h.2)
 woken_writes sent outgoing output.Full false h = (h.0, h.1, ap (λ b. b && true) h.2)
 woken_writes sent outgoing output.Lost writable h = h
 
@@ -69,11 +94,13 @@ handed_as received bytes rest state h = (handed_more received bytes rest h.0, by
 -- its socket was found ready
 woken_finds : (received : Received) (state : Input) (readable closed : Bool) → FindsAs received state
     → FindsAs (woken_came received readable closed) (woken_input state readable closed)
-woken_finds received input.Ready readable true h = (h.0, h.1)
-woken_finds received input.Ready readable false h = (h.0, h.1, ap (λ b. b || false) h.2)
-woken_finds received input.Emptying readable closed h = h
-woken_finds received input.Quiet readable true h = (h.0, h.1)
-woken_finds received input.Quiet true false h = (h.0, h.1, ap (λ b. b || false) h.2)
+woken_finds received input.Ready readable true h = (h.0, h.1, ap (λ b. b || true) h.2, ap (λ b. b && not (readable || true)) h.3)
+woken_finds received input.Ready readable false h = (h.0, h.1, ap (λ b. b || false) h.2, ap (λ b. b && not (readable || false)) h.3)
+woken_finds received input.Emptying readable closed h =
+    (h.0, h.1, ap (λ b. b || closed) h.2, ap (λ b. b && not (readable || closed)) h.3)
+woken_finds received input.Quiet true true h = (h.0, h.1, ap (λ b. b || true) h.2, ap (λ b. b && false) h.3)
+woken_finds received input.Quiet false true h = (h.0, h.1, ap (λ b. b || true) h.2, ap (λ b. b && false) h.3)
+woken_finds received input.Quiet true false h = (h.0, h.1, ap (λ b. b || false) h.2, ap (λ b. b && false) h.3)
 woken_finds received input.Quiet false false h = (h.0, h.1, ap (λ b. b || false) h.2, ap (λ b. b && true) h.3)
 woken_finds received input.Ended readable closed h = h
 woken_finds received input.Failed readable closed h = h

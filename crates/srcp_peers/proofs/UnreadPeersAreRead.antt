@@ -65,7 +65,7 @@ wanted_here received incoming input.Quiet h e = absurd (true≢false (sym (not_t
 wanted_here received incoming input.Ended h e = absurd (true≢false (sym (not_true received.ended h.1.1
     (and_left (not received.ended) (not received.failed)
     (and_right (not received.quiet) (not received.ended && not received.failed) (might received e))))))
-wanted_here received incoming input.Failed h e = absurd (true≢false (sym (not_true received.failed h.1
+wanted_here received incoming input.Failed h e = absurd (true≢false (sym (not_true received.failed h.1.0
     (and_right (not received.ended) (not received.failed)
     (and_right (not received.quiet) (not received.ended && not received.failed) (might received e))))))
 

@@ -15,7 +15,7 @@ use Rattle.srcp_peers.specs.Limits.{linger, most_outgoing, retry_delay}
 pub record Sent : Type 0 where
   pub written : List ℕ  -- what the door said it took for it
   pub took : List ℕ  -- what the socket took
-  pub full : Bool  -- a write was cut, and since then it was not found ready for more
+  pub full : Bool  -- the last write was cut or refused, and since then it was not found ready for more
   pub lost : Bool  -- a write found that it takes no more
   pub cut : Bool  -- the door took less than it was last handed for it: the core has more
 
@@ -121,7 +121,7 @@ may_close a = is_lingering a
 
 abbrev pub failed_write : Sent → IoFailure → Sent
 failed_write sent WouldBlock = record sent { full = true }
-failed_write sent Interrupted = sent
+failed_write sent Interrupted = record sent { full = false }
 failed_write sent Fatal = record sent { lost = true }
 
 abbrev pub wrote : Sent → List ℕ → Result ℕ ErrorKind → Sent

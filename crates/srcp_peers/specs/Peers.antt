@@ -27,11 +27,13 @@ use Rattle.srcp_peers.specs.Limits.{flush_threshold, most_drained, most_outgoing
 -- what reads and waits found, if the input is in this state
 abbrev pub FindsAs : Received → Input → Type 0
 FindsAs received input.Ready = (received.failed ≡ false) × (received.ended ≡ false) × (received.emptying ≡ false)
-FindsAs received input.Emptying = (received.failed ≡ false) × (received.ended ≡ false)
+    × (received.quiet ≡ false)
+FindsAs received input.Emptying = (received.failed ≡ false) × (received.ended ≡ false) × (received.emptying ≡ true)
+    × (received.quiet ≡ false)
 FindsAs received input.Quiet = (received.failed ≡ false) × (received.ended ≡ false) × (received.emptying ≡ false)
     × (received.quiet ≡ true)
 FindsAs received input.Ended = (received.failed ≡ false) × (received.ended ≡ true)
-FindsAs received input.Failed = received.failed ≡ true
+FindsAs received input.Failed = (received.failed ≡ true) × (received.ended ≡ false)
 
 -- what a state of the input means, if `incoming` is held of it
 abbrev pub ReadsAs : Received → List ℕ → Input → Type 0
@@ -39,15 +41,17 @@ ReadsAs received incoming state = (received.gave ≡ received.handed ++ incoming
 
 -- what a state of the output means, if `outgoing` is queued for it
 abbrev pub WritesAs : Sent → List ℕ → Output → Type 0
-WritesAs sent outgoing output.Open = (sent.written ≡ sent.took ++ outgoing) × (sent.lost ≡ false)
+WritesAs sent outgoing output.Open = (sent.written ≡ sent.took ++ outgoing) × (sent.lost ≡ false) × (sent.full ≡ false)
 WritesAs sent outgoing output.Full = (sent.written ≡ sent.took ++ outgoing) × (sent.lost ≡ false) × (sent.full ≡ true)
 WritesAs sent outgoing output.Lost = StartsWith sent.written sent.took × (sent.lost ≡ true)
 
 -- what is known of what came of a peer: what comes of one that lingers is dropped
 abbrev pub ComesAs : Received → List ℕ → Input → Stay → Type 0
 ComesAs received incoming state stay.Here = ReadsAs received incoming state
-ComesAs received incoming state (stay.Draining since) = StartsWith received.gave received.handed × FindsAs received state
-ComesAs received incoming state (stay.Shut since) = StartsWith received.gave received.handed × FindsAs received state
+ComesAs received incoming state (stay.Draining since) =
+    StartsWith received.gave received.handed × FindsAs received state
+ComesAs received incoming state (stay.Shut since) =
+    StartsWith received.gave received.handed × FindsAs received state
 
 -- what it means that a peer stays so, if `outgoing` is queued for it
 abbrev pub StaysAs : (watched : Bool) → Lingering → List ℕ → Stay → Type 0

@@ -7,7 +7,7 @@ ghost use Rattle.srcp_door.specs.Calls.{WriteCall};
 ghost use Rattle.srcp_peers.specs.Times.{KeepsTimes};
 ghost use Rattle.srcp_peers.specs.Peers.{Asks, IsKept, Offers, Spares, IsRead, after_wake, has_rest};
 ghost use Rattle.srcp_peers.specs.Peers.{holds_input, is_busy, is_due, is_over, is_resting, is_waiting, is_wanting};
-ghost use Rattle.srcp_peers.specs.Peers.{goes_first, is_silent, may_have};
+ghost use Rattle.srcp_peers.specs.Peers.{goes_first, is_lost, is_silent, may_have};
 ghost use Rattle.srcp_peers.specs.Peers.{enqueued, lines_left_after, queued_more, tries_again, woken_output};
 ghost use Rattle.srcp_peers.specs.declared.readiness.Input.{Input};
 ghost use Rattle.srcp_peers.specs.declared.readiness.Output.{Output};
@@ -152,13 +152,16 @@ impl Peer {
             → is_due what self.old ≡ true
             → Offers (record self.old { output = Output.Open }) self.new system.old.log.steps system.new.log.steps }
     {
-        self.output = self.output.woken(what.tries_again());
-        self.write_out(system, what);
+        if self.output.woken(what.tries_again()).is_open() {
+            self.write_out(system, what);
+        }
     }
 
+    /// Writes the queued bytes once, if some are queued and `what` says that the peer is due.
     #[inline(always)]
     fn write_out<S: System>(&mut self, system: &mut Logged<S>, what: Flush)
-        requires { IsKept system.old.log.steps self.old }
+        requires kept { IsKept system.old.log.steps self.old }
+        requires sound { is_lost self.old.output ≡ false }
         ensures kept { IsKept system.new.log.steps self.new }
         ensures others { (other : ℕ) → other ≢ self.old.number
             → Spares other system.old.log.steps system.new.log.steps }
@@ -171,10 +174,10 @@ impl Peer {
           output = self.new.output;
           awaits_reply = self.new.awaits_reply;
         } }
-        ensures offered { self.old.output ≡ Output.Open → self.old.outgoing ≢ [] → is_due what self.old ≡ true
-            → Offers self.old self.new system.old.log.steps system.new.log.steps }
+        ensures offered { self.old.outgoing ≢ [] → is_due what self.old ≡ true
+            → Offers (record self.old { output = Output.Open }) self.new system.old.log.steps system.new.log.steps }
     {
-        if !self.output.is_open() || self.outgoing.is_empty() || !self.is_due(what) {
+        if self.outgoing.is_empty() || !self.is_due(what) {
             return;
         }
         self.awaits_reply = false;
@@ -184,7 +187,7 @@ impl Peer {
                 self.outgoing.drop_front(count);
                 self.output = Output::after(count, all);
             }
-            Err(fault) => self.output = self.output.after_failure(failure_of(fault)),
+            Err(fault) => self.output = Output::Open.after_failure(failure_of(fault)),
         }
     }
 

@@ -68,8 +68,8 @@ spares_come old new number done other differ tells =
 fresh_agrees : (clock number : ℕ) (a : Account) (done : Unit {0}) → Fresh a → Sound a
     → Agrees (accepted a (Ok done)) (new_peer clock number)
 fresh_agrees clock number a done f s = record {
-  reads = (f.gave ∙ sym (ap (λ h. h ++ []) f.handed), (refl, refl, refl));
-  writes = (f.written ∙ sym (ap (λ h. h ++ []) f.took), refl);
+  reads = (f.gave ∙ sym (ap (λ h. h ++ []) f.handed), (refl, refl, refl, refl));
+  writes = (f.written ∙ sym (ap (λ h. h ++ []) f.took), refl, refl);
   cut = refl;
   stays = (refl, refl, refl);
   line = sym (ap (line_after boundary.At) f.handed);

@@ -321,7 +321,7 @@ over_as received incoming input.Ended h =
     sym (ap (λ e. e && (not received.failed && not (is_held received))) h.1.1 ∙ ap (λ f. not f && not (is_held received)) h.1.0
     ∙ ap not held ∙ not_twice (length incoming == 0))
 over_as received incoming input.Failed h =
-    sym (ap (λ f. received.ended && (not f && not (is_held received))) h.1 ∙ and_none received.ended)
+    sym (ap (λ f. received.ended && (not f && not (is_held received))) h.1.0 ∙ and_none received.ended)
 
 pub far_visited : (old new : List Step) (before after : List Peer) → length after ≡ length before → SaysNothing old new
     → AreThose before after → AreBegun before after → AreAsFar old before → AreAsFar new after

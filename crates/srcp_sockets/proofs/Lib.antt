@@ -2,6 +2,7 @@ pub mod AcceptsAreAsked
 pub mod NumbersDiffer
 pub mod SocketsStayStanding
 pub mod ThePeer
+pub mod WaitsHaveReasons
 pub mod WaitsKeepSockets
 pub mod AcceptsKeepSockets
 pub mod SocketsLingerAndClose

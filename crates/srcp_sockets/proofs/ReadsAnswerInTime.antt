@@ -72,7 +72,7 @@ failed_as received input.Ready h = sym h.0
 failed_as received input.Emptying h = sym h.0
 failed_as received input.Quiet h = sym h.0
 failed_as received input.Ended h = sym h.0
-failed_as received input.Failed h = sym h
+failed_as received input.Failed h = sym h.0
 
 none_held : (incoming : List ℕ) → not (length incoming == 0) ≡ false → incoming ≡ []
 none_held [] e = refl

@@ -111,7 +111,7 @@ no_more received input.Ready h = ap (λ b. b || received.failed) h.1 ∙ h.0
 no_more received input.Emptying h = ap (λ b. b || received.failed) h.1 ∙ h.0
 no_more received input.Quiet h = ap (λ b. b || received.failed) h.1 ∙ h.0
 no_more received input.Ended h = ap (λ b. b || received.failed) h.1
-no_more received input.Failed h = ap (λ b. received.ended || b) h ∙ or_last received.ended
+no_more received input.Failed h = ap (λ b. received.ended || b) h.0 ∙ or_last received.ended
 
 not_gone : (a : Account) (p : Peer) (clock : ℕ) → Agrees a p → a.lingering.clock ≡ clock → is_gone clock p ≡ false
     → has_to_close a ≡ false
@@ -454,6 +454,10 @@ every true pending turn is due = by (is_short turn.slack)
     by false = refl
 every false true turn is due = absurd (true≢false (sym due))
 every false false turn is due = ap (λ b. flushes_all (cond b flush.Answers flush.All)) is
+
+pub quiet_is : (pending : Bool) → not pending ≡ true → pending ≡ false
+quiet_is true e = absurd (true≢false (sym e))
+quiet_is false e = refl
 
 pub may_wait : (log : List Step) (turn : Turn) → IsTimed log turn
     → AreFlushed (flushes_all (flushing (has_ticked turn) false turn)) log

@@ -10,7 +10,8 @@ use Rattle.std.proofs.lemmas.Bool.Decides.{nat_tests}
 use Rattle.std.proofs.lemmas.List.{length-append}
 use Rattle.std.proofs.lemmas.List.Sums.{fold-append}
 use Rattle.std.specs.declared.io.ErrorKind.{ErrorKind}
-use Rattle.srcp_door.specs.Calls.{Call, NowCall}
+use Rattle.srcp_door.specs.Calls.{AcceptCall, Call, CloseCall, ExpectCall, NowCall, ReadCall}
+use Rattle.srcp_door.specs.Calls.{WriteCall}
 use Rattle.srcp_door.specs.declared.door.DoorFault.{DoorFault}
 use Rattle.srcp_peers.specs.declared.peer.Peer.{Peer}
 use Rattle.srcp_peers.specs.declared.stay.Stay.{Stay}
@@ -50,15 +51,15 @@ one_only step x (y ∷ mid) after e =
     let none : [] ≡ mid ++ x ∷ after = cc in
     absurd (not_none x mid after none)
 
-pub done_step : (wall start : ℕ) (old new : List Step) (step : Step) → new ≡ old ++ step ∷ [] → IsDone wall start old step
-    → AreDone wall start old → AreDone wall start new
-done_step wall start old new step tells may done before after x is =
+pub done_step : (limit : Option ℕ) (wall start : ℕ) (old new : List Step) (step : Step) → new ≡ old ++ step ∷ []
+    → IsDone limit wall start old step → AreDone limit wall start old → AreDone limit wall start new
+done_step limit wall start old new step tells may done before after x is =
     ⊎_elim
     (λ (here : (rest : List Step) × (old ≡ before ++ x ∷ rest)). done before here.0 x here.1)
     (λ (there : (mid : List Step) × (step ∷ [] ≡ mid ++ x ∷ after) × (before ≡ old ++ mid)).
     let one = one_only step x there.0 after there.1 in
     let same : before ≡ old = there.2 ∙ ap (λ (l : List Step). old ++ l) one.0 ∙ append-nil old in
-    subst (λ (l : List Step). IsDone wall start l x) (sym same) (subst (λ (s : Step). IsDone wall start old s) (sym one.1) may))
+    subst (λ (l : List Step). IsDone limit wall start l x) (sym same) (subst (λ (s : Step). IsDone limit wall start old s) (sym one.1) may))
     (splits old (step ∷ []) before after x (sym tells ∙ is))
 
 -- two steps came
@@ -75,15 +76,15 @@ is_free (Waits most count ready) = false
 is_free (Answers call) = false
 is_free other = true
 
-free_done : (wall start : ℕ) (log : List Step) (step : Step) → is_free step ≡ true → IsDone wall start log step
-free_done wall start log (Accepts number answer) e = tt
-free_done wall start log (Reads who buffer answer) e = tt
-free_done wall start log (Writes who bytes answer) e = tt
-free_done wall start log (Waits most count ready) e = absurd (true≢false (sym e))
-free_done wall start log (Shuts who) e = tt
-free_done wall start log (Closes who) e = tt
-free_done wall start log (Clocks answer) e = tt
-free_done wall start log (Answers call) e = absurd (true≢false (sym e))
+free_done : (limit : Option ℕ) (wall start : ℕ) (log : List Step) (step : Step) → is_free step ≡ true → IsDone limit wall start log step
+free_done limit wall start log (Accepts number answer) e = tt
+free_done limit wall start log (Reads who buffer answer) e = tt
+free_done limit wall start log (Writes who bytes answer) e = tt
+free_done limit wall start log (Waits most count ready) e = absurd (true≢false (sym e))
+free_done limit wall start log (Shuts who) e = tt
+free_done limit wall start log (Closes who) e = tt
+free_done limit wall start log (Clocks answer) e = tt
+free_done limit wall start log (Answers call) e = absurd (true≢false (sym e))
 
 free_in : (mid after : List Step) (x : Step) → list_all is_free (mid ++ x ∷ after) ≡ true → is_free x ≡ true
 free_in [] after x all = and_left (is_free x) (list_all is_free after) all
@@ -132,27 +133,50 @@ free_came old new says keeps =
     ∙ ap (λ l. (times 0 0 l).waits) (sym says.1) ∙ ap (λ (t : Times). t.waits) (keeps 0 0) in
     free_from says.0 (times 0 0 old) says.2 waits
 
-pub done_silent : (wall start : ℕ) (old new : List Step) → SaysNothing old new → KeepsTimes old new → AreDone wall start old
-    → AreDone wall start new
-done_silent wall start old new says keeps done before after x is =
+pub done_silent : (limit : Option ℕ) (wall start : ℕ) (old new : List Step) → SaysNothing old new → KeepsTimes old new
+    → AreDone limit wall start old → AreDone limit wall start new
+done_silent limit wall start old new says keeps done before after x is =
     ⊎_elim
     (λ (here : (rest : List Step) × (old ≡ before ++ x ∷ rest)). done before here.0 x here.1)
     (λ (there : (mid : List Step) × (says.0 ≡ mid ++ x ∷ after) × (before ≡ old ++ mid)).
-    free_done wall start before x (free_in there.0 after x (ap (list_all is_free) (sym there.1) ∙ free_came old new says keeps)))
+    free_done limit wall start before x (free_in there.0 after x (ap (list_all is_free) (sym there.1) ∙ free_came old new says keeps)))
     (splits old says.0 before after x (sym says.1 ∙ is))
 
 -- no step was made
-pub done_first : (wall start : ℕ) (log : List Step) → log ≡ [] → AreDone wall start log
-done_first wall start log none before after x is = absurd (not_none x before after (sym none ∙ is))
+pub done_first : (limit : Option ℕ) (wall start : ℕ) (log : List Step) → log ≡ [] → AreDone limit wall start log
+done_first limit wall start log none before after x is = absurd (not_none x before after (sym none ∙ is))
 
 -- the turn went on, from the same clocks
-pub done_turn : (log : List Step) (before after same : Turn) → after ≡ same → same.timekeeper.wall ≡ before.timekeeper.wall
-    → same.timekeeper.start ≡ before.timekeeper.start → AreDone before.timekeeper.wall before.timekeeper.start log
-    → AreDone after.timekeeper.wall after.timekeeper.start log
-done_turn log before after same is wall start done =
-    subst (λ (t : Turn). AreDone t.timekeeper.wall t.timekeeper.start log) (sym is)
-    (subst (λ (w : ℕ). AreDone w same.timekeeper.start log) (sym wall)
-    (subst (λ (s : ℕ). AreDone before.timekeeper.wall s log) (sym start) done))
+pub done_turn : (limit : Option ℕ) (log : List Step) (before after same : Turn) → after ≡ same
+    → same.timekeeper.wall ≡ before.timekeeper.wall → same.timekeeper.start ≡ before.timekeeper.start → AreDone limit before.timekeeper.wall before.timekeeper.start log
+    → AreDone limit after.timekeeper.wall after.timekeeper.start log
+done_turn limit log before after same is wall start done =
+    subst (λ (t : Turn). AreDone limit t.timekeeper.wall t.timekeeper.start log) (sym is)
+    (subst (λ (w : ℕ). AreDone limit w same.timekeeper.start log) (sym wall)
+    (subst (λ (s : ℕ). AreDone limit before.timekeeper.wall s log) (sym start) done))
+
+-- a limit was set
+pub done_limited : (limit : Option ℕ) (most wall start : ℕ) (log : List Step) → AreDone limit wall start log
+    → AreDone (Some most) wall start log
+done_limited limit most wall start log done before after x is = by x (done before after x is)
+  where
+    some_limit : (n : ℕ) → Some n ≡ None → ⊥
+    some_limit n e = cc
+
+    by : (step : Step) → IsDone limit wall start before step → IsDone (Some most) wall start before step
+    by (Accepts number answer) h = h
+    by (Reads who buffer answer) h = h
+    by (Writes who bytes answer) h = h
+    by (Waits left count ready) h = (h.0, λ none. absurd (some_limit most none))
+    by (Shuts who) h = h
+    by (Closes who) h = h
+    by (Clocks answer) h = h
+    by (Answers (ExpectCall due slack)) h = h
+    by (Answers (NowCall answer)) h = h
+    by (Answers (AcceptCall answer)) h = h
+    by (Answers (ReadCall who answer buffer)) h = h
+    by (Answers (WriteCall who bytes answer)) h = h
+    by (Answers (CloseCall who answer)) h = h
 
 -- ---- input is held
 
@@ -326,10 +350,10 @@ clocked_turn : (t : Times) (shown : Option ℕ) → (clocked t shown).turn ≡ t
 clocked_turn t None = refl
 clocked_turn t (Some time) = refl
 
-pub moment_done : (turn : Turn) (old mid : List Step) (shown : Option ℕ) (answer : Result ℕ DoorFault)
+pub moment_done : (limit : Option ℕ) (turn : Turn) (old mid : List Step) (shown : Option ℕ) (answer : Result ℕ DoorFault)
     → mid ≡ old ++ Clocks shown ∷ [] → is_shown (Some shown) answer ≡ true → IsTimed old turn → MayTell turn old
-    → IsDone turn.timekeeper.wall turn.timekeeper.start mid (Answers (NowCall answer))
-moment_done turn old mid shown answer tells is_so timed may = record {
+    → IsDone limit turn.timekeeper.wall turn.timekeeper.start mid (Answers (NowCall answer))
+moment_done limit turn old mid shown answer tells is_so timed may = record {
   clock = ap (λ l. is_shown (last_shown l) answer) tells
       ∙ ap (λ s. is_shown s answer) (fold-append (λ before step. shown_by step) None old (Clocks shown ∷ [])) ∙ is_so;
   may = record {

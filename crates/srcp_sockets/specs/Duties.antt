@@ -17,7 +17,7 @@ use Rattle.srcp_peers.specs.Times.{times}
 use Rattle.srcp_peers.specs.Turns.{got_bytes, has_ticked, reports_end}
 use Rattle.srcp_sockets.specs.Endings.{ending_of}
 use Rattle.srcp_sockets.specs.Limits.{most_ready}
-use Rattle.srcp_sockets.specs.Waits.{IsBriefOverWork, IsWaitDone}
+use Rattle.srcp_sockets.specs.Waits.{IsBriefOverWork, IsLongEnough, IsWaitDone}
 
 -- ---- a moment
 
@@ -105,34 +105,35 @@ pub record IsReadDone (wall start : ℕ) (log : List Step) (who : ℕ) (answer :
 
 -- ---- each step
 
--- what is done when the step is made
-abbrev pub IsDone : (wall start : ℕ) → List Step → Step → Type 0
-IsDone wall start log (Waits most count ready) = IsWaitDone wall start log × IsBriefOverWork wall start log most
-    × (length ready ≡ most_ready)
-IsDone wall start log (Answers (NowCall answer)) = IsMomentDone wall start log answer
-IsDone wall start log (Answers (ReadCall who answer buffer)) =
+-- what is done when the step is made, at a door whose waits have that limit, if any
+abbrev pub IsDone : (limit : Option ℕ) (wall start : ℕ) → List Step → Step → Type 0
+IsDone limit wall start log (Waits most count ready) = IsWaitDone wall start log × IsBriefOverWork wall start log most
+    × (length ready ≡ most_ready) × (limit ≡ None → IsLongEnough wall start log most)
+IsDone limit wall start log (Answers (NowCall answer)) = IsMomentDone wall start log answer
+IsDone limit wall start log (Answers (ReadCall who answer buffer)) =
     (times wall start log).turn.late ≡ false → IsReadDone wall start log who answer buffer
-IsDone wall start log other = ⊤
+IsDone limit wall start log other = ⊤
 
 -- so it was each time
-abbrev pub AreDone : (wall start : ℕ) → List Step → Type 0
-AreDone wall start log = (before after : List Step) (step : Step) → log ≡ before ++ step ∷ after
-    → IsDone wall start before step
+abbrev pub AreDone : (limit : Option ℕ) (wall start : ℕ) → List Step → Type 0
+AreDone limit wall start log = (before after : List Step) (step : Step) → log ≡ before ++ step ∷ after
+    → IsDone limit wall start before step
 
-IsDone-prop : (wall start : ℕ) (log : List Step) (step : Step) → IsProp (IsDone wall start log step)
-IsDone-prop wall start log (Accepts number answer) = hlevel props
-IsDone-prop wall start log (Reads who buffer answer) = hlevel props
-IsDone-prop wall start log (Writes who bytes answer) = hlevel props
-IsDone-prop wall start log (Waits most count ready) = hlevel props
-IsDone-prop wall start log (Shuts who) = hlevel props
-IsDone-prop wall start log (Closes who) = hlevel props
-IsDone-prop wall start log (Clocks answer) = hlevel props
-IsDone-prop wall start log (Answers (ExpectCall due slack)) = hlevel props
-IsDone-prop wall start log (Answers (NowCall answer)) = hlevel props
-IsDone-prop wall start log (Answers (AcceptCall answer)) = hlevel props
-IsDone-prop wall start log (Answers (ReadCall who answer buffer)) = hlevel props
-IsDone-prop wall start log (Answers (WriteCall who bytes answer)) = hlevel props
-IsDone-prop wall start log (Answers (CloseCall who answer)) = hlevel props
+IsDone-prop : (limit : Option ℕ) (wall start : ℕ) (log : List Step) (step : Step)
+    → IsProp (IsDone limit wall start log step)
+IsDone-prop limit wall start log (Accepts number answer) = hlevel props
+IsDone-prop limit wall start log (Reads who buffer answer) = hlevel props
+IsDone-prop limit wall start log (Writes who bytes answer) = hlevel props
+IsDone-prop limit wall start log (Waits most count ready) = hlevel props
+IsDone-prop limit wall start log (Shuts who) = hlevel props
+IsDone-prop limit wall start log (Closes who) = hlevel props
+IsDone-prop limit wall start log (Clocks answer) = hlevel props
+IsDone-prop limit wall start log (Answers (ExpectCall due slack)) = hlevel props
+IsDone-prop limit wall start log (Answers (NowCall answer)) = hlevel props
+IsDone-prop limit wall start log (Answers (AcceptCall answer)) = hlevel props
+IsDone-prop limit wall start log (Answers (ReadCall who answer buffer)) = hlevel props
+IsDone-prop limit wall start log (Answers (WriteCall who bytes answer)) = hlevel props
+IsDone-prop limit wall start log (Answers (CloseCall who answer)) = hlevel props
 
-pub AreDone-prop : (wall start : ℕ) (log : List Step) → IsProp (AreDone wall start log)
-AreDone-prop wall start log = hlevel (props, IsDone-prop)
+pub AreDone-prop : (limit : Option ℕ) (wall start : ℕ) (log : List Step) → IsProp (AreDone limit wall start log)
+AreDone-prop limit wall start log = hlevel (props, IsDone-prop)

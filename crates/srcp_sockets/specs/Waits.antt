@@ -1,11 +1,13 @@
 -- What a door has done when it waits.
-use Rattle.std.specs.Prelude.{◌≡◌, ℕ, ◌+◌, ◌==◌, ◌&&◌, ◌||◌, nat_lt, Bool, true, false, not, List, Option, fold}
+use Rattle.std.specs.Prelude.{◌≡◌, ℕ, ◌+◌, ◌==◌, ◌&&◌, ◌||◌, nat_le, nat_lt, Bool, true, false, not, List, fold}
+use Rattle.std.specs.Prelude.{Option, Some, None}
 use Rattle.srcp_door.specs.Calls.{NowCall}
 use Rattle.srcp_peers.specs.Accounts.{Account, Received, account, is_at_rest, is_lingering, is_overdue, is_owed}
 use Rattle.srcp_peers.specs.Accounts.{may_shut}
+use Rattle.srcp_peers.specs.Limits.{longest_sleep, retry_delay}
 use Rattle.srcp_peers.specs.Steps.{Answers, Closes, Step, Writes}
 use Rattle.srcp_peers.specs.Times.{ends_by, times}
-use Rattle.srcp_peers.specs.Turns.{backpressure_delay, has_ticked, is_pending}
+use Rattle.srcp_peers.specs.Turns.{backpressure_delay, has_ticked, is_pending, time_left}
 use Rattle.srcp_sockets.specs.Limits.{most_lingering}
 
 -- how many sockets were closed since a moment was reported
@@ -46,11 +48,13 @@ pub record IsFlushedOut (all : Bool) (a : Account) (written : Bool) : Type 0 whe
 abbrev pub AreFlushed : (all : Bool) → List Step → Type 0
 AreFlushed all log = (socket : ℕ) → IsFlushedOut all (account socket log) (is_written socket log)
 
--- all that is queued is flushed before a wait: the clock went on, nothing happened since the last wait, or there is no
--- panel
+-- nothing happened since the last wait, or there is no panel
+abbrev pub is_calm : (wall start : ℕ) → List Step → Bool
+is_calm wall start log = let turn = (times wall start log).turn in not (is_pending turn.slack turn.busy)
+
+-- all that is queued is flushed before a wait: the clock went on since the turn before, or the turn is calm
 abbrev pub is_flush_due : (wall start : ℕ) → List Step → Bool
-is_flush_due wall start log =
-    let turn = (times wall start log).turn in has_ticked turn || not (is_pending turn.slack turn.busy)
+is_flush_due wall start log = has_ticked (times wall start log).turn || is_calm wall start log
 
 -- nobody is left that has to be closed, or 64 were since a moment was reported; and each was shut down and offered what
 -- is queued
@@ -71,3 +75,37 @@ pub record IsBriefOverWork (wall start : ℕ) (log : List Step) (most : Option �
   pub peers : (socket : ℕ) → has_work (account socket log) ≡ true → is_brief wall start log most ≡ true
   pub panels : (let turn = (times wall start log).turn in is_pending turn.slack turn.busy ≡ true)
       → is_brief wall start log most ≡ true
+
+-- ---- how long a wait is
+
+-- each peer that is there, and the listener, which is socket 0, is at rest
+abbrev pub AreAtRest : List Step → Type 0
+AreAtRest log = (socket : ℕ) → ((account socket log).watched || (socket == 0)) ≡ true
+    → is_at_rest (account socket log).sent (account socket log).received ≡ true
+
+-- no socket lingers
+abbrev pub NoneLingers : List Step → Type 0
+NoneLingers log = (socket : ℕ) → is_lingering (account socket log) ≡ false
+
+-- something that falls due after `left` milliseconds does so before a wait of `most` is over
+abbrev pub falls_due : (left most : Option ℕ) → Bool
+falls_due None most = false
+falls_due (Some left) None = true
+falls_due (Some left) (Some most) = nat_le left most
+
+-- a wait goes on for so many milliseconds, if no socket is found ready
+abbrev pub lasts : ℕ → (most : Option ℕ) → Bool
+lasts ms None = true
+lasts ms (Some most) = nat_le ms most
+
+-- a wait of `most` has no reason to be short: nothing happened, or there is no panel; who is there is at rest, and the
+-- listener; and nothing falls due before it is over
+pub record IsIdle (wall start : ℕ) (log : List Step) (most : Option ℕ) : Type 0 where
+  pub calm : is_calm wall start log ≡ true
+  pub resting : AreAtRest log
+  pub early : falls_due (time_left (times wall start log).turn) most ≡ false
+
+-- without a reason a wait is no shorter than the retry delay, and an hour if no socket lingers
+pub record IsLongEnough (wall start : ℕ) (log : List Step) (most : Option ℕ) : Type 0 where
+  pub delay : IsIdle wall start log most → lasts retry_delay most ≡ true
+  pub sleep : IsIdle wall start log most → NoneLingers log → lasts longest_sleep most ≡ true

@@ -16,7 +16,9 @@ ghost use Rattle.srcp_sockets.specs.Asked.{AreAsked};
 ghost use Rattle.srcp_sockets.specs.Duties.{IsHandedOut, has_waited, held_piece, is_end, is_failing, is_fault};
 ghost use Rattle.srcp_sockets.specs.Duties.{is_leaving, is_shown, last_shown, takes_input};
 ghost use Rattle.srcp_sockets.specs.Doors.{IsThere};
-ghost use Rattle.srcp_sockets.specs.Waits.{closes, has_to_close, has_work, is_brief, is_flush_due, is_written};
+ghost use Rattle.srcp_sockets.specs.Waits.{IsIdle, NoneLingers, closes, has_to_close, has_work, is_brief, is_flush_due};
+ghost use Rattle.srcp_sockets.specs.Waits.{is_written, lasts};
+ghost use Rattle.srcp_peers.specs.Limits.{longest_sleep, retry_delay};
 ghost use Rattle.srcp_sockets.specs.KeptTimes.{AreKeptTimes, ArePaced};
 ghost use Rattle.srcp_sockets.specs.Limits.{most_lingering, most_ready};
 ghost use Rattle.srcp_sockets.specs.Loads.{AreBounded, load};
@@ -167,6 +169,26 @@ pub fn gone_are_closed<S: System>(door: &SocketDoor<S>)
     ensures shut { (before after : List Step) (most : Option ℕ) (count : ℕ) (ready : List Ready)
         → door.now.sockets.system.log.steps ≡ before ++ Waits most count ready ∷ after
         → (socket : ℕ) → may_shut (account socket before) ≡ true → (account socket before).sent.lost ≡ true }
+{}
+
+/// States why a wait is short, if no limit of the waits was set. A wait of less than 8 ms has one of three reasons:
+///
+/// - something happened since the wait before, and there is a panel;
+/// - a peer that is there, or the listener, was not found at rest;
+/// - something falls due before the wait is over.
+///
+/// A wait of less than an hour has one of these too, or a socket lingers.
+pub fn waits_have_reasons<S: System>(door: &SocketDoor<S>)
+    ensures delay { door.now.sockets.most ≡ None
+        → (before after : List Step) (most : Option ℕ) (count : ℕ) (ready : List Ready)
+        → door.now.sockets.system.log.steps ≡ before ++ Waits most count ready ∷ after
+        → IsIdle door.now.sockets.turn.timekeeper.wall door.now.sockets.turn.timekeeper.start before most
+        → lasts retry_delay most ≡ true }
+    ensures sleep { door.now.sockets.most ≡ None
+        → (before after : List Step) (most : Option ℕ) (count : ℕ) (ready : List Ready)
+        → door.now.sockets.system.log.steps ≡ before ++ Waits most count ready ∷ after
+        → IsIdle door.now.sockets.turn.timekeeper.wall door.now.sockets.turn.timekeeper.start before most
+        → NoneLingers before → lasts longest_sleep most ≡ true }
 {}
 
 /// States that a flush came before three kinds of waits. The clock had gone on since the turn before, so all is written

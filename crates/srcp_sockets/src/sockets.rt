@@ -60,7 +60,8 @@ pub(crate) struct Sockets<S: System> {
     ghost named: { IsNamed system.log.steps last } by { IsNamed-prop system.log.steps _ },
     ghost timed: { IsTimed system.log.steps turn } by { IsTimed-prop system.log.steps _ },
     ghost asked: { AreAsked system.log.steps } by { AreAsked-prop _ },
-    ghost done: { AreDone turn.timekeeper.wall turn.timekeeper.start system.log.steps } by { AreDone-prop _ _ _ },
+    ghost done: { AreDone most turn.timekeeper.wall turn.timekeeper.start
+        system.log.steps } by { AreDone-prop _ _ _ _ },
     ghost ending: { AreAsFar system.log.steps peers.items } by { AreAsFar-prop system.log.steps _ },
     ghost places: { (length peers.items + length spare.items ≡ most_peers) × (most_peers ≤ vec_capacity peers)
         × (most_peers ≤ vec_capacity spare) },

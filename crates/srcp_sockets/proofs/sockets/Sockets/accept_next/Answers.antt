@@ -47,9 +47,9 @@ invariant_of-self g c =
           c.in-Ok.ensures.log c.answer.ensures.log self.timed;
       asked = asked_accept mid new (Ok (Some number)) c.answer.ensures.log tt
           (asked_step old mid (Accepts number said) c.in-Ok.ensures.log refl self.asked);
-      done = done_turn new self.turn c.note_accept.new.self (after_call self.turn call) c.note_accept.ensures refl refl
-          (done_step self.turn.timekeeper.wall self.turn.timekeeper.start mid new (Answers call) c.answer.ensures.log tt
-          (done_step self.turn.timekeeper.wall self.turn.timekeeper.start old mid (Accepts number said) c.in-Ok.ensures.log tt
+      done = done_turn self.most new self.turn c.note_accept.new.self (after_call self.turn call) c.note_accept.ensures refl refl
+          (done_step self.most self.turn.timekeeper.wall self.turn.timekeeper.start mid new (Answers call) c.answer.ensures.log tt
+          (done_step self.most self.turn.timekeeper.wall self.turn.timekeeper.start old mid (Accepts number said) c.in-Ok.ensures.log tt
           self.done));
       ending = far_same mid new c.push.new.self.items (Answers call) c.answer.ensures.log (λ s x. refl)
           (far_pushed old mid self.peers.items c.push.new.self.items c.new.result self.turn.clock number c.in-Ok.field-0 pushed
@@ -93,10 +93,11 @@ invariant_of-self-in-Err g c =
           c.in-Err.ensures.log c.answer-in-Err.ensures.log self.timed;
       asked = asked_accept mid new answer c.answer-in-Err.ensures.log (was_asked old mid number said answer c.in-Err.ensures.log)
           (asked_step old mid (Accepts number said) c.in-Err.ensures.log refl self.asked);
-      done = done_turn new self.turn c.note_accept-in-Err.new.self (after_call self.turn call) c.note_accept-in-Err.ensures refl refl
-          (done_step self.turn.timekeeper.wall self.turn.timekeeper.start mid new (Answers call) c.answer-in-Err.ensures.log
+      done = done_turn self.most new self.turn c.note_accept-in-Err.new.self (after_call self.turn call)
+          c.note_accept-in-Err.ensures refl refl
+          (done_step self.most self.turn.timekeeper.wall self.turn.timekeeper.start mid new (Answers call) c.answer-in-Err.ensures.log
           tt
-          (done_step self.turn.timekeeper.wall self.turn.timekeeper.start old mid (Accepts number said) c.in-Err.ensures.log tt
+          (done_step self.most self.turn.timekeeper.wall self.turn.timekeeper.start old mid (Accepts number said) c.in-Err.ensures.log tt
           self.done));
       ending = far_same mid new self.peers.items (Answers call) c.answer-in-Err.ensures.log (λ s x. refl)
           (far_same old mid self.peers.items (Accepts number said) c.in-Err.ensures.log (λ s x. refl) self.ending);

@@ -32,8 +32,8 @@ invariant_of-self g c =
       named = named_silent old new last c.begin_visits.ensures.calls c.args.self.now.named;
       timed = timed_kept old new c.args.self.now.turn c.begin_visits.ensures.times c.args.self.now.timed;
       asked = asked_silent old new c.begin_visits.ensures.calls c.args.self.now.asked;
-      done = done_silent c.args.self.now.turn.timekeeper.wall c.args.self.now.turn.timekeeper.start old new c.begin_visits.ensures.calls
-          c.begin_visits.ensures.times c.args.self.now.done;
+      done = done_silent c.args.self.now.most c.args.self.now.turn.timekeeper.wall c.args.self.now.turn.timekeeper.start old new
+          c.begin_visits.ensures.calls c.begin_visits.ensures.times c.args.self.now.done;
       ending = subst (AreAsFar new)
           (sym (with_items_is c.args.self.now.peers c.begin_visits.new.peers (c.begin_visits.auto.peers ∙ search rules)))
           (far_visited old new c.as_mut_slice.result.now c.begin_visits.new.peers c.begin_visits.auto.peers c.begin_visits.ensures.calls

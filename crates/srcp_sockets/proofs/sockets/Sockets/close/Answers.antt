@@ -33,9 +33,10 @@ invariant_of-self g c =
           (λ peer. c.note_close.ensures peer (Err Close))
           c.answer.ensures.log c.args.self.now.timed;
       asked = asked_step old new (Answers call) c.answer.ensures.log refl c.args.self.now.asked;
-      done = done_turn new c.args.self.now.turn c.note_close.new.self (after_call c.args.self.now.turn call)
+      done = done_turn c.args.self.now.most new c.args.self.now.turn c.note_close.new.self (after_call c.args.self.now.turn call)
           (c.note_close.ensures c.args.number (Err Close)) refl refl
-          (done_step c.args.self.now.turn.timekeeper.wall c.args.self.now.turn.timekeeper.start old new (Answers call) c.answer.ensures.log
+          (done_step c.args.self.now.most c.args.self.now.turn.timekeeper.wall c.args.self.now.turn.timekeeper.start old new
+          (Answers call) c.answer.ensures.log
           tt c.args.self.now.done);
       ending = far_same old new c.args.self.now.peers.items (Answers call) c.answer.ensures.log (λ s x. refl) c.args.self.now.ending;
       places = c.args.self.now.places;
@@ -59,9 +60,9 @@ invariant_of-self-2 g c =
           (λ peer. c.note_close-2.ensures peer (Ok tt))
           c.answer-2.ensures.log c.args.self.now.timed;
       asked = asked_step old new (Answers call) c.answer-2.ensures.log refl c.args.self.now.asked;
-      done = done_turn new c.args.self.now.turn c.note_close-2.new.self (after_call c.args.self.now.turn call)
+      done = done_turn c.args.self.now.most new c.args.self.now.turn c.note_close-2.new.self (after_call c.args.self.now.turn call)
           (c.note_close-2.ensures c.args.number (Ok tt)) refl refl
-          (done_step c.args.self.now.turn.timekeeper.wall c.args.self.now.turn.timekeeper.start old new
+          (done_step c.args.self.now.most c.args.self.now.turn.timekeeper.wall c.args.self.now.turn.timekeeper.start old new
           (Answers call) c.answer-2.ensures.log
           tt c.args.self.now.done);
       ending = far_left old new c.args.self.now.peers.items c.in-Some.index x c.linger.new.self c.args.self.now.turn.clock there.0

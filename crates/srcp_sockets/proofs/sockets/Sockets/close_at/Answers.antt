@@ -37,7 +37,7 @@ invariant_of-self g c =
       named = named_silent old new self.last (says_step old new (Closes peer.number) c.close.ensures.log refl) self.named;
       timed = timed_kept old new self.turn (keeps_step old new (Closes peer.number) c.close.ensures.log (λ t. refl)) self.timed;
       asked = asked_step old new (Closes peer.number) c.close.ensures.log refl self.asked;
-      done = done_step self.turn.timekeeper.wall self.turn.timekeeper.start old new (Closes peer.number) c.close.ensures.log tt
+      done = done_step self.most self.turn.timekeeper.wall self.turn.timekeeper.start old new (Closes peer.number) c.close.ensures.log tt
           self.done;
       ending = subst (AreAsFar new) (sym c.remove-peer.ensures.items)
           (far_goes old new self.peers.items (remove self.peers.items c.args.index)

@@ -24,9 +24,10 @@ invariant_of-self g c =
       timed = timed_expect old new c.args.self.now.turn c.expect.new.self c.args.due c.args.slack c.expect.ensures c.answer.ensures.log
           c.args.self.now.timed;
       asked = asked_step old new (Answers call) c.answer.ensures.log refl c.args.self.now.asked;
-      done = done_turn new c.args.self.now.turn c.expect.new.self (after_call c.args.self.now.turn call) c.expect.ensures refl refl
-          (done_step c.args.self.now.turn.timekeeper.wall c.args.self.now.turn.timekeeper.start old new (Answers call) c.answer.ensures.log
-          tt c.args.self.now.done);
+      done = done_turn c.args.self.now.most new c.args.self.now.turn c.expect.new.self (after_call c.args.self.now.turn call)
+          c.expect.ensures refl refl
+          (done_step c.args.self.now.most c.args.self.now.turn.timekeeper.wall c.args.self.now.turn.timekeeper.start old new
+          (Answers call) c.answer.ensures.log tt c.args.self.now.done);
       ending = far_same old new c.args.self.now.peers.items (Answers call) c.answer.ensures.log (λ s x. refl) c.args.self.now.ending;
       places = c.args.self.now.places;
     }

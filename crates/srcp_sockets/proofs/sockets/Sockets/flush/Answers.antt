@@ -34,8 +34,8 @@ invariant_of-self g c =
       named = named_silent old new last c.flush.ensures.calls c.args.self.now.named;
       timed = timed_kept old new c.args.self.now.turn c.flush.ensures.times c.args.self.now.timed;
       asked = asked_silent old new c.flush.ensures.calls c.args.self.now.asked;
-      done = done_silent c.args.self.now.turn.timekeeper.wall c.args.self.now.turn.timekeeper.start old new c.flush.ensures.calls
-          c.flush.ensures.times c.args.self.now.done;
+      done = done_silent c.args.self.now.most c.args.self.now.turn.timekeeper.wall c.args.self.now.turn.timekeeper.start old new
+          c.flush.ensures.calls c.flush.ensures.times c.args.self.now.done;
       ending = subst (AreAsFar new)
           (sym (with_items_is c.args.self.now.peers c.flush.new.peers (c.flush.auto.peers ∙ search rules)))
           (far_goes old new c.as_mut_slice.result.now c.flush.new.peers (slackens_silent old new c.flush.ensures.calls)

@@ -23,8 +23,8 @@ invariant_of-self g c =
       named = named_call old new c.args.self.now.last call (says_call old new call c.answer.ensures.log) refl c.args.self.now.named;
       timed = timed_nothing old new c.args.self.now.turn c.args.number c.args.buffer.now c.answer.ensures.log c.args.self.now.timed;
       asked = asked_step old new (Answers call) c.answer.ensures.log refl c.args.self.now.asked;
-      done = done_step c.args.self.now.turn.timekeeper.wall c.args.self.now.turn.timekeeper.start old new (Answers call)
-          c.answer.ensures.log
+      done = done_step c.args.self.now.most c.args.self.now.turn.timekeeper.wall c.args.self.now.turn.timekeeper.start old new
+          (Answers call) c.answer.ensures.log
           (λ early. absurd (true≢false (sym c.requires ∙ ap (λ (t : Turn). t.late) (sym c.args.self.now.timed.same) ∙ early)))
           c.args.self.now.done;
       ending = far_same old new c.args.self.now.peers.items (Answers call) c.answer.ensures.log (λ s x. refl) c.args.self.now.ending;

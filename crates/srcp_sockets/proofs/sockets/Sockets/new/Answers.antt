@@ -2,7 +2,7 @@ use Rattle.srcp_sockets.proofs.AcceptsAreAsked.{asked_first}
 use Rattle.srcp_sockets.proofs.WorkIsDone.{done_first}
 use Rattle.srcp_sockets.proofs.TimesGoOn.{timed_first}
 use Rattle.srcp_sockets.proofs.NumbersDiffer.{named_first}
-use Rattle.std.proofs.Common.{◌≡◌, [], ap, arith, length}
+use Rattle.std.proofs.Common.{◌≡◌, [], None, ap, arith, length}
 use Rattle.srcp_sockets.proofs.sockets.Sockets.new.Goals as goal
 
 pub invariant_of-result-clause-named : goal.invariant_of-result-clause-named
@@ -20,5 +20,5 @@ invariant_of-result-clause-ending g c k d lt =
     absurd (omega (arith, ap length none, lt))
 
 pub invariant_of-result-clause-done : goal.invariant_of-result-clause-done
-invariant_of-result-clause-done g c = done_first c.args.turn.timekeeper.wall c.args.turn.timekeeper.start c.new.result.log.steps
+invariant_of-result-clause-done g c = done_first None c.args.turn.timekeeper.wall c.args.turn.timekeeper.start c.new.result.log.steps
     c.new.ensures.log

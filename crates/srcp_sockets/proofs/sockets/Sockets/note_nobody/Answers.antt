@@ -32,9 +32,10 @@ invariant_of-self g c =
       timed = timed_unasked old new self.turn c.note_accept.new.self answer c.note_accept.ensures as_heard
           c.answer.ensures.log self.timed;
       asked = asked_accept old new answer c.answer.ensures.log c.requires.excused self.asked;
-      done = done_turn new self.turn c.note_accept.new.self (after_call self.turn (AcceptCall answer)) c.note_accept.ensures refl refl
-          (done_step self.turn.timekeeper.wall self.turn.timekeeper.start old new (Answers (AcceptCall answer)) c.answer.ensures.log
-          tt self.done);
+      done = done_turn self.most new self.turn c.note_accept.new.self (after_call self.turn (AcceptCall answer))
+          c.note_accept.ensures refl refl
+          (done_step self.most self.turn.timekeeper.wall self.turn.timekeeper.start old new (Answers (AcceptCall answer))
+          c.answer.ensures.log tt self.done);
       ending = far_same old new self.peers.items (Answers (AcceptCall answer)) c.answer.ensures.log (λ s x. refl) self.ending;
       places = self.places;
     }

@@ -30,14 +30,14 @@ moment_shown turn answer None e = ap (is_shown (Some None)) e
 moment_shown turn answer (Some time) e = ap (is_shown (Some (Some time))) e
 
 -- the turn went on, by the moment
-done_moment : (log : List Step) (before after : Turn) (shown : Option ℕ) (answer : Result ℕ DoorFault)
+done_moment : (limit : Option ℕ) (log : List Step) (before after : Turn) (shown : Option ℕ) (answer : Result ℕ DoorFault)
     → (shown ≡ None → (answer ≡ Err Now) × (after ≡ begun before false))
     → ((time : ℕ) → shown ≡ Some time → (answer ≡ Ok (moment_at before time)) × (after ≡ reported_at before time (moment_at before time)))
-    → AreDone before.timekeeper.wall before.timekeeper.start log → AreDone after.timekeeper.wall after.timekeeper.start log
-done_moment log before after None answer none some done =
-    done_turn log before after (begun before false) (none refl).1 refl refl done
-done_moment log before after (Some time) answer none some done =
-    done_turn log before after (reported_at before time (moment_at before time)) (some time refl).1 refl refl done
+    → AreDone limit before.timekeeper.wall before.timekeeper.start log → AreDone limit after.timekeeper.wall after.timekeeper.start log
+done_moment limit log before after None answer none some done =
+    done_turn limit log before after (begun before false) (none refl).1 refl refl done
+done_moment limit log before after (Some time) answer none some done =
+    done_turn limit log before after (reported_at before time (moment_at before time)) (some time refl).1 refl refl done
 
 pub invariant_of-self : goal.invariant_of-self
 invariant_of-self g c =
@@ -59,16 +59,16 @@ invariant_of-self g c =
           c.answer.ensures.log c.args.self.now.timed;
       asked = asked_step mid new (Answers (NowCall answer)) c.answer.ensures.log refl
           (asked_step old mid (Clocks c.clock-shown.result) c.clock-shown.ensures.log refl c.args.self.now.asked);
-      done = done_moment new turn c.report_moment-answer.new.self c.clock-shown.result answer
+      done = done_moment c.args.self.now.most new turn c.report_moment-answer.new.self c.clock-shown.result answer
           c.report_moment-answer.ensures.none c.report_moment-answer.ensures.some
-          (done_step turn.timekeeper.wall turn.timekeeper.start mid new (Answers (NowCall answer)) c.answer.ensures.log
-          (moment_done turn old mid c.clock-shown.result answer c.clock-shown.ensures.log
+          (done_step c.args.self.now.most turn.timekeeper.wall turn.timekeeper.start mid new (Answers (NowCall answer)) c.answer.ensures.log
+          (moment_done c.args.self.now.most turn old mid c.clock-shown.result answer c.clock-shown.ensures.log
           (moment_shown turn answer c.clock-shown.result
           (moment_is turn answer c.clock-shown.result (λ e. (c.report_moment-answer.ensures.none e).0)
           (λ time e. (c.report_moment-answer.ensures.some time e).0)))
           c.args.self.now.timed c.requires.may)
-          (done_step turn.timekeeper.wall turn.timekeeper.start old mid (Clocks c.clock-shown.result) c.clock-shown.ensures.log
-          tt c.args.self.now.done));
+          (done_step c.args.self.now.most turn.timekeeper.wall turn.timekeeper.start old mid (Clocks c.clock-shown.result)
+          c.clock-shown.ensures.log tt c.args.self.now.done));
       ending = far_told old mid new c.args.self.now.peers.items c.clock-shown.result answer c.clock-shown.ensures.log c.answer.ensures.log
           c.requires.visited;
       places = c.args.self.now.places;

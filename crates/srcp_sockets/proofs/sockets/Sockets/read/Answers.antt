@@ -51,9 +51,10 @@ invariant_of-self g c =
             single = c.read-handed.ensures.ends;
           }) c.read-handed.ensures.log c.args.self.now.timed;
       asked = asked_step old new (Answers (ReadCall x.number answer buffer)) c.read-handed.ensures.log refl c.args.self.now.asked;
-      done = done_turn new turn c.read-handed.new.turn (after_read turn x.share.line answer buffer) c.read-handed.ensures.turn
+      done = done_turn c.args.self.now.most new turn c.read-handed.new.turn (after_read turn x.share.line answer buffer)
+          c.read-handed.ensures.turn
           (ap (λ m. m.wall) (read_time turn x.share.line answer buffer)) (ap (λ m. m.start) (read_time turn x.share.line answer buffer))
-          (done_step turn.timekeeper.wall turn.timekeeper.start old new (Answers (ReadCall x.number answer buffer))
+          (done_step c.args.self.now.most turn.timekeeper.wall turn.timekeeper.start old new (Answers (ReadCall x.number answer buffer))
           c.read-handed.ensures.log
           (λ early. read_done turn.timekeeper.wall turn.timekeeper.start old turn _ x answer
           buffer (length c.args.buffer.now) c.read-handed.result.starved c.args.self.now.timed

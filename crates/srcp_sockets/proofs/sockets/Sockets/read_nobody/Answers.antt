@@ -30,11 +30,11 @@ invariant_of-self g c =
           c.report_fault-answer.ensures.reported c.report_fault-answer.ensures.new c.report_fault-answer.ensures.ends c.answer.ensures.log
           c.args.self.now.timed;
       asked = asked_step old new (Answers call) c.answer.ensures.log refl c.args.self.now.asked;
-      done = done_turn new self.turn c.report_fault-answer.new.self (after_read self.turn At answer c.args.buffer.now)
+      done = done_turn self.most new self.turn c.report_fault-answer.new.self (after_read self.turn At answer c.args.buffer.now)
           (c.report_fault-answer.ensures.new At c.args.buffer.now)
           (ap (λ m. m.wall) (read_time self.turn At answer c.args.buffer.now))
           (ap (λ m. m.start) (read_time self.turn At answer c.args.buffer.now))
-          (done_step wall start old new (Answers call) c.answer.ensures.log
+          (done_step self.most wall start old new (Answers call) c.answer.ensures.log
           (λ early. missing_done wall start old self.turn c.args.number answer c.args.buffer.now self.timed
           (unwatched_is old self.peers.items self.listening self.last c.args.number c.requires self.stands)
           c.report_fault-answer.ensures.exact)

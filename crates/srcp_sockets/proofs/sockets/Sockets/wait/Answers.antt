@@ -1,4 +1,4 @@
-use Rattle.std.proofs.Common.{◌++◌, ◌∷◌, [], ◌≡◌, ◌∙◌, ℕ, List, Option, rules, refl, sym, subst, false, true, arith}
+use Rattle.std.proofs.Common.{◌++◌, ◌∷◌, [], ◌≡◌, ◌∙◌, ℕ, List, None, Option, rules, refl, sym, subst, false, true, arith}
 use Rattle.std.specs.Prelude.{All}
 use Rattle.std.proofs.lemmas.List.{with_items_is}
 use Rattle.srcp_peers.specs.declared.peer.Peer.{Peer}
@@ -14,6 +14,7 @@ use Rattle.srcp_peers.proofs.CallsAreOfTheDoor.{says_step}
 use Rattle.srcp_sockets.proofs.AcceptsAreAsked.{asked_step}
 use Rattle.srcp_sockets.proofs.WorkIsDone.{done_step, done_turn, looked_wait}
 use Rattle.srcp_sockets.proofs.NumbersDiffer.{named_silent}
+use Rattle.srcp_sockets.proofs.WaitsHaveReasons.{long_enough}
 use Rattle.srcp_sockets.proofs.WaitsKeepSockets.{stands_waited}
 use Rattle.srcp_sockets.proofs.WaitsOverWorkAreBrief.{brief_over_work}
 use Rattle.srcp_sockets.proofs.TimesGoOn.{timed_wait}
@@ -37,6 +38,8 @@ invariant_of-self g c =
     let listening = c.args.self.now.listening in
     let last = c.args.self.now.last in
     let same = sym c.as_mut_slice.ensures.value in
+    let long = λ (none : c.args.self.now.most ≡ None). long_enough old c.args.self.now.peers.items listening last
+    c.args.self.now.turn c.args.self.now.most most c.args.self.now.stands c.args.self.now.timed none c.longest_wait-most.ensures.exact in
     record {
       stands = subst (λ (ps : List Peer). Stands new ps c.listen-self.result last)
           (sym (with_items_is c.args.self.now.peers c.wake.new.peers (c.wake.auto.peers ∙ search rules)))
@@ -51,13 +54,15 @@ invariant_of-self g c =
           (timed_wait old new c.args.self.now.turn most count ready c.longest_wait-most.ensures.due c.longest_wait-most.ensures.panels
           c.wait-count.ensures.log c.args.self.now.timed);
       asked = asked_step old new (Waits most count ready) c.wait-count.ensures.log refl c.args.self.now.asked;
-      done = done_turn new c.args.self.now.turn c.wait.new.self (after_wait c.args.self.now.turn) c.wait.ensures refl refl
-          (done_step c.args.self.now.turn.timekeeper.wall c.args.self.now.turn.timekeeper.start old new (Waits most count ready)
-          c.wait-count.ensures.log (
+      done = done_turn c.args.self.now.most new c.args.self.now.turn c.wait.new.self (after_wait c.args.self.now.turn)
+          c.wait.ensures refl refl
+          (done_step c.args.self.now.most c.args.self.now.turn.timekeeper.wall c.args.self.now.turn.timekeeper.start old new
+          (Waits most count ready) c.wait-count.ensures.log (
             c.requires.may,
             brief_over_work old c.args.self.now.peers.items listening last c.args.self.now.turn c.args.self.now.most most
                 c.args.self.now.stands c.args.self.now.timed c.longest_wait-most.ensures.exact,
             c.wait-count.auto.ready ∙ c.requires.ready,
+            long,
           )
           c.args.self.now.done);
       ending = subst (AreAsFar new)

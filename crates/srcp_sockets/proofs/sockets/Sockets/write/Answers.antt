@@ -40,11 +40,11 @@ invariant_of-self-2 g c =
           x.number c.args.bytes.now (Ok c.write-count.result) c.note_write-2.ensures c.write-count.ensures.log c.args.self.now.timed;
       asked = asked_step c.args.self.now.system.log.steps c.write-count.new.system.log.steps
           (Answers (WriteCall x.number c.args.bytes.now (Ok c.write-count.result))) c.write-count.ensures.log refl c.args.self.now.asked;
-      done = done_turn c.write-count.new.system.log.steps c.args.self.now.turn c.note_write-2.new.self
+      done = done_turn c.args.self.now.most c.write-count.new.system.log.steps c.args.self.now.turn c.note_write-2.new.self
           (after_call c.args.self.now.turn (WriteCall x.number c.args.bytes.now (Ok c.write-count.result)))
           (c.note_write-2.ensures x.number c.args.bytes.now) refl refl
-          (done_step c.args.self.now.turn.timekeeper.wall c.args.self.now.turn.timekeeper.start c.args.self.now.system.log.steps
-          c.write-count.new.system.log.steps (Answers (WriteCall x.number c.args.bytes.now (Ok c.write-count.result)))
+          (done_step c.args.self.now.most c.args.self.now.turn.timekeeper.wall c.args.self.now.turn.timekeeper.start
+          c.args.self.now.system.log.steps c.write-count.new.system.log.steps (Answers (WriteCall x.number c.args.bytes.now (Ok c.write-count.result)))
           c.write-count.ensures.log tt c.args.self.now.done);
       ending = far_wrote c.args.self.now.system.log.steps c.write-count.new.system.log.steps c.args.self.now.peers.items
           c.in-Some.index x c.write-count.new.self c.args.bytes.now c.write-count.result c.in-Some.ensures.found.0
@@ -93,9 +93,9 @@ pub invariant_of-self-clause-done : goal.invariant_of-self-clause-done
 invariant_of-self-clause-done g c =
     let turn = c.args.self.now.turn in
     let call = WriteCall c.args.number c.args.bytes.now (Err Write) in
-    done_turn c.answer.new.self.log.steps turn c.note_write.new.self (after_call turn call)
+    done_turn c.args.self.now.most c.answer.new.self.log.steps turn c.note_write.new.self (after_call turn call)
     (c.note_write.ensures c.args.number c.args.bytes.now) refl refl
-    (done_step turn.timekeeper.wall turn.timekeeper.start c.args.self.now.system.log.steps
+    (done_step c.args.self.now.most turn.timekeeper.wall turn.timekeeper.start c.args.self.now.system.log.steps
     c.answer.new.self.log.steps (Answers call) c.answer.ensures.log tt c.args.self.now.done)
 
 pub returns-clause-log : goal.returns-clause-log
