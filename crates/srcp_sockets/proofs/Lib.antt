@@ -19,3 +19,4 @@ pub mod WaitsAreFlushed
 pub mod AnswersAreBounded
 pub mod SettledPanelsHold
 pub mod PeersAreFrom
+pub mod SharesAreWhole
