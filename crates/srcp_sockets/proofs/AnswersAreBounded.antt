@@ -27,7 +27,7 @@ load_grows count (Clocks shown ∷ came) e = load_grows (count + 1) came e ∙ o
 load_grows count (Answers call ∷ came) e = cc
 
 -- an answer stands behind no calls of the system alone
-not_silent : (mid rest : List Step) (x : Call) → calls (mid ++ Answers x ∷ rest) ≡ [] → ⊥
+pub not_silent : (mid rest : List Step) (x : Call) → calls (mid ++ Answers x ∷ rest) ≡ [] → ⊥
 not_silent mid rest x none = some_there (calls mid) (sym (filter_map-append call_of mid (Answers x ∷ rest)) ∙ none)
   where
     some_there : (before : List Call) → before ++ x ∷ calls rest ≡ [] → ⊥

@@ -21,3 +21,4 @@ pub mod WaitsOverWorkAreBrief
 pub mod AnswersAreBounded
 pub mod SettledPanelsHold
 pub mod PeersAreFrom
+pub mod SharesAreWhole

@@ -39,16 +39,21 @@ use Rattle.srcp_sockets.proofs.TimesGoOn.{line_kept}
 
 -- ---- what is handed out
 
+-- no prefix that may go has more lines than the longest
+pub no_more : (line : LineBoundary) (most : ℕ) (piece : List ℕ) (count n : ℕ) → IsLongest line most piece count → n ≤ length piece
+    → weight_of line (take n piece) ≤ most → lines (take n piece) ≤ lines (take count piece)
+no_more line most piece count n longest within light = ⊎_elim
+    (λ (more : lines (take count piece) < lines (take n piece)).
+    let heavy : most < weight_of line (take n piece) = longest.longest n within more in
+    absurd (omega (arith, heavy, light)))
+    (λ (fewer : lines (take n piece) ≤ lines (take count piece)). fewer)
+    (cases_lt (lines (take count piece)) (lines (take n piece)))
+
 light_longest : (line : LineBoundary) (most : ℕ) (piece : List ℕ) (count : ℕ) → IsLongest line most piece count
     → IsHandedOut line piece count
 light_longest line most piece count h = record {
   begun = h.begun;
-  light = λ n within none. ⊎_elim
-      (λ (more : lines (take count piece) < lines (take n piece)).
-      let weighs : most < weight_of line (take n piece) = h.longest n within more in
-      absurd (omega (arith, weighs, none)))
-      (λ (fewer : lines (take n piece) ≤ lines (take count piece)). fewer)
-      (cases_lt (lines (take count piece)) (lines (take n piece)));
+  light = λ n within none. no_more line most piece count n h within (omega (arith, none));
 }
 
 granted : (line : LineBoundary) (most rest : ℕ) (piece : List ℕ) (count : ℕ) → IsShare line most rest piece count
@@ -147,6 +152,13 @@ leaves a p wanted h here far may sound settled =
 
 -- ---- the answer
 
+-- the piece of it is the one that its account says
+pub piece_held : (received : Received) (p : Peer) (space : ℕ) (buffer : List ℕ) → received.gave ≡ received.handed ++ p.incoming
+    → length buffer ≡ space → piece_of p space ≡ held_piece received (length buffer)
+piece_held received p space buffer gave long =
+    ap (λ n. take (min 256 n) p.incoming) (sym long)
+    ∙ ap (take (min 256 (length buffer))) (sym (ap (drop (length received.handed)) gave ∙ drop-append_seam received.handed p.incoming))
+
 -- of a peer that is there
 pub read_done : (wall start : ℕ) (log : List Step) (turn : Turn) (waits : Bool) (p : Peer) (answer : Result Got DoorFault)
     (buffer : List ℕ) (space : ℕ) (kept : Bool) → Timed (times wall start log) turn → IsKept log p
@@ -162,10 +174,7 @@ read_done wall start log turn waits p answer buffer space kept timed agrees here
     let stays : StaysAs a.watched a.lingering p.outgoing stay.Here = subst (StaysAs a.watched a.lingering p.outgoing) here h.stays in
     let some : is_held a.received ≡ true → p.incoming ≢ [] = λ e none.
     true≢false (sym e ∙ held ∙ ap (λ (xs : List ℕ). not (length xs == 0)) none) in
-    let piece : piece_of p space ≡ held_piece a.received (length buffer) =
-    ap (λ n. take (min 256 n) p.incoming) (sym long)
-    ∙ ap (take (min 256 (length buffer)))
-    (sym (ap (drop (length a.received.handed)) gave ∙ drop-append_seam a.received.handed p.incoming)) in
+    let piece : piece_of p space ≡ held_piece a.received (length buffer) = piece_held a.received p space buffer gave long in
     record {
       told = λ ends failing.
           let rest = watched_fails a.watched (not (is_held a.received) && (a.sent.lost || a.received.failed)) stays.0 failing in

@@ -346,7 +346,7 @@ may_tell turn old new peers l last false stands says holds stood looked = record
   ticked = λ ticked. looked refl;
 }
 
-clocked_turn : (t : Times) (shown : Option ℕ) → (clocked t shown).turn ≡ t.turn
+pub clocked_turn : (t : Times) (shown : Option ℕ) → (clocked t shown).turn ≡ t.turn
 clocked_turn t None = refl
 clocked_turn t (Some time) = refl
 

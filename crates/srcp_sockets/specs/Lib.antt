@@ -13,5 +13,6 @@ pub mod Loads
 pub mod Names
 pub mod Panels
 pub mod Settled
+pub mod Shares
 pub mod Waits
 pub mod Work

@@ -9,6 +9,7 @@ ghost use Rattle.srcp_peers.specs.Turns.{first_turn, got_bytes};
 ghost use Rattle.srcp_sockets.specs.Doors.{flushed_in};
 ghost use Rattle.srcp_sockets.specs.Limits.{most_peers, most_ready};
 ghost use Rattle.srcp_sockets.specs.Loads.{AnswersFairly, AnswersFairly-prop};
+ghost use Rattle.srcp_sockets.specs.Shares.{SharesHold, SharesHold-prop};
 ghost use Rattle.srcp_sockets.specs.Work.{IsPeerRead, IsPeerWritten};
 
 use crate::sockets::Sockets;
@@ -32,6 +33,8 @@ pub struct SocketDoor<S: System> {
     faults: u64,
     ghost most: { length ready.items ≡ most_ready },
     ghost fair: { AnswersFairly sockets.system.log.steps } by { AnswersFairly-prop _ },
+    ghost shares: { SharesHold sockets.system.log.steps sockets.turn sockets.starved sockets.peers.items }
+        by { SharesHold-prop _ _ _ _ },
 }
 
 impl<S: System> SocketDoor<S> {

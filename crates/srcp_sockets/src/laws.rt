@@ -24,6 +24,7 @@ ghost use Rattle.srcp_sockets.specs.Limits.{most_lingering, most_ready};
 ghost use Rattle.srcp_sockets.specs.Loads.{AreBounded, load};
 ghost use Rattle.srcp_sockets.specs.Panels.{PanelsAreKept};
 ghost use Rattle.srcp_sockets.specs.Settled.{SettledPanelsHold};
+ghost use Rattle.srcp_sockets.specs.Shares.{AreFilled};
 ghost use Rattle.srcp_peers.specs.Times.{times};
 ghost use Rattle.srcp_peers.specs.Turns.{got_bytes, has_ticked, is_pending, reports_end};
 ghost use Rattle.srcp_peers.specs.Streams.{gave, handed, taken, took};
@@ -216,6 +217,15 @@ pub fn input_is_handed_out<S: System>(door: &SocketDoor<S>)
         t.turn.late ≡ false → (reports_end answer ≡ false)
         × IsHandedOut (t.lines socket) (held_piece (account socket before).received (length buffer))
         (length (got_bytes answer buffer))) }
+{}
+
+/// States what a read handed out at least, also of lines that weigh something. The read was the first since the moment
+/// of a peer that was there by then, and input of that peer was held. The turn was not late, and its pace let any line
+/// through. The turn before was not late either, and any line might still go at its end. Then the read handed out as
+/// many lines as the pace lets through, and at least one if a line ends in the piece.
+pub fn lines_are_handed_out<S: System>(door: &SocketDoor<S>)
+    ensures { AreFilled door.now.sockets.turn.timekeeper.wall door.now.sockets.turn.timekeeper.start
+        door.now.sockets.system.log.steps }
 {}
 
 /// States that a read of a peer that was not there reported a fault. So did a read of a peer with nothing held of which

@@ -15,7 +15,7 @@ ghost use Rattle.srcp_sockets.specs.Names.{IsNamed, IsNamed-prop};
 ghost use Rattle.srcp_sockets.specs.KeptTimes.{IsTimed, IsTimed-prop};
 ghost use Rattle.srcp_peers.specs.Peers.{KeepsRest, KeepsShare, Makes, is_closable, is_here};
 ghost use Rattle.srcp_peers.specs.Times.{KeepsTimes};
-ghost use Rattle.srcp_peers.specs.Turns.{first_turn};
+ghost use Rattle.srcp_peers.specs.Turns.{after_call, first_turn};
 ghost use Rattle.srcp_peers.specs.Waiting.{longest_wait};
 ghost use Rattle.srcp_door.specs.Calls.{ExpectCall, NowCall, WriteCall, CloseCall};
 ghost use Rattle.srcp_peers.specs.Steps.{Answers, Closes, GrowsBy, SaysNothing, SaysOne};
@@ -72,6 +72,7 @@ impl<S: System> Sockets<S> {
     pub(crate) fn expect(&mut self, due: Option<u64>, slack: Option<usize>)
         ensures trace { SaysOne self.old.system.log.steps (ExpectCall due slack) self.new.system.log.steps }
         ensures log { self.new.system.log.steps ≡ self.old.system.log.steps ++ Answers (ExpectCall due slack) ∷ [] }
+        ensures turn { self.new.turn ≡ after_call self.old.turn (ExpectCall due slack) }
         ensures keeps { (self.new.starved ≡ self.old.starved) × (self.new.most ≡ self.old.most)
             × (self.new.last ≡ self.old.last) × (self.new.listening ≡ self.old.listening)
             × (self.new.peers ≡ self.old.peers) }
@@ -84,7 +85,8 @@ impl<S: System> Sockets<S> {
     pub(crate) fn wait_at_most(&mut self, milliseconds: u64)
         ensures most { self.new.most ≡ Some milliseconds }
         ensures keeps { (self.new.starved ≡ self.old.starved) × (self.new.last ≡ self.old.last)
-            × (self.new.listening ≡ self.old.listening) × (self.new.peers ≡ self.old.peers) }
+            × (self.new.listening ≡ self.old.listening) × (self.new.peers ≡ self.old.peers)
+            × (self.new.turn ≡ self.old.turn) }
         ensures system { self.new.system ≡ self.old.system }
     {
         self.most = Some(milliseconds);
@@ -141,6 +143,7 @@ impl<S: System> Sockets<S> {
     pub(crate) fn close(&mut self, number: u32) -> Result<(), DoorFault>
         ensures trace { SaysOne self.old.system.log.steps (CloseCall number result) self.new.system.log.steps }
         ensures log { self.new.system.log.steps ≡ self.old.system.log.steps ++ Answers (CloseCall number result) ∷ [] }
+        ensures turn { self.new.turn ≡ after_call self.old.turn (CloseCall number result) }
         ensures keeps { (self.new.starved ≡ self.old.starved) × (self.new.most ≡ self.old.most)
             × (self.new.last ≡ self.old.last) × (self.new.listening ≡ self.old.listening) }
         ensures fault { IfErr result (λ fault. fault ≡ DoorFault.Close) }
@@ -218,6 +221,8 @@ impl<S: System> Sockets<S> {
         ensures fault { IfErr result (λ fault. fault ≡ DoorFault.Now) }
         ensures clock { IsClocked self.old.turn result self.old.system.log.steps self.new.system.log.steps }
         ensures starved { self.new.starved ≡ self.old.starved }
+        ensures clocks { (self.new.turn.timekeeper.wall ≡ self.old.turn.timekeeper.wall)
+            × (self.new.turn.timekeeper.start ≡ self.old.turn.timekeeper.start) }
         ensures keeps { (self.new.most ≡ self.old.most) × (self.new.last ≡ self.old.last)
             × (self.new.listening ≡ self.old.listening) × (self.new.peers ≡ self.old.peers) }
     {
@@ -279,6 +284,7 @@ impl<S: System> Sockets<S> {
             self.new.system.log.steps }
         ensures log { self.new.system.log.steps
             ≡ self.old.system.log.steps ++ Answers (WriteCall number bytes.now result) ∷ [] }
+        ensures turn { self.new.turn ≡ after_call self.old.turn (WriteCall number bytes.now result) }
         ensures count { IfOk result (λ n. n ≤ length bytes.now) }
         ensures fault { IfErr result (λ fault. fault ≡ DoorFault.Write) }
         ensures exact { IsPeerWritten self.old.peers.items number bytes.now result }

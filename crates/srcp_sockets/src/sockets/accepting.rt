@@ -1,7 +1,7 @@
 //! How a pending connection is accepted.
 
 ghost use Rattle.std.specs.Prelude.{All, false, true, ◌≡◌, ◌<◌, ◌≤◌, ◌+◌, ◌⊎◌, None, Ok, Err, IfErr, length};
-ghost use Rattle.std.specs.Prelude.{◌++◌, ◌∷◌, [], ℕ, IfOk, OnErr, vec_capacity};
+ghost use Rattle.std.specs.Prelude.{◌++◌, ◌∷◌, [], ℕ, IfOk, OnErr, Some, vec_capacity};
 ghost use Rattle.srcp_info.specs.Limits.{greatest_id};
 ghost use Rattle.srcp_sockets.specs.Asked.{IsExcused, MayAnswer};
 ghost use Rattle.srcp_sockets.specs.Doors.{is_quiet};
@@ -11,6 +11,7 @@ ghost use Rattle.srcp_sockets.specs.Work.{AreFrom, IsAccepting, IsFrom, FreesPla
 ghost use Rattle.srcp_sockets.specs.Work.{may_accept};
 ghost use Rattle.srcp_peers.specs.Peers.{KeepsShare};
 ghost use Rattle.srcp_peers.specs.Times.{failed_accept};
+ghost use Rattle.srcp_peers.specs.Turns.{after_call};
 ghost use Rattle.srcp_door.specs.Calls.{AcceptCall};
 ghost use Rattle.srcp_peers.specs.Steps.{Answers, Closes, GrowsBy, SaysNothing};
 
@@ -36,6 +37,8 @@ impl<S: System> Sockets<S> {
             → ((result ≡ Err DoorFault.Accept) × (self.old.last ≡ greatest_id))
             ⊎ IsAccepting (self.old.last + 1) result self.old.listening self.new.listening
             self.old.system.log.steps self.new.system.log.steps }
+        ensures turn { self.new.turn ≡ after_call self.old.turn (AcceptCall result) }
+        ensures next { (number : ℕ) → result ≡ Ok (Some number) → number ≡ self.old.last + 1 }
         ensures keeps { (self.new.starved ≡ self.old.starved) × (self.new.most ≡ self.old.most) }
         ensures last { self.new.last ≡ last_after self.old.last result }
         ensures shares { All (λ peer. peer.number ≤ self.old.last
@@ -65,7 +68,8 @@ impl<S: System> Sockets<S> {
         ensures last { self.new.last ≡ self.old.last }
         ensures is { result ≡ may_accept self.old.listening self.old.peers.items }
         ensures excused { result ≡ false → IsExcused self.new.system.log.steps }
-        ensures keeps { (self.new.starved ≡ self.old.starved) × (self.new.most ≡ self.old.most) }
+        ensures keeps { (self.new.starved ≡ self.old.starved) × (self.new.most ≡ self.old.most)
+            × (self.new.turn ≡ self.old.turn) }
         ensures shares { AreFrom KeepsShare self.old.peers.items self.new.peers.items }
         ensures same { result ≡ true → (self.new.listening ≡ self.old.listening) × (self.new.last ≡ self.old.last)
             × (self.new.system.log.steps ≡ self.old.system.log.steps) }
@@ -92,6 +96,7 @@ impl<S: System> Sockets<S> {
         requires last { self.old.last ≡ greatest_id }
         ensures log { self.new.system.log.steps ≡ self.old.system.log.steps ++ Answers (AcceptCall result) ∷ [] }
         ensures fault { result ≡ Err DoorFault.Accept }
+        ensures turn { self.new.turn ≡ after_call self.old.turn (AcceptCall result) }
         ensures keeps { (self.new.starved ≡ self.old.starved) × (self.new.most ≡ self.old.most)
             × (self.new.peers ≡ self.old.peers) }
         ensures last { self.new.last ≡ last_after self.old.last result }
@@ -110,6 +115,7 @@ impl<S: System> Sockets<S> {
         requires excused { MayAnswer self.old.system.log.steps answer }
         ensures log { self.new.system.log.steps ≡ self.old.system.log.steps ++ Answers (AcceptCall result) ∷ [] }
         ensures same { result ≡ answer }
+        ensures turn { self.new.turn ≡ after_call self.old.turn (AcceptCall result) }
         ensures listening { self.new.listening ≡ self.old.listening }
         ensures keeps { (self.new.starved ≡ self.old.starved) × (self.new.most ≡ self.old.most)
             × (self.new.peers ≡ self.old.peers) }
@@ -129,6 +135,7 @@ impl<S: System> Sockets<S> {
         ensures rests { OnErr result (self.new.listening ≡ Listening.BackingOff) }
         ensures exact { IsAccepting number result self.old.listening self.new.listening
             self.old.system.log.steps self.new.system.log.steps }
+        ensures turn { self.new.turn ≡ after_call self.old.turn (AcceptCall result) }
         ensures keeps { (self.new.starved ≡ self.old.starved) × (self.new.most ≡ self.old.most) }
         ensures last { self.new.last ≡ last_after self.old.last result }
         ensures shares { All (λ peer. peer.number ≤ self.old.last
@@ -170,7 +177,8 @@ impl<S: System> Sockets<S> {
         requires { is_quiet self.old.listening ≡ false }
         ensures calls { SaysNothing self.old.system.log.steps self.new.system.log.steps }
         ensures last { self.new.last ≡ self.old.last }
-        ensures keeps { (self.new.starved ≡ self.old.starved) × (self.new.most ≡ self.old.most) }
+        ensures keeps { (self.new.starved ≡ self.old.starved) × (self.new.most ≡ self.old.most)
+            × (self.new.turn ≡ self.old.turn) }
         ensures shares { AreFrom KeepsShare self.old.peers.items self.new.peers.items }
         ensures closes { (self.new.system.log.steps ≡ self.old.system.log.steps)
             ⊎ ((who : ℕ) × (self.new.system.log.steps ≡ self.old.system.log.steps ++ Closes who ∷ [])) }

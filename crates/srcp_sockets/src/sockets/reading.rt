@@ -3,9 +3,11 @@
 ghost use Rattle.std.specs.Prelude.{◌≡◌, ◌≢◌, ◌<◌, ◌≤◌, ◌⊎◌, ◌++◌, ◌∷◌, [], ℕ, false, true, Ok, Err, IfErr, length};
 ghost use Rattle.std.specs.List.{list_any};
 ghost use Rattle.srcp_door.specs.Calls.{ReadCall};
+ghost use Rattle.srcp_door.specs.Pacing.{IsShort};
+ghost use Rattle.srcp_door.specs.declared.pacing.LineBoundary.{LineBoundary};
 ghost use Rattle.srcp_peers.specs.Peers.{KeepsShare, goes_first};
 ghost use Rattle.srcp_peers.specs.Steps.{Answers, SaysOne};
-ghost use Rattle.srcp_peers.specs.Turns.{got_bytes};
+ghost use Rattle.srcp_peers.specs.Turns.{after_read, got_bytes};
 ghost use Rattle.srcp_sockets.specs.Doors.{IsMissing};
 ghost use Rattle.srcp_sockets.specs.Work.{AreFrom, IsPeerRead, goes_behind};
 
@@ -31,7 +33,7 @@ impl<S: System> Sockets<S> {
         ensures nothing { result ≡ Ok Got.Nothing }
         ensures keeps { (self.new.starved ≡ self.old.starved) × (self.new.most ≡ self.old.most)
             × (self.new.last ≡ self.old.last) × (self.new.listening ≡ self.old.listening)
-            × (self.new.peers ≡ self.old.peers) }
+            × (self.new.peers ≡ self.old.peers) × (self.new.turn ≡ self.old.turn) }
     {
         let answer = Ok(Got::Nothing);
         self.system.answer(&Answer::Read(number, answer, buffer));
@@ -73,6 +75,9 @@ impl<S: System> Sockets<S> {
         ensures keeps { (self.new.most ≡ self.old.most) × (self.new.last ≡ self.old.last)
             × (self.new.listening ≡ self.old.listening) }
         ensures stays { self.old.starved ≡ true → self.new.starved ≡ true }
+        ensures clocks { self.new.turn.timekeeper ≡ self.old.turn.timekeeper }
+        ensures short { (self.old.starved ≡ true → IsShort self.old.turn.pace) → self.new.starved ≡ true
+            → IsShort self.new.turn.pace }
     {
         let Some(index) = self.index_of(number) else {
             return self.read_nobody(number, buffer);
@@ -95,6 +100,7 @@ impl<S: System> Sockets<S> {
         ensures log { self.new.system.log.steps
             ≡ self.old.system.log.steps ++ Answers (ReadCall number result buffer.now) ∷ [] }
         ensures nothing { (result ≡ Ok Got.Nothing) ⊎ (result ≡ Err DoorFault.Read) }
+        ensures turn { (line : LineBoundary) → self.new.turn ≡ after_read self.old.turn line result buffer.now }
         ensures keeps { (self.new.starved ≡ self.old.starved) × (self.new.most ≡ self.old.most)
             × (self.new.last ≡ self.old.last) × (self.new.listening ≡ self.old.listening)
             × (self.new.peers ≡ self.old.peers) }

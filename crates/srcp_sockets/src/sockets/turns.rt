@@ -48,6 +48,9 @@ impl<S: System> Sockets<S> {
             self.old.peers.items self.new.peers.items }
         ensures lines_left { All (λ peer. peer.lines_left
             ≡ lines_left_of (list_any holds_input self.old.peers.items) self.old.turn.slack) self.new.peers.items }
+        ensures turn { self.new.turn ≡ record self.old.turn {
+          busy = goes_on self.old.turn self.old.peers.items && self.old.turn.busy;
+        } }
         ensures reset { self.new.starved ≡ false }
         ensures keeps { (self.new.most ≡ self.old.most) × (self.new.last ≡ self.old.last) }
     {

@@ -5,6 +5,10 @@ use Rattle.srcp_peers.proofs.CallsAreOfTheDoor.{says_after}
 use Rattle.srcp_peers.proofs.QueuedIsOffered.{all_offered_more}
 use Rattle.srcp_sockets.specs.Doors.{flushed_in}
 use Rattle.srcp_sockets.proofs.AnswersAreBounded.{answered_more, answered_now}
+use Rattle.srcp_sockets.proofs.SharesAreWhole.{shares_now}
+use Rattle.srcp_sockets.specs.Work.{AreFrom}
+use Rattle.srcp_peers.specs.Peers.{IsShared}
+use Rattle.std.specs.Prelude.{◌||◌, not}
 use Rattle.srcp_sockets.proofs.door.SocketDoorDoor.now.Goals as goal
 
 pub returns-else-is_err-clause-trace : goal.returns-else-is_err-clause-trace
@@ -51,3 +55,18 @@ returns-then-is_err-clause-offered g c =
     c.begin_turn.new.self.system.log.steps (Clocks clock.0 ∷ Answers (NowCall c.now-answer.result) ∷ [])
     c.failed.new.self.sockets.system.log.steps c.begin_turn.ensures.offered
     (ap (λ sockets. sockets.system.log.steps) c.failed.ensures.sockets ∙ clock.2)
+
+pub invariant_of-self-clause-shares : goal.invariant_of-self-clause-shares
+invariant_of-self-clause-shares g c =
+    let was = c.args.self.now.sockets in
+    let begun = c.begin_turn.new.self in
+    let new = c.now-answer.new.self in
+    let clock = c.now-answer.ensures.clock in
+    let turn = c.begin_turn.ensures.turn in
+    let Shared = IsShared (not (was.starved || was.turn.late)) was.turn.clock in
+    shares_now was.system.log.steps begun.system.log.steps new.system.log.steps was.turn begun.turn new.turn was.starved new.starved
+    was.peers.items new.peers.items clock.0 c.now-answer.result c.begin_turn.ensures.calls clock.2
+    (ap (λ t. t.timekeeper) turn) (ap (λ t. t.pace) turn) (ap (λ t. t.late) turn) c.now-answer.ensures.clocks
+    (c.now-answer.ensures.starved ∙ c.begin_turn.ensures.reset) begun.timed
+    (subst (AreFrom Shared was.peers.items) (sym (ap (λ peers. peers.items) c.now-answer.ensures.keeps.3)) c.begin_turn.ensures.shares)
+    c.args.self.now.shares

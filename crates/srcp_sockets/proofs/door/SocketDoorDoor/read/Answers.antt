@@ -2,6 +2,15 @@ use Rattle.srcp_door.specs.Calls.{ReadCall}
 use Rattle.srcp_serve.proofs.DoorIsCalled.{fair_read}
 use Rattle.srcp_sockets.proofs.AnswersAreBounded.{answered_once}
 use Rattle.std.proofs.Common.{length}
+use Rattle.srcp_sockets.proofs.SharesAreWhole.{late_filled, read_filled, shares_read}
+use Rattle.srcp_sockets.proofs.PeersAreFrom.{from_same}
+use Rattle.srcp_sockets.specs.Work.{AreFrom}
+use Rattle.srcp_peers.specs.Peers.{KeepsShare}
+use Rattle.srcp_peers.specs.declared.turn.Turn.{Turn}
+use Rattle.srcp_peers.specs.declared.peer.Peer.{Peer}
+use Rattle.srcp_door.specs.Pacing.{IsShort}
+use Rattle.std.specs.Prelude.{◌≢◌}
+use Rattle.std.proofs.Common.{◌∙◌, ap, refl, rules, subst, sym}
 use Rattle.srcp_sockets.proofs.door.SocketDoorDoor.read.Goals as goal
 
 pub invariant_of-self-2-clause-fair : goal.invariant_of-self-2-clause-fair
@@ -20,3 +29,30 @@ invariant_of-self-clause-fair g c =
 
 pub returns-then-is_err-clause-answered : goal.returns-then-is_err-clause-answered
 returns-then-is_err-clause-answered g c early = rw c.failed.ensures.sockets c.read-answer.ensures.answered
+
+pub invariant_of-self-2-clause-shares : goal.invariant_of-self-2-clause-shares
+invariant_of-self-2-clause-shares g c =
+    let was = c.args.self.now.sockets in
+    let new = c.read-answer.new.self in
+    let now = c.read-answer.ensures in
+    let answer = c.read-answer.result in
+    let buffer = c.read-answer.new.buffer in
+    shares_read was.system.log.steps new.system.log.steps was.turn new.turn was.starved new.starved was.peers.items
+    new.peers.items c.args.peer answer buffer now.log now.clocks now.short now.shares
+    (read_filled was.system.log.steps was.turn was.peers.items new.peers.items was.listening was.last c.args.peer
+    (length c.args.buf.now) answer buffer was.starved new.starved was.stands was.timed c.args.self.now.shares.whole
+    c.read-answer.auto.buffer now.answered) c.args.self.now.shares
+
+pub invariant_of-self-clause-shares : goal.invariant_of-self-clause-shares
+invariant_of-self-clause-shares g c =
+    let was = c.args.self.now.sockets in
+    let new = c.hold_back.new.self in
+    let now = c.hold_back.ensures in
+    let Keeps = λ (p q : Peer). q.number ≢ c.args.peer → KeepsShare p q in
+    shares_read was.system.log.steps new.system.log.steps was.turn new.turn was.starved new.starved was.peers.items
+    new.peers.items c.args.peer c.hold_back.result c.args.buf.now now.log (ap (λ turn. turn.timekeeper) now.keeps.5)
+    (λ short starved. subst (λ (turn : Turn). IsShort turn.pace) (sym now.keeps.5) (short (sym now.keeps.0 ∙ starved)))
+    (subst (AreFrom Keeps was.peers.items) (sym (ap (λ peers. peers.items) now.keeps.4))
+    (from_same Keeps (λ p differ. (refl, refl)) was.peers.items))
+    (late_filled was.system.log.steps was.turn c.args.peer c.hold_back.result c.args.buf.now was.timed (search rules))
+    c.args.self.now.shares

@@ -16,6 +16,14 @@ use Rattle.srcp_sockets.proofs.AnswersAreBounded.{answered_after}
 use Rattle.std.specs.Prelude.{All, slice_index_or}
 use Rattle.srcp_sockets.specs.Work.{AreFrom, IsFrom}
 use Rattle.srcp_sockets.proofs.PeersAreFrom.{share_then, since}
+use Rattle.srcp_peers.specs.Turns.{after_call}
+use Rattle.srcp_peers.specs.Times.{accept_answer, failed_accept}
+use Rattle.srcp_peers.specs.Steps.{failure_of}
+use Rattle.srcp_peers.specs.declared.turn.Turn.{Turn}
+use Rattle.srcp_peers.specs.declared.system.IoFailure.TheVariants.{WouldBlock, Interrupted, Fatal}
+use Rattle.srcp_peers.specs.declared.system.IoFailure.{IoFailure}
+use Rattle.std.specs.declared.io.ErrorKind.{ErrorKind}
+use Rattle.std.proofs.Common.{Err, Some}
 use Rattle.srcp_sockets.proofs.sockets.Sockets.accept.Goals as goal
 
 pub returns-clause-answers : goal.returns-clause-answers
@@ -166,3 +174,38 @@ pub returns-clause-shares : goal.returns-clause-shares
 returns-clause-shares g c k d lt below = since KeepsShare KeepsShare KeepsShare share_then c.args.self.now.peers.items
     c.may_accept.new.self.peers.items (slice_index_or c.accept_next.new.self.peers.items k d) c.may_accept.ensures.shares
     (c.accept_next.ensures.shares k d lt (omega (arith, below, c.may_accept.ensures.last)))
+
+-- the number that is answered is the one that the system was asked with
+number_of : (number n : ℕ) (said : Result Unit ErrorKind) → Ok (Some n) ≡ accept_answer number said → n ≡ number
+number_of number n (Ok done) e = cc
+number_of number n (Err fault) e = by (failure_of fault) e
+  where
+    by : (failure : IoFailure) → Ok (Some n) ≡ failed_accept failure → n ≡ number
+    by WouldBlock f = cc
+    by Interrupted f = cc
+    by Fatal f = cc
+
+pub returns-clause-next : goal.returns-clause-next
+returns-clause-next g c n is =
+    let said = c.accept_next.ensures.exact in
+    let same = (c.may_accept.ensures.same c.if-not-may_accept.false).1 in
+    let next : c.in-Some.number ≡ c.may_accept.new.self.last + 1 = search rules in
+    number_of c.in-Some.number n said.0 (sym is ∙ said.1) ∙ next ∙ ap (λ l. l + 1) same
+
+pub returns-then-not-may_accept-clause-next : goal.returns-then-not-may_accept-clause-next
+returns-then-not-may_accept-clause-next g c n is = let none = c.note_nobody.ensures.same in cc
+
+pub returns-in_default-clause-next : goal.returns-in_default-clause-next
+returns-in_default-clause-next g c n is = let none = c.put_off.ensures.fault in cc
+
+pub returns-clause-turn : goal.returns-clause-turn
+returns-clause-turn g c = c.accept_next.ensures.turn
+    ∙ ap (λ (t : Turn). after_call t (AcceptCall c.accept_next.result)) c.may_accept.ensures.keeps.2
+
+pub returns-then-not-may_accept-clause-turn : goal.returns-then-not-may_accept-clause-turn
+returns-then-not-may_accept-clause-turn g c = c.note_nobody.ensures.turn
+    ∙ ap (λ (t : Turn). after_call t (AcceptCall c.note_nobody.result)) c.may_accept.ensures.keeps.2
+
+pub returns-in_default-clause-turn : goal.returns-in_default-clause-turn
+returns-in_default-clause-turn g c = c.put_off.ensures.turn
+    ∙ ap (λ (t : Turn). after_call t (AcceptCall c.put_off.result)) c.may_accept.ensures.keeps.2

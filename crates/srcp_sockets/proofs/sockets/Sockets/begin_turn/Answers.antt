@@ -168,3 +168,12 @@ returns-clause-heard g c goes =
       waits = rw (c.begin_visits.ensures.keeps.2, ← heard, ← turn, ← limit) waits;
       ends = c.begin_visits.ensures.calls;
     }
+
+pub returns-clause-turn : goal.returns-clause-turn
+returns-clause-turn g c =
+    let was = c.args.self.now in
+    let held : c.goes_on-held.result ≡ goes_on was.turn was.peers.items = c.goes_on-held.ensures
+    ∙ ap (λ holds. not (has_ticked was.turn) && holds) c.holds_input-holds.ensures in
+    c.begin_visits.ensures.keeps.3 ∙ c.poll_unless_held.ensures.turn
+    ∙ ap (λ (t : Turn). record t { busy = c.goes_on-held.result && t.busy }) (c.close_gone.ensures.keeps.0 ∙ c.flush.ensures.keeps.0)
+    ∙ ap (λ (h : Bool). record was.turn { busy = h && was.turn.busy }) held

@@ -81,3 +81,9 @@ returns-clause-shares g c = from_set KeepsShare share_stays c.args.self.now.peer
 
 pub returns-in_default-clause-shares : goal.returns-in_default-clause-shares
 returns-in_default-clause-shares g c = from_same KeepsShare share_stays c.args.self.now.peers.items
+
+pub returns-clause-turn : goal.returns-clause-turn
+returns-clause-turn g c = c.note_close-2.ensures c.args.number (Ok tt)
+
+pub returns-in_default-clause-turn : goal.returns-in_default-clause-turn
+returns-in_default-clause-turn g c = c.note_close.ensures c.args.number (Err Close)

@@ -95,3 +95,18 @@ returns-clause-clock g c =
           (λ time e. (c.report_moment-answer.ensures.some time e).0),
       tells_two old mid new (Clocks shown) (Answers (NowCall answer)) c.clock-shown.ensures.log c.answer.ensures.log,
     )
+
+same_clocks : (before after : Turn) (shown : Option ℕ) (answer : Result ℕ DoorFault)
+    → (shown ≡ None → (answer ≡ Err Now) × (after ≡ begun before false))
+    → ((time : ℕ) → shown ≡ Some time → (answer ≡ Ok (moment_at before time)) × (after ≡ reported_at before time (moment_at before time)))
+    → (after.timekeeper.wall ≡ before.timekeeper.wall) × (after.timekeeper.start ≡ before.timekeeper.start)
+same_clocks before after None answer none some =
+    let is = (none refl).1 in
+    (ap (λ (t : Turn). t.timekeeper.wall) is, ap (λ (t : Turn). t.timekeeper.start) is)
+same_clocks before after (Some time) answer none some =
+    let is = (some time refl).1 in
+    (ap (λ (t : Turn). t.timekeeper.wall) is, ap (λ (t : Turn). t.timekeeper.start) is)
+
+pub returns-clause-clocks : goal.returns-clause-clocks
+returns-clause-clocks g c = same_clocks c.args.self.now.turn c.report_moment-answer.new.self c.clock-shown.result
+    c.report_moment-answer.result c.report_moment-answer.ensures.none c.report_moment-answer.ensures.some

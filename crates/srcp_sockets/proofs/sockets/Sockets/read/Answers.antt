@@ -21,6 +21,12 @@ use Rattle.srcp_sockets.specs.Work.{AreFrom, goes_behind}
 use Rattle.srcp_sockets.proofs.EndsAreTold.{far_goes, set_one, slackens_step}
 use Rattle.srcp_sockets.proofs.ThePeer.{the_changed, the_one}
 use Rattle.srcp_sockets.proofs.PeersAreFrom.{from_same, from_set}
+use Rattle.srcp_sockets.proofs.SharesAreWhole.{stays_short}
+use Rattle.srcp_peers.specs.declared.turn.Turn.{Turn}
+use Rattle.srcp_door.specs.declared.pacing.LineBoundary.TheVariants.{At}
+use Rattle.srcp_door.specs.Pacing.{IsShort}
+use Rattle.std.proofs.lemmas.Bool.{or_cases}
+use Rattle.std.proofs.Common.{⊎_elim, ◌⊎◌}
 use Rattle.srcp_sockets.proofs.sockets.Sockets.read.Goals as goal
 
 pub invariant_of-self : goal.invariant_of-self
@@ -132,3 +138,31 @@ returns-in_default-clause-shares g c =
     subst (AreFrom (λ was p. p.number ≢ c.args.number → KeepsShare was p) self.peers.items)
     (sym (ap (λ peers. peers.items) c.read_nobody.ensures.keeps.4))
     (from_same (λ was p. p.number ≢ c.args.number → KeepsShare was p) (λ p differ. (refl, refl)) self.peers.items)
+
+pub returns-clause-clocks : goal.returns-clause-clocks
+returns-clause-clocks g c =
+    let turn = c.args.self.now.turn in
+    let line = c.index_mut.result.now.share.line in
+    ap (λ (t : Turn). t.timekeeper) c.read-handed.ensures.turn ∙ read_time turn line c.read-handed.result.got c.read-handed.new.buffer
+
+pub returns-in_default-clause-clocks : goal.returns-in_default-clause-clocks
+returns-in_default-clause-clocks g c =
+    ap (λ (t : Turn). t.timekeeper) (c.read_nobody.ensures.turn At)
+    ∙ read_time c.args.self.now.turn At c.read_nobody.result c.args.buffer.now
+
+pub returns-clause-short : goal.returns-clause-short
+returns-clause-short g c short starved =
+    let turn = c.args.self.now.turn in
+    let handed = c.read-handed in
+    let after = handed.ensures.turn in
+    ⊎_elim
+    (λ (was : c.args.self.now.starved ≡ true). subst (λ (t : Turn). IsShort t.pace) (sym after)
+    (stays_short turn c.index_mut.result.now.share.line handed.result.got handed.new.buffer (short was)))
+    (λ (kept : handed.result.starved ≡ true). handed.ensures.starved kept)
+    (or_cases c.args.self.now.starved handed.result.starved starved)
+
+pub returns-in_default-clause-short : goal.returns-in_default-clause-short
+returns-in_default-clause-short g c short starved =
+    subst (λ (t : Turn). IsShort t.pace) (sym (c.read_nobody.ensures.turn At))
+    (stays_short c.args.self.now.turn At c.read_nobody.result c.args.buffer.now
+    (short (sym c.read_nobody.ensures.keeps.0 ∙ starved)))

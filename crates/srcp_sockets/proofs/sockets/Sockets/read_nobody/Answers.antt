@@ -46,3 +46,6 @@ invariant_of-self g c =
 pub returns-clause-trace : goal.returns-clause-trace
 returns-clause-trace g c = says_call c.args.self.now.system.log.steps c.answer.new.self.log.steps
     (ReadCall c.args.number c.report_fault-answer.result c.args.buffer.now) c.answer.ensures.log
+
+pub returns-clause-turn : goal.returns-clause-turn
+returns-clause-turn g c line = c.report_fault-answer.ensures.new line c.args.buffer.now

@@ -124,3 +124,9 @@ returns-clause-shares g c = from_set KeepsShare share_stays c.args.self.now.peer
 
 pub returns-in_default-clause-shares : goal.returns-in_default-clause-shares
 returns-in_default-clause-shares g c = from_same KeepsShare share_stays c.args.self.now.peers.items
+
+pub returns-clause-turn : goal.returns-clause-turn
+returns-clause-turn g c = c.note_write-2.ensures c.args.number c.args.bytes.now
+
+pub returns-in_default-clause-turn : goal.returns-in_default-clause-turn
+returns-in_default-clause-turn g c = c.note_write.ensures c.args.number c.args.bytes.now
