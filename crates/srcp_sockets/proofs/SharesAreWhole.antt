@@ -1,13 +1,12 @@
 -- A share is whole in a turn behind one at whose end every line might go, and a read hands out all that may go then.
-use Rattle.std.proofs.Common.{◌≡◌, ◌∙◌, ℕ, suc, ◌+◌, ◌-◌, ◌<◌, ◌≤◌, Bool, true, false, not, cond}
-use Rattle.std.proofs.Common.{List, [], ◌∷◌, ◌++◌, length, take, drop, refl, ap, sym, subst}
-use Rattle.std.proofs.Common.{arith, rules, ⊎_elim, ◌⊎◌, ◌==◌, ◌&&◌, ◌||◌, Option, Some, None, Ok, Err, true≢false}
+use Rattle.std.proofs.Common.{◌≡◌, ◌∙◌, ℕ, suc, ◌+◌, ◌<◌, ◌≤◌, Bool, true, false, not, cond}
+use Rattle.std.proofs.Common.{List, [], ◌∷◌, ◌++◌, length, take, refl, ap, sym, subst}
+use Rattle.std.proofs.Common.{arith, rules, ⊎_elim, ◌==◌, ◌&&◌, ◌||◌, Option, Some, None, Ok, Err, true≢false}
 use Rattle.std.proofs.Common.{append-nil, append_assoc}
-use Rattle.std.specs.Prelude.{⊤, ◌≢◌, All, Result, fold, if◌then◌else◌, min, nat_le, nat_lt, slice_index_or}
+use Rattle.std.specs.Prelude.{⊤, ◌≢◌, All, Result, fold, if◌then◌else◌, min, nat_le, slice_index_or}
 use Rattle.std.specs.List.{find}
 use Rattle.std.specs.Option.{option_map, unwrap_or}
 use Rattle.std.specs.Str.{str_eq_ignore_ascii_case}
-use Rattle.std.proofs.Math.Seq.{drop-append_seam}
 use Rattle.std.proofs.lemmas.Bool.{cases_Bool, cases_lt}
 use Rattle.std.proofs.lemmas.Bool.Decides.{nat_tests}
 use Rattle.std.proofs.lemmas.List.{length-take, take_all}
@@ -16,7 +15,7 @@ use Rattle.srcp_grammar.specs.Grammar.{named_in}
 use Rattle.srcp_grammar.specs.Weight.{weight, weight_of as weight_of_words, weights}
 use Rattle.srcp_door.specs.Calls.{Call, ExpectCall, NowCall, AcceptCall, ReadCall, WriteCall, CloseCall}
 use Rattle.srcp_door.specs.Moments.{Moments}
-use Rattle.srcp_door.specs.Pacing.{Allows, IsLongest, IsShare, IsShort, Seen, fits, line_weight, lines, seen_after, spent, weight_of}
+use Rattle.srcp_door.specs.Pacing.{Allows, IsLongest, IsShort, Seen, line_weight, lines, seen_after, spent, weight_of}
 use Rattle.srcp_door.specs.declared.door.DoorFault.{DoorFault}
 use Rattle.srcp_door.specs.declared.door.Got.{Got}
 use Rattle.srcp_door.specs.declared.door.Got.TheVariants as got
@@ -31,19 +30,18 @@ use Rattle.srcp_peers.specs.declared.stay.Stay.TheVariants as stay
 use Rattle.srcp_peers.specs.declared.turn.Listening.{Listening}
 use Rattle.srcp_peers.specs.declared.turn.Turn.{Turn}
 use Rattle.srcp_peers.specs.AllPeers.{AreWithin, IsAbsent}
-use Rattle.srcp_peers.specs.Accounts.{Account, Lingering, account, is_held}
+use Rattle.srcp_peers.specs.Accounts.{Account, Lingering, account}
 use Rattle.srcp_peers.specs.Peers.{Agrees, IsKept, IsShared, KeepsShare, ReadsAs, StaysAs, is_silent}
 use Rattle.srcp_peers.specs.Reports.{IsAnswered, piece_of}
 use Rattle.srcp_peers.specs.Steps.{Accepts, Answers, Clocks, Closes, Reads, SaysNothing, Shuts, Step, Waits, Writes, call_of, calls}
-use Rattle.srcp_peers.specs.Times.{Times, clocked, times, times_step}
+use Rattle.srcp_peers.specs.Times.{Times, times, times_step}
 use Rattle.srcp_peers.specs.Turns.{after_read, got_bytes, is_short_pace, own_pace}
 use Rattle.srcp_peers.proofs.PeersRestByAccount.{and_left, and_right, held_is}
 use Rattle.srcp_peers.proofs.StatesFollowSteps.{reads_here}
-use Rattle.srcp_peers.proofs.CallsAreOfTheDoor.{says_none}
-use Rattle.srcp_sockets.specs.Doors.{IsPresent, IsThere, Stands}
+use Rattle.srcp_sockets.specs.Doors.{IsThere, Stands}
 use Rattle.srcp_sockets.specs.Duties.{held_piece}
 use Rattle.srcp_sockets.specs.KeptTimes.{IsTimed}
-use Rattle.srcp_sockets.specs.Shares.{AreFilled, AreWhole, FillsPace, IsFilled, IsFirstRead, Sharing, SharesHold, anew_after, are_anew}
+use Rattle.srcp_sockets.specs.Shares.{AreFilled, AreWhole, FillsPace, IsFilled, Sharing, SharesHold, anew_after, are_anew}
 use Rattle.srcp_sockets.specs.Shares.{first_sharing, is_unread, sharing_step, unread_after, unread_called}
 use Rattle.srcp_sockets.specs.Work.{AreFrom, IsFrom, IsPeerRead, goes_behind, last_after}
 use Rattle.srcp_sockets.proofs.AcceptsAreAsked.{splits}
@@ -469,7 +467,8 @@ fills (Paced left) share piece count ample whole low h = record {
   one = λ some.
       let first = first_end (record { line = share.line; text = []; weight = 0 }) piece refl some in
       let light : weight_of share.line (take first.0 piece) ≤ 11 = first.3 in
-      let fit : nat_le (weight_of share.line (take first.0 piece)) left ≡ true = fits_in (weight_of share.line (take first.0 piece)) light in
+      let fit : nat_le (weight_of share.line (take first.0 piece)) left ≡ true =
+      fits_in (weight_of share.line (take first.0 piece)) light in
       let go : lines (take first.0 piece) ≤ lines (take count piece) = most first.0 first.1 fit in
       let there : 0 < lines (take first.0 piece) = first.2 in
       omega (arith, go, there);

@@ -55,8 +55,8 @@ is_unread socket log = fold (unread_after socket) false log
 
 -- ---- what is handed out
 
--- input of a peer is held that is there, and it was not read since the moment; each has a whole share, and the turn is
--- neither late nor keeps any line back
+-- input of a peer is held that is there and was not read since the moment. Each has a whole share, and the turn is not
+-- late and lets any line through
 pub record IsFirstRead (wall start : ℕ) (log : List Step) (who : ℕ) : Type 0 where
   pub watched : (account who log).watched ≡ true
   pub held : is_held (account who log).received ≡ true

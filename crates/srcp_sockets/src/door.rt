@@ -33,8 +33,8 @@ pub struct SocketDoor<S: System> {
     faults: u64,
     ghost most: { length ready.items ≡ most_ready },
     ghost fair: { AnswersFairly sockets.system.log.steps } by { AnswersFairly-prop _ },
-    ghost shares: { SharesHold sockets.system.log.steps sockets.turn sockets.starved sockets.peers.items }
-        by { SharesHold-prop _ _ _ _ },
+    ghost shares: { SharesHold sockets.system.log.steps sockets.turn sockets.starved
+        sockets.peers.items } by { SharesHold-prop _ _ _ _ },
 }
 
 impl<S: System> SocketDoor<S> {

@@ -18,7 +18,8 @@ invariant_of-self-clause-shares g c =
     let now = c.expect.ensures in
     let call = ExpectCall c.args.due c.args.slack in
     let from : AreFrom KeepsShare was.peers.items new.peers.items =
-    subst (AreFrom KeepsShare was.peers.items) (sym (ap (λ peers. peers.items) now.keeps.4)) (from_same KeepsShare share_stays was.peers.items) in
+    subst (AreFrom KeepsShare was.peers.items) (sym (ap (λ peers. peers.items) now.keeps.4))
+    (from_same KeepsShare share_stays was.peers.items) in
     shares_called was.system.log.steps new.system.log.steps call was.turn new.turn was.starved new.starved was.peers.items
     new.peers.items (comes_once was.system.log.steps new.system.log.steps call now.log) refl (ap (λ turn. turn.timekeeper) now.turn)
     (ap (λ turn. turn.pace) now.turn) now.keeps.0 (λ k d lt free. from k d lt) c.args.self.now.shares

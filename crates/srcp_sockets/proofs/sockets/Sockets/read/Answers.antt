@@ -26,7 +26,7 @@ use Rattle.srcp_peers.specs.declared.turn.Turn.{Turn}
 use Rattle.srcp_door.specs.declared.pacing.LineBoundary.TheVariants.{At}
 use Rattle.srcp_door.specs.Pacing.{IsShort}
 use Rattle.std.proofs.lemmas.Bool.{or_cases}
-use Rattle.std.proofs.Common.{⊎_elim, ◌⊎◌}
+use Rattle.std.proofs.Common.{⊎_elim}
 use Rattle.srcp_sockets.proofs.sockets.Sockets.read.Goals as goal
 
 pub invariant_of-self : goal.invariant_of-self
