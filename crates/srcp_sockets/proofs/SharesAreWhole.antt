@@ -49,7 +49,7 @@ use Rattle.srcp_sockets.proofs.AnswersAreBounded.{not_silent}
 use Rattle.srcp_sockets.proofs.SocketsStayStanding.{find as find_peer, nobody}
 use Rattle.srcp_sockets.proofs.ReadsAnswerInTime.{no_more, piece_held}
 use Rattle.srcp_sockets.proofs.TimesGoOn.{line_kept}
-use Rattle.srcp_sockets.proofs.WorkIsDone.{clocked_turn, gave_as, no_calls, not_none, one_only, some_call}
+use Rattle.srcp_sockets.proofs.WorkIsDone.{clocked_turn, no_calls, not_none, one_only, some_call}
 
 -- ---- the pace only falls
 
@@ -539,7 +539,7 @@ read_filled old turn peers later l last who space answer buffer starved now stan
         let h : Agrees a p = agrees in
         let here : p.stay ≡ stay.Here = here_is a.watched a.lingering p.outgoing p.stay h.stays first.watched in
         let reads : ReadsAs a.received p.incoming p.input = reads_here a.received p.incoming p.input p.stay here h.reads in
-        let gave : a.received.gave ≡ a.received.handed ++ p.incoming = gave_as a.received p.incoming p.input reads in
+        let gave : a.received.gave ≡ a.received.handed ++ p.incoming = reads.0 in
         let some : p.incoming ≢ [] = λ none. true≢false (sym first.held ∙ held_is a.received p.incoming gave
         ∙ ap (λ (xs : List ℕ). not (length xs == 0)) none) in
         let piece : piece_of p space ≡ held_piece a.received (length buffer) = piece_held a.received p space buffer gave long in

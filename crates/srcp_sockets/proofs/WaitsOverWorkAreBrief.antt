@@ -10,7 +10,7 @@ use Rattle.srcp_peers.specs.declared.stay.Stay.{Stay}
 use Rattle.srcp_peers.specs.declared.stay.Stay.TheVariants as stay
 use Rattle.srcp_peers.specs.declared.turn.Listening.{Listening}
 use Rattle.srcp_peers.specs.declared.turn.Turn.{Turn}
-use Rattle.srcp_peers.specs.Accounts.{Account, account, is_at_rest}
+use Rattle.srcp_peers.specs.Accounts.{Account, account, is_at_rest, is_full, is_held, is_owed}
 use Rattle.srcp_peers.specs.AllPeers.{IsAbsent}
 use Rattle.srcp_peers.specs.Peers.{Agrees, StaysAs, is_busy, is_here, is_resting}
 use Rattle.srcp_peers.specs.Steps.{Step}
@@ -19,6 +19,7 @@ use Rattle.srcp_peers.specs.Turns.{backpressure_delay, is_pending, time_left}
 use Rattle.srcp_peers.specs.Waiting.{longest_wait, quiet_wait, sooner}
 use Rattle.srcp_peers.proofs.PeersRestByAccount.{and_left, and_right, resting}
 use Rattle.srcp_sockets.specs.Doors.{IsThere, Stands}
+use Rattle.srcp_sockets.specs.Duties.{takes_input}
 use Rattle.srcp_sockets.specs.KeptTimes.{IsTimed}
 use Rattle.srcp_sockets.specs.Waits.{IsBriefOverWork, has_work, is_brief}
 use Rattle.srcp_sockets.proofs.AcceptsAreAsked.{or_last}
@@ -66,6 +67,22 @@ some_busy log peers l last socket stands work = ⊎_elim
     (sym (and_left (account socket log).watched (not (is_at_rest (account socket log).sent (account socket log).received)) work)
     ∙ (stands.closed socket absent).watched)))
     (find socket peers)
+
+-- a peer of which input is held that the core takes has work
+pub works_held : (a : Account) → takes_input a ≡ true → has_work a ≡ true
+works_held a takes = by a.watched a.sent.cut (is_held a.received) a.sent.lost (not (is_owed a.sent) || a.sent.full) takes
+  where
+    rest : Bool
+    rest = (a.received.quiet && (not a.received.ended && not a.received.failed)) || (a.received.ended && is_owed a.sent)
+
+    by : (watched cut held lost flows : Bool) → (watched && (not cut && held)) ≡ true
+        → (watched && not (not lost && (flows && cond cut (is_full a.sent) (not held && rest)))) ≡ true
+    by false cut held lost flows e = absurd (true≢false (sym e))
+    by true true held lost flows e = absurd (true≢false (sym e))
+    by true false false lost flows e = absurd (true≢false (sym e))
+    by true false true true flows e = refl
+    by true false true false true e = refl
+    by true false true false false e = refl
 
 -- the wait that a turn makes
 pub brief_over_work : (log : List Step) (peers : List Peer) (l : Listening) (last : ℕ) (turn : Turn) (limit most : Option ℕ)

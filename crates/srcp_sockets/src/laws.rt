@@ -93,6 +93,10 @@ pub fn waits_are_safe<S: System>(door: &SocketDoor<S>)
         → door.now.sockets.system.log.steps ≡ before ++ Waits most count ready ∷ after
         → (socket : ℕ) → has_work (account socket before) ≡ true
         → is_brief door.now.sockets.turn.timekeeper.wall door.now.sockets.turn.timekeeper.start before most ≡ true }
+    ensures held { (before after : List Step) (most : Option ℕ) (count : ℕ) (ready : List Ready)
+        → door.now.sockets.system.log.steps ≡ before ++ Waits most count ready ∷ after
+        → (socket : ℕ) → takes_input (account socket before) ≡ true
+        → is_brief door.now.sockets.turn.timekeeper.wall door.now.sockets.turn.timekeeper.start before most ≡ true }
     ensures panels { (before after : List Step) (most : Option ℕ) (count : ℕ) (ready : List Ready)
         → door.now.sockets.system.log.steps ≡ before ++ Waits most count ready ∷ after
         → (let turn = (times door.now.sockets.turn.timekeeper.wall door.now.sockets.turn.timekeeper.start before).turn
