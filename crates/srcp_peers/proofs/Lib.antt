@@ -10,3 +10,4 @@ pub mod AccountsHoldStreams
 pub mod LinesAreHandedOut
 pub mod QueuedIsOffered
 pub mod StepsAreCounted
+pub mod CallsAreSmall

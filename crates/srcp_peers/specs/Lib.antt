@@ -6,6 +6,7 @@ pub mod Listeners
 pub mod Notes
 pub mod Peers
 pub mod Reports
+pub mod Sizes
 pub mod Steps
 pub mod Streams
 pub mod Times

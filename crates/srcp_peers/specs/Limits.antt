@@ -21,6 +21,10 @@ silence = 50
 abbrev pub most_outgoing : ℕ
 most_outgoing = 40960
 
+-- the bytes that are read ahead of a peer, at most
+abbrev pub most_incoming : ℕ
+most_incoming = 4096
+
 -- the bytes queued beyond which a peer is written to at once, so that the lines of a visit fit behind them
 abbrev pub flush_threshold : ℕ
 flush_threshold = 3160

@@ -3,6 +3,8 @@
 ghost use Rattle.std.specs.Prelude.{◌≡◌, ◌<◌, ◌≤◌, List, [], ◌∷◌, ◌++◌, IfOk, length};
 ghost use Rattle.std.specs.Borrow.{ftrue};
 ghost use Rattle.srcp_peers.specs.Steps.{Step, Accepts, Answers, Clocks, Closes, Reads, Shuts, Waits, Writes};
+ghost use Rattle.srcp_peers.specs.Limits.{most_incoming, most_outgoing};
+ghost use Rattle.srcp_peers.specs.Sizes.{AreSmall, AreSmall-prop};
 
 use crate::system::{Ready, System};
 use srcp_door::{DoorFault, Got};
@@ -85,6 +87,7 @@ pub struct Logged<S: System> {
     system: S,
     // The calls and answers up to now.
     log: Log,
+    ghost small: { AreSmall log.steps } by { AreSmall-prop _ },
 }
 
 impl<S: System> Logged<S> {
@@ -112,6 +115,7 @@ impl<S: System> Logged<S> {
     ///
     /// # Errors
     /// Returns the error of the system.
+    #[tactic(auto, using(crate::proofs::CallsAreSmall::small_more))]
     pub fn accept(&mut self, number: u32) -> Result<(), ErrorKind>
         ensures log { self.new.log.steps ≡ self.old.log.steps ++ Accepts number result ∷ [] }
         ensures made { S.Made self.old.system (Accepts number result) self.new.system }
@@ -125,8 +129,10 @@ impl<S: System> Logged<S> {
     ///
     /// # Errors
     /// Returns the error of the system.
-    pub fn read(&mut self, socket: u32, buffer: &mut [u8]) -> Result<usize, ErrorKind>
-        requires { 0 < length buffer.old }
+    #[tactic(auto, using(crate::proofs::CallsAreSmall::small_more))]
+    pub(crate) fn read(&mut self, socket: u32, buffer: &mut [u8]) -> Result<usize, ErrorKind>
+        requires some { 0 < length buffer.old }
+        requires small { length buffer.old ≤ most_incoming }
         ensures count { IfOk result (λ count. count ≤ length buffer.new) }
         ensures log { self.new.log.steps ≡ self.old.log.steps ++ Reads socket buffer.new result ∷ [] }
         ensures made { S.Made self.old.system (Reads socket buffer.new result) self.new.system }
@@ -140,7 +146,9 @@ impl<S: System> Logged<S> {
     ///
     /// # Errors
     /// Returns the error of the system.
-    pub fn write(&mut self, socket: u32, bytes: &[u8]) -> Result<usize, ErrorKind>
+    #[tactic(auto, using(crate::proofs::CallsAreSmall::small_more))]
+    pub(crate) fn write(&mut self, socket: u32, bytes: &[u8]) -> Result<usize, ErrorKind>
+        requires { length bytes.now ≤ most_outgoing }
         ensures count { IfOk result (λ count. count ≤ length bytes.now) }
         ensures log { self.new.log.steps ≡ self.old.log.steps ++ Writes socket bytes.now result ∷ [] }
         ensures made { S.Made self.old.system (Writes socket bytes.now result) self.new.system }
@@ -151,6 +159,7 @@ impl<S: System> Logged<S> {
     }
 
     /// Shuts down the writing side of a socket.
+    #[tactic(auto, using(crate::proofs::CallsAreSmall::small_more))]
     pub fn shutdown(&mut self, socket: u32)
         ensures log { self.new.log.steps ≡ self.old.log.steps ++ Shuts socket ∷ [] }
         ensures made { S.Made self.old.system (Shuts socket) self.new.system }
@@ -160,6 +169,7 @@ impl<S: System> Logged<S> {
     }
 
     /// Closes a socket. From then on no socket has the number.
+    #[tactic(auto, using(crate::proofs::CallsAreSmall::small_more))]
     pub fn close(&mut self, socket: u32)
         ensures log { self.new.log.steps ≡ self.old.log.steps ++ Closes socket ∷ [] }
         ensures made { S.Made self.old.system (Closes socket) self.new.system }
@@ -170,6 +180,7 @@ impl<S: System> Logged<S> {
 
     /// Waits until a socket is ready, for at most `most` milliseconds if given. Returns how many were found ready,
     /// which are the first of `ready`. Returns 0 if the system refuses to wait.
+    #[tactic(auto, using(crate::proofs::CallsAreSmall::small_more))]
     pub fn wait(&mut self, most: Option<u64>, ready: &mut [Ready]) -> usize
         ensures count { result ≤ length ready.new }
         ensures log { self.new.log.steps ≡ self.old.log.steps ++ Waits most result ready.new ∷ [] }
@@ -181,6 +192,7 @@ impl<S: System> Logged<S> {
     }
 
     /// Returns what the monotonic clock shows, in milliseconds, or `None` if the clock cannot be read.
+    #[tactic(auto, using(crate::proofs::CallsAreSmall::small_more))]
     pub fn clock(&mut self) -> Option<u64>
         ensures log { self.new.log.steps ≡ self.old.log.steps ++ Clocks result ∷ [] }
         ensures made { S.Made self.old.system (Clocks result) self.new.system }
@@ -191,6 +203,7 @@ impl<S: System> Logged<S> {
     }
 
     /// Logs an answer of the door. Makes no call of the system.
+    #[tactic(auto, using(crate::proofs::CallsAreSmall::small_more))]
     pub fn answer(&mut self, answer: &Answer<'_>)
         ensures log { self.new.log.steps ≡ self.old.log.steps ++ Answers (answered answer.now) ∷ [] }
         ensures system { self.new.system ≡ self.old.system }

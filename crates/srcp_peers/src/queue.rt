@@ -2,6 +2,7 @@
 
 ghost use Rattle.std.specs.Prelude.{◌≡◌, ◌<◌, ◌≤◌, ◌+◌, ◌-◌, ◌++◌, ◌∷◌, ◌==◌, [], ℕ, List, IfOk, length};
 ghost use Rattle.std.specs.Prelude.{MatchResult, drop, min, slice_range, take};
+ghost use Rattle.srcp_peers.specs.Limits.{most_incoming};
 ghost use Rattle.srcp_peers.specs.Steps.{Reads};
 
 use crate::log::Logged;
@@ -140,7 +141,8 @@ impl<const MOST: usize> Queue<MOST> {
         system: &mut Logged<S>,
         socket: u32,
     ) -> Result<usize, ErrorKind>
-        requires { length self.old < MOST }
+        requires some { length self.old < MOST }
+        requires small { MOST ≤ most_incoming }
         ensures { (buffer : List ℕ) × (length buffer ≡ MOST - length self.old)
             × (system.new.log.steps ≡ system.old.log.steps ++ Reads socket buffer result ∷ [])
             × MatchResult result (λ count. (count ≤ length buffer) × (self.new ≡ self.old ++ take count buffer))

@@ -25,6 +25,7 @@ ghost use Rattle.srcp_sockets.specs.Loads.{AreBounded, load};
 ghost use Rattle.srcp_sockets.specs.Panels.{PanelsAreKept};
 ghost use Rattle.srcp_sockets.specs.Settled.{SettledPanelsHold};
 ghost use Rattle.srcp_sockets.specs.Shares.{AreFilled};
+ghost use Rattle.srcp_peers.specs.Sizes.{AreSmall};
 ghost use Rattle.srcp_peers.specs.Times.{times};
 ghost use Rattle.srcp_peers.specs.Turns.{got_bytes, has_ticked, is_pending, reports_end};
 ghost use Rattle.srcp_peers.specs.Streams.{gave, handed, taken, took};
@@ -281,12 +282,14 @@ pub fn settled_panels_hold_the_registry()
 {}
 
 /// States how many calls of the system the door made for an answer, counted from the previous answer. For a moment
-/// there were at most 517: a write, a shutdown and a read of each of 129 peers, 64 reads and 64 closes of those that
-/// linger, a wait, and a look at the clock. For an accept there was one at most, and for each other answer none. After
-/// the last answer there was none.
+/// there were at most 517. These are a write, a shutdown and a read of each of 129 peers, 64 reads and 64 closes of those
+/// that linger, a wait, and a look at the clock. For an accept there was one at most, and for each other answer none.
+/// After the last answer there was none. Each read had space for 4,096 bytes at most, and each write offered 40,960 at
+/// most (`small`).
 pub fn turns_are_bounded<S: System>(door: &SocketDoor<S>)
     ensures few { AreBounded door.now.sockets.system.log.steps }
     ensures idle { load door.now.sockets.system.log.steps ≡ 0 }
+    ensures small { AreSmall door.now.sockets.system.log.steps }
 {}
 
 /// States that the most lines that a peer is written in a visit can be queued.
