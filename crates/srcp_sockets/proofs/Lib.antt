@@ -22,3 +22,4 @@ pub mod AnswersAreBounded
 pub mod SettledPanelsHold
 pub mod PeersAreFrom
 pub mod SharesAreWhole
+pub mod FirstReadsFillThePace

@@ -148,7 +148,8 @@ done_first limit wall start log none before after x is = absurd (not_none x befo
 
 -- the turn went on, from the same clocks
 pub done_turn : (limit : Option ℕ) (log : List Step) (before after same : Turn) → after ≡ same
-    → same.timekeeper.wall ≡ before.timekeeper.wall → same.timekeeper.start ≡ before.timekeeper.start → AreDone limit before.timekeeper.wall before.timekeeper.start log
+    → same.timekeeper.wall ≡ before.timekeeper.wall → same.timekeeper.start ≡ before.timekeeper.start
+    → AreDone limit before.timekeeper.wall before.timekeeper.start log
     → AreDone limit after.timekeeper.wall after.timekeeper.start log
 done_turn limit log before after same is wall start done =
     subst (λ (t : Turn). AreDone limit t.timekeeper.wall t.timekeeper.start log) (sym is)

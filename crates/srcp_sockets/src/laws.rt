@@ -282,10 +282,10 @@ pub fn settled_panels_hold_the_registry()
 {}
 
 /// States how many calls of the system the door made for an answer, counted from the previous answer. For a moment
-/// there were at most 517. These are a write, a shutdown and a read of each of 129 peers, 64 reads and 64 closes of those
-/// that linger, a wait, and a look at the clock. For an accept there was one at most, and for each other answer none.
-/// After the last answer there was none. Each read had space for 4,096 bytes at most, and each write offered 40,960 at
-/// most (`small`).
+/// there were at most 517. These are a write, a shutdown and a read of each of 129 peers, 64 reads and 64 closes of
+/// those that linger, a wait, and a look at the clock. For an accept there was one at most, and for each other answer
+/// none. After the last answer there was none. Each read had space for 4,096 bytes at most, and each write offered
+/// 40,960 at most (`small`).
 pub fn turns_are_bounded<S: System>(door: &SocketDoor<S>)
     ensures few { AreBounded door.now.sockets.system.log.steps }
     ensures idle { load door.now.sockets.system.log.steps ≡ 0 }

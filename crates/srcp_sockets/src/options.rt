@@ -1,5 +1,5 @@
-//! The options of the sockets, which are set at the listener and which each accepted socket takes over. And how a socket
-//! is reset, so that the system holds nothing for it any more.
+//! The options of the sockets, and their reset. The options are set at the listener, and each accepted socket takes
+//! them over. After a reset the system holds nothing for a socket.
 
 ghost use Rattle.std.specs.Prelude.{◌↔◌, pos, ◌≤ℤ◌, IsOk};
 

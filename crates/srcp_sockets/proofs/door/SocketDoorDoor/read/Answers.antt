@@ -2,7 +2,8 @@ use Rattle.srcp_door.specs.Calls.{ReadCall}
 use Rattle.srcp_serve.proofs.DoorIsCalled.{fair_read}
 use Rattle.srcp_sockets.proofs.AnswersAreBounded.{answered_once}
 use Rattle.std.proofs.Common.{length}
-use Rattle.srcp_sockets.proofs.SharesAreWhole.{late_filled, read_filled, shares_read}
+use Rattle.srcp_sockets.proofs.FirstReadsFillThePace.{read_filled}
+use Rattle.srcp_sockets.proofs.SharesAreWhole.{late_filled, shares_read}
 use Rattle.srcp_sockets.proofs.PeersAreFrom.{from_same}
 use Rattle.srcp_sockets.specs.Work.{AreFrom}
 use Rattle.srcp_peers.specs.Peers.{KeepsShare}

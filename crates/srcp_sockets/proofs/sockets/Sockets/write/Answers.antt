@@ -44,7 +44,8 @@ invariant_of-self-2 g c =
           (after_call c.args.self.now.turn (WriteCall x.number c.args.bytes.now (Ok c.write-count.result)))
           (c.note_write-2.ensures x.number c.args.bytes.now) refl refl
           (done_step c.args.self.now.most c.args.self.now.turn.timekeeper.wall c.args.self.now.turn.timekeeper.start
-          c.args.self.now.system.log.steps c.write-count.new.system.log.steps (Answers (WriteCall x.number c.args.bytes.now (Ok c.write-count.result)))
+          c.args.self.now.system.log.steps c.write-count.new.system.log.steps
+          (Answers (WriteCall x.number c.args.bytes.now (Ok c.write-count.result)))
           c.write-count.ensures.log tt c.args.self.now.done);
       ending = far_wrote c.args.self.now.system.log.steps c.write-count.new.system.log.steps c.args.self.now.peers.items
           c.in-Some.index x c.write-count.new.self c.args.bytes.now c.write-count.result c.in-Some.ensures.found.0
