@@ -1,7 +1,7 @@
 -- What serving at any opener says, at the machine.
 use Rattle.std.proofs.Common.{ℕ, List, Ok, Err, Result}
 use Rattle.std.specs.Prelude.{IfOk, IfErr}
-use Rattle.srcp_peers.specs.declared.log.Logged.{Logged}
+use Rattle.srcp_peers.specs.Steps.{Step}
 use Rattle.srcp_serve.specs.declared.serving.Served.{Served}
 use Rattle.srcp_sockets.specs.declared.mio_system.MioSystem.{MioSystem}
 use Rattle.srcp_sockets.specs.Faults.{IsLocal}
@@ -15,10 +15,10 @@ abbrev pub opens : {Clock Opener : Type 0} → Answers Opener (MioSystem Clock)
 opens _ port answer _ = IfOk answer (λ system. IsLocal system.address port)
 
 pub served_here : {Clock Opener X : Type 0} (result : Result X HostFault) (file : List ℕ) (turns : ℕ)
-    (old new : Opener) (served : X → Served) (system : X → Logged (MioSystem Clock))
-    → IfOk result (λ hosted. Serves (opens {Clock = Clock}) file turns old new (served hosted) (system hosted).log.steps)
-    → IfOk result (λ hosted. ServesHere file turns (served hosted) (system hosted))
-served_here (Ok hosted) file turns old new served system s = record {
+    (old new : Opener) (served : X → Served) (system : X → MioSystem Clock) (log : X → List Step)
+    → IfOk result (λ hosted. Serves (opens {Clock = Clock}) file turns old new (served hosted) (log hosted))
+    → IfOk result (λ hosted. ServesHere file turns (served hosted) (system hosted) (log hosted))
+served_here (Ok hosted) file turns old new served system log s = record {
   config = s.config;
   opened = s.opened;
   held = s.held;
@@ -27,7 +27,7 @@ served_here (Ok hosted) file turns old new served system s = record {
   counted = s.counted;
   followed = s.followed;
 }
-served_here (Err fault) file turns old new served system s = tt
+served_here (Err fault) file turns old new served system log s = tt
 
 pub refused_here : {Opener System X : Type 0} (answers : Answers Opener System) (result : Result X HostFault)
     (file : List ℕ) (old new : Opener) → IfErr result (λ fault. Refuses answers file old new fault)

@@ -52,7 +52,8 @@ pub fn serve_here<'a, K: Rows, R: Net + Clock>(
     file: &[u8],
     turns: u64,
 ) -> Result<Hosted<MioSystem<&'a R>>, HostFault>
-    ensures served { IfOk result (λ hosted. ServesHere file.now turns hosted.served hosted.door.sockets.system) }
+    ensures served { IfOk result (λ hosted. ServesHere file.now turns hosted.served
+        hosted.door.sockets.system.system hosted.door.sockets.system.log.steps) }
     ensures faults { IfOk result (λ hosted. hosted.door.faults < greatest_u64
         → hosted.served.faults ≡ hosted.door.faults) }
     ensures refused { IfErr result (λ fault. RefusesHere file.now fault) }
