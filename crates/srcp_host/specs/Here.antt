@@ -13,8 +13,8 @@ use Rattle.srcp_sockets.specs.Follows.{IsFollowed}
 use Rattle.srcp_sockets.specs.declared.mio_system.MioSystem.{MioSystem}
 
 -- the file's layout was served at the file's port of the machine itself: a core that begins with the layout's buses, at
--- moment 0 and with no id given, was served for that many turns over the calls that the door's log has. `system` is what
--- the door makes its calls by at the end
+-- moment 0 and with no id given, was served for that many turns over the calls that the door's log has. `system` is
+-- what the door makes its calls by at the end
 pub record ServesHere {Clock : Type 0} (file : List ℕ) (turns : ℕ) (served : Served) (system : MioSystem Clock)
     (log : List Step) : Type 0 where
   pub config : Config
