@@ -28,7 +28,7 @@ NO_LIMITS = (
     ("srcp_rules/src/new_device.rt", {3, 4, 5, 6, 7, 8}, "ports one by one"),
     ("srcp_script/specs/Script.antt", {16, 35}, "base, and the byte of #"),
     ("srcp_script/src/script/escape.rt", {2, 16}, "digits of a byte, and the base"),
-    ("srcp_sockets/specs/Loads.antt", {3}, "calls"),
+    ("srcp_log/specs/Loads.antt", {3}, "calls"),
     ("srcp_sockets/src/mio_system.rt", {1_000_000}, "nanoseconds of a millisecond"),
     ("srcp_sockets/src/options.rt", {4, 16}, "bytes of a number and of a value of the system"),
     ("srcp_sockets/src/sockets/turns.rt", {3}, "calls"),

@@ -78,8 +78,8 @@ impl Log {
 /// ```
 /// let mut system = Logged::new(sockets);
 /// system.accept(number)?;
-/// let count = system.read(number, &mut buffer)?;
-/// let taken = system.write(number, &buffer[..count])?;
+/// let count = system.wait(None, &mut ready);
+/// let shown = system.clock();
 /// system.close(number);
 /// ```
 #[derive(Drop)]

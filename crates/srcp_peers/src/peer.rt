@@ -132,7 +132,7 @@ impl Peer {
         }
     }
 
-    /// Writes the queued bytes once, if the socket may take some and `what` says that the peer is due.
+    /// Writes the queued bytes once, if some are queued, the socket may take some, and `what` says that the peer is due.
     #[inline(always)]
     pub(crate) fn flush<S: System>(&mut self, system: &mut Logged<S>, what: Flush)
         requires { IsKept system.old.log.steps self.old }
@@ -152,32 +152,10 @@ impl Peer {
             → is_due what self.old ≡ true
             → Offers (record self.old { output = Output.Open }) self.new system.old.log.steps system.new.log.steps }
     {
-        if self.output.woken(what.tries_again()).is_open() {
-            self.write_out(system, what);
-        }
-    }
-
-    /// Writes the queued bytes once, if some are queued and `what` says that the peer is due.
-    #[inline(always)]
-    fn write_out<S: System>(&mut self, system: &mut Logged<S>, what: Flush)
-        requires kept { IsKept system.old.log.steps self.old }
-        requires sound { is_lost self.old.output ≡ false }
-        ensures kept { IsKept system.new.log.steps self.new }
-        ensures others { (other : ℕ) → other ≢ self.old.number
-            → Spares other system.old.log.steps system.new.log.steps }
-        ensures calls { SaysNothing system.old.log.steps system.new.log.steps }
-        ensures most { GrowsBy 1 system.old.log.steps system.new.log.steps }
-        ensures times { KeepsTimes system.old.log.steps system.new.log.steps }
-        ensures number { self.new.number ≡ self.old.number }
-        ensures same { self.new ≡ record self.old {
-          outgoing = self.new.outgoing;
-          output = self.new.output;
-          awaits_reply = self.new.awaits_reply;
-        } }
-        ensures offered { self.old.outgoing ≢ [] → is_due what self.old ≡ true
-            → Offers (record self.old { output = Output.Open }) self.new system.old.log.steps system.new.log.steps }
-    {
-        if self.outgoing.is_empty() || !self.is_due(what) {
+        if !self.output.woken(what.tries_again()).is_open()
+            || self.outgoing.is_empty()
+            || !self.is_due(what)
+        {
             return;
         }
         self.awaits_reply = false;

@@ -16,7 +16,7 @@ fn told(alloc: Global, document: &str) -> Option<String> {
     }
 }
 
-/// Asserts what is told of each of these documents.
+/// Asserts what each of these documents prints.
 fn assert_told(rt: &impl Abort, alloc: Global, documents: &[(&str, &str)]) {
     for (document, wanted) in documents {
         match told(alloc, document) {

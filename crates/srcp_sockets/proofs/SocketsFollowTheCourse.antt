@@ -8,12 +8,12 @@ use Rattle.std.proofs.Math.ListN.{get_or-map}
 use Rattle.srcp_core.specs.Connection.{Connection, sent}
 use Rattle.srcp_core.specs.Course.{course}
 use Rattle.srcp_core.specs.Held.{Held}
-use Rattle.srcp_sockets.specs.Names.{IsNamed}
+use Rattle.srcp_log.specs.Names.{IsNamed}
 use Rattle.srcp_serve.specs.Given.{Call, door_call, ReadCall, WriteCall}
 use Rattle.srcp_serve.specs.Serving.{events_of, handed_out, stand_after, taken as given_taken}
 use Rattle.srcp_serve.specs.Slots.{IsOfGiven, ServesCourse}
 use Rattle.srcp_peers.specs.Accounts.{account}
-use Rattle.srcp_sockets.specs.Doors.{AreSound}
+use Rattle.srcp_log.specs.Doors.{AreSound}
 use Rattle.srcp_sockets.specs.Follows.{Follows}
 use Rattle.srcp_peers.specs.Streams.{handed, handed_in, taken, taken_in, took}
 use Rattle.srcp_peers.specs.Steps.{Step, calls}

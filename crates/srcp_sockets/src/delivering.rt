@@ -1,9 +1,9 @@
 //! What a door does at its end: delivers the bytes that were taken.
 
 ghost use Rattle.std.specs.Prelude.{◌≡◌, length, All, true, false};
-ghost use Rattle.srcp_sockets.specs.Delivery.{HasEnded, HasLooked, HaveEnded, is_over};
-ghost use Rattle.srcp_sockets.specs.Doors.{AreStanding};
-ghost use Rattle.srcp_sockets.specs.Limits.{most_ready};
+ghost use Rattle.srcp_log.specs.Delivery.{HasEnded, HasLooked, HaveEnded, is_over};
+ghost use Rattle.srcp_log.specs.Doors.{AreStanding};
+ghost use Rattle.srcp_log.specs.Limits.{most_ready};
 ghost use Rattle.srcp_peers.specs.AllPeers.{AreApart, AreKept, AreOffered};
 ghost use Rattle.srcp_peers.specs.Peers.{is_waiting};
 

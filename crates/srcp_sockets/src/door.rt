@@ -6,11 +6,11 @@ ghost use Rattle.srcp_door.specs.Calls.{AcceptCall, CloseCall, ExpectCall, NowCa
 ghost use Rattle.srcp_peers.specs.AllPeers.{AreOffered};
 ghost use Rattle.srcp_peers.specs.Steps.{SaysOne};
 ghost use Rattle.srcp_peers.specs.Turns.{first_turn, got_bytes};
-ghost use Rattle.srcp_sockets.specs.Doors.{flushed_in};
-ghost use Rattle.srcp_sockets.specs.Limits.{most_peers, most_ready};
-ghost use Rattle.srcp_sockets.specs.Loads.{AnswersFairly, AnswersFairly-prop};
-ghost use Rattle.srcp_sockets.specs.Shares.{SharesHold, SharesHold-prop};
-ghost use Rattle.srcp_sockets.specs.Work.{IsPeerRead, IsPeerWritten};
+ghost use Rattle.srcp_log.specs.Doors.{flushed_in};
+ghost use Rattle.srcp_log.specs.Limits.{most_peers, most_ready};
+ghost use Rattle.srcp_log.specs.Loads.{AnswersFairly, AnswersFairly-prop};
+ghost use Rattle.srcp_log.specs.Shares.{SharesHold, SharesHold-prop};
+ghost use Rattle.srcp_log.specs.Work.{IsPeerRead, IsPeerWritten};
 
 use crate::sockets::Sockets;
 use srcp_door::{Door, DoorFault, Got};

@@ -7,7 +7,7 @@ ghost use Rattle.std.specs.List.Sorted.{IsNonDecreasingBy};
 ghost use Rattle.std.specs.Duration.{as_nanos};
 ghost use Rattle.srcp_info.specs.Limits.{greatest_u64};
 ghost use Rattle.srcp_sockets.specs.Early.{is_early};
-ghost use Rattle.srcp_sockets.specs.Limits.{failed_wait};
+ghost use Rattle.srcp_log.specs.Limits.{failed_wait};
 
 use crate::door::MOST_READY;
 use crate::options::{reset, set_options};

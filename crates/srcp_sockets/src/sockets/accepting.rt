@@ -3,12 +3,12 @@
 ghost use Rattle.std.specs.Prelude.{All, false, true, ◌≡◌, ◌<◌, ◌≤◌, ◌+◌, ◌⊎◌, None, Ok, Err, IfErr, length};
 ghost use Rattle.std.specs.Prelude.{◌++◌, ◌∷◌, [], ℕ, IfOk, OnErr, Some, vec_capacity};
 ghost use Rattle.srcp_info.specs.Limits.{greatest_id};
-ghost use Rattle.srcp_sockets.specs.Asked.{IsExcused, MayAnswer};
-ghost use Rattle.srcp_sockets.specs.Doors.{is_quiet};
-ghost use Rattle.srcp_sockets.specs.Limits.{most_peers};
-ghost use Rattle.srcp_sockets.specs.Loads.{AnswersWithin};
-ghost use Rattle.srcp_sockets.specs.Work.{AreFrom, IsAccepting, IsFrom, FreesPlace, is_crowded, last_after};
-ghost use Rattle.srcp_sockets.specs.Work.{may_accept};
+ghost use Rattle.srcp_log.specs.Asked.{IsExcused, MayAnswer};
+ghost use Rattle.srcp_log.specs.Doors.{is_quiet};
+ghost use Rattle.srcp_log.specs.Limits.{most_peers};
+ghost use Rattle.srcp_log.specs.Loads.{AnswersWithin};
+ghost use Rattle.srcp_log.specs.Work.{AreFrom, IsAccepting, IsFrom, FreesPlace, is_crowded, last_after};
+ghost use Rattle.srcp_log.specs.Work.{may_accept};
 ghost use Rattle.srcp_peers.specs.Peers.{KeepsShare};
 ghost use Rattle.srcp_peers.specs.Times.{failed_accept};
 ghost use Rattle.srcp_peers.specs.Turns.{after_call};
@@ -54,7 +54,8 @@ impl<S: System> Sockets<S> {
             return self.note_nobody(Ok(None));
         }
         let Some(number) = self.last.checked_add(1) else {
-            return self.put_off();
+            self.listening = Listening::BackingOff;
+            return self.note_nobody(Err(DoorFault::Accept));
         };
         self.accept_next(number)
     }
@@ -88,22 +89,6 @@ impl<S: System> Sockets<S> {
             return false;
         }
         true
-    }
-
-    /// Puts off a pending connection for which the numbers ran out.
-    fn put_off(&mut self) -> Result<Option<u32>, DoorFault>
-        requires loud { is_quiet self.old.listening ≡ false }
-        requires last { self.old.last ≡ greatest_id }
-        ensures log { self.new.system.log.steps ≡ self.old.system.log.steps ++ Answers (AcceptCall result) ∷ [] }
-        ensures fault { result ≡ Err DoorFault.Accept }
-        ensures turn { self.new.turn ≡ after_call self.old.turn (AcceptCall result) }
-        ensures keeps { (self.new.starved ≡ self.old.starved) × (self.new.most ≡ self.old.most)
-            × (self.new.peers ≡ self.old.peers) }
-        ensures last { self.new.last ≡ last_after self.old.last result }
-        ensures rests { self.new.listening ≡ Listening.BackingOff }
-    {
-        self.listening = Listening::BackingOff;
-        self.note_nobody(Err(DoorFault::Accept))
     }
 
     /// Notes that nobody came, or a fault, if the system was not asked.

@@ -8,8 +8,8 @@ ghost use Rattle.srcp_door.specs.declared.pacing.LineBoundary.{LineBoundary};
 ghost use Rattle.srcp_peers.specs.Peers.{KeepsShare, goes_first};
 ghost use Rattle.srcp_peers.specs.Steps.{Answers, SaysOne};
 ghost use Rattle.srcp_peers.specs.Turns.{after_read, got_bytes};
-ghost use Rattle.srcp_sockets.specs.Doors.{IsMissing};
-ghost use Rattle.srcp_sockets.specs.Work.{AreFrom, IsPeerRead, goes_behind};
+ghost use Rattle.srcp_log.specs.Doors.{IsMissing};
+ghost use Rattle.srcp_log.specs.Work.{AreFrom, IsPeerRead, goes_behind};
 
 use super::Sockets;
 use srcp_door::{DoorFault, Got};

@@ -2,13 +2,13 @@
 
 ghost use Rattle.std.specs.Prelude.{not, cond, All, false, true, ◌≡◌, ◌<◌, ◌-◌, ◌&&◌, ℕ, Some, ◌||◌, ◌+◌, ◌*◌, None};
 ghost use Rattle.std.specs.Prelude.{length};
-ghost use Rattle.srcp_sockets.specs.Delivery.{HasWaited};
-ghost use Rattle.srcp_sockets.specs.Duties.{MayTell, has_waited};
-ghost use Rattle.srcp_sockets.specs.Endings.{AreVisited};
-ghost use Rattle.srcp_sockets.specs.Waits.{AreFlushed, IsWaitDone};
-ghost use Rattle.srcp_sockets.specs.Work.{AreFrom, IsWaiting, WaitsAmong, goes_on};
+ghost use Rattle.srcp_log.specs.Delivery.{HasWaited};
+ghost use Rattle.srcp_log.specs.Duties.{MayTell, has_waited};
+ghost use Rattle.srcp_log.specs.Endings.{AreVisited};
+ghost use Rattle.srcp_log.specs.Waits.{AreFlushed, IsWaitDone};
+ghost use Rattle.srcp_log.specs.Work.{AreFrom, IsWaiting, WaitsAmong, goes_on};
 ghost use Rattle.std.specs.List.{list_any};
-ghost use Rattle.srcp_sockets.specs.Limits.{most_lingering, most_ready};
+ghost use Rattle.srcp_log.specs.Limits.{most_lingering, most_ready};
 ghost use Rattle.srcp_peers.specs.Accounts.{is_short_wait};
 ghost use Rattle.srcp_peers.specs.Limits.{most_drained};
 ghost use Rattle.srcp_peers.specs.Peers.{IsShared, KeepsRest, KeepsShare, flushes_all, holds_input, is_resting};
@@ -17,7 +17,7 @@ ghost use Rattle.srcp_peers.specs.Turns.{after_wait, flushing, has_ticked, is_pe
 ghost use Rattle.srcp_peers.specs.Waiting.{IsWithin, longest_wait};
 ghost use Rattle.srcp_peers.specs.Steps.{Answers, GrowsBy, SaysNothing};
 ghost use Rattle.srcp_peers.specs.AllPeers.{AreOffered, AreShared, AreThose};
-ghost use Rattle.srcp_sockets.specs.Doors.{AreRead, flushed_in};
+ghost use Rattle.srcp_log.specs.Doors.{AreRead, flushed_in};
 
 use super::Sockets;
 use srcp_door::MOST_WRITES;

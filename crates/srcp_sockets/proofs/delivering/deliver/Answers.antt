@@ -7,13 +7,13 @@ use Rattle.srcp_peers.specs.Steps.{Clocks, SaysNothing, Waits}
 use Rattle.srcp_peers.proofs.QueuedIsOffered.{all_offered_then, offered_first}
 use Rattle.srcp_peers.proofs.CallsAreOfTheDoor.{says_none, says_step, says_then}
 use Rattle.srcp_peers.proofs.OnePeerChanges.{apart_later, clocked_all, waited_all, woken_apart}
-use Rattle.srcp_sockets.specs.Delivery.{HasWaited, HaveEnded}
-use Rattle.srcp_sockets.specs.Doors.{AreStanding}
-use Rattle.srcp_sockets.proofs.EndsAreDelivered.{looked_free, looked_none, looked_step, looked_then}
-use Rattle.srcp_sockets.proofs.EndsAreDelivered.{are_delivered, has_ended, waited_clocked, waited_keeps, waited_more, waited_none}
-use Rattle.srcp_sockets.proofs.SocketsLingerAndClose.{stands_clocked}
-use Rattle.srcp_sockets.proofs.SocketsStayStanding.{stands_turned}
-use Rattle.srcp_sockets.proofs.WaitsKeepSockets.{stands_waited}
+use Rattle.srcp_log.specs.Delivery.{HasWaited, HaveEnded}
+use Rattle.srcp_log.specs.Doors.{AreStanding}
+use Rattle.srcp_log.proofs.EndsAreDelivered.{looked_free, looked_none, looked_step, looked_then}
+use Rattle.srcp_log.proofs.EndsAreDelivered.{are_delivered, has_ended, waited_clocked, waited_keeps, waited_more, waited_none}
+use Rattle.srcp_log.proofs.SocketsLingerAndClose.{stands_clocked}
+use Rattle.srcp_log.proofs.SocketsStayStanding.{stands_turned}
+use Rattle.srcp_log.proofs.WaitsKeepSockets.{stands_waited}
 use Rattle.srcp_sockets.proofs.delivering.deliver.Goals as goal
 
 pub loop-look-init : goal.loop-look-init

@@ -2,9 +2,9 @@ use Rattle.std.specs.Prelude.{◌≡◌, ◌<◌, length}
 use Rattle.srcp_peers.specs.declared.readiness.Flush.TheVariants as flush
 use Rattle.srcp_peers.specs.AllPeers.{AreApart, AreKept, AreOffered}
 use Rattle.srcp_peers.specs.Steps.{SaysNothing}
-use Rattle.srcp_sockets.specs.Delivery.{HasLooked, HasWaited}
-use Rattle.srcp_sockets.specs.Doors.{AreStanding}
-use Rattle.srcp_sockets.specs.Limits.{most_ready}
+use Rattle.srcp_log.specs.Delivery.{HasLooked, HasWaited}
+use Rattle.srcp_log.specs.Doors.{AreStanding}
+use Rattle.srcp_log.specs.Limits.{most_ready}
 use Rattle.srcp_sockets.proofs.delivering.deliver.Given as goal
 
 abbrev pub invariant-loop-look : goal.invariant-loop-look

@@ -1,9 +1,9 @@
 use Rattle.srcp_peers.specs.Accounts.{account}
 use Rattle.std.proofs.Common.{◌∙◌, ⊎_elim, ap, sym, true≢false}
 use Rattle.srcp_peers.specs.AllPeers.{IsAbsent}
-use Rattle.srcp_sockets.specs.Doors.{IsThere}
-use Rattle.srcp_sockets.proofs.EachStepWasMadeSo.{might_close, might_shut}
-use Rattle.srcp_sockets.proofs.SocketsStayStanding.{find}
+use Rattle.srcp_log.specs.Doors.{IsThere}
+use Rattle.srcp_log.proofs.EachStepWasMadeSo.{might_close, might_shut}
+use Rattle.srcp_log.proofs.SocketsStayStanding.{find}
 use Rattle.srcp_sockets.proofs.laws.closed_rightly.Goals as goal
 
 pub returns-clause-shut : goal.returns-clause-shut

@@ -1,6 +1,6 @@
 use Rattle.std.proofs.Common.{◌∙◌, ap, sym}
 use Rattle.srcp_peers.specs.Accounts.{account}
-use Rattle.srcp_sockets.proofs.EachStepWasMadeSo.{ended_before}
+use Rattle.srcp_log.proofs.EachStepWasMadeSo.{ended_before}
 use Rattle.srcp_sockets.proofs.laws.ends_are_true.Goals as goal
 
 pub returns : goal.returns

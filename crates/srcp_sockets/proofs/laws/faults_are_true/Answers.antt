@@ -1,6 +1,6 @@
 use Rattle.std.proofs.Common.{◌∙◌, ap, sym}
 use Rattle.srcp_peers.specs.Accounts.{account}
-use Rattle.srcp_sockets.proofs.EachStepWasMadeSo.{failed_before, unwritten_before}
+use Rattle.srcp_log.proofs.EachStepWasMadeSo.{failed_before, unwritten_before}
 use Rattle.srcp_sockets.proofs.laws.faults_are_true.Goals as goal
 
 pub returns-clause-read : goal.returns-clause-read

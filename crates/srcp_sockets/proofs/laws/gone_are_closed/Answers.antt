@@ -1,6 +1,6 @@
 use Rattle.srcp_peers.specs.Accounts.{account, may_shut}
 use Rattle.srcp_peers.specs.Steps.{Waits}
-use Rattle.srcp_sockets.proofs.WaitsAreFlushed.{unless_lost}
+use Rattle.srcp_log.proofs.WaitsAreFlushed.{unless_lost}
 use Rattle.srcp_sockets.proofs.laws.gone_are_closed.Goals as goal
 
 pub returns-clause-closed : goal.returns-clause-closed

@@ -1,6 +1,6 @@
 use Rattle.std.proofs.Common.{◌∙◌, ap, sym}
 use Rattle.srcp_peers.specs.Accounts.{account}
-use Rattle.srcp_sockets.proofs.EachStepWasMadeSo.{read_then}
+use Rattle.srcp_log.proofs.EachStepWasMadeSo.{read_then}
 use Rattle.srcp_sockets.proofs.laws.peers_are_read.Goals as goal
 
 pub returns : goal.returns

@@ -1,8 +1,8 @@
 use Rattle.std.specs.Prelude.{◌||◌}
 use Rattle.srcp_peers.specs.Accounts.{account, is_owed}
 use Rattle.srcp_peers.specs.Steps.{Waits}
-use Rattle.srcp_sockets.specs.Waits.{is_written}
-use Rattle.srcp_sockets.proofs.WaitsAreFlushed.{if_owed}
+use Rattle.srcp_log.specs.Waits.{is_written}
+use Rattle.srcp_log.proofs.WaitsAreFlushed.{if_owed}
 use Rattle.srcp_sockets.proofs.laws.queued_is_offered.Goals as goal
 
 pub returns : goal.returns

@@ -1,8 +1,8 @@
 use Rattle.std.proofs.Common.{◌∙◌, ap, sym}
 use Rattle.srcp_peers.specs.Accounts.{account}
 use Rattle.srcp_peers.specs.Steps.{Waits}
-use Rattle.srcp_sockets.proofs.EachStepWasMadeSo.{rested_then}
-use Rattle.srcp_sockets.proofs.WaitsOverWorkAreBrief.{works_held}
+use Rattle.srcp_log.proofs.EachStepWasMadeSo.{rested_then}
+use Rattle.srcp_log.proofs.WaitsOverWorkAreBrief.{works_held}
 use Rattle.srcp_sockets.proofs.laws.waits_are_safe.Goals as goal
 
 pub returns-clause-long : goal.returns-clause-long

@@ -1,8 +1,8 @@
-use Rattle.srcp_sockets.proofs.AnswersAreBounded.{answered_first}
+use Rattle.srcp_log.proofs.AnswersAreBounded.{answered_first}
 use Rattle.std.proofs.Common.{◌∙◌, arith, subst, sym}
 use Rattle.srcp_door.specs.Pacing.{IsShort}
 use Rattle.srcp_peers.specs.declared.turn.Turn.{Turn}
-use Rattle.srcp_sockets.proofs.SharesAreWhole.{shares_first}
+use Rattle.srcp_log.proofs.SharesAreWhole.{shares_first}
 use Rattle.srcp_sockets.proofs.door.SocketDoor.open.Goals as goal
 
 pub invariant_of-result-clause-fair : goal.invariant_of-result-clause-fair

@@ -1,8 +1,8 @@
 use Rattle.std.proofs.Common.{◌∙◌, ap}
 use Rattle.srcp_door.specs.Calls.{AcceptCall}
 use Rattle.srcp_peers.specs.Steps.{calls}
-use Rattle.srcp_sockets.proofs.AnswersAreBounded.{answered_more, says_answered}
-use Rattle.srcp_sockets.proofs.SharesAreWhole.{Comes, came_from, shares_called}
+use Rattle.srcp_log.proofs.AnswersAreBounded.{answered_more, says_answered}
+use Rattle.srcp_log.proofs.SharesAreWhole.{Comes, came_from, shares_called}
 use Rattle.std.proofs.Common.{refl}
 use Rattle.srcp_sockets.proofs.door.SocketDoorDoor.accept.Goals as goal
 

@@ -1,6 +1,6 @@
 use Rattle.srcp_door.specs.Calls.{CloseCall}
-use Rattle.srcp_sockets.proofs.AnswersAreBounded.{answered_once}
-use Rattle.srcp_sockets.proofs.SharesAreWhole.{comes_once, shares_called}
+use Rattle.srcp_log.proofs.AnswersAreBounded.{answered_once}
+use Rattle.srcp_log.proofs.SharesAreWhole.{comes_once, shares_called}
 use Rattle.std.proofs.Common.{ap, refl}
 use Rattle.srcp_sockets.proofs.door.SocketDoorDoor.close.Goals as goal
 

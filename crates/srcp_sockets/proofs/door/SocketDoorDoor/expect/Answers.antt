@@ -1,8 +1,8 @@
 use Rattle.srcp_door.specs.Calls.{ExpectCall}
-use Rattle.srcp_sockets.proofs.AnswersAreBounded.{answered_once}
-use Rattle.srcp_sockets.proofs.SharesAreWhole.{comes_once, shares_called}
-use Rattle.srcp_sockets.proofs.PeersAreFrom.{from_same, share_stays}
-use Rattle.srcp_sockets.specs.Work.{AreFrom}
+use Rattle.srcp_log.proofs.AnswersAreBounded.{answered_once}
+use Rattle.srcp_log.proofs.SharesAreWhole.{comes_once, shares_called}
+use Rattle.srcp_log.proofs.PeersAreFrom.{from_same, share_stays}
+use Rattle.srcp_log.specs.Work.{AreFrom}
 use Rattle.srcp_peers.specs.Peers.{KeepsShare}
 use Rattle.std.proofs.Common.{ap, refl, subst, sym}
 use Rattle.srcp_sockets.proofs.door.SocketDoorDoor.expect.Goals as goal

@@ -3,10 +3,10 @@ use Rattle.srcp_door.specs.Calls.{NowCall}
 use Rattle.srcp_peers.specs.Steps.{Answers, Clocks, SaysOne, Step}
 use Rattle.srcp_peers.proofs.CallsAreOfTheDoor.{says_after}
 use Rattle.srcp_peers.proofs.QueuedIsOffered.{all_offered_more}
-use Rattle.srcp_sockets.specs.Doors.{flushed_in}
-use Rattle.srcp_sockets.proofs.AnswersAreBounded.{answered_more, answered_now}
-use Rattle.srcp_sockets.proofs.SharesAreWhole.{shares_now}
-use Rattle.srcp_sockets.specs.Work.{AreFrom}
+use Rattle.srcp_log.specs.Doors.{flushed_in}
+use Rattle.srcp_log.proofs.AnswersAreBounded.{answered_more, answered_now}
+use Rattle.srcp_log.proofs.SharesAreWhole.{shares_now}
+use Rattle.srcp_log.specs.Work.{AreFrom}
 use Rattle.srcp_peers.specs.Peers.{IsShared}
 use Rattle.std.specs.Prelude.{◌||◌, not}
 use Rattle.srcp_sockets.proofs.door.SocketDoorDoor.now.Goals as goal

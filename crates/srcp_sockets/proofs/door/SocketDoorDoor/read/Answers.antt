@@ -1,11 +1,11 @@
 use Rattle.srcp_door.specs.Calls.{ReadCall}
 use Rattle.srcp_serve.proofs.DoorIsCalled.{fair_read}
-use Rattle.srcp_sockets.proofs.AnswersAreBounded.{answered_once}
+use Rattle.srcp_log.proofs.AnswersAreBounded.{answered_once}
 use Rattle.std.proofs.Common.{length}
-use Rattle.srcp_sockets.proofs.FirstReadsFillThePace.{read_filled}
-use Rattle.srcp_sockets.proofs.SharesAreWhole.{late_filled, shares_read}
-use Rattle.srcp_sockets.proofs.PeersAreFrom.{from_same}
-use Rattle.srcp_sockets.specs.Work.{AreFrom}
+use Rattle.srcp_log.proofs.FirstReadsFillThePace.{read_filled}
+use Rattle.srcp_log.proofs.SharesAreWhole.{late_filled, shares_read}
+use Rattle.srcp_log.proofs.PeersAreFrom.{from_same}
+use Rattle.srcp_log.specs.Work.{AreFrom}
 use Rattle.srcp_peers.specs.Peers.{KeepsShare}
 use Rattle.srcp_peers.specs.declared.turn.Turn.{Turn}
 use Rattle.srcp_peers.specs.declared.peer.Peer.{Peer}

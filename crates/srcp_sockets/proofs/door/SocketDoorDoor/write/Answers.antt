@@ -1,7 +1,7 @@
 use Rattle.srcp_door.specs.Calls.{WriteCall}
 use Rattle.srcp_serve.proofs.DoorIsCalled.{fair_write}
-use Rattle.srcp_sockets.proofs.AnswersAreBounded.{answered_once}
-use Rattle.srcp_sockets.proofs.SharesAreWhole.{comes_once, shares_called}
+use Rattle.srcp_log.proofs.AnswersAreBounded.{answered_once}
+use Rattle.srcp_log.proofs.SharesAreWhole.{comes_once, shares_called}
 use Rattle.std.proofs.Common.{ap, refl}
 use Rattle.srcp_sockets.proofs.door.SocketDoorDoor.write.Goals as goal
 

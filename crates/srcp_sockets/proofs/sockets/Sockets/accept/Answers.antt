@@ -10,12 +10,12 @@ use Rattle.srcp_peers.specs.declared.turn.Listening.{Listening}
 use Rattle.srcp_peers.specs.Peers.{KeepsShare, Makes}
 use Rattle.srcp_peers.specs.Steps.{Accepts, Answers, Step}
 use Rattle.srcp_peers.proofs.PeersRestByAccount.{and_left, and_right}
-use Rattle.srcp_sockets.specs.Doors.{is_quiet}
-use Rattle.srcp_sockets.specs.Work.{IsAccepting, is_close, is_crowded, may_accept}
-use Rattle.srcp_sockets.proofs.AnswersAreBounded.{answered_after}
+use Rattle.srcp_log.specs.Doors.{is_quiet}
+use Rattle.srcp_log.specs.Work.{IsAccepting, is_close, is_crowded, may_accept}
+use Rattle.srcp_log.proofs.AnswersAreBounded.{answered_after}
 use Rattle.std.specs.Prelude.{All, slice_index_or}
-use Rattle.srcp_sockets.specs.Work.{AreFrom, IsFrom}
-use Rattle.srcp_sockets.proofs.PeersAreFrom.{share_then, since}
+use Rattle.srcp_log.specs.Work.{AreFrom, IsFrom}
+use Rattle.srcp_log.proofs.PeersAreFrom.{share_then, since}
 use Rattle.srcp_peers.specs.Turns.{after_call}
 use Rattle.srcp_peers.specs.Times.{accept_answer, failed_accept}
 use Rattle.srcp_peers.specs.Steps.{failure_of}
@@ -44,8 +44,8 @@ returns-then-not-may_accept-clause-answers g c = answered_after c.args.self.now.
 
 pub returns-in_default-clause-answers : goal.returns-in_default-clause-answers
 returns-in_default-clause-answers g c = answered_after c.args.self.now.system.log.steps
-    c.may_accept.new.self.system.log.steps c.put_off.new.self.system.log.steps (AcceptCall c.put_off.result)
-    c.may_accept.ensures.calls c.may_accept.ensures.few c.put_off.ensures.log
+    c.may_accept.new.self.system.log.steps c.note_nobody-in_default.new.self.system.log.steps (AcceptCall c.note_nobody-in_default.result)
+    c.may_accept.ensures.calls c.may_accept.ensures.few c.note_nobody-in_default.ensures.log
 
 pub note_nobody-requires : goal.note_nobody-requires
 note_nobody-requires g c = record { nobody = inl refl; excused = c.may_accept.ensures.excused (search rules) }
@@ -67,12 +67,6 @@ is_loud heard peers may = by (is_quiet heard) (and_left (not (is_quiet heard)) (
 loud_after : (heard before : Listening) (peers : List Peer) → heard ≡ before → may_accept before peers ≡ true
     → is_quiet heard ≡ false
 loud_after heard before peers same may = ap is_quiet same ∙ is_loud before peers may
-
-pub put_off-requires-clause-loud : goal.put_off-requires-clause-loud
-put_off-requires-clause-loud g c =
-    let self = c.args.self.now in
-    loud_after c.may_accept.new.self.listening self.listening self.peers.items
-    (c.may_accept.ensures.same c.if-not-may_accept.false).0 (sym c.may_accept.ensures.is ∙ c.if-not-may_accept.false)
 
 pub accept_next-requires-clause-loud : goal.accept_next-requires-clause-loud
 accept_next-requires-clause-loud g c =
@@ -167,7 +161,7 @@ returns-then-not-may_accept-clause-shares g c = nobody_new c.args.self.now.last 
 
 pub returns-in_default-clause-shares : goal.returns-in_default-clause-shares
 returns-in_default-clause-shares g c = nobody_new c.args.self.now.last c.args.self.now.peers.items
-    c.may_accept.new.self.peers.items c.put_off.new.self.peers.items (ap (λ peers. peers.items) c.put_off.ensures.keeps.2)
+    c.may_accept.new.self.peers.items c.note_nobody-in_default.new.self.peers.items (ap (λ peers. peers.items) c.note_nobody-in_default.ensures.keeps.2)
     c.may_accept.ensures.shares
 
 pub returns-clause-shares : goal.returns-clause-shares
@@ -196,7 +190,7 @@ pub returns-then-not-may_accept-clause-next : goal.returns-then-not-may_accept-c
 returns-then-not-may_accept-clause-next g c n is = let none = c.note_nobody.ensures.same in cc
 
 pub returns-in_default-clause-next : goal.returns-in_default-clause-next
-returns-in_default-clause-next g c n is = let none = c.put_off.ensures.fault in cc
+returns-in_default-clause-next g c n is = let none = c.note_nobody-in_default.ensures.same in cc
 
 pub returns-clause-turn : goal.returns-clause-turn
 returns-clause-turn g c = c.accept_next.ensures.turn
@@ -207,5 +201,5 @@ returns-then-not-may_accept-clause-turn g c = c.note_nobody.ensures.turn
     ∙ ap (λ (t : Turn). after_call t (AcceptCall c.note_nobody.result)) c.may_accept.ensures.keeps.2
 
 pub returns-in_default-clause-turn : goal.returns-in_default-clause-turn
-returns-in_default-clause-turn g c = c.put_off.ensures.turn
-    ∙ ap (λ (t : Turn). after_call t (AcceptCall c.put_off.result)) c.may_accept.ensures.keeps.2
+returns-in_default-clause-turn g c = c.note_nobody-in_default.ensures.turn
+    ∙ ap (λ (t : Turn). after_call t (AcceptCall c.note_nobody-in_default.result)) c.may_accept.ensures.keeps.2

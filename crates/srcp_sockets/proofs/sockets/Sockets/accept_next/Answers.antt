@@ -6,24 +6,24 @@ use Rattle.srcp_door.specs.Calls.{AcceptCall, peer_of}
 use Rattle.srcp_peers.specs.declared.system.IoFailure.{IoFailure}
 use Rattle.srcp_peers.specs.declared.system.IoFailure.TheVariants.{WouldBlock, Interrupted, Fatal}
 use Rattle.srcp_peers.specs.declared.turn.Listening.{Listening}
-use Rattle.srcp_sockets.specs.Doors.{Stands}
-use Rattle.srcp_sockets.specs.Work.{last_after}
+use Rattle.srcp_log.specs.Doors.{Stands}
+use Rattle.srcp_log.specs.Work.{last_after}
 use Rattle.srcp_peers.specs.Listeners.{listening_after_failure}
 use Rattle.srcp_peers.specs.Steps.{Accepts, Answers}
 use Rattle.srcp_peers.specs.Times.{is_as_heard, failed_accept}
 use Rattle.srcp_peers.specs.Turns.{after_call}
 use Rattle.srcp_peers.proofs.PeersStayKept.{own}
 use Rattle.srcp_peers.proofs.CallsAreOfTheDoor.{says_call, says_step}
-use Rattle.srcp_sockets.proofs.AcceptsAreAsked.{asked_accept, asked_step, was_asked}
-use Rattle.srcp_sockets.proofs.WorkIsDone.{done_step, done_turn, tells_two}
-use Rattle.srcp_sockets.proofs.NumbersDiffer.{named_call, named_come, named_silent, nobody_named}
-use Rattle.srcp_sockets.proofs.AcceptsKeepSockets.{stands_came, stands_refused}
-use Rattle.srcp_sockets.proofs.SocketsStayStanding.{stands_answered}
-use Rattle.srcp_sockets.proofs.TimesGoOn.{timed_asked}
-use Rattle.srcp_sockets.proofs.EndsAreTold.{far_pushed, far_same}
+use Rattle.srcp_log.proofs.AcceptsAreAsked.{asked_accept, asked_step, was_asked}
+use Rattle.srcp_log.proofs.WorkIsDone.{done_step, done_turn, tells_two}
+use Rattle.srcp_log.proofs.NumbersDiffer.{named_call, named_come, named_silent, nobody_named}
+use Rattle.srcp_log.proofs.AcceptsKeepSockets.{stands_came, stands_refused}
+use Rattle.srcp_log.proofs.SocketsStayStanding.{stands_answered}
+use Rattle.srcp_log.proofs.TimesGoOn.{timed_asked}
+use Rattle.srcp_log.proofs.EndsAreTold.{far_pushed, far_same}
 use Rattle.srcp_peers.specs.Peers.{KeepsShare}
 use Rattle.srcp_peers.specs.declared.peer.Peer.{Peer}
-use Rattle.srcp_sockets.proofs.PeersAreFrom.{from_pushed, from_same, share_stays}
+use Rattle.srcp_log.proofs.PeersAreFrom.{from_pushed, from_same, share_stays}
 use Rattle.srcp_sockets.proofs.sockets.Sockets.accept_next.Goals as goal
 
 pub invariant_of-self : goal.invariant_of-self

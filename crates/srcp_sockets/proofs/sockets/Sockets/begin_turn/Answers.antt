@@ -8,15 +8,15 @@ use Rattle.srcp_peers.specs.Turns.{flushing, has_ticked}
 use Rattle.srcp_peers.proofs.QueuedIsOffered.{all_offered_then}
 use Rattle.srcp_peers.proofs.PeersRestByAccount.{and_left, and_right}
 use Rattle.srcp_peers.proofs.CallsAreOfTheDoor.{keeps_then, says_then}
-use Rattle.srcp_sockets.specs.Delivery.{HasWaited}
-use Rattle.srcp_sockets.specs.Doors.{flushed_in}
-use Rattle.srcp_sockets.specs.Waits.{AreFlushed}
-use Rattle.srcp_sockets.specs.Work.{AreClosedUp, AreFrom, goes_on}
-use Rattle.srcp_sockets.proofs.EndsAreDelivered.{waited_after, waited_keeps}
-use Rattle.srcp_sockets.proofs.WorkIsDone.{looked_silent, may_tell}
-use Rattle.srcp_sockets.proofs.WaitsAreFlushed.{all_closed, may_wait}
+use Rattle.srcp_log.specs.Delivery.{HasWaited}
+use Rattle.srcp_log.specs.Doors.{flushed_in}
+use Rattle.srcp_log.specs.Waits.{AreFlushed}
+use Rattle.srcp_log.specs.Work.{AreClosedUp, AreFrom, goes_on}
+use Rattle.srcp_log.proofs.EndsAreDelivered.{waited_after, waited_keeps}
+use Rattle.srcp_log.proofs.WorkIsDone.{looked_silent, may_tell}
+use Rattle.srcp_log.proofs.WaitsAreFlushed.{all_closed, may_wait}
 use Rattle.std.proofs.Common.{arith}
-use Rattle.srcp_sockets.proofs.PeersAreFrom.{all_shared, from_then, rest_then}
+use Rattle.srcp_log.proofs.PeersAreFrom.{all_shared, from_then, rest_then}
 use Rattle.srcp_sockets.proofs.sockets.Sockets.begin_turn.Goals as goal
 
 pub returns-clause-calls : goal.returns-clause-calls

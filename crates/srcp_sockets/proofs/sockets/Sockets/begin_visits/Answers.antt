@@ -3,16 +3,16 @@ use Rattle.std.specs.Prelude.{◌||◌, Bool, All}
 use Rattle.std.proofs.lemmas.List.{with_items_is}
 use Rattle.srcp_peers.specs.declared.peer.Peer.{Peer}
 use Rattle.srcp_peers.specs.AllPeers.{AreShared, AreThose}
-use Rattle.srcp_sockets.specs.Doors.{Stands}
+use Rattle.srcp_log.specs.Doors.{Stands}
 use Rattle.srcp_peers.specs.Turns.{lines_left_of}
-use Rattle.srcp_sockets.proofs.AcceptsAreAsked.{asked_silent}
-use Rattle.srcp_sockets.proofs.WorkIsDone.{done_silent}
-use Rattle.srcp_sockets.proofs.NumbersDiffer.{named_silent}
-use Rattle.srcp_sockets.proofs.NoMomentWhileUnread.{all_read}
-use Rattle.srcp_sockets.proofs.SocketsStayStanding.{as_many, stands_turned}
-use Rattle.srcp_sockets.proofs.TimesGoOn.{timed_kept}
-use Rattle.srcp_sockets.specs.Endings.{AreAsFar, AreVisited}
-use Rattle.srcp_sockets.proofs.EndsAreTold.{far_visited, visited_all}
+use Rattle.srcp_log.proofs.AcceptsAreAsked.{asked_silent}
+use Rattle.srcp_log.proofs.WorkIsDone.{done_silent}
+use Rattle.srcp_log.proofs.NumbersDiffer.{named_silent}
+use Rattle.srcp_log.proofs.NoMomentWhileUnread.{all_read}
+use Rattle.srcp_log.proofs.SocketsStayStanding.{as_many, stands_turned}
+use Rattle.srcp_log.proofs.TimesGoOn.{timed_kept}
+use Rattle.srcp_log.specs.Endings.{AreAsFar, AreVisited}
+use Rattle.srcp_log.proofs.EndsAreTold.{far_visited, visited_all}
 use Rattle.srcp_peers.specs.Steps.{GrowsBy}
 use Rattle.std.proofs.Common.{length}
 use Rattle.srcp_sockets.proofs.sockets.Sockets.begin_visits.Goals as goal

@@ -2,18 +2,18 @@ use Rattle.std.proofs.Common.{◌∙◌, ap, refl, sym, Ok, Err, rules}
 use Rattle.srcp_peers.specs.declared.peer.Peer.{Peer}
 use Rattle.srcp_door.specs.declared.door.DoorFault.TheVariants.{Close}
 use Rattle.srcp_door.specs.Calls.{CloseCall}
-use Rattle.srcp_sockets.proofs.AcceptsAreAsked.{asked_step}
-use Rattle.srcp_sockets.proofs.WorkIsDone.{done_step, done_turn}
-use Rattle.srcp_sockets.proofs.AccountsReadTheClock.{clock_is}
+use Rattle.srcp_log.proofs.AcceptsAreAsked.{asked_step}
+use Rattle.srcp_log.proofs.WorkIsDone.{done_step, done_turn}
+use Rattle.srcp_log.proofs.AccountsReadTheClock.{clock_is}
 use Rattle.srcp_peers.specs.Steps.{Answers}
 use Rattle.srcp_peers.specs.Turns.{after_call}
 use Rattle.srcp_peers.proofs.CallsAreOfTheDoor.{says_call}
-use Rattle.srcp_sockets.proofs.NumbersDiffer.{named_call}
-use Rattle.srcp_sockets.proofs.SocketsLingerAndClose.{stands_left, stands_missing}
-use Rattle.srcp_sockets.proofs.TimesGoOn.{timed_close}
-use Rattle.srcp_sockets.proofs.EndsAreTold.{far_left, far_same, slackens_step}
+use Rattle.srcp_log.proofs.NumbersDiffer.{named_call}
+use Rattle.srcp_log.proofs.SocketsLingerAndClose.{stands_left, stands_missing}
+use Rattle.srcp_log.proofs.TimesGoOn.{timed_close}
+use Rattle.srcp_log.proofs.EndsAreTold.{far_left, far_same, slackens_step}
 use Rattle.srcp_peers.specs.Peers.{KeepsShare}
-use Rattle.srcp_sockets.proofs.PeersAreFrom.{from_same, from_set, share_stays}
+use Rattle.srcp_log.proofs.PeersAreFrom.{from_same, from_set, share_stays}
 use Rattle.srcp_sockets.proofs.sockets.Sockets.close.Goals as goal
 
 pub returns-in_default-clause-trace : goal.returns-in_default-clause-trace

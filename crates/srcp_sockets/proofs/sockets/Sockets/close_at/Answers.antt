@@ -1,26 +1,26 @@
 use Rattle.std.proofs.Common.{List, refl, rules, sym, subst}
 use Rattle.srcp_peers.specs.declared.peer.Peer.{Peer}
-use Rattle.srcp_sockets.specs.Doors.{Stands}
-use Rattle.srcp_sockets.specs.Work.{is_close}
+use Rattle.srcp_log.specs.Doors.{Stands}
+use Rattle.srcp_log.specs.Work.{is_close}
 use Rattle.srcp_peers.specs.Steps.{Closes}
-use Rattle.srcp_sockets.proofs.AcceptsAreAsked.{asked_step}
-use Rattle.srcp_sockets.proofs.WorkIsDone.{done_step}
-use Rattle.srcp_sockets.proofs.WaitsAreFlushed.{flushed_close}
-use Rattle.srcp_sockets.proofs.AccountsReadTheClock.{clock_is}
+use Rattle.srcp_log.proofs.AcceptsAreAsked.{asked_step}
+use Rattle.srcp_log.proofs.WorkIsDone.{done_step}
+use Rattle.srcp_log.proofs.WaitsAreFlushed.{flushed_close}
+use Rattle.srcp_log.proofs.AccountsReadTheClock.{clock_is}
 use Rattle.srcp_peers.proofs.StepsAreCounted.{makes_more}
 use Rattle.srcp_peers.proofs.CallsAreOfTheDoor.{says_step, keeps_step}
-use Rattle.srcp_sockets.proofs.NumbersDiffer.{named_silent}
-use Rattle.srcp_sockets.proofs.SocketsLingerAndClose.{stands_closed_at}
-use Rattle.srcp_sockets.proofs.TimesGoOn.{timed_kept}
+use Rattle.srcp_log.proofs.NumbersDiffer.{named_silent}
+use Rattle.srcp_log.proofs.SocketsLingerAndClose.{stands_closed_at}
+use Rattle.srcp_log.proofs.TimesGoOn.{timed_kept}
 use Rattle.std.specs.List.{remove}
-use Rattle.srcp_sockets.specs.Endings.{AreAsFar}
-use Rattle.srcp_sockets.proofs.EndsAreTold.{far_goes, removed_of, slackens_step}
+use Rattle.srcp_log.specs.Endings.{AreAsFar}
+use Rattle.srcp_log.proofs.EndsAreTold.{far_goes, removed_of, slackens_step}
 use Rattle.srcp_peers.proofs.StepsAreCounted.{grows_step}
 use Rattle.std.proofs.lemmas.List.Edits.{length-remove}
 use Rattle.std.proofs.Common.{ap, arith, length}
 use Rattle.srcp_peers.specs.Peers.{KeepsRest}
-use Rattle.srcp_sockets.specs.Work.{AreFrom}
-use Rattle.srcp_sockets.proofs.PeersAreFrom.{from_removed, rest_stays}
+use Rattle.srcp_log.specs.Work.{AreFrom}
+use Rattle.srcp_log.proofs.PeersAreFrom.{from_removed, rest_stays}
 use Rattle.srcp_sockets.proofs.sockets.Sockets.close_at.Goals as goal
 
 pub invariant_of-self : goal.invariant_of-self

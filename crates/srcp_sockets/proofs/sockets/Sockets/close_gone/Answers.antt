@@ -1,8 +1,8 @@
 use Rattle.std.proofs.Common.{◌≡◌, ◌∙◌, ℕ, arith, inr, refl, subst}
 use Rattle.srcp_peers.specs.Peers.{KeepsRest, Makes}
 use Rattle.srcp_peers.proofs.CallsAreOfTheDoor.{keeps_then, says_none, says_then}
-use Rattle.srcp_sockets.specs.Work.{is_close}
-use Rattle.srcp_sockets.proofs.PeersAreFrom.{from_same, from_then, rest_stays, rest_then}
+use Rattle.srcp_log.specs.Work.{is_close}
+use Rattle.srcp_log.proofs.PeersAreFrom.{from_same, from_then, rest_stays, rest_then}
 use Rattle.srcp_sockets.proofs.sockets.Sockets.close_gone.Goals as goal
 
 pub loop-init : goal.loop-init

@@ -2,8 +2,8 @@ use Rattle.std.proofs.Common.{◌≡◌, ◌≤◌, ℕ, Bool, length}
 use Rattle.srcp_peers.specs.Peers.{KeepsRest, Makes}
 use Rattle.srcp_peers.specs.Steps.{GrowsBy, SaysNothing}
 use Rattle.srcp_peers.specs.Times.{KeepsTimes}
-use Rattle.srcp_sockets.specs.Waits.{AreFlushed}
-use Rattle.srcp_sockets.specs.Work.{AreFrom, is_close}
+use Rattle.srcp_log.specs.Waits.{AreFlushed}
+use Rattle.srcp_log.specs.Work.{AreFrom, is_close}
 use Rattle.srcp_sockets.proofs.sockets.Sockets.close_gone.Given as goal
 
 abbrev pub invariant-loop : goal.invariant-loop

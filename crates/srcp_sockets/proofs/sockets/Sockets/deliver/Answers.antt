@@ -2,8 +2,8 @@ use Rattle.std.proofs.Common.{List, ℕ, subst, sym}
 use Rattle.srcp_peers.specs.declared.peer.Peer.{Peer}
 use Rattle.srcp_peers.specs.declared.readiness.Flush.TheVariants as flush
 use Rattle.srcp_peers.specs.AllPeers.{AreOffered}
-use Rattle.srcp_sockets.specs.Delivery.{HasEnded}
-use Rattle.srcp_sockets.specs.Doors.{Stands}
+use Rattle.srcp_log.specs.Delivery.{HasEnded}
+use Rattle.srcp_log.specs.Doors.{Stands}
 use Rattle.srcp_sockets.proofs.sockets.Sockets.deliver.Goals as goal
 
 pub returns-clause-offered : goal.returns-clause-offered

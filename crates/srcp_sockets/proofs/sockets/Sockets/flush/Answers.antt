@@ -2,21 +2,21 @@ use Rattle.std.proofs.Common.{◌∙◌, List, rules, subst, sym, arith}
 use Rattle.std.proofs.lemmas.List.{with_items_is}
 use Rattle.srcp_peers.specs.declared.peer.Peer.{Peer}
 use Rattle.srcp_peers.specs.AllPeers.{AreOffered}
-use Rattle.srcp_sockets.specs.Doors.{Stands}
-use Rattle.srcp_sockets.proofs.AcceptsAreAsked.{asked_silent}
-use Rattle.srcp_sockets.proofs.WorkIsDone.{done_silent}
-use Rattle.srcp_sockets.proofs.WaitsAreFlushed.{all_flushed}
-use Rattle.srcp_sockets.proofs.NumbersDiffer.{named_silent}
-use Rattle.srcp_sockets.proofs.SocketsStayStanding.{stands_turned}
-use Rattle.srcp_sockets.proofs.TimesGoOn.{timed_kept}
-use Rattle.srcp_sockets.specs.Endings.{AreAsFar}
-use Rattle.srcp_sockets.proofs.EndsAreTold.{far_goes, flushed_of, slackens_silent}
+use Rattle.srcp_log.specs.Doors.{Stands}
+use Rattle.srcp_log.proofs.AcceptsAreAsked.{asked_silent}
+use Rattle.srcp_log.proofs.WorkIsDone.{done_silent}
+use Rattle.srcp_log.proofs.WaitsAreFlushed.{all_flushed}
+use Rattle.srcp_log.proofs.NumbersDiffer.{named_silent}
+use Rattle.srcp_log.proofs.SocketsStayStanding.{stands_turned}
+use Rattle.srcp_log.proofs.TimesGoOn.{timed_kept}
+use Rattle.srcp_log.specs.Endings.{AreAsFar}
+use Rattle.srcp_log.proofs.EndsAreTold.{far_goes, flushed_of, slackens_silent}
 use Rattle.std.proofs.Common.{◌+◌, ◌*◌, length}
 use Rattle.srcp_peers.specs.Steps.{GrowsBy}
-use Rattle.srcp_sockets.proofs.SocketsStayStanding.{as_many}
+use Rattle.srcp_log.proofs.SocketsStayStanding.{as_many}
 use Rattle.srcp_peers.specs.Peers.{KeepsRest}
-use Rattle.srcp_sockets.specs.Work.{AreFrom}
-use Rattle.srcp_sockets.proofs.PeersAreFrom.{from_each}
+use Rattle.srcp_log.specs.Work.{AreFrom}
+use Rattle.srcp_log.proofs.PeersAreFrom.{from_each}
 use Rattle.srcp_sockets.proofs.sockets.Sockets.flush.Goals as goal
 
 pub invariant_of-self : goal.invariant_of-self

@@ -2,8 +2,8 @@ use Rattle.std.proofs.Common.{◌≡◌, ◌<◌, List, length, subst, true}
 use Rattle.std.specs.Prelude.{slice_index_or}
 use Rattle.srcp_peers.specs.declared.peer.Peer.{Peer}
 use Rattle.srcp_peers.specs.Peers.{KeepsRest, KeepsShare, is_closable}
-use Rattle.srcp_sockets.proofs.AcceptsKeepSockets.{stands_later}
-use Rattle.srcp_sockets.proofs.PeersAreFrom.{from_same, from_weaker, rest_shares, share_stays}
+use Rattle.srcp_log.proofs.AcceptsKeepSockets.{stands_later}
+use Rattle.srcp_log.proofs.PeersAreFrom.{from_same, from_weaker, rest_shares, share_stays}
 use Rattle.srcp_sockets.proofs.sockets.Sockets.free_place.Goals as goal
 
 pub close_at-requires : goal.close_at-requires

@@ -1,11 +1,11 @@
 use Rattle.std.proofs.Common.{◌++◌, ◌∷◌, [], ◌≡◌, ℕ, ap, arith, length, ⊎_elim, subst, sym, true}
 use Rattle.srcp_peers.specs.Steps.{Closes}
-use Rattle.srcp_sockets.specs.Asked.{IsExcused}
-use Rattle.srcp_sockets.specs.Work.{is_crowded}
+use Rattle.srcp_log.specs.Asked.{IsExcused}
+use Rattle.srcp_log.specs.Work.{is_crowded}
 use Rattle.srcp_peers.proofs.StepsAreCounted.{grows_step}
-use Rattle.srcp_sockets.proofs.AcceptsAreAsked.{may_closed, may_crowded}
+use Rattle.srcp_log.proofs.AcceptsAreAsked.{may_closed, may_crowded}
 use Rattle.srcp_peers.specs.Peers.{KeepsShare}
-use Rattle.srcp_sockets.proofs.PeersAreFrom.{from_same, share_stays}
+use Rattle.srcp_log.proofs.PeersAreFrom.{from_same, share_stays}
 use Rattle.srcp_sockets.proofs.sockets.Sockets.may_accept.Goals as goal
 
 pub returns-then-is_crowded-clause-excused : goal.returns-then-is_crowded-clause-excused

@@ -1,7 +1,7 @@
-use Rattle.srcp_sockets.proofs.AcceptsAreAsked.{asked_first}
-use Rattle.srcp_sockets.proofs.WorkIsDone.{done_first}
-use Rattle.srcp_sockets.proofs.TimesGoOn.{timed_first}
-use Rattle.srcp_sockets.proofs.NumbersDiffer.{named_first}
+use Rattle.srcp_log.proofs.AcceptsAreAsked.{asked_first}
+use Rattle.srcp_log.proofs.WorkIsDone.{done_first}
+use Rattle.srcp_log.proofs.TimesGoOn.{timed_first}
+use Rattle.srcp_log.proofs.NumbersDiffer.{named_first}
 use Rattle.std.proofs.Common.{◌≡◌, [], None, ap, arith, length}
 use Rattle.srcp_sockets.proofs.sockets.Sockets.new.Goals as goal
 

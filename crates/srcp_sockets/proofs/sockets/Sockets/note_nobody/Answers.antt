@@ -5,12 +5,12 @@ use Rattle.srcp_peers.specs.Steps.{Answers}
 use Rattle.srcp_peers.specs.Times.{is_as_heard}
 use Rattle.srcp_peers.specs.Turns.{after_call}
 use Rattle.srcp_peers.proofs.CallsAreOfTheDoor.{says_call}
-use Rattle.srcp_sockets.proofs.AcceptsAreAsked.{asked_accept}
-use Rattle.srcp_sockets.proofs.WorkIsDone.{done_step, done_turn}
-use Rattle.srcp_sockets.proofs.NumbersDiffer.{named_call}
-use Rattle.srcp_sockets.proofs.SocketsStayStanding.{stands_answered}
-use Rattle.srcp_sockets.proofs.TimesGoOn.{timed_unasked}
-use Rattle.srcp_sockets.proofs.EndsAreTold.{far_same}
+use Rattle.srcp_log.proofs.AcceptsAreAsked.{asked_accept}
+use Rattle.srcp_log.proofs.WorkIsDone.{done_step, done_turn}
+use Rattle.srcp_log.proofs.NumbersDiffer.{named_call}
+use Rattle.srcp_log.proofs.SocketsStayStanding.{stands_answered}
+use Rattle.srcp_log.proofs.TimesGoOn.{timed_unasked}
+use Rattle.srcp_log.proofs.EndsAreTold.{far_same}
 use Rattle.srcp_sockets.proofs.sockets.Sockets.note_nobody.Goals as goal
 
 pub invariant_of-self : goal.invariant_of-self

@@ -4,18 +4,18 @@ use Rattle.srcp_door.specs.declared.door.DoorFault.{DoorFault}
 use Rattle.srcp_door.specs.declared.door.DoorFault.TheVariants.{Now}
 use Rattle.srcp_peers.specs.declared.turn.Turn.{Turn}
 use Rattle.srcp_peers.specs.Turns.{begun, moment_at, reported_at}
-use Rattle.srcp_sockets.specs.Duties.{AreDone, is_shown}
-use Rattle.srcp_sockets.specs.Work.{moment_of}
+use Rattle.srcp_log.specs.Duties.{AreDone, is_shown}
+use Rattle.srcp_log.specs.Work.{moment_of}
 use Rattle.srcp_door.specs.Calls.{NowCall}
 use Rattle.srcp_peers.specs.Steps.{Answers, Clocks, Step}
 use Rattle.srcp_peers.proofs.CallsAreOfTheDoor.{says_after, says_call, says_step}
-use Rattle.srcp_sockets.proofs.AcceptsAreAsked.{asked_step}
-use Rattle.srcp_sockets.proofs.WorkIsDone.{done_step, done_turn, moment_done, tells_two}
-use Rattle.srcp_sockets.proofs.NumbersDiffer.{named_call, named_silent}
-use Rattle.srcp_sockets.proofs.SocketsLingerAndClose.{stands_clocked}
-use Rattle.srcp_sockets.proofs.NoMomentWhileUnread.{read_clocked, stands_now}
-use Rattle.srcp_sockets.proofs.TimesGoOn.{timed_moment}
-use Rattle.srcp_sockets.proofs.EndsAreTold.{far_told}
+use Rattle.srcp_log.proofs.AcceptsAreAsked.{asked_step}
+use Rattle.srcp_log.proofs.WorkIsDone.{done_step, done_turn, moment_done, tells_two}
+use Rattle.srcp_log.proofs.NumbersDiffer.{named_call, named_silent}
+use Rattle.srcp_log.proofs.SocketsLingerAndClose.{stands_clocked}
+use Rattle.srcp_log.proofs.NoMomentWhileUnread.{read_clocked, stands_now}
+use Rattle.srcp_log.proofs.TimesGoOn.{timed_moment}
+use Rattle.srcp_log.proofs.EndsAreTold.{far_told}
 use Rattle.srcp_sockets.proofs.sockets.Sockets.now.Goals as goal
 
 -- the moment that follows of what the clock showed

@@ -2,12 +2,12 @@ use Rattle.std.proofs.Common.{◌≡◌, ◌∙◌, ap, subst, sym, true, true�
 use Rattle.std.specs.Prelude.{◌&&◌, cond}
 use Rattle.srcp_peers.specs.Waiting.{longest_wait}
 use Rattle.srcp_peers.proofs.CallsAreOfTheDoor.{says_none}
-use Rattle.srcp_sockets.specs.Delivery.{HasWaited}
-use Rattle.srcp_sockets.proofs.EndsAreDelivered.{waited_more, waited_none}
+use Rattle.srcp_log.specs.Delivery.{HasWaited}
+use Rattle.srcp_log.proofs.EndsAreDelivered.{waited_more, waited_none}
 use Rattle.std.proofs.Common.{arith}
 use Rattle.srcp_peers.specs.Peers.{KeepsShare}
 use Rattle.srcp_peers.specs.declared.turn.Turn.{Turn}
-use Rattle.srcp_sockets.proofs.PeersAreFrom.{from_same, share_stays}
+use Rattle.srcp_log.proofs.PeersAreFrom.{from_same, share_stays}
 use Rattle.srcp_sockets.proofs.sockets.Sockets.poll_unless_held.Goals as goal
 
 pub returns-then-held-clause-calls : goal.returns-then-held-clause-calls

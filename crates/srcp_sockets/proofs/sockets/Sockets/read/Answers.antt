@@ -8,20 +8,20 @@ use Rattle.srcp_door.specs.Calls.{ReadCall}
 use Rattle.srcp_peers.specs.Peers.{IsKept, KeepsShare}
 use Rattle.srcp_peers.specs.Steps.{Answers, SaysOne}
 use Rattle.srcp_peers.proofs.CallsAreOfTheDoor.{says_call}
-use Rattle.srcp_sockets.proofs.AcceptsAreAsked.{asked_step}
-use Rattle.srcp_sockets.proofs.WorkIsDone.{done_step, done_turn}
-use Rattle.srcp_sockets.proofs.ReadsAnswerInTime.{read_done}
-use Rattle.srcp_sockets.proofs.NumbersDiffer.{named_call}
-use Rattle.srcp_sockets.proofs.SocketsStayStanding.{stands_one}
-use Rattle.srcp_sockets.proofs.TimesGoOn.{line_kept, read_time, timed_read}
+use Rattle.srcp_log.proofs.AcceptsAreAsked.{asked_step}
+use Rattle.srcp_log.proofs.WorkIsDone.{done_step, done_turn}
+use Rattle.srcp_log.proofs.ReadsAnswerInTime.{read_done}
+use Rattle.srcp_log.proofs.NumbersDiffer.{named_call}
+use Rattle.srcp_log.proofs.SocketsStayStanding.{stands_one}
+use Rattle.srcp_log.proofs.TimesGoOn.{line_kept, read_time, timed_read}
 use Rattle.std.proofs.Common.{Bool, set, true}
 use Rattle.srcp_peers.specs.declared.stay.Stay.TheVariants as stay
-use Rattle.srcp_sockets.specs.Endings.{ending_of, is_as_far}
-use Rattle.srcp_sockets.specs.Work.{AreFrom, goes_behind}
-use Rattle.srcp_sockets.proofs.EndsAreTold.{far_goes, set_one, slackens_step}
-use Rattle.srcp_sockets.proofs.ThePeer.{the_changed, the_one}
-use Rattle.srcp_sockets.proofs.PeersAreFrom.{from_same, from_set}
-use Rattle.srcp_sockets.proofs.SharesAreWhole.{stays_short}
+use Rattle.srcp_log.specs.Endings.{ending_of, is_as_far}
+use Rattle.srcp_log.specs.Work.{AreFrom, goes_behind}
+use Rattle.srcp_log.proofs.EndsAreTold.{far_goes, set_one, slackens_step}
+use Rattle.srcp_log.proofs.ThePeer.{the_changed, the_one}
+use Rattle.srcp_log.proofs.PeersAreFrom.{from_same, from_set}
+use Rattle.srcp_log.proofs.SharesAreWhole.{stays_short}
 use Rattle.srcp_peers.specs.declared.turn.Turn.{Turn}
 use Rattle.srcp_door.specs.declared.pacing.LineBoundary.TheVariants.{At}
 use Rattle.srcp_door.specs.Pacing.{IsShort}

@@ -4,13 +4,13 @@ use Rattle.srcp_peers.specs.Steps.{Answers}
 use Rattle.srcp_peers.specs.Turns.{after_read}
 use Rattle.srcp_door.specs.declared.pacing.LineBoundary.TheVariants.{At}
 use Rattle.srcp_peers.proofs.CallsAreOfTheDoor.{says_call}
-use Rattle.srcp_sockets.proofs.AcceptsAreAsked.{asked_step}
-use Rattle.srcp_sockets.proofs.WorkIsDone.{done_step, done_turn}
-use Rattle.srcp_sockets.proofs.NumbersDiffer.{named_call}
-use Rattle.srcp_sockets.proofs.ReadsAnswerInTime.{missing_done}
-use Rattle.srcp_sockets.proofs.SocketsLingerAndClose.{stands_missed, unwatched_is}
-use Rattle.srcp_sockets.proofs.TimesGoOn.{read_time, timed_missed}
-use Rattle.srcp_sockets.proofs.EndsAreTold.{far_same}
+use Rattle.srcp_log.proofs.AcceptsAreAsked.{asked_step}
+use Rattle.srcp_log.proofs.WorkIsDone.{done_step, done_turn}
+use Rattle.srcp_log.proofs.NumbersDiffer.{named_call}
+use Rattle.srcp_log.proofs.ReadsAnswerInTime.{missing_done}
+use Rattle.srcp_log.proofs.SocketsLingerAndClose.{stands_missed, unwatched_is}
+use Rattle.srcp_log.proofs.TimesGoOn.{read_time, timed_missed}
+use Rattle.srcp_log.proofs.EndsAreTold.{far_same}
 use Rattle.srcp_sockets.proofs.sockets.Sockets.read_nobody.Goals as goal
 
 pub invariant_of-self : goal.invariant_of-self

@@ -5,26 +5,26 @@ use Rattle.srcp_peers.specs.declared.peer.Peer.{Peer}
 use Rattle.srcp_peers.specs.declared.turn.Turn.{Turn}
 use Rattle.srcp_peers.specs.declared.turn.Listening.{Listening}
 use Rattle.srcp_peers.specs.Accounts.{is_short_wait}
-use Rattle.srcp_sockets.specs.Doors.{Stands}
+use Rattle.srcp_log.specs.Doors.{Stands}
 use Rattle.srcp_peers.specs.Peers.{KeepsShare, is_resting}
 use Rattle.srcp_peers.specs.Steps.{Waits}
 use Rattle.srcp_peers.specs.Turns.{after_wait}
-use Rattle.srcp_sockets.specs.KeptTimes.{IsTimed}
+use Rattle.srcp_log.specs.KeptTimes.{IsTimed}
 use Rattle.srcp_peers.proofs.CallsAreOfTheDoor.{says_step}
-use Rattle.srcp_sockets.proofs.AcceptsAreAsked.{asked_step}
-use Rattle.srcp_sockets.proofs.WorkIsDone.{done_step, done_turn, looked_wait}
-use Rattle.srcp_sockets.proofs.NumbersDiffer.{named_silent}
-use Rattle.srcp_sockets.proofs.WaitsHaveReasons.{long_enough}
-use Rattle.srcp_sockets.proofs.WaitsKeepSockets.{stands_waited}
-use Rattle.srcp_sockets.proofs.WaitsOverWorkAreBrief.{brief_over_work}
-use Rattle.srcp_sockets.proofs.TimesGoOn.{timed_wait}
+use Rattle.srcp_log.proofs.AcceptsAreAsked.{asked_step}
+use Rattle.srcp_log.proofs.WorkIsDone.{done_step, done_turn, looked_wait}
+use Rattle.srcp_log.proofs.NumbersDiffer.{named_silent}
+use Rattle.srcp_log.proofs.WaitsHaveReasons.{long_enough}
+use Rattle.srcp_log.proofs.WaitsKeepSockets.{stands_waited}
+use Rattle.srcp_log.proofs.WaitsOverWorkAreBrief.{brief_over_work}
+use Rattle.srcp_log.proofs.TimesGoOn.{timed_wait}
 use Rattle.std.specs.Prelude.{take}
-use Rattle.srcp_sockets.specs.Endings.{AreAsFar}
-use Rattle.srcp_sockets.proofs.EndsAreTold.{far_goes, slackens_step, woken_of}
+use Rattle.srcp_log.specs.Endings.{AreAsFar}
+use Rattle.srcp_log.proofs.EndsAreTold.{far_goes, slackens_step, woken_of}
 use Rattle.srcp_peers.proofs.StepsAreCounted.{grows_step}
-use Rattle.srcp_sockets.proofs.SocketsStayStanding.{as_many}
-use Rattle.srcp_sockets.specs.Work.{AreFrom}
-use Rattle.srcp_sockets.proofs.PeersAreFrom.{woken_from}
+use Rattle.srcp_log.proofs.SocketsStayStanding.{as_many}
+use Rattle.srcp_log.specs.Work.{AreFrom}
+use Rattle.srcp_log.proofs.PeersAreFrom.{woken_from}
 use Rattle.srcp_sockets.proofs.sockets.Sockets.wait.Goals as goal
 
 pub invariant_of-self : goal.invariant_of-self

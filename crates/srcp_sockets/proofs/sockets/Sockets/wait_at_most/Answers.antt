@@ -1,4 +1,4 @@
-use Rattle.srcp_sockets.proofs.WorkIsDone.{done_limited}
+use Rattle.srcp_log.proofs.WorkIsDone.{done_limited}
 use Rattle.srcp_sockets.proofs.sockets.Sockets.wait_at_most.Goals as goal
 
 pub invariant_of-self-clause-done : goal.invariant_of-self-clause-done

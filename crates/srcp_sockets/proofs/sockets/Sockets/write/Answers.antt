@@ -6,15 +6,15 @@ use Rattle.srcp_peers.specs.Peers.{KeepsShare, enqueued, is_here}
 use Rattle.srcp_peers.specs.Steps.{Answers, SaysOne}
 use Rattle.srcp_peers.specs.Turns.{after_call}
 use Rattle.srcp_peers.proofs.CallsAreOfTheDoor.{says_call}
-use Rattle.srcp_sockets.proofs.AcceptsAreAsked.{asked_step}
-use Rattle.srcp_sockets.proofs.WorkIsDone.{done_step, done_turn}
-use Rattle.srcp_sockets.proofs.NumbersDiffer.{named_call}
-use Rattle.srcp_sockets.proofs.SocketsLingerAndClose.{stands_unwritten}
-use Rattle.srcp_sockets.proofs.SocketsStayStanding.{stands_one}
-use Rattle.srcp_sockets.proofs.TimesGoOn.{timed_write}
-use Rattle.srcp_sockets.proofs.EndsAreTold.{far_same, far_wrote}
-use Rattle.srcp_sockets.proofs.ThePeer.{the_one}
-use Rattle.srcp_sockets.proofs.PeersAreFrom.{from_same, from_set, share_stays}
+use Rattle.srcp_log.proofs.AcceptsAreAsked.{asked_step}
+use Rattle.srcp_log.proofs.WorkIsDone.{done_step, done_turn}
+use Rattle.srcp_log.proofs.NumbersDiffer.{named_call}
+use Rattle.srcp_log.proofs.SocketsLingerAndClose.{stands_unwritten}
+use Rattle.srcp_log.proofs.SocketsStayStanding.{stands_one}
+use Rattle.srcp_log.proofs.TimesGoOn.{timed_write}
+use Rattle.srcp_log.proofs.EndsAreTold.{far_same, far_wrote}
+use Rattle.srcp_log.proofs.ThePeer.{the_one}
+use Rattle.srcp_log.proofs.PeersAreFrom.{from_same, from_set, share_stays}
 use Rattle.srcp_sockets.proofs.sockets.Sockets.write.Goals as goal
 
 pub returns-in_default-clause-trace : goal.returns-in_default-clause-trace

@@ -1,6 +1,6 @@
 use Rattle.std.proofs.Common.{◌≡◌, ◌≤◌, length}
 use Rattle.std.specs.Prelude.{vec_capacity}
-use Rattle.srcp_sockets.specs.Limits.{most_peers}
+use Rattle.srcp_log.specs.Limits.{most_peers}
 use Rattle.srcp_sockets.proofs.sockets.accepting.make_queues.Given as goal
 
 abbrev pub invariant-loop : goal.invariant-loop

@@ -1,0 +1,13 @@
+pub mod Asked
+pub mod Delivery
+pub mod Doors
+pub mod Duties
+pub mod Endings
+pub mod Facts
+pub mod KeptTimes
+pub mod Limits
+pub mod Loads
+pub mod Names
+pub mod Shares
+pub mod Waits
+pub mod Work
