@@ -338,7 +338,7 @@ def named_in(cells):
 def clauses_of_the_proofs_page(_):
     """Each name of the table of promises, and of that of the door's laws, stands in the crate that it is said of."""
     promises = [(promise, named_in(cells)) for promise, *cells in table_of("proofs.md", "Promise")]
-    laws = [(law, named_in([law, clauses]) | {"srcp_log", "srcp_sockets"}) for law, _, clauses in table_of("door.md", "Law")]
+    laws = [(law, named_in([law, clauses]) | {"srcp_host", "srcp_log", "srcp_sockets"}) for law, _, clauses in table_of("door.md", "Law")]
     for promise, names in promises + laws:
         crates = [TOP / "crates" / name for name in names if (TOP / "crates" / name).is_dir()]
         files = [file for crate in crates for part in ("src", "specs") for file in (crate / part).rglob("*.*t*")]
@@ -350,7 +350,8 @@ def clauses_of_the_proofs_page(_):
 
 def laws_of_the_door_page(_):
     """Each law of the door over sockets has one row, in the table of its page or in that of promises."""
-    laws = re.findall(r"^pub fn (\w+)", (TOP / "crates/srcp_sockets/src/laws.rt").read_text(), re.M)
+    code = "".join((TOP / "crates" / crate / "src/laws.rt").read_text() for crate in ("srcp_sockets", "srcp_host"))
+    laws = re.findall(r"^pub fn (\w+)", code, re.M)
     rows = [named_in(cells) for _, *cells in table_of("proofs.md", "Promise")]
     rows += [named_in([law]) for law, *_ in table_of("door.md", "Law")]
     counts = {law: sum(law in names for names in rows) for law in laws}

@@ -1,2 +1,3 @@
 mod Lines
 mod Sharing
+pub mod CallsAreFair

@@ -1,1 +1,4 @@
 pub mod ServedHere
+pub mod SocketsFollowTheCourse
+pub mod PacedLogsKeepPanels
+pub mod SettledPanelsHold

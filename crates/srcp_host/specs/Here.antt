@@ -9,7 +9,7 @@ use Rattle.srcp_serve.specs.declared.serving.Served.{Served}
 use Rattle.srcp_host.specs.declared.fault.HostFault.{HostFault}
 use Rattle.srcp_host.specs.declared.fault.HostFault.TheVariants as host
 use Rattle.srcp_sockets.specs.Faults.{IsLocal}
-use Rattle.srcp_sockets.specs.Follows.{IsFollowed}
+use Rattle.srcp_host.specs.Follows.{IsFollowed}
 use Rattle.srcp_sockets.specs.declared.mio_system.MioSystem.{MioSystem}
 
 -- the file's layout was served at the file's port of the machine itself: a core that begins with the layout's buses, at

@@ -7,7 +7,7 @@ use Rattle.srcp_layout_file.specs.Document.{config_of}
 use Rattle.srcp_layout_file.specs.declared.config.Config.{Config}
 use Rattle.srcp_peers.specs.Steps.{Step}
 use Rattle.srcp_serve.specs.declared.serving.Served.{Served}
-use Rattle.srcp_sockets.specs.Follows.{IsFollowed}
+use Rattle.srcp_host.specs.Follows.{IsFollowed}
 use Rattle.srcp_sockets.specs.declared.fault.ListenFault.{ListenFault}
 use Rattle.srcp_sockets.specs.declared.fault.ListenFault.TheVariants as listen
 use Rattle.srcp_host.specs.declared.fault.HostFault.{HostFault}

@@ -4,13 +4,14 @@ ghost use Rattle.std.specs.Prelude.{◌≡◌, ◌<◌, IfErr, IfOk};
 ghost use Rattle.srcp_info.specs.Limits.{greatest_u64};
 ghost use Rattle.srcp_host.specs.Hosting.{Refuses, Serves, longest_of_turns};
 
+use crate::course::serve_sockets;
 use crate::fault::HostFault;
 use crate::opener::Opener;
 use srcp_core::Core;
 use srcp_layout_file::read_layout;
 use srcp_rules::Rows;
 use srcp_serve::Served;
-use srcp_sockets::{SocketDoor, System, serve_sockets};
+use srcp_sockets::{SocketDoor, System};
 use std::alloc::Global;
 
 /// The longest wait of a turn if turns are counted, in milliseconds.

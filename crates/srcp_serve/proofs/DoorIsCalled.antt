@@ -1,14 +1,13 @@
 -- What the methods of a server ask of its door, call after call, and how failed calls are counted.
-use Rattle.srcp_serve.proofs.Names.{◌≡◌, ◌∙◌, ℕ, ◌+◌, true, not, List, [], ◌∷◌, ◌++◌, Option, Result, refl, append-nil, length-append, ◌<◌}
-use Rattle.srcp_serve.proofs.Names.{◌≤◌, length, Ok, Err, arith, flat_map-append, list_all-append, all_append, list_all, AllByRecursion}
-use Rattle.srcp_serve.proofs.Names.{IfOk, flat_map, Extends, Trace, one_more, AreAboutPeers, AreTurns, AreMoment, Asks, AreAccept, IsTurn}
-use Rattle.srcp_serve.proofs.Names.{is_of_peer, DoorFault, Got}
-use Rattle.srcp_door.specs.Calls.{Call, ExpectCall, NowCall, AcceptCall, ReadCall, WriteCall, IsFair, is_expect, turns}
+use Rattle.srcp_serve.proofs.Names.{◌≡◌, ◌∙◌, ℕ, ◌+◌, true, not, List, [], ◌∷◌, ◌++◌, Option, Result, refl, append-nil, length-append}
+use Rattle.srcp_serve.proofs.Names.{◌≤◌, arith, flat_map-append, list_all-append, all_append, list_all, AllByRecursion}
+use Rattle.srcp_serve.proofs.Names.{flat_map, Extends, Trace, one_more, AreAboutPeers, AreTurns, AreMoment, Asks, AreAccept, IsTurn}
+use Rattle.srcp_serve.proofs.Names.{is_of_peer, DoorFault}
+use Rattle.srcp_door.specs.Calls.{Call, ExpectCall, NowCall, AcceptCall, IsFair, is_expect, turns}
 use Rattle.srcp_serve.proofs.CallsByTurnAndPeer.{one_part, parts-append}
 use Rattle.srcp_serve.proofs.CallsAreAdded.{adds_none, adds_one, adds_then}
 use Rattle.srcp_serve.specs.Tally.{CountsFaults, CallsDoor}
 use Rattle.srcp_serve.specs.declared.serving.Server.{Server}
-use Rattle.srcp_door.specs.declared.door.Got.TheVariants as got
 
 pub of_peers_then : (xs ys : List Call) → AreAboutPeers xs → AreAboutPeers ys → AreAboutPeers (xs ++ ys)
 of_peers_then xs ys x y = record {
@@ -91,17 +90,6 @@ pub fair_turns : {count : ℕ} (calls : List Call) → AreTurns count calls → 
 fair_turns calls t = rw t.all at (fair_each (turns calls) t.each)
 
 -- ---- what a door answers is within what it was asked
-
-pub fair_read : (peer : ℕ) (answer : Result Got DoorFault) (most : ℕ) (buffer : List ℕ)
-    → ((n : ℕ) → answer ≡ Ok (got.Bytes n) → (0 < n) × (n ≤ most)) → length buffer ≡ most → IsFair (ReadCall peer answer buffer)
-fair_read peer (Ok (got.Bytes n)) most buffer count same =
-    let within = count n refl in (within.0, rw same within.1)
-fair_read peer other most buffer count same = tt
-
-pub fair_write : (peer : ℕ) (bytes : List ℕ) (answer : Result ℕ DoorFault) → IfOk answer (λ n. n ≤ length bytes)
-    → IsFair (WriteCall peer bytes answer)
-fair_write peer bytes (Ok n) count = count
-fair_write peer bytes (Err fault) count = tt
 
 -- ---- counting the failures of a door
 

@@ -1,3 +1,0 @@
-pub mod SocketsFollowTheCourse
-pub mod PacedLogsKeepPanels
-pub mod SettledPanelsHold

@@ -1,5 +1,2 @@
 pub mod Early
 pub mod Faults
-pub mod Follows
-pub mod Panels
-pub mod Settled

@@ -25,7 +25,7 @@ pub(crate) const MOST_READY: usize = 128;
 ///
 /// ```
 /// let mut door = SocketDoor::open(system, alloc, wall, start)?;
-/// let served = serve_sockets(&mut core, &mut door, turns);
+/// let moment = door.now()?;
 /// ```
 pub struct SocketDoor<S: System> {
     pub(crate) sockets: Sockets<S>,

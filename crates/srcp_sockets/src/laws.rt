@@ -22,8 +22,6 @@ ghost use Rattle.srcp_peers.specs.Limits.{longest_sleep, retry_delay};
 ghost use Rattle.srcp_log.specs.KeptTimes.{AreKeptTimes, ArePaced};
 ghost use Rattle.srcp_log.specs.Limits.{most_lingering, most_ready};
 ghost use Rattle.srcp_log.specs.Loads.{AreBounded, load};
-ghost use Rattle.srcp_sockets.specs.Panels.{PanelsAreKept};
-ghost use Rattle.srcp_sockets.specs.Settled.{SettledPanelsHold};
 ghost use Rattle.srcp_log.specs.Shares.{AreFilled};
 ghost use Rattle.srcp_peers.specs.Sizes.{AreSmall};
 ghost use Rattle.srcp_peers.specs.Times.{times};
@@ -263,22 +261,6 @@ pub fn ends_are_told<S: System>(door: &SocketDoor<S>)
 pub fn turns_are_paced<S: System>(door: &SocketDoor<S>)
     ensures { ArePaced (times door.now.sockets.turn.timekeeper.wall door.now.sockets.turn.timekeeper.start
         door.now.sockets.system.log.steps) }
-{}
-
-/// States that no panel ever overran if two bounds hold in each turn. First, the turn's moment and the ends of sessions
-/// bring at most 160 changes. Second, with the lines that were handed out, of whose weight at most 11 count, these are
-/// within the slack that the door was given. The slack is 256 if there was no panel. The door's calls are those that
-/// some turns ask.
-pub fn panels_are_kept<S: System>(door: &SocketDoor<S>)
-    ensures { PanelsAreKept door.now.sockets.system.log.steps }
-{}
-
-/// States what a settled panel holds, for all that `serve_sockets` ensures of a core and a log. Let the information
-/// session of a connection be settled, and let the socket have taken all bytes taken for the peer. Then the socket took
-/// all that the connection was sent (`all`). A client that applies all lines behind the replies holds exactly the
-/// registry (`client`), which is that of the core (`registry`). The core's moment has 64 bits, as that of each `Core`.
-pub fn settled_panels_hold_the_registry()
-    ensures { SettledPanelsHold }
 {}
 
 /// States how many calls of the system the door made for an answer, counted from the previous answer. For a moment

@@ -28,7 +28,6 @@ mod turns;
 
 use crate::delivering::deliver;
 use accepting::make_queues;
-use srcp_core::MOST_CONNECTIONS;
 use srcp_door::DoorFault;
 use srcp_peers::{
     Answer, Flush, LINGER, Listening, Logged, MOST_LINGERING, Peer, Queues, Ready, System, Turn,
@@ -38,7 +37,7 @@ use std::alloc::{AllocError, Global};
 use std::vec::Vec;
 
 /// The most peers at once: 64 connected, a 65th that is turned away, and 64 that linger.
-const MOST_PEERS: usize = MOST_CONNECTIONS + 1 + MOST_LINGERING;
+pub const MOST_PEERS: usize = 129;
 
 /// Holds the system's sockets, with their peers. Only `deliver` drops a value: the type is not `Drop`.
 pub(crate) struct Sockets<S: System> {

@@ -1,9 +1,10 @@
 //! Serving over sockets of this machine, in one process.
 
 use srcp_core::Core;
+use srcp_host::serve_sockets;
 use srcp_rules::{Flat, Layout};
 use srcp_serve::{Door, DoorFault, Served};
-use srcp_sockets::{ListenFault, SocketDoor, serve_sockets};
+use srcp_sockets::{ListenFault, SocketDoor};
 use std::cell::Cell;
 use std::io;
 use std::io::{ErrorKind, Read, Write};

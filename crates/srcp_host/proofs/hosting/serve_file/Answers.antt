@@ -1,7 +1,7 @@
 use Rattle.std.proofs.Common.{◌∙◌, ap, subst}
 use Rattle.srcp_core.proofs.Agreement.CallLaws.{calls_lead}
 use Rattle.srcp_core.specs.Held.{Held}
-use Rattle.srcp_sockets.specs.Follows.{IsFollowed}
+use Rattle.srcp_host.specs.Follows.{IsFollowed}
 use Rattle.srcp_host.proofs.hosting.serve_file.Goals as goal
 
 pub returns-clause-served : goal.returns-clause-served

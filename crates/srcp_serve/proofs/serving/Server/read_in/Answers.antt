@@ -1,6 +1,7 @@
 use Rattle.srcp_serve.proofs.Names.{Ok, Err, ap, arith, refl, [], ReadCall, loses_reading, piece_of, Got}
 use Rattle.srcp_serve.specs.declared.tally.Tally.{Tally}
-use Rattle.srcp_serve.proofs.DoorIsCalled.{fair_read, none_failed, one_failed, calls_none, calls_one}
+use Rattle.srcp_door.proofs.CallsAreFair.{fair_read}
+use Rattle.srcp_serve.proofs.DoorIsCalled.{none_failed, one_failed, calls_none, calls_one}
 use Rattle.srcp_serve.proofs.OneCallFollows.{read_not, read_other, read_bytes}
 use Rattle.srcp_serve.proofs.serving.Server.read_in.Goals as goal
 

@@ -1,6 +1,7 @@
 use Rattle.srcp_serve.proofs.Names.{ap, refl, sym, ◌∙◌, arith, ◌≡◌, length, Less}
 use Rattle.srcp_serve.specs.declared.tally.Tally.{Tally}
-use Rattle.srcp_serve.proofs.DoorIsCalled.{fair_write, none_failed, one_failed, calls_none, calls_one}
+use Rattle.srcp_door.proofs.CallsAreFair.{fair_write}
+use Rattle.srcp_serve.proofs.DoorIsCalled.{none_failed, one_failed, calls_none, calls_one}
 use Rattle.srcp_serve.proofs.OneCallFollows.{sends, wrote_absent, wrote_none, wrote_less, wrote_all, wrote_failed}
 use Rattle.srcp_serve.proofs.serving.Server.write_once.Goals as goal
 

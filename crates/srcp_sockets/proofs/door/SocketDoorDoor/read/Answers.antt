@@ -1,5 +1,5 @@
 use Rattle.srcp_door.specs.Calls.{ReadCall}
-use Rattle.srcp_serve.proofs.DoorIsCalled.{fair_read}
+use Rattle.srcp_door.proofs.CallsAreFair.{fair_read}
 use Rattle.srcp_log.proofs.AnswersAreBounded.{answered_once}
 use Rattle.std.proofs.Common.{length}
 use Rattle.srcp_log.proofs.FirstReadsFillThePace.{read_filled}

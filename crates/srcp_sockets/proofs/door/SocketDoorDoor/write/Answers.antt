@@ -1,5 +1,5 @@
 use Rattle.srcp_door.specs.Calls.{WriteCall}
-use Rattle.srcp_serve.proofs.DoorIsCalled.{fair_write}
+use Rattle.srcp_door.proofs.CallsAreFair.{fair_write}
 use Rattle.srcp_log.proofs.AnswersAreBounded.{answered_once}
 use Rattle.srcp_log.proofs.SharesAreWhole.{comes_once, shares_called}
 use Rattle.std.proofs.Common.{ap, refl}

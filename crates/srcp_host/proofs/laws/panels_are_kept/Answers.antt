@@ -1,5 +1,5 @@
-use Rattle.srcp_sockets.proofs.PacedLogsKeepPanels.{panels_kept}
-use Rattle.srcp_sockets.proofs.laws.panels_are_kept.Goals as goal
+use Rattle.srcp_host.proofs.PacedLogsKeepPanels.{panels_kept}
+use Rattle.srcp_host.proofs.laws.panels_are_kept.Goals as goal
 
 pub returns : goal.returns
 returns g c =

@@ -14,7 +14,7 @@ use Rattle.srcp_serve.specs.Serving.{events_of, handed_out, stand_after, taken a
 use Rattle.srcp_serve.specs.Slots.{IsOfGiven, ServesCourse}
 use Rattle.srcp_peers.specs.Accounts.{account}
 use Rattle.srcp_log.specs.Doors.{AreSound}
-use Rattle.srcp_sockets.specs.Follows.{Follows}
+use Rattle.srcp_host.specs.Follows.{Follows}
 use Rattle.srcp_peers.specs.Streams.{handed, handed_in, taken, taken_in, took}
 use Rattle.srcp_peers.specs.Steps.{Step, calls}
 use Rattle.srcp_door.specs.declared.door.Got.TheVariants as got

@@ -20,8 +20,8 @@ use Rattle.srcp_serve.specs.Serving.{events_of, stand_after, taken as given_take
 use Rattle.srcp_peers.specs.Accounts.{account}
 use Rattle.srcp_peers.specs.Streams.{taken, taken_in, took}
 use Rattle.srcp_peers.proofs.AccountsHoldStreams.{taken_is, took_is}
-use Rattle.srcp_sockets.specs.Settled.{SettledPanelsHold}
-use Rattle.srcp_sockets.proofs.SocketsFollowTheCourse.{at_index, taken_trace}
+use Rattle.srcp_host.specs.Settled.{SettledPanelsHold}
+use Rattle.srcp_host.proofs.SocketsFollowTheCourse.{at_index, taken_trace}
 
 -- ---- each moment of the events has 64 bits, since the last one has
 

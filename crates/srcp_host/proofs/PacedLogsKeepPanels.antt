@@ -26,7 +26,7 @@ use Rattle.srcp_peers.specs.Turns.{after_read, got_bytes, ticks}
 use Rattle.srcp_peers.specs.declared.turn.Turn.{Turn}
 use Rattle.srcp_peers.proofs.LinesAreHandedOut.{line_after-append}
 use Rattle.srcp_log.specs.KeptTimes.{ArePaced}
-use Rattle.srcp_sockets.specs.Panels.{PanelsAreKept}
+use Rattle.srcp_host.specs.Panels.{PanelsAreKept}
 
 -- ---- what was paced at the end was paced all the while
 

@@ -12,7 +12,7 @@ use Rattle.srcp_serve.specs.Serving.{events_of, stand_after}
 use Rattle.srcp_peers.specs.Accounts.{account, is_owed}
 use Rattle.srcp_peers.specs.Steps.{Step}
 use Rattle.srcp_peers.specs.Streams.{took}
-use Rattle.srcp_sockets.specs.Follows.{IsFollowed}
+use Rattle.srcp_host.specs.Follows.{IsFollowed}
 
 -- the bytes are all that the connection was sent; a client that applies the lines in them holds exactly the registry,
 -- which is that of the core

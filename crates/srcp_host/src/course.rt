@@ -2,13 +2,12 @@
 
 ghost use Rattle.std.specs.Prelude.{◌≡◌, ◌<◌, ◌+◌};
 ghost use Rattle.srcp_info.specs.Limits.{greatest_u64};
-ghost use Rattle.srcp_sockets.specs.Follows.{Follows};
+ghost use Rattle.srcp_host.specs.Follows.{Follows};
 
-use crate::door::SocketDoor;
 use srcp_core::Core;
-use srcp_peers::System;
 use srcp_rules::Rows;
 use srcp_serve::{Served, serve};
+use srcp_sockets::{SocketDoor, System};
 
 /// Serves the peers of a door for `turns` turns. Returns how many connections were opened, and how many calls of the
 /// door failed. Whatever the system answers, what socket k took is a prefix of what the course sends connection k.

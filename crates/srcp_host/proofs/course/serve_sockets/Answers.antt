@@ -1,5 +1,5 @@
-use Rattle.srcp_sockets.proofs.SocketsFollowTheCourse.{follows}
-use Rattle.srcp_sockets.proofs.course.serve_sockets.Goals as goal
+use Rattle.srcp_host.proofs.SocketsFollowTheCourse.{follows}
+use Rattle.srcp_host.proofs.course.serve_sockets.Goals as goal
 
 pub returns-clause-course : goal.returns-clause-course
 returns-clause-course g c = follows c.args.turns c.serve.result.opened c.serve.new.door.sockets.last c.args.core.now
