@@ -338,7 +338,8 @@ def named_in(cells):
 def clauses_of_the_proofs_page(_):
     """Each name of the table of promises, and of that of the door's laws, stands in the crate that it is said of."""
     promises = [(promise, named_in(cells)) for promise, *cells in table_of("proofs.md", "Promise")]
-    laws = [(law, named_in([law, clauses]) | {"srcp_host", "srcp_log", "srcp_sockets"}) for law, _, clauses in table_of("door.md", "Law")]
+    door = {"srcp_host", "srcp_log", "srcp_sockets"}
+    laws = [(law, named_in([law, clauses]) | door) for law, _, clauses in table_of("door.md", "Law")]
     for promise, names in promises + laws:
         crates = [TOP / "crates" / name for name in names if (TOP / "crates" / name).is_dir()]
         files = [file for crate in crates for part in ("src", "specs") for file in (crate / part).rglob("*.*t*")]

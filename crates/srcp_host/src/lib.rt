@@ -1,7 +1,7 @@
-//! Serves a core over the door over sockets, and the layout of a file at the file's port. `serve_sockets` serves a core
-//! that is there, and states the theorem from the core to the system call. `serve_file` reads the bytes of a file, has a
-//! door opened at the port, and serves the peers of this door. `Opener` is what opens a door, and `Machine` opens a door
-//! at the sockets of the machine. `serve_here` serves there. `laws` has the laws of a door and its core.
+//! Serves a core over the door over sockets, and the layout of a file at the file's port. `serve_sockets` serves a
+//! core that is there, and states the theorem from the core to the system call. `serve_file` reads the bytes of a file,
+//! has a door opened at the port, and serves the peers of this door. `Opener` is what opens a door, and `Machine` opens
+//! a door at the sockets of the machine. `serve_here` serves there. `laws` has the laws of a door and its core.
 //!
 //! This crate opens no file and prints nothing: callers hand over bytes, and print the faults. `srcp_layout_file` says
 //! what the bytes mean, and `srcp_sockets` serves over any system.

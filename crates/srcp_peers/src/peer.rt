@@ -132,7 +132,8 @@ impl Peer {
         }
     }
 
-    /// Writes the queued bytes once, if some are queued, the socket may take some, and `what` says that the peer is due.
+    /// Writes the queued bytes once, if some are queued, the socket may take some, and `what` says that the peer is
+    /// due.
     #[inline(always)]
     pub(crate) fn flush<S: System>(&mut self, system: &mut Logged<S>, what: Flush)
         requires { IsKept system.old.log.steps self.old }

@@ -1,6 +1,6 @@
 //! The door over the system's sockets, proved down to the system call. `laws` has the laws of every door, over every
-//! list of answers of the system. `srcp_log` says what a log of calls has to be. The crate knows nothing of sessions and
-//! devices: `srcp_host` serves a core over such a door.
+//! list of answers of the system. `srcp_log` says what a log of calls has to be. The crate knows nothing of sessions
+//! and devices: `srcp_host` serves a core over such a door.
 //!
 //! `System` of `srcp_peers` is the small trait of system calls, `MioSystem` makes them, and `SocketDoor` is the door
 //! over any of them.

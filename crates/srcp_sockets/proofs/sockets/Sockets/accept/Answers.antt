@@ -44,8 +44,8 @@ returns-then-not-may_accept-clause-answers g c = answered_after c.args.self.now.
 
 pub returns-in_default-clause-answers : goal.returns-in_default-clause-answers
 returns-in_default-clause-answers g c = answered_after c.args.self.now.system.log.steps
-    c.may_accept.new.self.system.log.steps c.note_nobody-in_default.new.self.system.log.steps (AcceptCall c.note_nobody-in_default.result)
-    c.may_accept.ensures.calls c.may_accept.ensures.few c.note_nobody-in_default.ensures.log
+    c.may_accept.new.self.system.log.steps c.note_nobody-in_default.new.self.system.log.steps
+    (AcceptCall c.note_nobody-in_default.result) c.may_accept.ensures.calls c.may_accept.ensures.few c.note_nobody-in_default.ensures.log
 
 pub note_nobody-requires : goal.note_nobody-requires
 note_nobody-requires g c = record { nobody = inl refl; excused = c.may_accept.ensures.excused (search rules) }
@@ -161,7 +161,8 @@ returns-then-not-may_accept-clause-shares g c = nobody_new c.args.self.now.last 
 
 pub returns-in_default-clause-shares : goal.returns-in_default-clause-shares
 returns-in_default-clause-shares g c = nobody_new c.args.self.now.last c.args.self.now.peers.items
-    c.may_accept.new.self.peers.items c.note_nobody-in_default.new.self.peers.items (ap (λ peers. peers.items) c.note_nobody-in_default.ensures.keeps.2)
+    c.may_accept.new.self.peers.items c.note_nobody-in_default.new.self.peers.items
+    (ap (λ peers. peers.items) c.note_nobody-in_default.ensures.keeps.2)
     c.may_accept.ensures.shares
 
 pub returns-clause-shares : goal.returns-clause-shares
