@@ -98,7 +98,7 @@ def python_is_checked(_):
     if missing := " and no ".join(tool for tool in ("mypy", "pyflakes3") if not shutil.which(tool)):
         raise TriedNothing(f"there is no {missing} here")
     folders = [TOP / name for name in PYTHON_FOLDERS]
-    scripts = [TOP / "tools" / "release", TOP / "packaging" / "try_in_debian"]
+    scripts = [TOP / "packaging" / name for name in ("release", "try_in_debian")]
     words = ["pyflakes3", *folders, *scripts]
     told = subprocess.run(words, capture_output=True, text=True, timeout=10 * MINUTES).stdout
     with tempfile.TemporaryDirectory() as cache_of_mypy:

@@ -1,4 +1,4 @@
-"""What is released: how tools/release makes it, how ./run takes the program from it, and whether it is this program."""
+"""What is released: how packaging/release makes it, how ./run takes the program from it, whether it is this program."""
 import os
 import shutil
 import subprocess
@@ -11,7 +11,7 @@ from pages import PACKING, TOP, reader_of_a_page, take_bridges
 from run_script import HOW_LONG, NO_ROWS, outcome_of_run, repository_of_one_crate
 from serving import SECONDS, TriedNothing
 
-sys.path.insert(0, str(TOP / "tools"))
+sys.path.insert(0, str(TOP / "packaging"))
 from released import ARCHITECTURES, program_of, released_packages, sum_of, sum_of_sources, unpack  # noqa: E402
 
 MACHINE = os.uname().machine
@@ -35,7 +35,8 @@ def released_repository(program):
     its released package."""
     with package_of(program) as package, repository_of_one_crate(program) as (top, environment):
         (top / "tools" / "python3").symlink_to(sys.executable)
-        shutil.copy(TOP / "tools" / "released.py", top / "tools")
+        (top / "packaging").mkdir()
+        shutil.copy(TOP / "packaging" / "released.py", top / "packaging")
         yield top, environment, release_into(top, package)
 
 
@@ -87,9 +88,6 @@ def repository_to_release(program):
     with reader_of_a_page(program) as reader:
         top = reader.folder
         take_bridges(reader)
-        (top / "tools").mkdir()
-        for name in ("release", "released.py"):
-            shutil.copy(TOP / "tools" / name, top / "tools")
         built = top / "out" / "arm64" / "srcp_server"
         built.parent.mkdir(parents=True)
         shutil.copy(program, built)
@@ -106,7 +104,7 @@ def repository_to_release(program):
 
 def made_release(top, environment):
     """Makes the release, and returns its status, what it said, and the files that are there."""
-    done = subprocess.run([top / "tools" / "release"], env=environment, capture_output=True, text=True,
+    done = subprocess.run([top / "packaging" / "release"], env=environment, capture_output=True, text=True,
                           timeout=2 * PACKING)
     files = {file.name: file.read_bytes() for file in (top / "release").glob("*")}
     return done.returncode, done.stderr, files

@@ -3,7 +3,7 @@
 none that was made from these sources, or if the package is not the one of release/SHA256SUMS.
 
 release/ has a Debian package for each kind of machine, SHA256SUMS, and in sources.sha256 the sum of the sources that
-the programs were made from. tools/release makes it. This takes Python alone.
+the programs were made from. packaging/release makes it. This takes Python alone.
 """
 import hashlib
 import io
