@@ -24,7 +24,7 @@ pub use ending::Ending;
 pub use lingering::{MOST_LINGERING, count_lingering, first_gone, first_shut};
 pub use log::{Answer, Log, Logged};
 pub use peer::Peer;
-pub use queue::{MOST_INCOMING, MOST_OUTGOING, Outgoing, Queue, Queues};
+pub use queue::{Incoming, MOST_INCOMING, MOST_OUTGOING, Outgoing, Queue, Queues};
 pub use readiness::{Flush, Input, Output};
 pub use reading::ReadOutcome;
 pub use stay::{LINGER, Stay};

@@ -1,11 +1,11 @@
 //! A system with the log of its calls. Clauses alone read the log, which takes no memory and no instruction.
 
-ghost use Rattle.std.specs.Prelude.{◌≡◌, ◌<◌, ◌≤◌, List, [], ◌∷◌, ◌++◌, IfOk, length};
+ghost use Rattle.std.specs.Prelude.{◌≡◌, ◌<◌, ◌≤◌, List, [], ◌∷◌, ◌++◌, IfOk, length, min, take};
 ghost use Rattle.std.specs.Borrow.{ftrue};
 ghost use Rattle.srcp_peers.specs.Steps.{Step, Accepts, Answers, Clocks, Closes, Reads, Shuts, Waits, Writes};
-ghost use Rattle.srcp_peers.specs.Limits.{most_incoming, most_outgoing};
 ghost use Rattle.srcp_peers.specs.Sizes.{AreSmall, AreSmall-prop};
 
+use crate::queue::{MOST_INCOMING, Outgoing};
 use crate::system::{Ready, System};
 use srcp_door::{DoorFault, Got};
 use std::io::ErrorKind;
@@ -125,34 +125,36 @@ impl<S: System> Logged<S> {
         answer
     }
 
-    /// Reads once from a socket, and returns how many bytes came.
+    /// Reads once from a socket, at most [`MOST_INCOMING`] bytes, and returns how many came.
     ///
     /// # Errors
     /// Returns the error of the system.
     #[tactic(auto, using(crate::proofs::CallsAreSmall::small_more))]
     pub(crate) fn read(&mut self, socket: u32, buffer: &mut [u8]) -> Result<usize, ErrorKind>
         requires some { 0 < length buffer.old }
-        requires small { length buffer.old ≤ most_incoming }
-        ensures count { IfOk result (λ count. count ≤ length buffer.new) }
-        ensures log { self.new.log.steps ≡ self.old.log.steps ++ Reads socket buffer.new result ∷ [] }
-        ensures made { S.Made self.old.system (Reads socket buffer.new result) self.new.system }
+        ensures count { IfOk result (λ count. count ≤ min (length buffer.old) MOST_INCOMING) }
+        ensures log { self.new.log.steps
+            ≡ self.old.log.steps ++ Reads socket (take MOST_INCOMING buffer.new) result ∷ [] }
+        ensures made { S.Made self.old.system (Reads socket (take MOST_INCOMING buffer.new) result) self.new.system }
     {
+        let space = buffer.len().min(MOST_INCOMING);
+        let buffer = &mut buffer[..space];
         let answer = self.system.read(socket, buffer);
         self.log.note(&Note::Reads(socket, buffer, answer));
         answer
     }
 
-    /// Writes once to a socket, and returns how many bytes the socket took.
+    /// Writes once to a socket what is queued for it, and returns how many bytes the socket took.
     ///
     /// # Errors
     /// Returns the error of the system.
     #[tactic(auto, using(crate::proofs::CallsAreSmall::small_more))]
-    pub(crate) fn write(&mut self, socket: u32, bytes: &[u8]) -> Result<usize, ErrorKind>
-        requires { length bytes.now ≤ most_outgoing }
-        ensures count { IfOk result (λ count. count ≤ length bytes.now) }
-        ensures log { self.new.log.steps ≡ self.old.log.steps ++ Writes socket bytes.now result ∷ [] }
-        ensures made { S.Made self.old.system (Writes socket bytes.now result) self.new.system }
+    pub(crate) fn write(&mut self, socket: u32, queue: &Outgoing) -> Result<usize, ErrorKind>
+        ensures count { IfOk result (λ count. count ≤ length queue.now) }
+        ensures log { self.new.log.steps ≡ self.old.log.steps ++ Writes socket queue.now result ∷ [] }
+        ensures made { S.Made self.old.system (Writes socket queue.now result) self.new.system }
     {
+        let bytes = queue.front();
         let answer = self.system.write(socket, bytes);
         self.log.note(&Note::Writes(socket, bytes, answer));
         answer

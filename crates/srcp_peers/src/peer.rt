@@ -17,7 +17,7 @@ ghost use Rattle.srcp_door.specs.declared.pacing.LineBoundary.{LineBoundary};
 
 use crate::ending::Ending;
 use crate::log::{Answer, Logged};
-use crate::queue::{MOST_INCOMING, MOST_OUTGOING, Outgoing, Queue, Queues};
+use crate::queue::{Incoming, MOST_INCOMING, MOST_OUTGOING, Outgoing, Queues};
 use crate::readiness::{Flush, Input, Output};
 use crate::stay::Stay;
 use crate::system::{Ready, System, failure_of};
@@ -47,7 +47,7 @@ pub struct Peer {
     /// The bytes written to the peer that the socket did not take yet.
     pub outgoing: Outgoing,
     /// The bytes read from the peer that were not handed out yet.
-    pub incoming: Queue<MOST_INCOMING>,
+    pub incoming: Incoming,
     /// What a read may find.
     pub input: Input,
     /// What a write may find.
@@ -161,7 +161,7 @@ impl Peer {
         }
         self.awaits_reply = false;
         let all = self.outgoing.len();
-        match system.write(self.number, self.outgoing.front()) {
+        match system.write(self.number, &self.outgoing) {
             Ok(count) => {
                 self.outgoing.drop_front(count);
                 self.output = Output::after(count, all);

@@ -2,7 +2,6 @@
 
 ghost use Rattle.std.specs.Prelude.{◌≡◌, ◌<◌, ◌≤◌, ◌+◌, ◌-◌, ◌++◌, ◌∷◌, ◌==◌, [], ℕ, List, IfOk, length};
 ghost use Rattle.std.specs.Prelude.{MatchResult, drop, min, slice_range, take};
-ghost use Rattle.srcp_peers.specs.Limits.{most_incoming};
 ghost use Rattle.srcp_peers.specs.Steps.{Reads};
 
 use crate::log::Logged;
@@ -21,6 +20,9 @@ pub const MOST_INCOMING: usize = 4_096;
 /// The bytes written to a peer that its socket did not take yet.
 pub type Outgoing = Queue<MOST_OUTGOING>;
 
+/// The bytes read from a peer that were not handed out yet.
+pub type Incoming = Queue<MOST_INCOMING>;
+
 /// Holds the two queues of a peer that is still to come. Both are empty.
 ///
 /// ```
@@ -33,7 +35,7 @@ pub struct Queues {
     /// The queue of what the peer is written.
     pub outgoing: Outgoing,
     /// The queue of what is read from the peer.
-    pub incoming: Queue<MOST_INCOMING>,
+    pub incoming: Incoming,
     ghost sent: { outgoing ≡ [] },
     ghost came: { incoming ≡ [] },
 }
@@ -132,7 +134,7 @@ impl<const MOST: usize> Queue<MOST> {
         count
     }
 
-    /// Reads once from a socket, up to the free space, and returns how many bytes came.
+    /// Reads once from a socket, up to the free space and at most [`MOST_INCOMING`] bytes. Returns how many came.
     ///
     /// # Errors
     /// Returns the error of the system. The queue stays the same then.
@@ -142,8 +144,7 @@ impl<const MOST: usize> Queue<MOST> {
         socket: u32,
     ) -> Result<usize, ErrorKind>
         requires some { length self.old < MOST }
-        requires small { MOST ≤ most_incoming }
-        ensures { (buffer : List ℕ) × (length buffer ≡ MOST - length self.old)
+        ensures { (buffer : List ℕ) × (length buffer ≡ min (MOST - length self.old) MOST_INCOMING)
             × (system.new.log.steps ≡ system.old.log.steps ++ Reads socket buffer result ∷ [])
             × MatchResult result (λ count. (count ≤ length buffer) × (self.new ≡ self.old ++ take count buffer))
             (λ _. self.new ≡ self.old) }
@@ -162,7 +163,8 @@ impl<const MOST: usize> Queue<MOST> {
 
     /// Returns the held bytes, oldest first.
     pub(crate) fn front(&self) -> &[u8]
-        ensures { result.now ≡ self.now }
+        ensures held { result.now ≡ self.now }
+        ensures most { length result.now ≤ MOST }
     {
         &self.buffer[self.start..self.end]
     }

@@ -5,7 +5,7 @@ ghost use Rattle.srcp_peers.specs.Peers.{after_failure, flushes_all, given, is_l
 ghost use Rattle.srcp_peers.specs.Peers.{output_after, rests_reading, has_ended, rests_writing, tries_again};
 ghost use Rattle.srcp_peers.specs.Peers.{woken_input, woken_output};
 
-use crate::queue::{MOST_INCOMING, Outgoing, Queue};
+use crate::queue::{Incoming, Outgoing};
 use crate::system::IoFailure;
 
 /// Says what a read of a socket may find. Events come at edges, so nothing but an event makes a quiet socket ready.
@@ -147,7 +147,7 @@ impl Input {
     }
 
     /// Returns whether the input is over and no byte of the input is held.
-    pub(crate) fn is_over(self, incoming: &Queue<MOST_INCOMING>) -> bool
+    pub(crate) fn is_over(self, incoming: &Incoming) -> bool
         ensures { result ≡ is_over incoming.now self }
     {
         matches!(self, Input::Ended) && incoming.is_empty()
