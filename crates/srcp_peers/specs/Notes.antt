@@ -7,13 +7,13 @@ use Rattle.srcp_peers.specs.declared.log.Note.{Note}
 use Rattle.srcp_peers.specs.declared.log.Note.TheVariants as note
 
 -- the call that the door answers so
-abbrev pub answered : Answer → Call
-answered (answer.Expect due slack) = ExpectCall due slack
-answered (answer.Now said) = NowCall said
-answered (answer.Accept said) = AcceptCall said
-answered (answer.Read peer said buffer) = ReadCall peer said buffer.now
-answered (answer.Write peer bytes said) = WriteCall peer bytes.now said
-answered (answer.Close peer said) = CloseCall peer said
+abbrev pub call_answered : Answer → Call
+call_answered (answer.Expect due slack) = ExpectCall due slack
+call_answered (answer.Now said) = NowCall said
+call_answered (answer.Accept said) = AcceptCall said
+call_answered (answer.Read peer said buffer) = ReadCall peer said buffer.now
+call_answered (answer.Write peer bytes said) = WriteCall peer bytes.now said
+call_answered (answer.Close peer said) = CloseCall peer said
 
 -- the step that a note names
 abbrev pub step_of : Note → Step
@@ -24,4 +24,4 @@ step_of (note.Waits most count ready) = Waits most count ready.now
 step_of (note.Shuts socket) = Shuts socket
 step_of (note.Closes socket) = Closes socket
 step_of (note.Clocks said) = Clocks said
-step_of (note.Answers said) = Answers (answered said)
+step_of (note.Answers said) = Answers (call_answered said)

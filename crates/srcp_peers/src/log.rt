@@ -91,7 +91,7 @@ pub struct Logged<S: System> {
 }
 
 impl<S: System> Logged<S> {
-    ghost use Rattle.srcp_peers.specs.Notes.{answered};
+    ghost use Rattle.srcp_peers.specs.Notes.{call_answered};
 
     /// Begins an empty log over a system.
     pub fn new(system: S) -> Logged<S>
@@ -207,7 +207,7 @@ impl<S: System> Logged<S> {
     /// Logs an answer of the door. Makes no call of the system.
     #[tactic(auto, using(crate::proofs::CallsAreSmall::small_more))]
     pub fn answer(&mut self, answer: &Answer<'_>)
-        ensures log { self.new.log.steps ≡ self.old.log.steps ++ Answers (answered answer.now) ∷ [] }
+        ensures log { self.new.log.steps ≡ self.old.log.steps ++ Answers (call_answered answer.now) ∷ [] }
         ensures system { self.new.system ≡ self.old.system }
     {
         self.log.note(&Note::Answers(*answer));
