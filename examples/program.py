@@ -74,14 +74,16 @@ def table(decoder):
 def carry_out(decoder, what, numbers):
     """Does what is asked for."""
     if what == "table":
-        return table(decoder)
-    if what == "read":
+        table(decoder)
+    elif what == "read":
         for cv in numbers:
             print(f"CV {cv} = {decoder.value('READ', cv)}", flush=True)
-        return None
-    cv, wanted = numbers
-    value = decoder.value(*("WRITE", cv, wanted) if what == "write" else ("READ", cv))
-    return print(f"CV {cv} = {value}") if value == wanted else sys.exit(f"CV {cv} = {value}, and not {wanted}")
+    else:
+        cv, wanted = numbers
+        value = decoder.value(*("WRITE", cv, wanted) if what == "write" else ("READ", cv))
+        if value != wanted:
+            sys.exit(f"CV {cv} = {value}, and not {wanted}")
+        print(f"CV {cv} = {value}")
 
 
 def is_right(what, numbers):

@@ -68,7 +68,11 @@ class Throttle:
         if mode != EMERGENCY_STOP:  # which forgets the direction
             self.direction = mode
         if word == "light":
-            return self.set(mode, speed, top, 1 - functions[0]) if functions else print("it has no function")
+            if functions:
+                self.set(mode, speed, top, 1 - functions[0])
+            else:
+                print("it has no function")
+            return
         top = top if speed else STEPS  # one that stands may get another top speed; 0 means that speeds have no top
         step = top // 7 or 1
         if word == "faster":
@@ -80,9 +84,10 @@ class Throttle:
         elif word == "stop":
             said = EMERGENCY_STOP, 0, 0
         else:
-            return print("words: faster, slower, turn, light, stop")
+            print("words: faster, slower, turn, light, stop")
+            return
         self.drive_said = list(said)
-        return self.set(*said)
+        self.set(*said)
 
     def leave(self):
         """Stops the locomotive if it drives as this throttle said last."""

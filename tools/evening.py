@@ -18,7 +18,7 @@ from functools import partial
 from pathlib import Path
 
 from bridge_tests import common, test_mqtt, test_web, test_withrottle
-from bridge_tests.common import until
+from bridge_tests.common import stamped_lines, until
 
 DRIVES = re.compile(r"SET 1 GL (\d+) [01] [1-9]\d* ")  # V above 0
 POWERS = re.compile(r"SET 1 POWER ON\b")
@@ -290,13 +290,7 @@ class Evening:
     def stamped(self):
         """The rows of a fresh panel, with their stamps."""
         from srcp_bridges.rows import parse
-        with socket.create_connection(("127.0.0.1", self.server.port), 20) as connection:
-            connection.sendall(b"SET CONNECTIONMODE SRCP INFO\nGO\n")
-            connection.shutdown(socket.SHUT_WR)
-            text = b""
-            while more := connection.recv(65536):
-                text += more
-        return dict(parse(line) for line in text.decode("latin-1").split("\n")[3:-1])
+        return dict(parse(line) for line in stamped_lines(self.server.port))
 
     def track(self, rows):
         """Returns what the station should know."""

@@ -123,12 +123,14 @@ def faults(locomotives, replies):
             if reply and not str(reply).startswith("416")]
 
 
-async def stop_all(mirror, holders={}):
+async def stop_all(mirror, holders=None):
     """Has all locomotives that drive make an emergency stop, at once.
 
     If another session has one locked, its bus's power goes off. `holders` has sessions by their ids: they command what
     they have locked. Returns what could not be stopped.
     """
+    if holders is None:
+        holders = {}
     with mirror.stops.stopping_all():
         if not mirror.session or mirror.session.ended.done():
             return ["the server is away"]

@@ -184,15 +184,20 @@ def sessions(port, count):
     return [comes_again(lambda: Session(port)) for _ in range(count)]
 
 
-def rows(port):
-    """A snapshot: a panel that half-closes is sent its whole listing, and then the end. Lines without stamps."""
+def stamped_lines(port):
+    """A snapshot: a panel that half-closes is sent its whole listing, and then the end. Lines with their stamps."""
     with socket.create_connection(("127.0.0.1", port), WAIT) as connection:
         connection.sendall(b"SET CONNECTIONMODE SRCP INFO\nGO\n")
         connection.shutdown(socket.SHUT_WR)
         text = b""
         while more := connection.recv(65536):
             text += more
-    return [line.partition(" ")[2] for line in text.decode("latin-1").split("\n")[3:-1]]
+    return text.decode("latin-1").split("\n")[3:-1]
+
+
+def rows(port):
+    """The same lines without stamps."""
+    return [line.partition(" ")[2] for line in stamped_lines(port)]
 
 
 def parsed(lines):

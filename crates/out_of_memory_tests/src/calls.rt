@@ -48,7 +48,7 @@ pub(crate) fn one_bus(alloc: Global) -> Result<Layout, Refused> {
     Ok(layout)
 }
 
-/// Makes a vector with room for as many changes as may wait. With memory the same call succeeds, here and below.
+/// Makes a vector with capacity for as many changes as may wait. With memory the same call succeeds, here and below.
 pub(crate) fn queue(alloc: Global) -> Outcome {
     let makes = || Vec::<Change>::with_capacity(alloc, MOST_WAITING).is_ok();
     if makes() {

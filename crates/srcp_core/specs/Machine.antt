@@ -321,7 +321,7 @@ abbrev pub opening_held : List Bus → (moment last_id : ℕ) → Held
 opening_held buses moment last_id =
     record { buses = buses; rows = opening buses moment; moment = moment; last_id = last_id; places = []; denied = 0 }
 
--- fewer than 64 connections were open, and the new one has the key
+-- fewer connections than the most were open, and the new one has the key
 pub record IsAdmitted (key : ℕ) (old new : Held) : Type 0 where
   pub few : open_count old < most_connections
   pub was_free : at old key ≡ None

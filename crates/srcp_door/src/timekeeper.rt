@@ -1,7 +1,7 @@
 //! Moments that never go back.
 
 ghost use Rattle.std.specs.Prelude.{◌≡◌, ◌<◌, ◌≤◌, ◌+◌, ◌-◌, ◌*◌, ◌↔◌, IsTrue, max};
-ghost use Rattle.srcp_door.specs.Moments.{Moments, next_moment, passed, target, ten_minutes};
+ghost use Rattle.srcp_door.specs.Moments.{Moments, next_moment, passed, target, most_behind};
 
 use std::marker::Model;
 
@@ -56,14 +56,14 @@ impl Timekeeper {
     /// Returns the next moment, if the monotonic clock shows `elapsed`. The step from the last moment is at most `step`
     /// milliseconds, unless the last moment lags by more than 10 minutes.
     pub fn report(&mut self, elapsed: u64, step: u64) -> u64
-        ensures reported { result ≡ next_moment step ten_minutes self.old.last (target self.old elapsed) }
+        ensures reported { result ≡ next_moment step most_behind self.old.last (target self.old elapsed) }
         ensures new { self.new ≡ record { wall = self.old.wall; start = self.old.start; last = result } }
         ensures forward { self.old.last ≤ result }
         ensures within { result ≤ max self.old.last (target self.old elapsed) }
-        ensures step { target self.old elapsed ≤ self.old.last + step + ten_minutes → result ≤ self.old.last + step }
+        ensures step { target self.old elapsed ≤ self.old.last + step + most_behind → result ≤ self.old.last + step }
         ensures reached { target self.old elapsed ≤ self.old.last + step
             → result ≡ max self.old.last (target self.old elapsed) }
-        ensures behind { target self.old elapsed ≤ result + ten_minutes }
+        ensures behind { target self.old elapsed ≤ result + most_behind }
     {
         let goal = self.goal(elapsed);
         let next = self.last.saturating_add(step);

@@ -36,6 +36,14 @@ pub enum DeviceGroup {
 }
 
 /// Names a locomotive or an accessory.
+///
+/// ```
+/// let target = Target {
+///     bus: 1,
+///     group: DeviceGroup::Gl,
+///     address: 3,
+/// };
+/// ```
 #[derive(Clone, Copy, Debug, PartialEq, Eq)]
 pub struct Target {
     /// The bus.

@@ -10,7 +10,7 @@ use Rattle.srcp_peers.specs.declared.stay.Stay.TheVariants as stay
 use Rattle.srcp_peers.specs.declared.turn.Listening.{Listening}
 use Rattle.srcp_peers.specs.declared.turn.Listening.TheVariants as listening
 use Rattle.srcp_peers.specs.declared.turn.Turn.{Turn}
-use Rattle.srcp_peers.specs.Accounts.{Lingering, account, is_full, is_held, is_owed, is_silent}
+use Rattle.srcp_peers.specs.Accounts.{Lingering, account, has_nothing, is_full, is_held, is_owed}
 use Rattle.srcp_peers.specs.Peers.{Agrees, StaysAs, has_rest, is_busy, is_here, is_resting}
 use Rattle.srcp_peers.specs.Steps.{Step}
 use Rattle.srcp_peers.specs.Times.{times}
@@ -92,7 +92,7 @@ heard_quiet listening.Quiet e = refl
 is_heard : (log : List Step) (l : Listening) → Hears (account 0 log) l → AreAtRest log → l ≡ listening.Quiet
 is_heard log l heard rest =
     let a = account 0 log in
-    let silent = is_silent a.received (is_owed a.sent) in
+    let silent = has_nothing a.received (is_owed a.sent) in
     let all = cond a.sent.cut (is_full a.sent) silent in
     let whole : all ≡ true = and_right (not (is_owed a.sent) || a.sent.full) all
     (and_right (not a.sent.lost) ((not (is_owed a.sent) || a.sent.full) && all) (rest 0 (or_last a.watched))) in

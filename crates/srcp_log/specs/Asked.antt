@@ -16,8 +16,8 @@ abbrev pub Covers : (is_such : Account → Bool) → List Step → List ℕ → 
 Covers is_such log sockets = (socket : ℕ) → is_such (account socket log) ≡ true
     → list_any (λ other. socket == other) sockets ≡ true
 
--- there is no place, whatever lists have them: at least 128 sockets were accepted and are not closed, or 63 linger.
--- Without a place there are 129, or 64 linger; but one of them may have been closed just now to make a place
+-- there is no place, whatever lists have them: so many sockets were accepted and are not closed, or so many linger,
+-- that one more is the most. One of the most may have been closed just now to make a place
 abbrev pub IsCrowded : List Step → Type 0
 IsCrowded log = (kept lingering : List ℕ) → Covers (λ a. a.lingering.kept) log kept → Covers is_lingering log lingering
     → (nat_le (most_peers - 1) (length kept) || nat_le (most_lingering - 1) (length lingering)) ≡ true

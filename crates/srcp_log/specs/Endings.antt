@@ -21,8 +21,8 @@ pub record Leaving : Type 0 where
   pub account : Account
   pub ending : Ending
 
--- a moment begins a visit: one in which the input was over from the start, with fewer than 300 writes of which none was
--- cut, had no more for the peer
+-- a moment begins a visit: one in which the input was over from the start, with fewer writes than the most of which
+-- none was cut, had no more for the peer
 abbrev pub ending_called : ℕ → Leaving → Call → Ending
 ending_called socket x (NowCall answer) = begun x.ending (is_all_read x.account.received)
 ending_called socket x (WriteCall who bytes (Ok count)) =

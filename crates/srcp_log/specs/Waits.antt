@@ -56,8 +56,8 @@ is_calm wall start log = let turn = (times wall start log).turn in not (is_pendi
 abbrev pub is_flush_due : (wall start : ℕ) → List Step → Bool
 is_flush_due wall start log = has_ticked (times wall start log).turn || is_calm wall start log
 
--- nobody is left that has to be closed, or 64 were since a moment was reported; and each was shut down and offered what
--- is queued
+-- nobody is left that has to be closed, or as many as may linger were since a moment was reported; and each was shut
+-- down and offered what is queued
 pub record IsWaitDone (wall start : ℕ) (log : List Step) : Type 0 where
   pub closed : nat_lt (closes log) most_lingering ≡ true → (socket : ℕ) → has_to_close (account socket log) ≡ false
   pub flushed : (socket : ℕ) → IsFlushedOut (is_flush_due wall start log) (account socket log) (is_written socket log)

@@ -32,7 +32,7 @@ abbrev pub is_close : Step → Bool
 is_close (Closes who) = true
 is_close other = false
 
--- of those that linger nobody is left for whom nothing is left to do, or 64 sockets were closed
+-- of those that linger nobody is left for whom nothing is left to do, or as many sockets as may linger were closed
 abbrev pub AreClosedUp : (clock : ℕ) → List Peer → (old new : List Step) → Type 0
 AreClosedUp clock peers old new = (position (is_gone clock) peers ≡ None) ⊎ Makes is_close most_lingering old new
 
@@ -82,7 +82,7 @@ IsClocked turn answer old new = (shown : Option ℕ) × (answer ≡ moment_of tu
 
 -- ---- who is accepted
 
--- one that lingers has to be closed first: there is no place for one more, or 64 linger
+-- one that lingers has to be closed first: there is no place for one more, or as many linger as may
 abbrev pub is_crowded : List Peer → Bool
 is_crowded peers = nat_le most_peers (length peers)
     || nat_le most_lingering (length (filter (λ peer. not (is_here peer.stay)) peers))

@@ -8,7 +8,7 @@ use Rattle.srcp_peers.specs.declared.readiness.Input.TheVariants as input
 use Rattle.srcp_peers.specs.declared.readiness.Output.{Output}
 use Rattle.srcp_peers.specs.declared.readiness.Output.TheVariants as output
 use Rattle.srcp_peers.specs.declared.peer.Peer.{Peer}
-use Rattle.srcp_peers.specs.Accounts.{Account, Sent, Received, is_at_rest, is_full, is_held, is_owed, is_silent}
+use Rattle.srcp_peers.specs.Accounts.{Account, Sent, Received, is_at_rest, is_full, is_held, is_owed, has_nothing}
 use Rattle.srcp_peers.specs.declared.stay.Stay.{Stay}
 use Rattle.srcp_peers.specs.declared.stay.Stay.TheVariants as stay
 use Rattle.srcp_peers.specs.Peers.{Agrees, ComesAs, FindsAs, ReadsAs, WritesAs, has_rest, is_here, is_resting, rests_reading, rests_writing}
@@ -65,7 +65,7 @@ has_failed true ended failed owed e f = rw (e, f) refl
 has_failed false ended failed owed e f = rw e refl
 
 silent_is : (received : Received) (incoming outgoing : List ℕ) (state : Input) (owed : Bool) → owed ≡ not (length outgoing == 0)
-    → ReadsAs received incoming state → is_silent received owed ≡ ((length incoming == 0) && rests_reading outgoing state)
+    → ReadsAs received incoming state → has_nothing received owed ≡ ((length incoming == 0) && rests_reading outgoing state)
 silent_is received incoming outgoing state owed o h = silent_so (is_held received) (length incoming == 0)
     ((received.quiet && (not received.ended && not received.failed)) || (received.ended && owed)) (rests_reading outgoing state)
     (held_is received incoming h.0) (by state h.1)
@@ -97,10 +97,10 @@ rests_as : (sent : Sent) (received : Received) (outgoing incoming : List ℕ) (r
 rests_as sent received outgoing incoming reading writing is_cut w h c = by writing w
   where
     either : sent.written ≡ sent.took ++ outgoing → (b : Bool) → sent.cut ≡ b
-        → cond sent.cut (is_full sent) (is_silent received (is_owed sent))
+        → cond sent.cut (is_full sent) (has_nothing received (is_owed sent))
         ≡ cond b (length outgoing == 40960) ((length incoming == 0) && rests_reading outgoing reading)
-    either is true c = ap (λ b. cond b (is_full sent) (is_silent received (is_owed sent))) c ∙ brimful_is sent outgoing is
-    either is false c = ap (λ b. cond b (is_full sent) (is_silent received (is_owed sent))) c
+    either is true c = ap (λ b. cond b (is_full sent) (has_nothing received (is_owed sent))) c ∙ brimful_is sent outgoing is
+    either is false c = ap (λ b. cond b (is_full sent) (has_nothing received (is_owed sent))) c
         ∙ silent_is received incoming outgoing reading (is_owed sent) (owed_is sent outgoing is) h
 
     by : (o : Output) → WritesAs sent outgoing o → is_at_rest sent received
@@ -109,7 +109,7 @@ rests_as sent received outgoing incoming reading writing is_cut w h c = by writi
         (either w.0 is_cut c)
     by output.Full w = is_stuck sent.lost (is_owed sent) sent.full _ _ w.1 w.2 (either w.0 is_cut c)
     by output.Lost w = ap (λ l. not l && ((not (is_owed sent) || sent.full)
-        && cond sent.cut (is_full sent) (is_silent received (is_owed sent)))) w.1
+        && cond sent.cut (is_full sent) (has_nothing received (is_owed sent)))) w.1
 
 -- a peer that is there rests exactly if it is at rest by its account
 pub rest_is : (a : Account) (p : Peer) → Agrees a p → is_here p.stay ≡ true → is_at_rest a.sent a.received ≡ has_rest p

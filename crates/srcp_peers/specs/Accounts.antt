@@ -74,8 +74,8 @@ abbrev pub is_held : Received → Bool
 is_held received = nat_lt (length received.handed) (length received.gave)
 
 -- nothing is to be handed out or reported of it, and its socket has none: its end is reported once all is taken
-abbrev pub is_silent : Received → (owed : Bool) → Bool
-is_silent received owed = not (is_held received) && ((received.quiet && (not received.ended && not received.failed))
+abbrev pub has_nothing : Received → (owed : Bool) → Bool
+has_nothing received owed = not (is_held received) && ((received.quiet && (not received.ended && not received.failed))
     || (received.ended && owed))
 
 -- nothing happens to it unless its socket is found ready: all that was taken for it was taken by the socket, or that
@@ -83,7 +83,7 @@ is_silent received owed = not (is_held received) && ((received.quiet && (not rec
 -- for more, and else there is nothing of it
 abbrev pub is_at_rest : Sent → Received → Bool
 is_at_rest sent received = not sent.lost && ((not (is_owed sent) || sent.full) && cond sent.cut (is_full sent)
-    (is_silent received (is_owed sent)))
+    (has_nothing received (is_owed sent)))
 
 -- its end may be reported: a read found it, all that came was handed out, and its socket took all that was taken for it
 abbrev pub may_end : Account → Bool

@@ -5,7 +5,7 @@ use Rattle.srcp_peers.specs.declared.ending.Ending.{Ending}
 use Rattle.srcp_peers.specs.declared.ending.Ending.TheVariants.{Open, Settling, Settled}
 
 -- the state after a visit's begin, if `ended` says whether the peer's input is over and none of it held: a visit in
--- which fewer than 300 writes were made, and none was cut, had no more for the peer
+-- which fewer writes than the most were made, and none was cut, had no more for the peer
 abbrev pub begun : Ending → (ended : Bool) → Ending
 begun Open ended = cond ended (Settling 0) Open
 begun (Settling writes) ended = cond (nat_lt writes most_writes) Settled (Settling 0)

@@ -6,7 +6,7 @@ use Rattle.std.specs.Option.{option_map}
 use Rattle.srcp_grammar.specs.Weight.{most_changes}
 use Rattle.srcp_door.specs.Limits.{most_writes, reserve}
 use Rattle.srcp_info.specs.Limits.{greatest_u64}
-use Rattle.srcp_door.specs.Moments.{next_moment, passed, target, ten_minutes}
+use Rattle.srcp_door.specs.Moments.{next_moment, passed, target, most_behind}
 use Rattle.srcp_door.specs.Pacing.{pace_of, spent, weight_of}
 use Rattle.srcp_door.specs.declared.pacing.LineBoundary.{LineBoundary}
 use Rattle.srcp_door.specs.declared.pacing.Pace.{Pace}
@@ -113,7 +113,7 @@ step_at turn time = cond turn.late (max (2 * min (time - turn.clock) most_twice)
 -- something falls due meanwhile; at most 10 minutes are made up in such steps
 abbrev pub moment_at : Turn → (time : ℕ) → ℕ
 moment_at turn time =
-    next_moment (step_at turn time) ten_minutes (passed turn.timekeeper.last (target turn.timekeeper time) turn.due)
+    next_moment (step_at turn time) most_behind (passed turn.timekeeper.last (target turn.timekeeper time) turn.due)
     (target turn.timekeeper time)
 
 -- the clock went on, and lets a line through: those that it let through before are as long ago as they weigh

@@ -5,7 +5,7 @@ use Rattle.std.proofs.lemmas.Bool.{and_parts, cases_eq}
 use Rattle.std.specs.Option.{option_map_or}
 use Rattle.std.specs.Prelude.{if◌then◌else◌, is_some, slice_get}
 use Rattle.srcp_routes.specs.Conflicts.{are_free, is_free, is_same}
-use Rattle.srcp_routes.specs.Laws.{IsShownRightly, ShownAreKept, ShownStand, ShowsAreFree, Stands, touched}
+use Rattle.srcp_routes.specs.Laws.{IsShownRightly, IsThrownAndLocked, ShownAreKept, ShownStand, ShowsAreFree, touched}
 use Rattle.srcp_routes.specs.Plan.{Table, is_clear, stage_at, wanted_at}
 use Rattle.srcp_routes.specs.Runs.{Run, run, run_after}
 use Rattle.srcp_routes.specs.Stages.{is_idle, ready_stage, turnout_at}
@@ -49,7 +49,7 @@ in_plan : (routes : List Route) (t : Table) (n : ℕ) (route : Route) → Fits r
 in_plan routes t n route fits is = ap (λ (x : List Route). slice_get x n) fits.plan ∙ is
 
 stands : (routes : List Route) (r : Run) (n : ℕ) (route : Route) (place : ℕ) (turnout : Setting) → Holds routes r
-    → r.shown n ≡ true → slice_get routes n ≡ Some route → turnout_at route place ≡ Some turnout → Stands r n turnout
+    → r.shown n ≡ true → slice_get routes n ≡ Some route → turnout_at route place ≡ Some turnout → IsThrownAndLocked r n turnout
 stands routes r n route place turnout holds h is at =
     let here : slice_get r.table.routes n ≡ Some route = in_plan routes r.table n route holds.fits is in
     let may : GoesAt false route (stage_at r.table.stages n) = holds.shown n route here h in

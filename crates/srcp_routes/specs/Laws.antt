@@ -47,17 +47,17 @@ ThrowsAreLocked = (routes : List Route) (events : List Event) (setting : Setting
 
 -- ---- signals
 
--- a turnout stands as its route wants it: locked, and thrown since
-pub record Stands (r : Run) (n : ℕ) (turnout : Setting) : Type 0 where
+-- a turnout is as its route wants it: locked, and thrown since
+pub record IsThrownAndLocked (r : Run) (n : ℕ) (turnout : Setting) : Type 0 where
   pub locked : r.locked n turnout.device ≡ true
   pub thrown : r.thrown n turnout ≡ true
 
 -- from the order that shows "go" until the reply that accepts a stop, or the end of the session, each turnout of the
--- route stands as the route wants it
+-- route is as the route wants it
 abbrev pub ShownStand : Type 0
 ShownStand = (routes : List Route) (events : List Event) (n : ℕ) (route : Route) (place : ℕ) (turnout : Setting)
     → (run routes events).shown n ≡ true → slice_get routes n ≡ Some route → turnout_at route place ≡ Some turnout
-    → Stands (run routes events) n turnout
+    → IsThrownAndLocked (run routes events) n turnout
 
 -- "go" is shown for a route of the plan whose blocks are free
 pub record IsShownRightly (routes : List Route) (r : Run) (setting : Setting) : Type 0 where

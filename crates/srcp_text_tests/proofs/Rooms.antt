@@ -1,4 +1,4 @@
--- What says that a line has room for a stamp or a number.
+-- What says that a line has capacity for a stamp or a number.
 use Rattle.std.specs.Prelude.{ℕ, ◌^◌, ◌<◌, ◌≤◌, length}
 use Rattle.std.specs.Fmt.{decimal}
 use Rattle.std.proofs.Common.{arith}
