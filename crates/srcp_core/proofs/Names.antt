@@ -1,20 +1,20 @@
 -- The names that the proofs of this crate use.
 pub use Rattle.slab.specs.Slab.{Slab, entries_from}
+pub use Rattle.srcp_core.specs.Acts.{Act, Begins, Ends, Obeys, Says, Sets, acts, command_of, request_as, wants}
 pub use Rattle.srcp_core.specs.Agrees.{OfConnection, OfCourse, lent}
 pub use Rattle.srcp_core.specs.Connection.{Connection, History, available, cursor_at, exhausts, finish, fitting, prefix, given, given_room}
 pub use Rattle.srcp_core.specs.Connection.{heard, is_done_by, is_nil, is_open, is_settled, items_of, line_of, overran, owed, sent, tells}
 pub use Rattle.srcp_core.specs.Connection.{text, told_change, took, unsent, untold, waiting}
-pub use Rattle.srcp_core.specs.Course.{World, absent_fault, accepted, answered, answered_as, at_connection, command_of, commanded, counted}
-pub use Rattle.srcp_core.specs.Course.{course, denied_fed, denied_in, denied_lines, denied_over, did, ended, entered, fault, fed_to, fresh}
-pub use Rattle.srcp_core.specs.Course.{goes, greeted, happens, history, history_from, if_open, is_info, new_lines, new_marks, numbered}
-pub use Rattle.srcp_core.specs.Course.{obeyed, open_connection, or_refused, order_of, ordered, replied, rows, shut_as, start, state}
-pub use Rattle.srcp_core.specs.Course.{state_after, wants_as, with_numbered}
-pub use Rattle.srcp_core.specs.Handshake.{Chooses, Goes, Greeting, Refuses, Speaks}
+pub use Rattle.srcp_core.specs.Course.{World, absent_fault, accepted, act, answered, answered_as, asked, at_connection, counted}
+pub use Rattle.srcp_core.specs.Course.{course, denied_fed, denied_in, denied_lines, denied_over, did, entered, fault, fed_to, fresh}
+pub use Rattle.srcp_core.specs.Course.{happens, history, history_from, if_open, is_info, new_lines, new_marks, numbered}
+pub use Rattle.srcp_core.specs.Course.{open_connection, or_refused, replied, rows, shut_as, start, state, state_after, with_numbered}
+pub use Rattle.srcp_core.specs.Handshake.{Chooses, Goes, Greeting, Refuses, Speaks, greets}
 pub use Rattle.srcp_core.specs.Held.{AreSessions, Held, IsLive, IsSessionAt, IsSound, Place, at, open_count, place_at}
 pub use Rattle.srcp_core.specs.Laws.{AddsUp, AllMoments, HasMoment, IsRecordOf, IsSession, has_key, last_line, listed, listed_row, rows_at}
 pub use Rattle.srcp_core.specs.Machine.{CountsEach, AnswersFit, IsAdmitted, IsNotAdmitted, advanced, request_of, bytes_fault}
 pub use Rattle.srcp_core.specs.Machine.{bytes_fault_from}
-pub use Rattle.srcp_core.specs.Machine.{carried, changed_at, changed_in, changed_places, denied_line, begun_place, feed_in, filled}
+pub use Rattle.srcp_core.specs.Machine.{carried, changed_at, changed_in, changed_places, begun_place, feed_in, filled}
 pub use Rattle.srcp_core.specs.Machine.{finish_at, freed_of, freed_place, has_overrun, next_request_at, next_request_from, hung_up}
 pub use Rattle.srcp_core.specs.Machine.{hung_up_from}
 pub use Rattle.srcp_core.specs.Machine.{is_panel, item_at, item_from, item_of, let_out, line_answered, lines_answered, live_session}
@@ -27,7 +27,7 @@ pub use Rattle.srcp_core.specs.Recording.{nothing_recorded, record_of, shut, ste
 pub use Rattle.srcp_core.specs.Run.{Happened, HasPlainMoment, PlainMoments, Runs, Records, count_at, taken_at, taking}
 pub use Rattle.srcp_core.specs.Stands.{IsAt, IsOwned, StandsBy, StandsFor, panel_at, place_of}
 pub use Rattle.srcp_core.specs.Under.{At, Bytes, Event, Heard, Open, Piece, Room, Shut}
-pub use Rattle.srcp_core.specs.Under.{all_under, denied_by, giving, greeting_under, greets, lines_under, recorded_step, under}
+pub use Rattle.srcp_core.specs.Under.{all_under, denied_by, giving, lines_under, recorded_step, under}
 pub use Rattle.srcp_core.specs.Waits.{IsOverrun, brought, least, lesser, changes_left, slack_of}
 pub use Rattle.srcp_core.specs.declared.connection.Panel.{Panel}
 pub use Rattle.srcp_core.specs.declared.connection.Panel.TheVariants.{Absent, Listening, Overran}

@@ -1,26 +1,23 @@
 -- The model of the code: what each call makes of what is held.
 use Rattle.std.specs.Prelude.{⊤, ◌≡◌, ◌≢◌, ℕ, suc, ◌+◌, ◌-◌, ◌*◌, ◌<◌, ◌≤◌, min, max, Bool, true, false, not}
 use Rattle.std.specs.Prelude.{◌&&◌, ◌||◌, ◌==◌, if◌then◌else◌, List, [], ◌∷◌, ◌++◌, map, drop, length, fold, nat_lt}
-use Rattle.std.specs.Prelude.{slice_set, Option, Some, None, Result, Ok, Err}
+use Rattle.std.specs.Prelude.{slice_set, Option, Some, None, Ok}
+use Rattle.std.specs.List.{filter_map}
 use Rattle.std.specs.Option.{option_map, option_map_or, option_to_list}
 use Rattle.srcp_core.specs.Limits.{most_connections}
-use Rattle.srcp_info.specs.Limits.{greatest_id, greatest_u64, longest_line, longest_short_reply}
+use Rattle.srcp_info.specs.Limits.{greatest_u64, longest_line, longest_short_reply}
 use Rattle.srcp_info.specs.Limits.{most_in_piece, most_waiting}
 use Rattle.srcp_info.specs.Line.{reply_line}
 use Rattle.srcp_info.specs.declared.change.Change.{Change}
-use Rattle.srcp_info.specs.declared.change.Code.{Code}
-use Rattle.srcp_info.specs.declared.change.Code.TheVariants.{C500}
 use Rattle.srcp_info.specs.declared.change.Reply.{Reply}
-use Rattle.srcp_info.specs.declared.change.Reply.TheVariants.{Protocol, Mode as ModeReply, Go, Refused, Shows}
+use Rattle.srcp_info.specs.declared.change.Reply.TheVariants.{Shows}
 use Rattle.srcp_info.specs.declared.change.Shown.{Shown}
 use Rattle.srcp_info.specs.declared.value.Mode.{Mode}
 use Rattle.srcp_info.specs.declared.value.Mode.TheVariants.{Command as CommandMode, Info}
 use Rattle.srcp_grammar.specs.declared.layout.Bus.{Bus}
-use Rattle.srcp_grammar.specs.declared.command.Command.{Command}
 use Rattle.srcp_rules.specs.Due.{due, freed, began}
-use Rattle.srcp_rules.specs.Effect.{Effect, effect}
 use Rattle.srcp_rules.specs.State.{Update, opening, updated_all, shown_rows}
-use Rattle.srcp_rules.specs.Steps.{wants_memory}
+use Rattle.srcp_rules.specs.Steps.{effect}
 use Rattle.srcp_text.specs.Marks.{Mark, Line, TooLong}
 use Rattle.srcp_text.specs.Reading.{Reading, nothing_read}
 use Rattle.srcp_text.specs.Feeding.{feed_of}
@@ -29,15 +26,15 @@ use Rattle.srcp_text.specs.declared.reader.Fed.TheVariants.{Line as FoundLine, T
 use Rattle.srcp_feed.specs.Cursor.{concerns}
 use Rattle.srcp_feed.specs.Feed.{Feed, beginning, is_full, told, next_of, after_next}
 use Rattle.srcp_feed.specs.declared.feed.Next.{Next}
+use Rattle.srcp_core.specs.Acts.{Act, Says, Sets, Begins, Obeys, Ends, request_as, acts, wants}
 use Rattle.srcp_core.specs.Connection.{is_nil, line_of}
-use Rattle.srcp_core.specs.Course.{welcome, command_of}
-use Rattle.srcp_core.specs.Handshake.{Greeting, Speaks, Chooses, Goes, Refuses, greets}
+use Rattle.srcp_core.specs.Course.{welcome}
 use Rattle.srcp_core.specs.Held.{Place, Held, place_at, at, open_count}
 use Rattle.srcp_core.specs.Under.{denied_by}
 use Rattle.srcp_core.specs.declared.connection.Panel.{Panel}
 use Rattle.srcp_core.specs.declared.connection.Panel.TheVariants.{Absent, Listening, Overran}
 use Rattle.srcp_core.specs.declared.line.Request.{Request}
-use Rattle.srcp_core.specs.declared.line.Request.TheVariants.{Dropped, Greets, Commands}
+use Rattle.srcp_core.specs.declared.line.Request.TheVariants.{Commands}
 use Rattle.srcp_core.specs.declared.line.LineRecord.{LineRecord}
 use Rattle.srcp_core.specs.declared.record.Step.{Step}
 use Rattle.srcp_core.specs.declared.record.Step.TheVariants.{Obeyed, Began, Ended}
@@ -146,11 +143,9 @@ queue_of _ = []
 
 -- ---- lines
 
--- what a line asks for, by how its connection stands; what comes to an information session or after the end is dropped
+-- what a line asks for, by how its connection stands
 abbrev pub request_of : List Bus → Place → Mark → Request
-request_of buses p mark =
-    if is_panel p.panel || p.ended then Dropped
-    else (if p.session == 0 then Greets p.mode (greets mark) else Commands p.session (command_of buses mark))
+request_of buses p mark = request_as buses (is_panel p.panel) p.ended p.session p.mode mark
 
 -- what the reader found: the offset after the line and what it asks for, or nothing
 abbrev pub next_request_from : List Bus → Place → Fed × Reading → Option (ℕ × Request) × Place
@@ -217,62 +212,30 @@ one_denied held = record held { denied = min (held.denied + 1) greatest_u64 }
 abbrev pub replied : ℕ → Reply → Held → Held
 replied key reply held = changed_at key (with_unsent (reply_line held.moment reply)) held
 
--- memory was refused to a line
-abbrev pub denied_line : ℕ → Held → Held
-denied_line key held = replied key (Refused C500) (one_denied held)
-
 -- a session begins under the id: its row is told to all, and then it is one of them
 abbrev pub session_begun : ℕ → ℕ → Mode → Held → Held
 session_begun key id mode held =
     changed_at key (begun_place id (panel_for mode))
     (carried (began id held.moment mode ∷ []) (record held { last_id = id }))
 
--- GO, by whether memory was given to it
-abbrev pub goes : Bool → ℕ → Mode → Held → Held
-goes granted key mode held =
-    if nat_lt held.last_id greatest_id
-    then (if granted then replied key (Go (held.last_id + 1)) (session_begun key (held.last_id + 1) mode held)
-    else denied_line key held)
-    else replied key (Refused C500) held
-
--- a line before the session, by whether memory was given to it
-abbrev pub greeted : Bool → ℕ → Mode → Greeting → Held → Held
-greeted _ key _ Speaks held = replied key Protocol held
-greeted _ key mode (Chooses chosen) held =
-    replied key ModeReply (changed_at key (λ p. record p { mode = chosen }) held)
-greeted granted key mode Goes held = goes granted key mode held
-greeted _ key _ (Refuses code) held = replied key (Refused code) held
-
 -- the session ends: its locks are taken out, and then its own row
 abbrev pub freed_of : ℕ → Held → Held
 freed_of session held = carried (freed held.rows session held.moment) held
 
--- the session ends if its own command ends it
-abbrev pub ended_by_command : Bool → ℕ → ℕ → Held → Held
-ended_by_command ends key session held =
-    if ends then freed_of session (changed_at key (λ p. record p { ended = true }) held) else held
+-- what one act does
+abbrev pub act : ℕ → Held → Act → Held
+act key held (Says reply) = replied key reply held
+act key held (Sets mode) = changed_at key (λ p. record p { mode = mode }) held
+act key held (Begins id mode) = session_begun key id mode held
+act key held (Obeys session order) = carried (effect held.rows session held.moment order).updates held
+act key held (Ends session) = freed_of session (changed_at key (λ p. record p { ended = true }) held)
 
--- a command is carried out and replied to, and may end its session
-abbrev pub obeyed : ℕ → ℕ → Effect → Held → Held
-obeyed key session result held =
-    ended_by_command result.ends key session (replied key result.reply (carried result.updates held))
-
--- whether a command is obeyed, by whether memory was given to it: it is if it wants none
-abbrev pub is_obeyed : Bool → ℕ → Command → Held → Bool
-is_obeyed granted session command held = granted || not (wants_memory held.rows session held.moment command)
-
--- a command, by whether memory was given to it
-abbrev pub commanded : Bool → ℕ → ℕ → Result Command Code → Held → Held
-commanded _ key _ (Err code) held = replied key (Refused code) held
-commanded granted key session (Ok command) held =
-    if is_obeyed granted session command held
-    then obeyed key session (effect held.rows session held.moment command) held else denied_line key held
-
--- a line is answered, by whether memory was given to it
+-- a line is answered, by whether memory was given to it; if it wants memory, a refusal counts
 abbrev pub answered : Bool → ℕ → Request → Held → Held
-answered _ _ Dropped held = held
-answered granted key (Greets mode greeting) held = greeted granted key mode greeting held
-answered granted key (Commands session command) held = commanded granted key session command held
+answered granted key request held =
+    let gives = granted || not (wants held.rows held.last_id held.moment request) in
+    fold (act key) (record held { denied = denied_by held.denied (gives ∷ []) })
+    (acts held.rows held.last_id held.moment granted request)
 
 -- ---- the steps of the registry that the answer to a line is
 
@@ -280,29 +243,17 @@ answered granted key (Commands session command) held = commanded granted key ses
 abbrev pub steps_in : LineRecord → List Step
 steps_in line = option_to_list line.step ++ option_to_list line.end
 
--- the steps of GO: the beginning of a session, if an id is left and memory was given
-abbrev pub steps_gone : Bool → Mode → Held → List Step
-steps_gone granted mode held =
-    if nat_lt held.last_id greatest_id && granted then Began (held.last_id + 1) held.moment mode ∷ [] else []
-
--- the steps of a line before the session
-abbrev pub steps_greeted : Bool → Mode → Greeting → Held → List Step
-steps_greeted granted mode Goes held = steps_gone granted mode held
-steps_greeted _ _ _ _ = []
-
--- a command that reads is a step whatever comes of it
-abbrev pub steps_commanded : Bool → ℕ → Result Command Code → Held → List Step
-steps_commanded _ _ (Err _) _ = []
-steps_commanded granted session (Ok command) held =
-    Obeyed session held.moment command
-    ∷ (if is_obeyed granted session command held && (effect held.rows session held.moment command).ends
-    then Ended session held.moment ∷ [] else [])
+-- the step that an act is; a command that reads is one whatever comes of it
+abbrev pub step_of : (moment : ℕ) → Act → Option Step
+step_of moment (Begins id mode) = Some (Began id moment mode)
+step_of moment (Obeys session order) = Some (Obeyed session moment order.command)
+step_of moment (Ends session) = Some (Ended session moment)
+step_of _ _ = None
 
 -- the steps of a line
 abbrev pub steps_answered : Bool → Request → Held → List Step
-steps_answered _ Dropped _ = []
-steps_answered granted (Greets mode greeting) held = steps_greeted granted mode greeting held
-steps_answered granted (Commands session command) held = steps_commanded granted session command held
+steps_answered granted request held =
+    filter_map (step_of held.moment) (acts held.rows held.last_id held.moment granted request)
 
 -- how many bytes a reply has at most
 abbrev pub longest : Reply → ℕ

@@ -1,14 +1,8 @@
 -- To be believed: what memory answers in each event, and what of that the course of the events takes in.
-use Rattle.std.specs.Prelude.{ℕ, ◌+◌, min, fold, Bool, true, false, if◌then◌else◌, List, [], ◌∷◌}
-use Rattle.std.specs.Prelude.{drop, nat_lt, Result, Ok, Err}
-use Rattle.srcp_info.specs.Limits.{greatest_id, greatest_u64}
-use Rattle.srcp_info.specs.declared.change.Code.{Code}
-use Rattle.srcp_info.specs.declared.change.Code.TheVariants.{C500}
-use Rattle.srcp_grammar.specs.declared.command.Command.{Command}
-use Rattle.srcp_rules.specs.State.{State}
-use Rattle.srcp_rules.specs.Steps.{Step, Obeyed, Began, Moment, Ended, wants_memory}
+use Rattle.std.specs.Prelude.{ℕ, ◌+◌, min, fold, Bool, true, if◌then◌else◌, List, [], ◌∷◌, drop}
+use Rattle.srcp_info.specs.Limits.{greatest_u64}
+use Rattle.srcp_rules.specs.Steps.{Step, Obeyed, Began, Moment, Ended}
 use Rattle.srcp_text.specs.Marks.{Mark}
-use Rattle.srcp_core.specs.Handshake.{Greeting, Goes, Refuses, greets as greets_of}
 use Rattle.srcp_core.specs.declared.event.Event.{Event as PlainEvent}
 use Rattle.srcp_core.specs.declared.event.Event.TheVariants as plain
 use Rattle.srcp_core.specs.declared.record.Step.{Step as PlainStep}
@@ -71,26 +65,7 @@ lines_under _ [] = []
 lines_under grants (mark ∷ marks) =
     record { mark = mark; granted = first_of grants } ∷ lines_under (drop 1 grants) marks
 
--- GO is refused if memory is refused to it
-abbrev pub greeting_under : Bool → Greeting → Greeting
-greeting_under false Goes = Refuses C500
-greeting_under _ greeting = greeting
-
--- what a line before the session is
-abbrev pub greets : Heard → Greeting
-greets line = greeting_under line.granted (greets_of line.mark)
-
--- ---- what wants memory, and what is recorded
-
--- a line before the session wants memory: it is GO, and an id is left
-abbrev pub greeting_wants : (last_id : ℕ) → Greeting → Bool
-greeting_wants last_id Goes = nat_lt last_id greatest_id
-greeting_wants _ _ = false
-
--- a line of a session wants memory: it reads as a command that does
-abbrev pub reading_wants : State → (session moment : ℕ) → Result Command Code → Bool
-reading_wants _ _ _ (Err _) = false
-reading_wants state session moment (Ok command) = wants_memory state session moment command
+-- ---- what is recorded
 
 -- what is recorded of a step: a command is recorded whatever came of it
 abbrev pub recorded_step : Step → PlainStep

@@ -1,25 +1,26 @@
 -- The names that the proofs of this crate use.
 pub use Rattle.srcp_rules.specs.Steps.{stepped, updates_of, Began, Ended, Obeyed, Order, Step, effect}
 pub use Rattle.srcp_core.proofs.Agreement.CallLaws.{calls_agree, calls_lead}
-pub use Rattle.srcp_core.proofs.Agreement.MemoryAnswers.{line_law, none_denied}
+pub use Rattle.srcp_core.proofs.Agreement.MemoryAnswers.{none_denied}
 pub use Rattle.srcp_core.proofs.Agreement.NumbersAndKeys.{key_push, key_push_last, key_within, length_without, numbered_with, without_other}
-pub use Rattle.srcp_core.proofs.CourseLaws.EventsKeep.{IsAnswered, IsKept, kept_all, kept_fed, kept_lines, kept_shut, numbered_after}
+pub use Rattle.srcp_core.proofs.CourseLaws.EventsKeep.{IsAnswered, IsKept, IsPlain, kept_all, kept_fed, kept_lines, kept_shut}
+pub use Rattle.srcp_core.proofs.CourseLaws.EventsKeep.{numbered_after}
 pub use Rattle.srcp_core.proofs.CourseLaws.RoomGivesWhatIsOwed.{fitting_none, no_lists, took_within}
 pub use Rattle.srcp_core.proofs.CourseLaws.RoomsAddUp.{owed_plain, takes_within, took_overran}
 pub use Rattle.srcp_core.proofs.CourseLaws.SessionsAreKept.{all_numbered, all_push, opened}
 pub use Rattle.srcp_core.specs.Connection.{Connection, History, available, concerning, cursor_at, fitting, given, given_room, is_last}
 pub use Rattle.srcp_core.specs.Connection.{is_nil, is_open, is_settled, items_of, line_of, overran, owed, prefix, sent, text, took, unsent}
 pub use Rattle.srcp_core.specs.Connection.{untold, waiting}
-pub use Rattle.srcp_core.specs.Course.{World, answered, answered_as, at_connection, commanded, counted, course, denied_in, denied_over, did}
-pub use Rattle.srcp_core.specs.Course.{ended, entered, fault, fed_to, fresh, goes, greeted, happens, history, history_from, is_info}
-pub use Rattle.srcp_core.specs.Course.{new_lines, numbered, obeyed, open_connection, or_refused, order_of, replied, rows, shut_as, start}
-pub use Rattle.srcp_core.specs.Course.{state, state_after, welcome, with_numbered}
+pub use Rattle.srcp_core.specs.Course.{World, answered, answered_as, at_connection, counted, course, denied_in, denied_over, did}
+pub use Rattle.srcp_core.specs.Course.{entered, fault, fed_to, fresh, happens, history, history_from, is_info, new_lines, numbered}
+pub use Rattle.srcp_core.specs.Course.{open_connection, or_refused, replied, rows, shut_as, start, state, state_after, welcome}
+pub use Rattle.srcp_core.specs.Course.{with_numbered}
 pub use Rattle.srcp_core.specs.Held.{Held, at, open_count}
 pub use Rattle.srcp_core.specs.Machine.{IsAdmitted, IsNotAdmitted, IsReceived, advanced, bytes_fault, changed_at, finish_at, hung_up}
 pub use Rattle.srcp_core.specs.Machine.{let_out, slack_at, unsent_at, without_sent}
 pub use Rattle.srcp_core.specs.Recording.{key_of, without_key}
 pub use Rattle.srcp_core.specs.Stands.{StandsFor}
-pub use Rattle.srcp_core.specs.Under.{At, Bytes, Event, Heard, Open, Piece, Room, Shut, denied_by, giving, greets}
+pub use Rattle.srcp_core.specs.Under.{At, Bytes, Event, Heard, Open, Piece, Room, Shut, denied_by, giving}
 pub use Rattle.srcp_core.specs.Waits.{IsOverrun, IsPanel, brought, due_next, least, changes_left, slack}
 pub use Rattle.srcp_core.specs.declared.record.CoreFault.{CoreFault}
 pub use Rattle.srcp_core.specs.declared.record.CoreFault.TheVariants.{Full, Memory as MemoryFault, NoSuch}

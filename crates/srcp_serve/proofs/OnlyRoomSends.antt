@@ -1,20 +1,12 @@
 -- What the events but room leave of a connection, and what events of others leave of it.
-use Rattle.srcp_serve.proofs.Names.{◌≡◌, ◌∙◌, ℕ, zero, suc, ◌≤◌, Bool, true, false, List, [], ◌∷◌, ◌++◌, map, length, if◌then◌else◌, Option}
-use Rattle.srcp_serve.proofs.Names.{Some, None, Result, Ok, Err, refl, ap, sym, subst, arith, append-nil, length-append, ◌+◌, ◌||◌, ◌==◌}
-use Rattle.srcp_serve.proofs.Names.{fold, nat_lt, AllByRecursion, take-append-le, same_Some, Piece, Order, effect, Heard, greets, Open}
-use Rattle.srcp_serve.proofs.Names.{Bytes, At, Shut, Obeyed, Began, Ended, Event, Room, Bus, Connection, given, sent, given_room, World}
-use Rattle.srcp_serve.proofs.Names.{fresh, numbered, with_numbered, open_connection, at_connection, did, replied, counted, is_info, state}
-use Rattle.srcp_serve.proofs.Names.{entered, goes, greeted, ended, commanded, answered_as, answered, order_of, fault, new_lines}
-use Rattle.srcp_serve.proofs.Names.{fed_to, shut_as, or_refused, happens, rows, history, line_law, all_numbered, opened}
-use Rattle.srcp_serve.proofs.Names.{eqb-false, IsAnswered, kept_fed, kept_shut, numbered_after, cond_both, or_parts}
+use Rattle.srcp_serve.proofs.Names.{◌≡◌, ◌∙◌, ℕ, zero, suc, ◌≤◌, Bool, true, false, List, [], ◌∷◌, ◌++◌, map, length, Some, None, refl, ap}
+use Rattle.srcp_serve.proofs.Names.{sym, subst, arith, append-nil, length-append, ◌+◌, ◌==◌, fold, AllByRecursion, take-append-le}
+use Rattle.srcp_serve.proofs.Names.{same_Some, Piece, Open, Bytes, At, Shut, Event, Room, Bus, Connection, given, sent, given_room, World}
+use Rattle.srcp_serve.proofs.Names.{fresh, numbered, with_numbered, open_connection, at_connection, counted, entered, fault, or_refused}
+use Rattle.srcp_serve.proofs.Names.{happens, rows, history, all_numbered, eqb-false, IsAnswered, kept_fed, kept_shut, numbered_after}
+use Rattle.srcp_serve.proofs.Names.{IsPlain}
 use Rattle.srcp_info.specs.Line.{reply_line}
-use Rattle.srcp_info.specs.declared.change.Code.{Code}
-use Rattle.srcp_info.specs.declared.change.Code.TheVariants.{C500}
-use Rattle.srcp_info.specs.declared.change.Reply.{Reply}
-use Rattle.srcp_info.specs.declared.change.Reply.TheVariants.{Protocol, Mode as ModeReply, Go, Refused}
-use Rattle.srcp_info.specs.declared.value.Mode.{Mode}
 use Rattle.srcp_core.proofs.CourseLaws.NothingAfterTheEnd.{numbered_other, numbered_push}
-use Rattle.srcp_serve.proofs.CallsByTurnAndPeer.{fold_keeps}
 
 -- it was given no line unless it is an information session, which no command of its own ends, and no more was taken of it
 -- than it was given
@@ -35,11 +27,6 @@ pub record IsGrown (c d : Connection) : Type 0 where
   pub taken : d.taken ≡ c.taken
   pub more : List ℕ
   pub out : d.out ≡ c.out ++ more
-
--- so they are, and that one was given no line and did not end
-record IsQuiet (n : ℕ) (texts : List (List ℕ)) (conns : List Connection) : Type 0 where
-  sending : IsSending texts conns
-  none : (conn : Connection) → numbered n conns ≡ Some conn → (conn.items ≡ []) × (conn.ended ≡ false)
 
 pub steady_at : (n : ℕ) (conns : List Connection) (conn : Connection) → numbered n conns ≡ Some conn → AllByRecursion IsSteady conns
     → IsSteady conn
@@ -78,14 +65,6 @@ grown_sent c d g i e s =
       cc (take-append-le c.taken c.out g.more low),
     )
 
-quiet_with : (n : ℕ) (f : Connection → Connection) (texts : List (List ℕ)) (conns : List Connection)
-    → ((conn : Connection) → IsGrown conn (f conn)) → IsQuiet n texts conns → IsQuiet n texts (with_numbered n f conns)
-quiet_with n f texts conns h q = record {
-  sending = sending_with n f texts conns (λ conn e s. grown_sent conn (f conn) (h conn) (q.none conn e).0 (q.none conn e).1 s) q.sending;
-  none = λ conn e. numbered_after (λ c. (c.items ≡ []) × (c.ended ≡ false)) n n f conns conn e q.none
-      (λ other here p. ((h other).items ∙ p.0, (h other).ended ∙ p.1));
-}
-
 -- what an event makes of the connections keeps a law, if it is refused or not
 pub event_keeps : (buses : List Bus) (P : List Connection → Type 0) (event : Event) (w : World)
     → P (or_refused buses None event (counted w)).connections → P w.connections → P (happens buses w event).connections
@@ -95,93 +74,50 @@ event_keeps buses P event w now was = elim (fault buses (counted w) event) as (�
 -- ---- what comes of the bytes of a connection and of its end
 
 module _ (buses : List Bus) (n : ℕ) (texts : List (List ℕ)) where
-  abbrev IsQuietNow : World → Type 0
-  IsQuietNow w = IsQuiet n texts w.connections
-
   abbrev Sends : World → Type 0
   Sends w = IsSending texts w.connections
 
-  quiet_replied : (reply : Reply) (w : World) → IsQuietNow w → IsQuietNow (replied n reply w)
-  quiet_replied reply w = quiet_with n (λ conn. record conn { out = conn.out ++ reply_line w.moment reply }) texts w.connections
-      (λ conn. record { items = refl; ended = refl; taken = refl; more = reply_line w.moment reply; out = refl })
+  -- the connection was given no line and did not end
+  abbrev IsQuiet : World → Type 0
+  IsQuiet w = (conn : Connection) → numbered n w.connections ≡ Some conn → (conn.items ≡ []) × (conn.ended ≡ false)
 
-  quiet_goes : (mode : Mode) (w : World) → IsQuietNow w → IsQuietNow (goes buses n mode w)
-  quiet_goes mode w q =
-      let id : ℕ = w.last_id + 1 in
-      let begun = did (Began id w.moment mode) (record w { last_id = id }) in
-      cond_both (nat_lt w.last_id 4294967295) (replied n (Go id) (entered buses n id begun)) (replied n (Refused C500) w) IsQuietNow
-      (λ t. quiet_replied (Go id) (entered buses n id begun) (quiet_with n
-      (λ conn. record conn { session = id; info = is_info conn.mode; go_step = length begun.steps }) texts w.connections
-      (λ conn. record { items = refl; ended = refl; taken = refl; more = []; out = sym (append-nil conn.out) }) q))
-      (λ t. quiet_replied (Refused C500) w q)
+  sending_grown : (f : Connection → Connection) (w : World) → ((conn : Connection) → IsGrown conn (f conn)) → IsQuiet w → Sends w
+      → Sends (at_connection n f w)
+  sending_grown f w grows quiet =
+      sending_with n f texts w.connections (λ conn e. grown_sent conn (f conn) (grows conn) (quiet conn e).0 (quiet conn e).1)
 
-  quiet_greeted : (mode : Mode) (w : World) → IsQuietNow w → (line : Heard) → IsQuietNow (greeted buses n mode (greets line) w)
-  quiet_greeted mode w q line =
-      line_law IsQuietNow buses n mode line w (quiet_replied Protocol w q)
-      (λ chosen. quiet_replied ModeReply (at_connection n (λ conn. record conn { mode = chosen }) w)
-      (quiet_with n (λ conn. record conn { mode = chosen }) texts w.connections
-      (λ conn. record { items = refl; ended = refl; taken = refl; more = []; out = sym (append-nil conn.out) }) q))
-      (quiet_goes mode w q) (λ code. quiet_replied (Refused code) w q)
+  plain_quiet : (w : World) → IsPlain n w → Sends w → IsQuiet w
+  plain_quiet w plain a conn e = ((steady_at n w.connections conn e a.steady).plain (plain conn e).0, (plain conn e).2)
 
-  -- the connection is no information session
-  abbrev IsPlain : World → Type 0
-  IsPlain w = (conn : Connection) → numbered n w.connections ≡ Some conn → conn.info ≡ false
-
-  sending_commanded : (session : ℕ) (command : Result Order Code) (w : World) → IsPlain w → IsQuietNow w
-      → Sends (commanded buses n session command w)
-  sending_commanded session (Err code) w plain q = (quiet_replied (Refused code) w q).sending
-  sending_commanded session (Ok command) w plain q =
-      let result = effect (state buses w) session w.moment command in
-      let once = replied n result.reply (did (Obeyed session w.moment command) w) in
-      let still = quiet_replied result.reply (did (Obeyed session w.moment command) w) q in
-      let plain_still : IsPlain once =
-      λ conn e. numbered_after (λ c. c.info ≡ false) n n _ w.connections conn e plain (λ other here p. p) in
-      cond_both result.ends (ended buses n session once) once Sends
-      (λ t. sending_with n (λ c. record c { ended = true }) texts once.connections (λ conn e s. (
-        record { plain = s.plain; goes_on = λ info. let no = plain_still conn e in cc; within = s.within },
-        refl,
-      )) still.sending) (λ t. still.sending)
-
-  sending_answered : (o : Option Connection) (line : Heard) (w : World)
-      → ((conn : Connection) → o ≡ Some conn → numbered n w.connections ≡ o) → Sends w → Sends (answered_as buses n o line w)
-  sending_answered None line w there a = a
-  sending_answered (Some conn) line w there a =
-      let begun = greeted buses n conn.mode (greets line) w in
-      let obeyed_then = commanded buses n conn.session (order_of buses line) w in
-      cond_both (conn.info || conn.ended) w (if conn.session == 0 then begun else obeyed_then) Sends (λ t. a) (λ t.
-      let no = or_parts conn.info conn.ended t in
-      let here = there conn refl in
-      let same : (c : Connection) → numbered n w.connections ≡ Some c → c ≡ conn = λ c there. same_Some c conn (sym there ∙ here) in
-      let items = (steady_at n w.connections conn here a.steady).plain no.0 in
-      let quiet : IsQuietNow w = record {
-        sending = a;
-        none = λ c there. (ap (λ (x : Connection). x.items) (same c there) ∙ items, ap (λ (x : Connection). x.ended) (same c there) ∙ no.1);
-      } in
-      let plain : IsPlain w = λ c there. ap (λ (x : Connection). x.info) (same c there) ∙ no.0 in
-      cond_both (conn.session == 0) begun obeyed_then Sends (λ u. (quiet_greeted conn.mode w quiet line).sending)
-      (λ u. sending_commanded conn.session (order_of buses line) w plain quiet))
-
-  sending_fed : (piece : Piece) (o : Option Connection) (w : World) → Sends w → Sends (fed_to buses n piece o w)
-  sending_fed piece None w a = a
-  sending_fed piece (Some conn) w a =
-      fold_keeps Sends (answered buses n) (λ w line. sending_answered _ line w (λ conn e. (opened _ conn e).0 ∙ sym e))
-      (new_lines buses conn.fed piece) (at_connection n (λ c. record c { fed = c.fed ++ piece.bytes }) w)
-      (sending_with n _ texts w.connections (λ c e s. (record { plain = s.plain; goes_on = s.goes_on; within = s.within }, refl)) a)
-
-  sending_shut_as : (o : Option Connection) (w : World) → Sends w → Sends (shut_as buses n o w)
-  sending_shut_as None w a = a
-  sending_shut_as (Some conn) w a =
-      let once = at_connection n (λ c. record c { shut = Some (length w.steps) }) w in
-      let still : Sends once =
-      sending_with n _ texts w.connections (λ c e s. (record { plain = s.plain; goes_on = s.goes_on; within = s.within }, refl)) a in
-      cond_both ((conn.session == 0) || conn.ended) once (did (Ended conn.session w.moment) once) Sends (λ t. still) (λ t. still)
+  sending_answered : IsAnswered buses n Sends
+  sending_answered = record {
+    step = λ step w a. a;
+    numbers = λ id w a. a;
+    says = λ mode ends w plain a. sending_with n _ texts w.connections (λ conn e s. (
+      record { plain = s.plain; goes_on = λ info. let no = (plain conn e).0 in cc; within = s.within },
+      refl,
+    )) a;
+    answers = λ reply w plain a. sending_grown _ w
+        (λ conn. record { items = refl; ended = refl; taken = refl; more = reply_line w.moment reply; out = refl })
+        (plain_quiet w plain a) a;
+    enters = λ id reply w plain a.
+        let quiet = plain_quiet w plain a in
+        sending_grown _ (entered buses n id w)
+        (λ conn. record { items = refl; ended = refl; taken = refl; more = reply_line w.moment reply; out = refl })
+        (λ conn e. numbered_after (λ c. (c.items ≡ []) × (c.ended ≡ false)) n n _ w.connections conn e quiet (λ other here p. p))
+        (sending_grown _ w (λ conn. record { items = refl; ended = refl; taken = refl; more = []; out = sym (append-nil conn.out) })
+        quiet a);
+  }
 
   pub sending_bytes : (piece : Piece) (w : World) → Sends w → Sends (happens buses w (Bytes n piece))
-  sending_bytes piece w a =
-      event_keeps buses (IsSending texts) (Bytes n piece) w (sending_fed piece (open_connection (counted w) n) (counted w) a) a
+  sending_bytes piece w a = event_keeps buses (IsSending texts) (Bytes n piece) w
+      (kept_fed buses n Sends sending_answered piece (open_connection (counted w) n) (counted w) a (sending_with n _ texts w.connections
+      (λ c e s. (record { plain = s.plain; goes_on = s.goes_on; within = s.within }, refl)) a)) a
 
   pub sending_shut : (w : World) → Sends w → Sends (happens buses w (Shut n))
-  sending_shut w a = event_keeps buses (IsSending texts) (Shut n) w (sending_shut_as (open_connection (counted w) n) (counted w) a) a
+  sending_shut w a = event_keeps buses (IsSending texts) (Shut n) w
+      (kept_shut buses n Sends sending_answered (open_connection (counted w) n) (counted w) a
+      (λ conn e. sending_with n _ texts w.connections (λ c e s. (record { plain = s.plain; goes_on = s.goes_on; within = s.within }, refl)) a)) a
 
 -- ---- what happens to others leaves a connection as it is
 
@@ -209,7 +145,7 @@ module _ (buses : List Bus) (n : ℕ) (conn : Connection) where
     stays_answered = record {
       step = λ step w s. s;
       numbers = λ id w s. s;
-      says = λ mode ends w s. stays_with _ w.connections s;
+      says = λ mode ends w plain s. stays_with _ w.connections s;
       answers = λ reply w plain s. stays_with _ w.connections s;
       enters = λ id reply w plain s. stays_with _ _ (stays_with _ w.connections s);
     }

@@ -1,19 +1,16 @@
 -- A core that stands for a course answers a line as the course does.
-use Rattle.srcp_core.proofs.Names.{cond_both, ◌≡◌, ℕ, ◌+◌, ◌≤◌, Bool, true, false, List, [], ◌∷◌, ◌++◌, length, refl, ap, sym, ◌∙◌, subst}
-use Rattle.srcp_core.proofs.Names.{and-false, Option, Some, None, ◌&&◌, ◌||◌, ◌==◌, nat_lt, Result, Ok, Err, not, if◌then◌else◌, reply_line}
-use Rattle.srcp_core.proofs.Names.{Code, C500, Reply, Protocol, Go, Refused, Mark, Reading, Command, Bus, refused, began, Update, opening}
-use Rattle.srcp_core.proofs.Names.{shown_rows, key_at, IsRisingBy, Obeyed, Began, Ended, Order, greeting_under, wants_memory, Connection}
-use Rattle.srcp_core.proofs.Names.{is_open, given, untold, World, numbered, at_connection, did, is_info, state, history, command_of}
-use Rattle.srcp_core.proofs.Names.{ordered, entered, open_connection, Greeting, Speaks, Chooses, Goes, Refuses, Place, Held, at}
-use Rattle.srcp_core.proofs.Names.{with_unsent, begun_place, carried, changed_at, session_begun, freed_of, one_denied, denied_line}
-use Rattle.srcp_core.proofs.Names.{request_of, panel_for, key_of, StandsBy, place_of, Request, Dropped, Greets, Commands, if_two}
+use Rattle.srcp_core.proofs.Names.{◌≡◌, ℕ, ◌+◌, ◌≤◌, Bool, true, false, List, [], ◌∷◌, ◌++◌, length, refl, ap, sym, ◌∙◌, subst, and-false}
+use Rattle.srcp_core.proofs.Names.{Option, Some, None, ◌&&◌, ◌||◌, nat_lt, not, reply_line, Reply, Protocol, Go, Refused, Mark, Reading}
+use Rattle.srcp_core.proofs.Names.{Bus, began, Update, opening, shown_rows, key_at, IsRisingBy, Obeyed, Ended, Connection, is_open, given}
+use Rattle.srcp_core.proofs.Names.{untold, World, numbered, at_connection, did, is_info, history, entered, open_connection, Place, Held, at}
+use Rattle.srcp_core.proofs.Names.{with_unsent, begun_place, carried, changed_at, session_begun, freed_of, request_of, panel_for, key_of}
+use Rattle.srcp_core.proofs.Names.{StandsBy, place_of, Act, Sets, Begins, Obeys, Ends, asked, wants, denied_by, fold, Request}
 use Rattle.srcp_info.specs.declared.change.Reply.TheVariants.{Mode as ModeReply}
-use Rattle.srcp_rules.specs.Effect.{effect as effect_of}
 use Rattle.srcp_rules.specs.Steps.{effect}
-use Rattle.srcp_core.specs.Course.{replied as course_replied, goes as course_goes, greeted as course_greeted, ended as course_ended}
-use Rattle.srcp_core.specs.Course.{obeyed as course_obeyed, commanded as course_commanded, answered as course_answered}
-use Rattle.srcp_core.specs.Handshake.{greets as greets_of}
-use Rattle.srcp_core.specs.Machine.{replied, goes, greeted, obeyed, commanded, answered}
+use Rattle.srcp_core.specs.Course.{replied as course_replied, act as course_act, answered as course_answered}
+use Rattle.srcp_core.specs.Course.{answered_as as course_answered_as}
+use Rattle.srcp_core.specs.Machine.{replied, act, answered}
+use Rattle.srcp_core.proofs.Invariants.LinesAsk.{OfAnswers, acts_law}
 use Rattle.srcp_core.proofs.Agreement.PlacesChange.{replied_still, begun_place_of, is_over_place, untold_shut, place_info}
 use Rattle.srcp_core.proofs.CourseLaws.SessionsOfACourse.{anything, at_number}
 use Rattle.srcp_core.proofs.Agreement.NumbersAndKeys.{numbered_with}
@@ -23,19 +20,13 @@ use Rattle.srcp_core.proofs.CourseLaws.SessionsAreKept.{IsSound, sound_did, soun
 abbrev pub IsFine : (buses : List Bus) → IsRisingBy key_at (shown_rows (opening buses 0)) → World → Type 0
 IsFine buses order w = IsSound buses order Anything _ w
 
--- what a line asks for, by how its connection stands
-abbrev pub request_as : List Bus → Connection → Mark → Request
-request_as buses conn mark =
-    if conn.info || conn.ended then Dropped
-    else (if conn.session == 0 then Greets conn.mode (greets_of mark) else Commands conn.session (command_of buses mark))
-
 -- the open connection of the number has the place, and a line asks the same of both
 pub record AsksOf (buses held_buses : List Bus) (w : World) (n : ℕ) (p : Place) (mark : Mark) : Type 0 where
   pub conn : Connection
   pub there : numbered n w.connections ≡ Some conn
   pub shut : conn.shut ≡ None
   pub opened : open_connection w n ≡ Some conn
-  pub asks : request_of held_buses p mark ≡ request_as buses conn mark
+  pub asks : request_of held_buses p mark ≡ asked buses (Some conn) mark
 
 pub asks_of : (buses : List Bus) (read : ℕ → List ℕ → List ℕ) (keys : List (Option ℕ)) (held : Held) (w : World) (n key : ℕ) (mark : Mark)
     (p : Place)
@@ -111,7 +102,7 @@ module _ (buses : List Bus) (order : IsRisingBy key_at (shown_rows (opening buse
   stands_begun : (held : Held) (w : World) (conn : Connection) (id : ℕ) → IsFine buses order w → StandsBy buses read keys held w
       → numbered n w.connections ≡ Some conn → conn.shut ≡ None → conn.info ≡ false
       → StandsBy buses read keys (replied key (Go id) (session_begun key id conn.mode held))
-      (course_replied n (Go id) (entered buses n id (did (Began id held.moment conn.mode) (record (timed held w) { last_id = id }))))
+      (course_replied n (Go id) (course_act buses n (timed held w) (Begins id conn.mode)))
   stands_begun held w conn id a s there shut plain =
       let f = fine_of w a n conn there in
       let p = f.plain plain in
@@ -136,7 +127,7 @@ module _ (buses : List Bus) (order : IsRisingBy key_at (shown_rows (opening buse
 
   stands_ended : (held : Held) (w : World) (conn : Connection) (session : ℕ) → IsFine buses order w → StandsBy buses read keys held w
       → numbered n w.connections ≡ Some conn → conn.info ≡ false
-      → StandsBy buses read keys (freed_of session (changed_at key (λ p. record p { ended = true }) held)) (course_ended buses n session w)
+      → StandsBy buses read keys (act key held (Ends session)) (course_act buses n w (Ends session))
   stands_ended held w conn session a s there plain =
       let ends : World = at_connection n (λ conn. record conn { ended = true }) w in
       let e =
@@ -152,109 +143,60 @@ module _ (buses : List Bus) (order : IsRisingBy key_at (shown_rows (opening buse
       (stands_did buses read keys (changed_at key (λ p. record p { ended = true }) held) ends _
       (fine_of ends b) e)
 
-  -- a growth that was refused is nothing to the course
-  stands_denied : (held : Held) (w : World) → StandsBy buses read keys held w → StandsBy buses read keys (one_denied held) w
-  stands_denied held w s = stands_as buses read keys held w _ _ _ _ _ _ _ s.moment s.last_id s
-
   -- ---- an open connection that is no information session
 
-  module _ (held : Held) (w : World) (conn : Connection) (a : IsFine buses order w) (s : StandsBy buses read keys held w)
-      (there : numbered n w.connections ≡ Some conn) (shut : conn.shut ≡ None) (plain : conn.info ≡ false) where
-    stands_goes : StandsBy buses read keys (goes true key conn.mode held) (course_goes buses n conn.mode w)
-    stands_goes =
-        rw (← (timed_is held w s))
-        (if_two (StandsBy buses read keys) _ _ _ _ _ (stands_begun held w conn (held.last_id + 1) a s there shut plain)
-        (stands_plainly held (timed held w) conn (Refused C500) a (stands_timed held w s) there plain))
+  -- the acts are done in the core as in the course
+  abbrev Agree : Held → World → List Act → Type 0
+  Agree held w all = StandsBy buses read keys (fold (act key) held all) (fold (course_act buses n) (timed held w) all)
 
-    stands_greeted : (greeting : Greeting)
-        → StandsBy buses read keys (greeted true key conn.mode greeting held) (course_greeted buses n conn.mode greeting w)
-    stands_greeted Speaks = stands_plainly held w conn Protocol a s there plain
-    stands_greeted (Chooses chosen) =
+  agrees : (held : Held) (w : World) (conn : Connection) (mark : Mark) → IsFine buses order w
+      → StandsBy buses read keys held w → numbered n w.connections ≡ Some conn → conn.shut ≡ None → conn.info ≡ false
+      → OfAnswers (Agree held w) buses held.rows held.last_id held.moment conn.session conn.mode mark
+  agrees held w conn mark a s there shut plain = record {
+    speaks = stands_plainly held now conn Protocol a s_now there plain;
+    chooses = λ chosen.
         let f = fine_of w a n conn there in
-        stands_replied (changed_at key (λ p. record p { mode = chosen }) held) (at_connection n (λ conn. record conn { mode = chosen }) w)
-        (record conn { mode = chosen }) ModeReply
-        (stands_of held w conn (λ conn. record conn { mode = chosen }) (λ p. record p { mode = chosen }) s there refl refl
+        stands_replied (act key held (Sets chosen)) (course_act buses n now (Sets chosen)) (record conn { mode = chosen }) ModeReply
+        (stands_of held now conn (λ conn. record conn { mode = chosen }) (λ p. record p { mode = chosen }) s_now there refl refl
         (λ reader up. rw plain refl))
-        (numbered_at w conn (λ conn. record conn { mode = chosen }) there) (f.plain plain).0
-        (ap (λ i. i && nat_lt 256 (length (untold conn (history buses w)))) plain) f.within
-    stands_greeted Goes = stands_goes
-    stands_greeted (Refuses code) = stands_plainly held w conn (Refused code) a s there plain
+        (numbered_at now conn (λ conn. record conn { mode = chosen }) there) (f.plain plain).0
+        (ap (λ i. i && nat_lt 256 (length (untold conn (history buses w)))) plain) f.within;
+    refuses = λ code. stands_plainly held now conn (Refused code) a s_now there plain;
+    begins = λ goes left. stands_begun held w conn (held.last_id + 1) a s there shut plain;
+    obeys = λ its began reads.
+        let result = effect held.rows conn.session held.moment its in
+        let obeyed = course_act buses n now (Obeys conn.session its) in
+        let sound_one : IsFine buses order obeyed = sound_did buses order Anything _ _ now a in
+        let two =
+        stands_plainly (carried result.updates held) obeyed conn result.reply sound_one
+        (stands_did buses read keys held now (Obeyed conn.session held.moment its) (fine_of w a) s_now) there plain in (
+          two,
+          stands_ended (replied key result.reply (carried result.updates held)) (course_replied n result.reply obeyed)
+              (record conn { out = conn.out ++ reply_line held.moment result.reply }) conn.session
+              (sound_replied buses order Anything (anything (shown_rows (opening buses 0))) n result.reply obeyed sound_one) two
+              (numbered_at obeyed conn (λ conn. record conn { out = conn.out ++ reply_line held.moment result.reply }) there) plain,
+        );
+  }
+    where
+      now : World
+      now = timed held w
 
-    -- ---- commands
+      s_now : StandsBy buses read keys held now
+      s_now = stands_timed held w s
 
-    stands_obeyed : (session : ℕ) (command : Order)
-        → StandsBy buses read keys (obeyed key session (effect held.rows session held.moment command) held)
-        (course_obeyed buses n session command (effect (state buses w) session w.moment command) w)
-    stands_obeyed session command =
-        let now = did (Obeyed session held.moment command) (timed held w) in
-        let result = effect held.rows session held.moment command in
-        let sound_one : IsFine buses order now = sound_did buses order Anything _ _ (timed held w) a in
-        let one : StandsBy buses read keys (carried result.updates held) now =
-        stands_did buses read keys held (timed held w) (Obeyed session held.moment command) (fine_of w a) (stands_timed held w s) in
-        let two = stands_plainly (carried result.updates held) now conn result.reply sound_one one there plain in
-        rw (← (timed_is held w s))
-        (rw (← s.rows)
-        (if_two (StandsBy buses read keys) _ _ _ _ _
-        (stands_ended (replied key result.reply (carried result.updates held)) (course_replied n result.reply now)
-        (record conn { out = conn.out ++ reply_line held.moment result.reply }) session
-        (sound_replied buses order Anything (anything (shown_rows (opening buses 0))) n result.reply now sound_one) two
-        (numbered_at now conn (λ conn. record conn { out = conn.out ++ reply_line held.moment result.reply }) there) plain)
-        two))
-
-    -- ---- what memory answers
-
-    stands_commanded : (granted : Bool) (session : ℕ) (command : Result Command Code)
-        → StandsBy buses read keys (commanded granted key session command held)
-        (course_commanded buses n session (ordered buses granted command) w)
-    stands_commanded granted session (Err code) = stands_plainly held w conn (Refused code) a s there plain
-    stands_commanded granted session (Ok command) =
-        by (granted || not (wants_memory held.rows session held.moment command))
-        (stands_obeyed session (record { command = command; granted = granted }))
-      where
-        by : (t : Bool)
-            → StandsBy buses read keys
-            (obeyed key session (if t then effect_of held.rows session held.moment command else refused C500) held)
-            (course_commanded buses n session (ordered buses granted (Ok command)) w)
-            → StandsBy buses read keys
-            (if t then obeyed key session (effect_of held.rows session held.moment command) held else denied_line key held)
-            (course_commanded buses n session (ordered buses granted (Ok command)) w)
-        by true h = h
-        by false h = stands_denied _ _ h
-
-    stands_greeted_under : (granted : Bool) (greeting : Greeting)
-        → StandsBy buses read keys (greeted granted key conn.mode greeting held)
-        (course_greeted buses n conn.mode (greeting_under granted greeting) w)
-    stands_greeted_under true greeting = stands_greeted greeting
-    stands_greeted_under false Speaks = stands_greeted Speaks
-    stands_greeted_under false (Chooses chosen) = stands_greeted (Chooses chosen)
-    stands_greeted_under false (Refuses code) = stands_greeted (Refuses code)
-    stands_greeted_under false Goes =
-        cond_both _ _ _ (λ it. StandsBy buses read keys it
-        (course_replied n (Refused C500) w))
-        (λ _. stands_denied (replied key (Refused C500) held) _ refuses)
-        (λ _. refuses)
-      where
-        refuses : StandsBy buses read keys (replied key (Refused C500) held) (course_replied n (Refused C500) w)
-        refuses = stands_plainly held w conn (Refused C500) a s there plain
-
-  -- ---- any line
-
-  stands_asked : (held : Held) (w : World) (conn : Connection) (granted : Bool) (mark : Mark) (info ended first : Bool)
-      → IsFine buses order w → StandsBy buses read keys held w → numbered n w.connections ≡ Some conn → conn.shut ≡ None → conn.info ≡ info
-      → StandsBy buses read keys
-      (answered granted key
-      (if info || ended then Dropped
-      else (if first then Greets conn.mode (greets_of mark) else Commands conn.session (command_of buses mark)))
-      held)
-      (if info || ended then w
-      else (if first then course_greeted buses n conn.mode (greeting_under granted (greets_of mark)) w
-      else course_commanded buses n conn.session (ordered buses granted (command_of buses mark)) w))
-  stands_asked held w conn granted mark true ended first a s there shut i = s
-  stands_asked held w conn granted mark false true first a s there shut i = s
-  stands_asked held w conn granted mark false false true a s there shut i =
-      stands_greeted_under held w conn a s there shut i granted (greets_of mark)
-  stands_asked held w conn granted mark false false false a s there shut i =
-      stands_commanded held w conn a s there shut i granted conn.session (command_of buses mark)
+  asked_agree : (held : Held) (w : World) (conn : Connection) (granted : Bool) (mark : Mark) (request : Request) → IsFine buses order w
+      → StandsBy buses read keys held w → numbered n w.connections ≡ Some conn → conn.shut ≡ None → request ≡ asked buses (Some conn) mark
+      → StandsBy buses read keys (answered granted key request held)
+      (course_answered_as buses n (Some conn) (record { mark = mark; granted = granted }) w)
+  asked_agree held w conn granted mark request a s there shut e =
+      let wanted = granted || not (wants held.rows held.last_id held.moment (asked buses (Some conn) mark)) in
+      let counted = record held { denied = denied_by held.denied (wanted ∷ []) } in
+      let stands = stands_as buses read keys held w _ _ _ _ _ _ _ s.moment s.last_id s in
+      rw (← (timed_is held w s))
+      (rw (← s.rows)
+      (rw e
+      (acts_law (Agree counted w) granted (stands_timed counted w stands)
+      (λ plain goes_on. agrees counted w conn mark a stands there shut plain))))
 
   -- what a line asks for is answered as in the course
   pub stands_answered : (held : Held) (w : World) (granted : Bool) (mark : Mark) (p : Place) → IsFine buses order w
@@ -263,6 +205,4 @@ module _ (buses : List Bus) (order : IsRisingBy key_at (shown_rows (opening buse
       (course_answered buses n w (record { mark = mark; granted = granted }))
   stands_answered held w granted mark p a s here =
       let h = asks_of buses read keys held w n key mark p s named here in
-      rw h.opened
-      (rw h.asks
-      (stands_asked held w h.conn granted mark h.conn.info h.conn.ended (h.conn.session == 0) a s h.there h.shut refl))
+      rw h.opened (asked_agree held w h.conn granted mark (request_of held.buses p mark) a s h.there h.shut h.asks)

@@ -1,17 +1,15 @@
 -- What the recorder notes of the answer to a line is what the course gains.
-use Rattle.srcp_core.proofs.Names.{◌≡◌, ℕ, zero, suc, ◌+◌, ◌≤◌, Bool, true, false, List, [], ◌∷◌, ◌++◌, map, length, refl, ap, sym, ◌∙◌}
-use Rattle.srcp_core.proofs.Names.{take-append-le, map-append, length-map, option_map, Option, Some, None, ◌||◌, ◌&&◌, ◌==◌, nat_lt}
-use Rattle.srcp_core.proofs.Names.{Result, Ok, Err, if◌then◌else◌, reply_line, Code, C500, Reply, Protocol, Go, Refused, Bus, Effect}
-use Rattle.srcp_core.proofs.Names.{opening, shown_rows, key_at, IsRisingBy, Mark, Command, refused, Step, Obeyed, Began, Ended, Order}
-use Rattle.srcp_core.proofs.Names.{greeting_under, recorded_step, Connection, given, World, numbered, with_numbered}
-use Rattle.srcp_core.proofs.Names.{at_connection, did, is_info, state, history, command_of, ordered, replied, entered, goes, greeted, ended}
-use Rattle.srcp_core.proofs.Names.{obeyed, commanded, answered, Greeting, Speaks, Chooses, Goes, Refuses, Place, Held, at, request_of}
-use Rattle.srcp_core.proofs.Names.{steps_answered, Recording, key_of, record_of, changed_record, noted, stepped, StandsBy, Dropped, Greets}
-use Rattle.srcp_core.proofs.Names.{Commands, ConnRecord, option_map_or, slice_set, and-false}
+use Rattle.srcp_core.proofs.Names.{◌≡◌, ℕ, zero, suc, ◌+◌, ◌≤◌, Bool, true, List, [], ◌∷◌, ◌++◌, map, length, refl, ap, sym, ◌∙◌}
+use Rattle.srcp_core.proofs.Names.{take-append-le, map-append, length-map, option_map, Option, Some, None, reply_line, Reply, Protocol, Go}
+use Rattle.srcp_core.proofs.Names.{Refused, Bus, opening, shown_rows, key_at, IsRisingBy, Mark, refused, Step, Obeyed, Began, Ended}
+use Rattle.srcp_core.proofs.Names.{recorded_step, Connection, given, World, numbered, with_numbered, at_connection, did, is_info, state}
+use Rattle.srcp_core.proofs.Names.{history, replied, entered, answered, Place, Held, at, request_of, steps_answered, Recording, key_of}
+use Rattle.srcp_core.proofs.Names.{record_of, changed_record, noted, stepped, StandsBy, ConnRecord, option_map_or, slice_set, Act, Obeys}
+use Rattle.srcp_core.proofs.Names.{act, fold, filter_map, Request, asked, answered_as, false}
 use Rattle.srcp_info.specs.declared.change.Reply.TheVariants.{Mode as ModeReply}
-use Rattle.srcp_rules.specs.Effect.{effect as effect_of}
-use Rattle.srcp_core.specs.Handshake.{greets as greets_of}
-use Rattle.srcp_core.specs.Machine.{steps_gone, steps_greeted, steps_commanded}
+use Rattle.srcp_rules.specs.Steps.{effect}
+use Rattle.srcp_core.specs.Machine.{step_of}
+use Rattle.srcp_core.proofs.Invariants.LinesAsk.{OfAnswers, acts_law}
 use Rattle.srcp_core.proofs.Agreement.LinesAgree.{IsFine, asks_of}
 use Rattle.srcp_core.proofs.Agreement.PlacesChange.{given_reply}
 use Rattle.srcp_core.proofs.CourseLaws.SessionsOfACourse.{at_number}
@@ -103,99 +101,42 @@ module _ (buses : List Bus) (n : ℕ) (r : Recording) where
       (sym (length-map (w.steps ++ step ∷ []) recorded_step) ∙ sym (ap length d.steps)))
       d)
 
-  module _ (w : World) (conn : Connection) (held : Held) (m : held.moment ≡ w.moment) (l : held.last_id ≡ w.last_id)
-      (s : held.rows ≡ state buses w) (p : IsPlain w conn) (t : Records r w) where
-    tells_goes : Records (noted n (steps_gone true conn.mode held) r) (goes buses n conn.mode w)
-    tells_goes =
-        rw l
-        (rw m
-        (elim (nat_lt _ _)
-        as (λ b. Records (noted n (if b && true then recorded.Began (w.last_id + 1) w.moment conn.mode ∷ [] else []) r)
-        (if b
-        then replied n (Go (w.last_id + 1))
-        (entered buses n (w.last_id + 1) (did (Began (w.last_id + 1) w.moment conn.mode) (record w { last_id = w.last_id + 1 })))
-        else replied n (Refused C500) w)) [
-          | true ↦
-              tells_begun _ conn _ w.moment p
-              (record { steps = t.steps; refused = t.refused; connections = t.connections })
-          | false ↦ tells_replied r w conn (Refused C500) p t
-        ]))
+  -- what is noted of the acts is what they do
+  abbrev Tells : World → List Act → Type 0
+  Tells w all = Records (noted n (filter_map (step_of w.moment) all) r) (fold (act buses n) w all)
 
-    tells_greeted : (greeting : Greeting)
-        → Records (noted n (steps_greeted true conn.mode greeting held) r) (greeted buses n conn.mode greeting w)
-    tells_greeted Speaks = tells_replied r w conn Protocol p t
-    tells_greeted (Chooses chosen) =
+  tells : (w : World) (conn : Connection) (mark : Mark) → IsPlain w conn → Records r w
+      → OfAnswers (Tells w) buses (state buses w) w.last_id w.moment conn.session conn.mode mark
+  tells w conn mark p t = record {
+    speaks = tells_replied r w conn Protocol p t;
+    chooses = λ chosen.
         let f : Connection → Connection = λ c. record c { mode = chosen } in
         tells_replied r (at_connection n f w) (f conn) ModeReply (numbered_with n f w.connections ∙ ap (option_map f) p.0, p.1)
-        (tells_same r w n f (λ c e. refl) t)
-    tells_greeted Goes = tells_goes
-    tells_greeted (Refuses code) = tells_replied r w conn (Refused code) p t
+        (tells_same r w n f (λ c e. refl) t);
+    refuses = λ code. tells_replied r w conn (Refused code) p t;
+    begins = λ goes left.
+        tells_begun (record w { last_id = w.last_id + 1 }) conn (w.last_id + 1) w.moment p
+        (record { steps = t.steps; refused = t.refused; connections = t.connections });
+    obeys = λ order began reads.
+        let after = stepped (recorded.Obeyed conn.session w.moment order.command ∷ []) r in
+        let obeyed = act buses n w (Obeys conn.session order) in
+        let reply = (effect (state buses w) conn.session w.moment order).reply in
+        let one = tells_replied after obeyed conn reply p (tells_did r w (Obeyed conn.session w.moment order) t) in
+        let answer = replied n reply obeyed in (
+          one,
+          tells_did after (at_connection n (λ c. record c { ended = true }) answer) (Ended conn.session w.moment)
+              (tells_same after answer n (λ c. record c { ended = true }) (λ c e. refl) one),
+        );
+  }
 
-    tells_greeted_under : (granted : Bool) (greeting : Greeting)
-        → Records (noted n (steps_greeted granted conn.mode greeting held) r)
-        (greeted buses n conn.mode (greeting_under granted greeting) w)
-    tells_greeted_under true greeting = tells_greeted greeting
-    tells_greeted_under false Speaks = tells_greeted Speaks
-    tells_greeted_under false (Chooses chosen) = tells_greeted (Chooses chosen)
-    tells_greeted_under false (Refuses code) = tells_greeted (Refuses code)
-    tells_greeted_under false Goes =
-        rw (and-false (nat_lt held.last_id 4294967295)) (tells_replied r w conn (Refused C500) p t)
-
-    tells_commanded : (granted : Bool) (session : ℕ) (command : Result Command Code)
-        → Records (noted n (steps_commanded granted session command held) r) (commanded buses n session (ordered buses granted command) w)
-    tells_commanded granted session (Err code) = tells_replied r w conn (Refused code) p t
-    tells_commanded granted session (Ok command) =
-        rw s (rw m (split _))
-      where
-        ordering : Order
-        ordering = record { command = command; granted = granted }
-
-        one : (result : Effect)
-            → Records (stepped (recorded.Obeyed session w.moment command ∷ []) r)
-            (replied n result.reply (did (Obeyed session w.moment ordering) w))
-        one result =
-            tells_replied (stepped (recorded.Obeyed session w.moment command ∷ []) r) (did (Obeyed session w.moment ordering) w) conn
-            result.reply p (tells_did r w (Obeyed session w.moment ordering) t)
-
-        by : (result : Effect) (b : Bool)
-            → Records (noted n (recorded.Obeyed session w.moment command ∷ (if b then recorded.Ended session w.moment ∷ [] else [])) r)
-            (if b then ended buses n session (replied n result.reply (did (Obeyed session w.moment ordering) w))
-            else replied n result.reply (did (Obeyed session w.moment ordering) w))
-        by result false = one result
-        by result true =
-            tells_did (stepped (recorded.Obeyed session w.moment command ∷ []) r)
-            (at_connection n (λ c. record c { ended = true }) (replied n result.reply (did (Obeyed session w.moment ordering) w)))
-            (Ended session w.moment)
-            (tells_same (stepped (recorded.Obeyed session w.moment command ∷ []) r)
-            (replied n result.reply (did (Obeyed session w.moment ordering) w)) n (λ c. record c { ended = true }) (λ c e. refl)
-            (one result))
-
-        split : (g : Bool)
-            → Records (noted n
-            (recorded.Obeyed session w.moment command
-            ∷ (if g && (effect_of (state buses w) session w.moment command).ends then recorded.Ended session w.moment ∷ [] else []))
-            r)
-            (obeyed buses n session ordering (if g then effect_of (state buses w) session w.moment command else refused C500) w)
-        split true = by (effect_of (state buses w) session w.moment command) (effect_of (state buses w) session w.moment command).ends
-        split false = by (refused C500) false
-
-  tells_asked : (w : World) (conn : Connection) (held : Held) (granted : Bool) (mark : Mark) (info over first : Bool)
-      → held.moment ≡ w.moment → held.last_id ≡ w.last_id → held.rows ≡ state buses w → (info ≡ false → IsPlain w conn) → Records r w
-      → Records (noted n
-      (steps_answered granted
-      (if info || over then Dropped
-      else (if first then Greets conn.mode (greets_of mark) else Commands conn.session (command_of buses mark)))
-      held)
-      r)
-      (if info || over then w
-      else (if first then greeted buses n conn.mode (greeting_under granted (greets_of mark)) w
-      else commanded buses n conn.session (ordered buses granted (command_of buses mark)) w))
-  tells_asked w conn held granted mark true over first m l s plain t = t
-  tells_asked w conn held granted mark false true first m l s plain t = t
-  tells_asked w conn held granted mark false false true m l s plain t =
-      tells_greeted_under w conn held m l s (plain refl) t granted (greets_of mark)
-  tells_asked w conn held granted mark false false false m l s plain t =
-      tells_commanded w conn held m l s (plain refl) t granted conn.session (command_of buses mark)
+  tells_asked : (w : World) (conn : Connection) (granted : Bool) (mark : Mark) (request : Request) (held : Held)
+      → held.moment ≡ w.moment → held.last_id ≡ w.last_id → held.rows ≡ state buses w → (conn.info ≡ false → IsPlain w conn) → Records r w
+      → request ≡ asked buses (Some conn) mark
+      → Records (noted n (steps_answered granted request held) r)
+      (answered_as buses n (Some conn) (record { mark = mark; granted = granted }) w)
+  tells_asked w conn granted mark request held m l s plain t e =
+      rw (m, l, s, e)
+      (acts_law (Tells w) granted t (λ free goes_on. tells w conn mark (plain free) t))
 
 -- what is noted of the answer to a line
 pub tells_answered : (buses : List Bus) (order : IsRisingBy key_at (shown_rows (opening buses 0))) (read : ℕ → List ℕ → List ℕ)
@@ -207,6 +148,5 @@ tells_answered buses order read keys n key r held w granted mark p a s named her
     let h = asks_of buses read keys held w n key mark p s named here in
     let f : Fine buses (history buses w) h.conn = at_number _ n _ h.conn a h.there in
     rw h.opened
-    (rw h.asks
-    (tells_asked buses n r w h.conn held granted mark h.conn.info h.conn.ended (h.conn.session == 0) s.moment s.last_id s.rows
-    (λ plain. (h.there, ((f.plain plain).0, f.within))) t))
+    (tells_asked buses n r w h.conn granted mark (request_of held.buses p mark) held s.moment s.last_id s.rows
+    (λ plain. (h.there, ((f.plain plain).0, f.within))) t h.asks)

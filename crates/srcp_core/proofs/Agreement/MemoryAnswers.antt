@@ -1,19 +1,11 @@
 -- What memory answers: each line and each order has its answer, and what a denied order does is nothing.
 use Rattle.srcp_core.proofs.Names.{◌≡◌, ℕ, ◌+◌, min, Bool, true, false, List, [], ◌∷◌, ◌++◌, length, refl, ap, sym, ◌∙◌, arith, fold-append}
-use Rattle.srcp_core.proofs.Names.{if◌then◌else◌, IsTrue, Option, Some, None, Result, Ok, Err, IfOk, AllByRecursion, fold, Code, Command}
-use Rattle.srcp_core.proofs.Names.{Connection, World, start, at_connection, open_connection, counted, ordered, fed_to, or_refused, happens}
-use Rattle.srcp_core.proofs.Names.{course, replied, goes, greeted, HasMoment, AllMoments, HasPlainMoment, PlainMoments, CoreFault, Mark}
-use Rattle.srcp_core.proofs.Names.{Heard, greets, lines_under, under, all_under, giving, denied_by, Bus, Protocol, Refused, Mode, Greeting}
-use Rattle.srcp_core.proofs.Names.{Speaks, Chooses, Goes, Refuses}
+use Rattle.srcp_core.proofs.Names.{if◌then◌else◌, IsTrue, Option, Some, None, AllByRecursion, fold, Connection, World, start}
+use Rattle.srcp_core.proofs.Names.{open_connection, counted, fed_to, or_refused, happens, course, HasMoment, AllMoments, HasPlainMoment}
+use Rattle.srcp_core.proofs.Names.{PlainMoments, CoreFault, Mark, lines_under, under, all_under, giving, denied_by, Bus}
 use Rattle.srcp_core.specs.declared.event.Event.TheVariants as plain
 use Rattle.srcp_core.specs.Under.{first_of}
 use Rattle.srcp_core.specs.declared.event.Event.{Event as PlainEvent}
-use Rattle.srcp_info.specs.declared.change.Reply.TheVariants.{Mode as ModeReply}
-
-pub ordered_law : (buses : List Bus) (P : Command → Type 0) (granted : Bool) (command : Result Command Code) → IfOk command P
-    → IfOk (ordered buses granted command) (λ order. P order.command)
-ordered_law buses P granted (Ok command) h = h
-ordered_law buses P granted (Err code) h = tt
 
 -- one line more with its answer
 pub lines_push : (grants : List Bool) (marks : List Mark) (granted : Bool) (mark : Mark) → length grants ≡ length marks
@@ -124,16 +116,3 @@ course_all buses (g ∷ grants) (event ∷ events) w a =
 pub gives_as_if : (buses : List Bus) (grants : List (List Bool)) (events : List PlainEvent) → AllByRecursion (AllByRecursion IsTrue) grants
     → course buses (all_under grants events) ≡ course buses (all_under [] events)
 gives_as_if buses grants events a = course_all buses grants events start a
-
--- ---- a line before the session, by what it does
-
-pub line_law : (P : World → Type 0) (buses : List Bus) (n : ℕ) (mode : Mode) (line : Heard) (w : World) → P (replied n Protocol w)
-    → ((chosen : Mode) → P (replied n ModeReply (at_connection n (λ conn. record conn { mode = chosen }) w)))
-    → P (goes buses n mode w) → ((code : Code) → P (replied n (Refused code) w)) → P (greeted buses n mode (greets line) w)
-line_law P buses n mode line w speaks chooses begins refuses = by (greets line)
-  where
-    by : (greeting : Greeting) → P (greeted buses n mode greeting w)
-    by Speaks = speaks
-    by (Chooses chosen) = chooses chosen
-    by Goes = begins
-    by (Refuses code) = refuses code

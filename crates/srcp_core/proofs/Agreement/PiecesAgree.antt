@@ -1,12 +1,11 @@
 -- A core that stands for a course takes a piece as the course does.
-use Rattle.srcp_core.proofs.Names.{◌≡◌, ◌≢◌, ℕ, ◌+◌, ◌<◌, ◌≤◌, Bool, true, List, [], ◌∷◌, ◌++◌, take, drop, length, refl}
-use Rattle.srcp_core.proofs.Names.{ap, sym, ◌∙◌, subst, arith, append-nil, length-append, drop_all, fold-append, none-some}
-use Rattle.srcp_core.proofs.Names.{le_refl, fold, option_map, Option, Some, None, ◌==◌, slice_set, if◌then◌else◌, Mark, Line, TooLong}
-use Rattle.srcp_core.proofs.Names.{Reading, StandsAt, Bus, opening, shown_rows, key_at, IsRisingBy, Heard, lines_under, Connection, World}
-use Rattle.srcp_core.proofs.Names.{numbered, at_connection, history, entered, open_connection, new_marks, wants_as, denied_lines, Place}
-use Rattle.srcp_core.proofs.Names.{Held, at, place_at, request_of, next_request_from, next_request_at, line_answered, steps_of_line}
-use Rattle.srcp_core.proofs.Names.{steps_answered}
-use Rattle.srcp_core.proofs.Names.{Recording, key_of, noted, StandsBy, StandsFor, place_of, Request, IsAt, is_open, ne_eqb}
+use Rattle.srcp_core.proofs.Names.{◌≡◌, ◌≢◌, ℕ, ◌+◌, ◌<◌, ◌≤◌, Bool, true, List, [], ◌∷◌, ◌++◌, take, drop, length, refl, ap, sym, ◌∙◌}
+use Rattle.srcp_core.proofs.Names.{subst, arith, append-nil, length-append, drop_all, fold-append, none-some, le_refl, fold, option_map}
+use Rattle.srcp_core.proofs.Names.{Option, Some, None, ◌==◌, slice_set, if◌then◌else◌, Mark, Line, TooLong, Reading, StandsAt, Bus, opening}
+use Rattle.srcp_core.proofs.Names.{shown_rows, key_at, IsRisingBy, Heard, lines_under, Connection, World, numbered, at_connection, history}
+use Rattle.srcp_core.proofs.Names.{entered, new_marks, denied_lines, Place, Held, at, place_at, request_of, next_request_from}
+use Rattle.srcp_core.proofs.Names.{next_request_at, line_answered, steps_of_line, steps_answered, Recording, key_of, noted, StandsBy}
+use Rattle.srcp_core.proofs.Names.{StandsFor, place_of, Request, IsAt, is_open, ne_eqb}
 use Rattle.std.proofs.lemmas.Bool.{eq-eqb}
 use Rattle.std.specs.Prelude.{slice_range}
 use Rattle.srcp_text.specs.Marks.{marks}
@@ -17,7 +16,7 @@ use Rattle.srcp_text.proofs.ReadingLaws.{marks-fed, stands-fed, fed_to_stop, fed
 use Rattle.srcp_core.specs.Course.{answered as course_answered}
 use Rattle.srcp_core.specs.Machine.{answered}
 use Rattle.srcp_core.proofs.Agreement.LinesAgree.{IsFine, stands_answered}
-use Rattle.srcp_core.proofs.Agreement.RefusalsAreCounted.{after, denied_answered, denied_push, denied_none}
+use Rattle.srcp_core.proofs.Agreement.RefusalsAreCounted.{after, wanted, denied_answered, denied_push, denied_none}
 use Rattle.srcp_core.proofs.Invariants.PlacesCover.{Where, Here, Away, where_is, place_set_here}
 use Rattle.srcp_core.proofs.Agreement.MemoryAnswers.{lines_push}
 use Rattle.srcp_core.proofs.Agreement.LinesAreNoted.{Records, tells_answered}
@@ -78,7 +77,7 @@ module _ (buses : List Bus) (n : ℕ) where
   fed_kept o = record {
     step = λ step w e. e;
     numbers = λ id w e. e;
-    says = λ mode ends w e. fed_at _ w o (λ c. refl) e;
+    says = λ mode ends w plain e. fed_at _ w o (λ c. refl) e;
     answers = λ reply w plain e. fed_at _ w o (λ c. refl) e;
     enters = λ id reply w plain e. fed_at _ (entered buses n id w) o (λ c. refl) (fed_at _ w o (λ c. refl) e);
   }
@@ -161,8 +160,7 @@ module _ (buses : List Bus) (order : IsRisingBy key_at (shown_rows (opening buse
           counts =
               denied_answered buses (partly n (fed ++ take stop piece)) keys n key named mid (world_upto grants start) granted mark
               (record p { reader = reader }) reads here_now
-              ∙ ap (λ k. after k granted (wants_as buses (world_upto grants start) (open_connection (world_upto grants start) n) mark))
-              u.counts
+              ∙ ap (λ k. after k granted (wanted buses n (world_upto grants start) mark)) u.counts
               ∙ sym (ap (denied_lines buses n w before) lines ∙ denied_push buses n w before (lines_under grants (marks_upto start)) line);
         },
         subst (λ (v : World). Records (noted n (steps_answered granted (request_of held.buses p mark) mid) r) v) (sym next)

@@ -1,20 +1,21 @@
 -- What every event keeps: a law of worlds that a step keeps, and each of the things that happen to one connection.
-use Rattle.srcp_core.proofs.Names.{◌≡◌, ℕ, max, ◌+◌, true, false, List, [], ◌∷◌, ◌++◌, length, refl, sym, subst, Bool, ⊎_elim, fold, ◌||◌}
-use Rattle.srcp_core.proofs.Names.{Option, Some, None, Result, Ok, Err, Code, C500, Reply, Protocol, Go, Refused, Mode, Bus, Event, Open}
-use Rattle.srcp_core.proofs.Names.{Bytes, Room, At, Shut, Step, Obeyed, Began, Ended, Heard, Order, greets, Piece, Connection, World, fresh}
-use Rattle.srcp_core.proofs.Names.{numbered, with_numbered, at_connection, open_connection, did, replied, counted, entered, greeted}
-use Rattle.srcp_core.proofs.Names.{commanded, answered_as, answered, order_of, fault, absent_fault, new_lines, fed_to, shut_as, accepted}
-use Rattle.srcp_core.proofs.Names.{or_refused, happens, Greeting, Speaks, Chooses, Goes, Refuses, CoreFault, cond_both}
-use Rattle.srcp_info.specs.declared.change.Reply.TheVariants.{Mode as ModeReply}
+use Rattle.srcp_core.proofs.Names.{◌≡◌, ℕ, max, ◌+◌, true, false, List, [], ◌∷◌, ◌++◌, length, refl, sym, subst, Bool, ⊎_elim, fold, Option}
+use Rattle.srcp_core.proofs.Names.{Some, None, Reply, Mode, Bus, Event, Open, Bytes, Room, At, Shut, Step, Obeyed, Heard, Piece, Connection}
+use Rattle.srcp_core.proofs.Names.{World, fresh, numbered, with_numbered, at_connection, open_connection, did, replied, counted, entered}
+use Rattle.srcp_core.proofs.Names.{answered_as, answered, fault, absent_fault, new_lines, fed_to, shut_as, accepted, or_refused, happens}
+use Rattle.srcp_core.proofs.Names.{CoreFault, cond_both, act, state, Began, Go, Protocol, Refused, Ended, ◌∙◌, reply_line}
 use Rattle.srcp_core.proofs.Agreement.NumbersAndKeys.{look_with, look_push, opened}
-use Rattle.std.proofs.lemmas.Bool.{or_parts}
+use Rattle.srcp_info.specs.declared.change.Reply.TheVariants.{Mode as ModeReply}
+use Rattle.srcp_rules.specs.Steps.{effect}
+use Rattle.srcp_core.proofs.Invariants.LinesAsk.{OfAnswers, acts_law}
 
--- the connection of that number is open, and that it is no information session
+-- the connection of that number is open, and that it is no information session and did not end
 abbrev pub IsUp : ℕ → World → Type 0
 IsUp n w = (conn : Connection) → numbered n w.connections ≡ Some conn → conn.shut ≡ None
 
 abbrev pub IsPlain : ℕ → World → Type 0
-IsPlain n w = (conn : Connection) → numbered n w.connections ≡ Some conn → (conn.info ≡ false) × (conn.shut ≡ None)
+IsPlain n w = (conn : Connection) → numbered n w.connections ≡ Some conn
+    → (conn.info ≡ false) × (conn.shut ≡ None) × (conn.ended ≡ false)
 
 -- the connection of a number after a change of one
 pub numbered_after : (P : Connection → Type 0) (n k : ℕ) (change : Connection → Connection) (conns : List Connection) (conn : Connection)
@@ -34,9 +35,9 @@ numbered_more P k conns x conn e f p = ⊎_elim (f conn) (λ h. subst P (sym h) 
 pub record IsAnswered (buses : List Bus) (n : ℕ) (W : World → Type 0) : Type 0 where
   pub step : (step : Step) (w : World) → W w → W (did step w)
   pub numbers : (id : ℕ) (w : World) → W w → W (record w { last_id = id })
-  pub says : (mode : Connection → Mode) (ends : Connection → Bool) (w : World) → W w
+  -- only an open connection that is no information session is replied to, or chooses, enters or ends
+  pub says : (mode : Connection → Mode) (ends : Connection → Bool) (w : World) → IsPlain n w → W w
       → W (at_connection n (λ c. record c { mode = mode c; ended = ends c }) w)
-  -- only an open connection that is no information session is replied to, or enters
   pub answers : (reply : Reply) (w : World) → IsPlain n w → W w → W (replied n reply w)
   pub enters : (id : ℕ) (reply : Reply) (w : World) → IsPlain n w → W w → W (replied n reply (entered buses n id w))
 
@@ -51,39 +52,49 @@ pub record IsKept (buses : List Bus) (W : World → Type 0) : Type 0 where
   pub room : (n bytes : ℕ) (w : World) → IsUp n w → W w → W (accepted buses (Room n bytes) w)
 
 module _ (buses : List Bus) (n : ℕ) (W : World → Type 0) (kept : IsAnswered buses n W) where
-  kept_greeted : (mode : Mode) (greeting : Greeting) (w : World) → IsPlain n w → W w → W (greeted buses n mode greeting w)
-  kept_greeted mode Speaks w plain a = kept.answers Protocol w plain a
-  kept_greeted mode (Chooses chosen) w plain a =
-      kept.answers ModeReply (at_connection n (λ c. record c { mode = chosen }) w)
-      (λ conn e. numbered_after (λ c. (c.info ≡ false) × (c.shut ≡ None)) n n _ _ conn e plain (λ other here p. p))
-      (kept.says (λ c. chosen) (λ c. c.ended) w a)
-  kept_greeted mode Goes w plain a =
-      let next : World = record w { last_id = w.last_id + 1 } in
-      cond_both _ _ _ W
-      (λ t. kept.enters (w.last_id + 1) (Go (w.last_id + 1)) (did (Began (w.last_id + 1) w.moment mode) next) plain
-      (kept.step (Began (w.last_id + 1) w.moment mode) next (kept.numbers (w.last_id + 1) w a)))
-      (λ t. kept.answers (Refused C500) w plain a)
-  kept_greeted mode (Refuses code) w plain a = kept.answers (Refused code) w plain a
-
-  kept_commanded : (session : ℕ) (order : Result Order Code) (w : World) → IsPlain n w → W w → W (commanded buses n session order w)
-  kept_commanded session (Err code) w plain a = kept.answers (Refused code) w plain a
-  kept_commanded session (Ok order) w plain a =
-      let answer = kept.answers _ (did (Obeyed session w.moment order) w) plain (kept.step (Obeyed session w.moment order) w a) in
-      cond_both _ _ _ W (λ t. kept.step (Ended session w.moment) _ (kept.says (λ c. c.mode) (λ c. true) _ answer)) (λ t. answer)
-
   kept_answered_as : (o : Option Connection) (line : Heard) (w : World)
       → ((conn : Connection) → o ≡ Some conn → (numbered n w.connections ≡ Some conn) × (conn.shut ≡ None)) → W w
       → W (answered_as buses n o line w)
   kept_answered_as None line w here a = a
   kept_answered_as (Some conn) line w here a =
-      cond_both _ _ _ W (λ t. a)
-      (λ t. cond_both _ _ _ W (λ u. kept_greeted conn.mode (greets line) w (plain t) a)
-      (λ u. kept_commanded conn.session (order_of buses line) w (plain t) a))
+      acts_law (λ all. W (fold (act buses n) w all)) line.granted a (λ info goes_on. each (plain info goes_on))
     where
-      plain : (conn.info || conn.ended) ≡ false → IsPlain n w
-      plain t other there =
+      plain : conn.info ≡ false → conn.ended ≡ false → IsPlain n w
+      plain info goes_on other there =
           let same : conn ≡ other = let e = (here conn refl).0 in cc in
-          rw (← same) ((or_parts _ _ t).0, (here conn refl).1)
+          rw (← same) (info, (here conn refl).1, goes_on)
+
+      -- it stays so where a reply or a mode is all that changes
+      still : (f : Connection → Connection) (v : World)
+          → ((c : Connection) → ((f c).info ≡ c.info) × ((f c).shut ≡ c.shut) × ((f c).ended ≡ c.ended)) → IsPlain n v
+          → IsPlain n (at_connection n f v)
+      still f v law free other there =
+          numbered_after _ n n f v.connections other there free
+          (λ c here p. let l = law c in (l.0 ∙ p.0, l.1 ∙ p.1, l.2 ∙ p.2))
+
+      each : IsPlain n w
+          → OfAnswers (λ all. W (fold (act buses n) w all)) buses (state buses w) w.last_id w.moment conn.session conn.mode line.mark
+      each free = record {
+        speaks = kept.answers Protocol w free a;
+        chooses = λ chosen.
+            kept.answers ModeReply (at_connection n (λ c. record c { mode = chosen }) w)
+            (still (λ c. record c { mode = chosen }) w (λ c. (refl, refl, refl)) free) (kept.says (λ c. chosen) (λ c. c.ended) w free a);
+        refuses = λ code. kept.answers (Refused code) w free a;
+        begins = λ goes left.
+            let next : World = record w { last_id = w.last_id + 1 } in
+            let begins = Began (w.last_id + 1) w.moment conn.mode in
+            kept.enters (w.last_id + 1) (Go (w.last_id + 1)) (did begins next) free
+            (kept.step begins next (kept.numbers (w.last_id + 1) w a));
+        obeys = λ order began reads.
+            let step = Obeyed conn.session w.moment order in
+            let reply = (effect (state buses w) conn.session w.moment order).reply in
+            let answer = kept.answers reply (did step w) free (kept.step step w a) in (
+              answer,
+              kept.step (Ended conn.session w.moment) _
+                  (kept.says (λ c. c.mode) (λ c. true) (replied n reply (did step w))
+                  (still (λ c. record c { out = c.out ++ reply_line w.moment reply }) (did step w) (λ c. (refl, refl, refl)) free) answer),
+            );
+      }
 
   pub kept_answered : (line : Heard) (w : World) → W w → W (answered buses n w line)
   kept_answered line w a = kept_answered_as (open_connection w n) line w (opened (numbered n w.connections)) a

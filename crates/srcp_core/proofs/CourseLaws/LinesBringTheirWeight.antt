@@ -2,21 +2,19 @@
 use Rattle.srcp_rules.specs.Steps.{stepped, effect}
 use Rattle.srcp_core.proofs.Names.{◌≡◌, ℕ, ◌+◌, ◌≤◌, Bool, true, false, List, [], ◌∷◌, ◌++◌, map, length, drop, refl, ap, sym, ◌∙◌, arith}
 use Rattle.srcp_core.proofs.Names.{append-nil, append_assoc, length-append, length-map, option_map_or, fold-append, sum_by-cons, fold}
-use Rattle.srcp_core.proofs.Names.{flat_map, nat_lt, codes, ◌==◌, ◌||◌, ◌&&◌, Option, Some, None, if◌then◌else◌, Result, Ok, Err, Change}
-use Rattle.srcp_core.proofs.Names.{Code, C500, Go, Refused, Mode, Info, Command, Bus, Effect, State, Update, opening, Mark, Line, TooLong}
-use Rattle.srcp_core.proofs.Names.{Connection, World, start, at_connection, open_connection, did, replied, counted, state, history}
-use Rattle.srcp_core.proofs.Names.{history_from, state_after, updates_of, entered, greeted, ended, obeyed, commanded, command_of}
-use Rattle.srcp_core.proofs.Names.{ordered, answered_as, answered, order_of, new_marks, fed_to, shut_as, accepted, or_refused, happens}
-use Rattle.srcp_core.proofs.Names.{course, Greeting, Speaks, Chooses, Goes, Refuses, IsLayout, Event, Open, Bytes, Room, At, Shut, Piece}
-use Rattle.srcp_core.proofs.Names.{Step, Obeyed, Began, Moment, Ended, Heard, Order, greets, greeting_under, lines_under, brought}
-use Rattle.srcp_core.proofs.Names.{IsOverrun, CoreFault, changes_left, cond_both}
+use Rattle.srcp_core.proofs.Names.{flat_map, codes, ◌==◌, ◌||◌, ◌&&◌, Option, Some, None, if◌then◌else◌, Ok, Change, Info, Bus, State}
+use Rattle.srcp_core.proofs.Names.{Update, opening, Mark, Line, TooLong, Connection, World, start, at_connection, open_connection, did}
+use Rattle.srcp_core.proofs.Names.{counted, state, history, history_from, state_after, updates_of, command_of, answered_as, answered}
+use Rattle.srcp_core.proofs.Names.{new_marks, fed_to, shut_as, accepted, or_refused, happens, course, Greeting, Speaks, Chooses, Goes}
+use Rattle.srcp_core.proofs.Names.{Refuses, IsLayout, Event, Open, Bytes, Room, At, Shut, Piece, Step, Obeyed, Began, Moment, Ended, Heard}
+use Rattle.srcp_core.proofs.Names.{Order, greets, lines_under, brought, IsOverrun, CoreFault, changes_left, cond_both, act}
 use Rattle.std.proofs.Math.Seq.{drop-append_seam}
 use Rattle.std.specs.List.{sum_by}
 use Rattle.std.specs.Prelude.{max}
 use Rattle.srcp_info.specs.declared.change.Code.TheVariants.{C400, C401, C410}
 use Rattle.srcp_info.specs.declared.value.Mode.TheVariants.{Command as CommandMode}
 use Rattle.srcp_grammar.specs.Grammar.{reads}
-use Rattle.srcp_core.specs.Handshake.{greets as greets_of, greets_mode, greets_protocol, greets_words, is_version}
+use Rattle.srcp_core.specs.Handshake.{greets_mode, greets_protocol, greets_words, is_version}
 use Rattle.srcp_text.specs.Words.{words_of, is_keyword}
 use Rattle.srcp_core.specs.Waits.{brought_besides, completed, due_and_freed, may_bring, slack, weighs, weight_of_mark}
 use Rattle.srcp_grammar.specs.Weight.{weight}
@@ -24,6 +22,7 @@ use Rattle.srcp_rules.proofs.WeightLaws.{line_weighs, go_weighs_one}
 use Rattle.srcp_rules.proofs.EachStepLaws.{effect_law}
 use Rattle.srcp_core.proofs.CourseLaws.ShownRegistry.{length_history}
 use Rattle.srcp_core.proofs.CourseLaws.WaitsGrow.{few_close_none}
+use Rattle.srcp_core.proofs.Invariants.LinesAsk.{acts_law}
 
 -- how many changes the steps bring, from a registry on
 abbrev changes : State → List Step → ℕ
@@ -117,48 +116,7 @@ module _ (buses : List Bus) where
 
   -- ---- lines
 
-  comes_greeted : (n : ℕ) (mode : Mode) (greeting : Greeting) (w : World) → ComesOf (brings greeting) w (greeted buses n mode greeting w)
-  comes_greeted n mode Speaks w = same w _ refl
-  comes_greeted n mode (Chooses chosen) w = same w _ refl
-  comes_greeted n mode Goes w =
-      let begun : World = did (Began (w.last_id + 1) w.moment mode) (record w { last_id = w.last_id + 1 }) in
-      cond_both (nat_lt w.last_id 4294967295) (replied n (Go (w.last_id + 1)) (entered buses n (w.last_id + 1) begun))
-      (replied n (Refused C500) w) (ComesOf 1 w)
-      (λ _. record { steps = Began (w.last_id + 1) w.moment mode ∷ []; longer = refl; few = omega arith })
-      (λ _. record { steps = []; longer = sym (append-nil w.steps); few = omega arith })
-  comes_greeted n mode (Refuses code) w = same w _ refl
-
-  comes_obeyed : (n session : ℕ) (order : Order) (result : Effect) (w : World)
-      → ComesOf (length (effect (state buses w) session w.moment order).updates) w (obeyed buses n session order result w)
-  comes_obeyed n session order result w =
-      elim result.ends as (λ t. ComesOf (length (updates_of (state buses w) step)) w (if t then ended buses n session answer else answer)) [
-        | true ↦ record { steps = step ∷ Ended session w.moment ∷ []; longer = append_assoc w.steps _ _; few = omega arith }
-        | false ↦ record { steps = step ∷ []; longer = refl; few = omega arith }
-      ]
-    where
-      step : Step
-      step = Obeyed session w.moment order
-
-      answer : World
-      answer = replied n result.reply (did step w)
-
   module _ (layout : IsLayout buses) where
-    comes_commanded : (n session : ℕ) (granted : Bool) (mark : Mark) (w : World)
-        → ComesOf (weight_of_mark mark) w (commanded buses n session (ordered buses granted (command_of buses mark)) w)
-    comes_commanded n session granted TooLong w = same w _ refl
-    comes_commanded n session granted (Line text) w = by _ refl
-      where
-        by : (r : Result Command Code) → reads buses text ≡ r
-            → ComesOf (weight text) w (commanded buses n session (ordered buses granted r) w)
-        by (Err code) e = idle _ w _ refl
-        by (Ok command) e =
-            let order : Order = record { command = command; granted = granted } in
-            let result : Effect = effect _ session w.moment order in
-            within (length result.updates) (weight text) w (obeyed buses n session order result w)
-            (effect_law (λ e. length e.updates ≤ weight text) (state buses w) session w.moment order
-            (line_weighs buses (state buses w) session w.moment text command layout e) (omega arith))
-            (comes_obeyed n session order result w)
-
     words_bring : (text : List ℕ) (words : List (List ℕ)) → words_of text ≡ words → brings (greets_words words) ≤ weight text
     words_bring text [] e = omega arith
     words_bring text (word ∷ []) e = by _ refl
@@ -177,36 +135,38 @@ module _ (buses : List Bus) where
         by true false false = omega arith
         by false p m = omega arith
 
-    brings_enough : (granted : Bool) (mark : Mark) → brings (greeting_under granted (greets_of mark)) ≤ weight_of_mark mark
-    brings_enough granted mark = by granted _ (heard mark)
-      where
-        heard : (mark : Mark) → brings (greets_of mark) ≤ weight_of_mark mark
-        heard TooLong = omega arith
-        heard (Line text) = words_bring text _ refl
+    brings_enough : (mark : Mark) → brings (greets mark) ≤ weight_of_mark mark
+    brings_enough TooLong = omega arith
+    brings_enough (Line text) = words_bring text _ refl
 
-        by : (granted : Bool) (greeting : Greeting) → brings greeting ≤ weight_of_mark mark
-            → brings (greeting_under granted greeting) ≤ weight_of_mark mark
-        by true greeting h = h
-        by false Goes h = omega arith
-        by false Speaks h = h
-        by false (Chooses mode) h = h
-        by false (Refuses code) h = h
+    reading_enough : (mark : Mark) (session : ℕ) (order : Order) (w : World) → command_of buses mark ≡ Ok order.command
+        → length (effect (state buses w) session w.moment order).updates ≤ weight_of_mark mark
+    reading_enough TooLong session order w e = cc
+    reading_enough (Line text) session order w e =
+        effect_law (λ e. length e.updates ≤ weight text) (state buses w) session w.moment order
+        (line_weighs buses (state buses w) session w.moment text order.command layout e) (omega arith)
 
-    comes_answered : (n : ℕ) (conn : Option Connection) (line : Heard) (w : World)
-        → ComesOf (weight_of_mark line.mark) w (answered_as buses n conn line w)
+    comes_answered : (n : ℕ) (o : Option Connection) (line : Heard) (w : World)
+        → ComesOf (weight_of_mark line.mark) w (answered_as buses n o line w)
     comes_answered n None line w = idle _ w w refl
     comes_answered n (Some conn) line w =
-        cond_both (conn.info || conn.ended) w (if conn.session == 0 then greets_it else obeys) (ComesOf (weight_of_mark line.mark) w)
-        (λ _. idle _ w w refl)
-        (λ _. cond_both (conn.session == 0) greets_it obeys (ComesOf (weight_of_mark line.mark) w)
-        (λ _. within (brings (greets line)) _ w _ (brings_enough line.granted line.mark) (comes_greeted n conn.mode (greets line) w))
-        (λ _. comes_commanded n conn.session line.granted line.mark w))
-      where
-        greets_it : World
-        greets_it = greeted buses n conn.mode (greets line) w
-
-        obeys : World
-        obeys = commanded buses n conn.session (order_of buses line) w
+        acts_law (λ all. ComesOf (weight_of_mark line.mark) w (fold (act buses n) w all)) line.granted {buses = buses}
+        {state = state buses w} {moment = w.moment} {info = conn.info} {ended = conn.ended} {mark = line.mark} (idle _ w w refl)
+        (λ plain goes_on. record {
+          speaks = idle _ w _ refl;
+          chooses = λ chosen. idle _ w _ refl;
+          refuses = λ code. idle _ w _ refl;
+          begins = λ goes left.
+              let one = ap brings goes in
+              let enough = brings_enough line.mark in
+              record { steps = Began (w.last_id + 1) w.moment conn.mode ∷ []; longer = refl; few = omega arith };
+          obeys = λ order began reads.
+              let enough = reading_enough line.mark conn.session order w reads in
+              let step = Obeyed conn.session w.moment order in (
+                record { steps = step ∷ []; longer = refl; few = omega arith },
+                record { steps = step ∷ Ended conn.session w.moment ∷ []; longer = append_assoc w.steps _ _; few = omega arith },
+              );
+        })
 
     comes_line : (n : ℕ) (granted : Bool) (grants : List Bool) (mark : Mark) (marks : List Mark) (w : World)
         → ((w : World) → ComesOf (sum_by weight_of_mark marks) w (fold (answered buses n) w (lines_under grants marks)))

@@ -189,7 +189,7 @@ module _ (buses : List Bus) where
     lines = λ n. record {
       step = λ step w a. a;
       numbers = λ id w a. a;
-      says = λ mode ends w a number conn e.
+      says = λ mode ends w plain a number conn e.
           numbered_after IsWithinLast n number _ w.connections conn e (a number) (λ other here s. record { plain = s.plain; few = s.few });
       answers = λ reply w plain a. within_empty n _ w (λ conn. refl) (no_items n w plain a) a;
       enters = λ id reply w plain a.

@@ -1,16 +1,14 @@
 -- Over every course the registry stays whole: each session that began and did not end has its row, under an id of its own.
 use Rattle.srcp_core.proofs.Names.{cond_both, ◌≡◌, ℕ, ◌+◌, ◌^◌, ◌<◌, ◌≤◌, max, true, false, List, [], ◌∷◌, ◌++◌, length, refl, ap, sym, ◌∙◌}
-use Rattle.srcp_core.proofs.Names.{subst, arith, add-one, inl, inr, ◌⊎◌, ⊎_elim, ltb-true, eqb-false, fold-append, pos_of_ne-zero, fold}
-use Rattle.srcp_core.proofs.Names.{◌==◌, ◌||◌, Option, Some, None, is_some, IfOk, if◌then◌else◌, Result, Ok, Err, first_key, reply_line}
-use Rattle.srcp_core.proofs.Names.{Code, C500, Reply, Protocol, Go, Refused, Mode, Bus, IsCommandOf, Effect, IsLayout, session_device, Row}
-use Rattle.srcp_core.proofs.Names.{IsWhole, opening, reads_fits, session_row-updated_all, effect_elsewhere, due_elsewhere, freed_others}
-use Rattle.srcp_core.proofs.Names.{row_at-put_same, Mark, Line, TooLong, Event, Open, Bytes, Room, At, Shut, Step, Obeyed, Began, Moment}
-use Rattle.srcp_core.proofs.Names.{Ended, Order, greets, Heard, Piece, Connection, overran, owed, took, given_room, World, updates_of}
-use Rattle.srcp_core.proofs.Names.{state_after, fresh, start, numbered, with_numbered, at_connection, open_connection, did, replied}
-use Rattle.srcp_core.proofs.Names.{counted, is_info, state, rows, history, entered, greeted, obeyed, commanded, answered_as, answered}
-use Rattle.srcp_core.proofs.Names.{command_of, order_of, fault, new_lines, fed_to, shut_as, accepted, or_refused, happens, course, Greeting}
-use Rattle.srcp_core.proofs.Names.{Speaks, Chooses, Goes, Refuses, AllMoments, HasMoment, CoreFault, Device, Key, owns}
-use Rattle.std.proofs.lemmas.Bool.{true≢false, or_parts}
+use Rattle.srcp_core.proofs.Names.{subst, arith, add-one, inl, inr, ◌⊎◌, ⊎_elim, fold-append, fold, Option, Some, None, is_some, IfOk}
+use Rattle.srcp_core.proofs.Names.{first_key, reply_line, Reply, Mode, Bus, IsCommandOf, IsLayout, session_device, Row, IsWhole, opening}
+use Rattle.srcp_core.proofs.Names.{session_row-updated_all, effect_elsewhere, due_elsewhere, freed_others, row_at-put_same, Event, Open}
+use Rattle.srcp_core.proofs.Names.{Bytes, Room, At, Shut, Step, Obeyed, Began, Moment, Ended, Order, Heard, Piece, Connection, overran}
+use Rattle.srcp_core.proofs.Names.{owed, took, given_room, World, updates_of, state_after, fresh, start, numbered, with_numbered}
+use Rattle.srcp_core.proofs.Names.{at_connection, open_connection, did, replied, counted, is_info, state, rows, history, entered}
+use Rattle.srcp_core.proofs.Names.{answered_as, answered, fault, new_lines, fed_to, shut_as, accepted, or_refused, happens, course}
+use Rattle.srcp_core.proofs.Names.{AllMoments, HasMoment, CoreFault, Device, Key, owns, act, Begins, Protocol, Go, Refused}
+use Rattle.std.proofs.lemmas.Bool.{true≢false}
 use Rattle.std.specs.Prelude.{option_map}
 use Rattle.srcp_info.specs.declared.change.Reply.TheVariants.{Mode as ModeReply}
 use Rattle.srcp_rules.specs.State.{is_there as has_device}
@@ -19,11 +17,11 @@ use Rattle.srcp_rules.proofs.SessionLaws.{AreElsewhere}
 use Rattle.srcp_rules.proofs.StateLaws.{has_row-put_row}
 use Rattle.srcp_core.specs.Laws.{IsLive, IsWholeWorld, has_key, is_there, rows_at}
 use Rattle.srcp_rules.proofs.EachStepLaws.{effect_law}
-use Rattle.srcp_core.proofs.Agreement.MemoryAnswers.{ordered_law}
-use Rattle.srcp_core.proofs.CourseLaws.StepsKeepWhole.{Fits, AreSteps, are_steps_push, steps_whole, prefix_whole, history_told}
-use Rattle.srcp_core.proofs.CourseLaws.StepsKeepWhole.{keys_kept, whole_opening}
+use Rattle.srcp_core.proofs.CourseLaws.StepsKeepWhole.{Fits, AreSteps, are_steps_push, steps_whole, prefix_whole, history_told, keys_kept}
+use Rattle.srcp_core.proofs.CourseLaws.StepsKeepWhole.{whole_opening}
 use Rattle.srcp_core.proofs.Agreement.NumbersAndKeys.{numbered_with, opened, no_connection, look_with, look_push}
 use Rattle.srcp_info.specs.declared.value.Value.TheVariants as value
+use Rattle.srcp_core.proofs.Invariants.LinesAsk.{acts_law, command_fits}
 
 -- ---- the invariant
 
@@ -208,64 +206,38 @@ module _ (buses : List Bus) (layout : IsLayout buses) where
           let i : d.session ≡ w.last_id + 1 = cc h.1 in
           cc (row_at-put_same row (state buses w))
 
-  pub kept_greeted : (n : ℕ) (mode : Mode) (greeting : Greeting) (w : World) → IsKept w → IsKept (greeted buses n mode greeting w)
-  kept_greeted n mode Speaks w k = kept_replied n Protocol w k
-  kept_greeted n mode (Chooses chosen) w k =
-      kept_replied n ModeReply (at_connection n (λ conn. record conn { mode = chosen }) w)
-      (kept_change w.moment w.last_id w.steps w.connections n (λ conn. record conn { mode = chosen })
-      (λ c. record { session = refl; ended = λ h. h; shut = λ h. h }) k)
-  kept_greeted n mode Goes w k =
-      cond_both _ _ _ IsKept
-      (λ t. kept_replied n (Go (w.last_id + 1))
-      (entered buses n (w.last_id + 1) (did (Began (w.last_id + 1) w.moment mode) (record w { last_id = w.last_id + 1 })))
-      (kept_entered n mode w (ltb-true w.last_id 4294967295 t) k))
-      (λ t. kept_replied n (Refused C500) w k)
-  kept_greeted n mode (Refuses code) w k = kept_replied n (Refused code) w k
-
-  pub kept_obeyed_all : (n : ℕ) (conn : Connection) (command : Order) (result : Effect) (w : World) → numbered n w.connections ≡ Some conn
-      → IsCommandOf buses command.command → has_device (session_device conn.session) (state buses w) ≡ true → IsKept w
-      → IsKept (obeyed buses n conn.session command result w)
-  kept_obeyed_all n conn command result w at of begun k =
-      let replies =
-      kept_replied n result.reply (did (Obeyed conn.session w.moment command) w) (kept_obeyed conn.session command w of begun k) in
-      cond_both _ _ _ IsKept
-      (λ t. kept_ended w.moment w.last_id (w.steps ++ Obeyed conn.session w.moment command ∷ [])
-      (replied n result.reply (did (Obeyed conn.session w.moment command) w)).connections n (λ c. record c { ended = true })
-      (record conn { out = conn.out ++ reply_line w.moment result.reply })
-      (numbered_with n _ w.connections
-      ∙ ap (option_map (λ (c : Connection). record c { out = c.out ++ reply_line w.moment result.reply })) at)
-      (λ c. record { session = refl; ended = λ h. absurd (true≢false h); shut = λ h. h }) (λ c l. true≢false l.not_ended) replies)
-      (λ t. replies)
-
-  pub kept_commanded : (n : ℕ) (conn : Connection) (command : Result Order Code) (w : World) → numbered n w.connections ≡ Some conn
-      → IfOk command (λ order. IsCommandOf buses order.command) → has_device (session_device conn.session) (state buses w) ≡ true → IsKept w
-      → IsKept (commanded buses n conn.session command w)
-  kept_commanded n conn (Err code) w at of begun k = kept_replied n (Refused code) w k
-  kept_commanded n conn (Ok command) w at of begun k =
-      kept_obeyed_all n conn command (effect (state buses w) conn.session w.moment command) w at of begun k
-
-  command_fits : (mark : Mark) → IfOk (command_of buses mark) (IsCommandOf buses)
-  command_fits TooLong = tt
-  command_fits (Line text) = reads_fits buses layout text
-
-  pub kept_answered_as : (n : ℕ) (o : Option Connection) (mark : Heard) (w : World)
+  pub kept_answered_as : (n : ℕ) (o : Option Connection) (line : Heard) (w : World)
       → ((conn : Connection) → o ≡ Some conn → (numbered n w.connections ≡ Some conn) × (conn.shut ≡ None)) → IsKept w
-      → IsKept (answered_as buses n o mark w)
-  kept_answered_as n None mark w f k = k
-  kept_answered_as n (Some conn) mark w f k =
-      let at = f conn refl in
-      let greets_it = greeted buses n conn.mode (greets mark) w in
-      let obeys = commanded buses n conn.session (order_of buses mark) w in
-      cond_both (conn.info || conn.ended) w (if conn.session == 0 then greets_it else obeys) IsKept (λ t. k)
-      (λ t. cond_both (conn.session == 0) greets_it obeys IsKept (λ z. kept_greeted n conn.mode (greets mark) w k)
-      (λ z. kept_commanded n conn (order_of buses mark) w at.0
-      (ordered_law buses (IsCommandOf buses) mark.granted (command_of buses mark.mark) (command_fits mark.mark))
-      (k.there n conn at.0 (record {
-        began = pos_of_ne-zero (eqb-false conn.session 0 z);
-        not_ended = (or_parts _ _ t).1;
-        not_shut = at.1;
-      }))
-      k))
+      → IsKept (answered_as buses n o line w)
+  kept_answered_as n None line w f k = k
+  kept_answered_as n (Some conn) line w f k =
+      acts_law (λ all. IsKept (fold (act buses n) w all)) line.granted {buses = buses} {mark = line.mark} k
+      (λ plain goes_on. record {
+        speaks = kept_replied n Protocol w k;
+        chooses = λ chosen.
+            kept_replied n ModeReply (at_connection n (λ conn. record conn { mode = chosen }) w)
+            (kept_change w.moment w.last_id w.steps w.connections n (λ conn. record conn { mode = chosen })
+            (λ c. record { session = refl; ended = λ h. h; shut = λ h. h }) k);
+        refuses = λ code. kept_replied n (Refused code) w k;
+        begins = λ goes left.
+            kept_replied n (Go (w.last_id + 1)) (act buses n w (Begins (w.last_id + 1) conn.mode)) (kept_entered n conn.mode w left k);
+        obeys = λ order began reads.
+            let reply = (effect (state buses w) conn.session w.moment order).reply in
+            let did_it = did (Obeyed conn.session w.moment order) w in
+            let live : IsLive conn = record { began = began; not_ended = goes_on; not_shut = (f conn refl).1 } in
+            let of : IsCommandOf buses order.command =
+            subst (λ r. IfOk r (IsCommandOf buses)) reads (command_fits buses layout line.mark) in
+            let replies =
+            kept_replied n reply did_it (kept_obeyed conn.session order w of (k.there n conn (f conn refl).0 live) k) in (
+              replies,
+              kept_ended w.moment w.last_id did_it.steps (replied n reply did_it).connections n (λ c. record c { ended = true })
+                  (record conn { out = conn.out ++ reply_line w.moment reply })
+                  (numbered_with n _ w.connections
+                  ∙ ap (option_map (λ (c : Connection). record c { out = c.out ++ reply_line w.moment reply })) (f conn refl).0)
+                  (λ c. record { session = refl; ended = λ h. absurd (true≢false h); shut = λ h. h }) (λ c l. true≢false l.not_ended)
+                  replies,
+            );
+      })
 
   pub kept_marks : (n : ℕ) (marks : List Heard) (w : World) → IsKept w → IsKept (fold (answered buses n) w marks)
   kept_marks n [] w k = k

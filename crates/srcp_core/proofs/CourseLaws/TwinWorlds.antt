@@ -1,11 +1,9 @@
 -- Worlds that differ in one connection alone, at an event of a connection that both have alike.
-use Rattle.srcp_rules.specs.Steps.{effect}
-use Rattle.srcp_core.proofs.Names.{◌≡◌, ℕ, ◌+◌, List, [], ◌∷◌, ◌++◌, length, refl, ap, inl, fold, Option, Some, None, Result, Ok, Err}
-use Rattle.srcp_core.proofs.Names.{reply_line, Code, Mode, Bus, Effect, Event, Bytes, Room, Shut, Step, Began, Heard, Order, greets, Piece}
-use Rattle.srcp_core.proofs.Names.{Connection, given_room, World, numbered, with_numbered, at_connection, open_connection, did, counted}
-use Rattle.srcp_core.proofs.Names.{is_info, state, rows, history, greeted, obeyed, commanded, answered_as, answered, order_of, fault}
-use Rattle.srcp_core.proofs.Names.{new_lines, fed_to, shut_as, accepted, or_refused, happens, Greeting, Speaks, Chooses, Goes, Refuses}
-use Rattle.srcp_core.proofs.Names.{CoreFault, Refusal, if_two, true, nat_lt, entered, ended, replied, Go, Refused, C500, Obeyed, Ended}
+use Rattle.srcp_core.proofs.Names.{◌≡◌, ℕ, ◌+◌, List, [], ◌∷◌, ◌++◌, length, refl, ap, inl, fold, Option, Some, None, Bus, Event, Bytes}
+use Rattle.srcp_core.proofs.Names.{Room, Shut, Step, Began, Heard, Piece, Connection, given_room, World, numbered, with_numbered}
+use Rattle.srcp_core.proofs.Names.{at_connection, open_connection, did, counted, state, rows, history, answered, fault, new_lines, fed_to}
+use Rattle.srcp_core.proofs.Names.{shut_as, accepted, or_refused, happens, CoreFault, Refusal, if_two, true, Obeyed, Ended, Act, Says, Sets}
+use Rattle.srcp_core.proofs.Names.{Begins, Obeys, Ends, act, acts, asked}
 use Rattle.srcp_core.proofs.Agreement.NumbersAndKeys.{numbered_with}
 use Rattle.srcp_core.proofs.Invariants.PlacesCover.{where_is, Here, Away}
 use Rattle.srcp_core.proofs.CourseLaws.TwinConnections.{Alike, alike_away, alike_both, alike_there}
@@ -83,51 +81,28 @@ module _ (buses : List Bus) (number m : ℕ) where
     alike = link_change number m f _ conns l;
   }
 
-  twin_greeted : (mode : Mode) (greeting : Greeting) (a : World) → Alikes (greeted buses m mode greeting) a
-  twin_greeted mode Speaks a conns refs evs l = twin_change _ a conns refs evs l
-  twin_greeted mode (Chooses chosen) a conns refs evs l =
-      twin_change _ _ _ refs evs (link_change number m (λ conn. record conn { mode = chosen }) a.connections conns l)
-  twin_greeted mode Goes a conns refs evs l =
-      let next = a.last_id + 1 in
-      let begun : World → World = λ w. entered buses m next (did (Began next a.moment mode) (record w { last_id = next })) in
-      let b = twin a conns refs evs in
-      if_two (TwinAt number m) (nat_lt a.last_id 4294967295) (replied m (Go next) (begun a)) (replied m (Refused C500) a)
-      (replied m (Go next) (begun b)) (replied m (Refused C500) b)
-      (twin_change _ _ _ refs evs
-      (link_change number m
-      (λ conn. record conn { session = next; info = is_info conn.mode; go_step = length (a.steps ++ Began next a.moment mode ∷ []) })
-      a.connections conns l))
-      (twin_change _ a conns refs evs l)
-  twin_greeted mode (Refuses code) a conns refs evs l = twin_change _ a conns refs evs l
+  twin_act : (does : Act) (a : World) → Alikes (λ w. act buses m w does) a
+  twin_act (Says reply) a conns refs evs l = twin_change _ a conns refs evs l
+  twin_act (Sets mode) a conns refs evs l = twin_change _ a conns refs evs l
+  twin_act (Begins id mode) a conns refs evs l = twin_change _ (did (Began id a.moment mode) (record a { last_id = id })) conns refs evs l
+  twin_act (Obeys session order) a conns refs evs l = twin_itself (did (Obeyed session a.moment order) a) conns refs evs l
+  twin_act (Ends session) a conns refs evs l = twin_did _ _ _ (twin_change (λ conn. record conn { ended = true }) a conns refs evs l)
 
-  twin_obeyed : (session : ℕ) (command : Order) (result : Effect) (a : World) → Alikes (obeyed buses m session command result) a
-  twin_obeyed session command result a conns refs evs l =
-      let answer : World → World = λ w. replied m result.reply (did (Obeyed session a.moment command) w) in
-      let b = twin a conns refs evs in
-      if_two (TwinAt number m) result.ends (ended buses m session (answer a)) (answer a) (ended buses m session (answer b)) (answer b)
-      (twin_did _ _ _
-      (twin_change (λ conn. record conn { ended = true }) _ _ refs evs
-      (link_change number m (λ conn. record conn { out = conn.out ++ reply_line a.moment result.reply }) a.connections conns l)))
-      (twin_change _ _ conns refs evs l)
-
-  twin_commanded : (session : ℕ) (command : Result Order Code) (a : World) → Alikes (commanded buses m session command) a
-  twin_commanded session (Err code) a conns refs evs l = twin_change _ a conns refs evs l
-  twin_commanded session (Ok command) a conns refs evs l =
-      twin_obeyed session command (effect (state buses a) session a.moment command) a conns refs evs l
-
-  twin_answered_as : (o : Option Connection) (mark : Heard) (a : World) → Alikes (answered_as buses m o mark) a
-  twin_answered_as None mark a conns refs evs l = twin_itself a conns refs evs l
-  twin_answered_as (Some conn) mark a conns refs evs l =
-      if_two (TwinAt number m) _ _ _ _ _ (twin_itself a conns refs evs l)
-      (if_two (TwinAt number m) _ _ _ _ _ (twin_greeted conn.mode (greets mark) a conns refs evs l)
-      (twin_commanded conn.session (order_of buses mark) a conns refs evs l))
+  twin_acts : (all : List Act) (a : World) → Alikes (λ w. fold (act buses m) w all) a
+  twin_acts [] a conns refs evs l = twin_itself a conns refs evs l
+  twin_acts (does ∷ more) a conns refs evs l =
+      let t = twin_act does a conns refs evs l in
+      rw t.is (twin_acts more (act buses m a does) t.conns t.refs t.evs t.alike)
 
   twin_marks : (marks : List Heard) (a b : World) → TwinAt number m a b
       → TwinAt number m (fold (answered buses m) a marks) (fold (answered buses m) b marks)
   twin_marks [] a b t = t
   twin_marks (mark ∷ marks) a b t =
       twin_marks marks _ _
-      (rw t.is (rw t.alike.same (twin_answered_as (open_connection a m) mark a t.conns t.refs t.evs t.alike)))
+      (rw t.is
+      (rw t.alike.same
+      (twin_acts (acts (state buses a) a.last_id a.moment mark.granted (asked buses (open_connection a m) mark.mark)) a t.conns t.refs t.evs
+      t.alike)))
 
   twin_fed : (piece : Piece) (o : Option Connection) (a : World) → Alikes (fed_to buses m piece o) a
   twin_fed piece None a conns refs evs l = twin_itself a conns refs evs l

@@ -1,16 +1,18 @@
 -- What the answer to a line leaves of its connection: the line that has begun, and how many bytes are unsent.
-use Rattle.srcp_core.proofs.Names.{cond_both, ◌≡◌, ℕ, ◌+◌, ◌≤◌, Bool, true, false, List, [], ◌∷◌, map, length, length-append, refl, sym}
-use Rattle.srcp_core.proofs.Names.{◌∙◌, subst, arith, option_map, nat_lt, if◌then◌else◌, Option, Some, None, Ok, Err, reply_line, IsMoment}
-use Rattle.srcp_core.proofs.Names.{Change, C500, Reply, Accepted, Protocol, Go, Refused, Shows, Mode, began, freed, Effect, effect}
-use Rattle.srcp_core.proofs.Names.{session_device, is_there, Mark, Greeting, Speaks, Chooses, Goes, Refuses, Place, Held, place_at, at}
-use Rattle.srcp_core.proofs.Names.{IsSound, told_place, told_all, told_each, carried, unsent_of, changed_in, changed_places, changed_at}
-use Rattle.srcp_core.proofs.Names.{with_unsent, longest, longest_answer, begun_place, session_begun, denied_line, one_denied, request_of}
-use Rattle.srcp_core.proofs.Names.{panel_for, Request, Dropped, Greets, Commands, option_map_or, ltb-true, ap}
+use Rattle.srcp_core.proofs.Names.{cond_both, ◌≡◌, ℕ, ◌+◌, ◌≤◌, Bool, true, List, [], ◌∷◌, map, length, length-append, refl, sym, ◌∙◌}
+use Rattle.srcp_core.proofs.Names.{subst, arith, option_map, Option, Some, None, Ok, Err, reply_line, IsMoment, Change, C500, Reply}
+use Rattle.srcp_core.proofs.Names.{Accepted, Protocol, Go, Refused, Shows, Mode, began, freed, session_device, is_there, Mark, Speaks}
+use Rattle.srcp_core.proofs.Names.{Chooses, Goes, Refuses, Place, Held, place_at, at, IsSound, told_place, told_all, told_each, carried}
+use Rattle.srcp_core.proofs.Names.{unsent_of, changed_in, changed_places, changed_at, with_unsent, longest, longest_answer, begun_place}
+use Rattle.srcp_core.proofs.Names.{session_begun, request_of, panel_for, Request, Dropped, Greets, Commands, option_map_or, ltb-true, ap}
+use Rattle.srcp_core.proofs.Names.{Obeys, Ends, Sets, wants, denied_by, fold, and_parts, not, ◌||◌, Order, Begins, Says, nat_lt, ◌&&◌}
 use Rattle.srcp_info.specs.WellFormed.{IsWellFormedReply}
 use Rattle.srcp_info.specs.declared.change.Reply.TheVariants.{Mode as ModeReply}
 use Rattle.srcp_info.proofs.LineLaws.{length-reply_line-le, length-reply_line-most}
 use Rattle.srcp_rules.proofs.ToldLaws.{reply_told}
-use Rattle.srcp_core.specs.Machine.{replied, goes, greeted, ended_by_command, obeyed, answered, is_obeyed}
+use Rattle.srcp_core.specs.Machine.{act, answered, replied}
+use Rattle.srcp_rules.specs.Steps.{effect}
+use Rattle.srcp_rules.proofs.EachStepLaws.{effect_law}
 use Rattle.srcp_core.proofs.Invariants.EveryPlaceIsTold.{told_all_at}
 use Rattle.srcp_core.proofs.Invariants.ChangesOneByOne.{change_in}
 use Rattle.srcp_core.proofs.Invariants.PlacesCover.{place_set_here, told_so}
@@ -81,9 +83,6 @@ replied_gains key reply held now h =
       begun = refl;
     })
 
-denied_gains : (key : ℕ) (held : Held) → IsMoment held.moment → Gains 64 (at held key) (at (denied_line key held) key)
-denied_gains key held now = replied_gains key (Refused C500) (one_denied held) now tt
-
 begun_gains : (key id : ℕ) (mode : Mode) (held : Held) → Gains 0 (at held key) (at (session_begun key id mode held) key)
 begun_gains key id mode held =
     let mid = carried (began id held.moment mode ∷ []) (record held { last_id = id }) in
@@ -91,50 +90,12 @@ begun_gains key id mode held =
     (told_gains key (map change_in (began id held.moment mode ∷ [])) held.places)
     (changed_gains 0 key (begun_place id (panel_for mode)) mid.places (λ p. record { few = omega arith; begun = refl }))
 
-goes_gains : (granted : Bool) (key : ℕ) (mode : Mode) (held : Held) → IsMoment held.moment
-    → Gains 64 (at held key) (at (goes granted key mode held) key)
-goes_gains granted key mode held now =
-    let begun = session_begun key (held.last_id + 1) mode held in
-    let begins = replied key (Go (held.last_id + 1)) begun in
-    cond_both (nat_lt held.last_id 4294967295) (if granted then begins else denied_line key held) (replied key (Refused C500) held)
-    (λ it. Gains 64 (at held key) (at it key))
-    (λ e. let l = ltb-true held.last_id 4294967295 e in
-    cond_both granted begins (denied_line key held) (λ it. Gains 64 (at held key) (at it key))
-    (λ _. both 0 64 (at held key) (at begun key) _ (begun_gains key (held.last_id + 1) mode held)
-    (replied_gains key (Go (held.last_id + 1)) begun now (omega (arith, l))))
-    (λ _. denied_gains key held now))
-    (λ _. replied_gains key (Refused C500) held now tt)
-
-greeted_gains : (granted : Bool) (key : ℕ) (mode : Mode) (greeting : Greeting) (held : Held) → IsMoment held.moment
-    → Gains 64 (at held key) (at (greeted granted key mode greeting held) key)
-greeted_gains granted key mode Speaks held now = replied_gains key Protocol held now tt
-greeted_gains granted key mode (Chooses chosen) held now =
-    let mid = changed_at key (λ p. record p { mode = chosen }) held in
-    both 0 64 (at held key) (at mid key) _
-    (changed_gains 0 key (λ p. record p { mode = chosen }) held.places (λ p. record { few = omega arith; begun = refl }))
-    (replied_gains key ModeReply mid now tt)
-greeted_gains granted key mode Goes held now = goes_gains granted key mode held now
-greeted_gains granted key mode (Refuses code) held now = replied_gains key (Refused code) held now tt
-
-ended_gains : (ends : Bool) (key session : ℕ) (held : Held) → Gains 0 (at held key) (at (ended_by_command ends key session held) key)
-ended_gains true key session held =
+ended_gains : (key session : ℕ) (held : Held) → Gains 0 (at held key) (at (act key held (Ends session)) key)
+ended_gains key session held =
     let mid = changed_at key (λ p. record p { ended = true }) held in
     both 0 0 (at held key) (at mid key) _
     (changed_gains 0 key (λ p. record p { ended = true }) held.places (λ p. record { few = omega arith; begun = refl }))
     (told_gains key (map change_in (freed held.rows session held.moment)) mid.places)
-ended_gains false key session held = nothing _
-
-obeyed_gains : (key session : ℕ) (did : Effect) (held : Held) → IsMoment held.moment → IsWellFormedReply did.reply
-    → Gains 126 (at held key) (at (obeyed key session did held) key)
-obeyed_gains key session did held now h =
-    let mid = carried did.updates held in
-    let end = replied key did.reply mid in
-    most (0 + (longest did.reply + 0)) 126 (at held key) (at (obeyed key session did held) key)
-    (let l = longest_most did.reply in omega (arith, l))
-    (both 0 (longest did.reply + 0) (at held key) (at mid key) (at (obeyed key session did held) key)
-    (told_gains key (map change_in did.updates) held.places)
-    (both (longest did.reply) 0 (at mid key) (at end key) (at (obeyed key session did held) key) (replied_gains key did.reply mid now h)
-    (ended_gains did.ends key session end)))
 
 -- an answer adds no more than its longest, and leaves what is begun
 pub answered_gains : (granted : Bool) (key : ℕ) (request : Request) (held : Held) (p : Place) (mark : Mark) → at held key ≡ Some p
@@ -142,17 +103,48 @@ pub answered_gains : (granted : Bool) (key : ℕ) (request : Request) (held : He
     → Gains (longest_answer request) (at held key) (at (answered granted key request held) key)
 answered_gains granted key request held p mark there is s = by request is
   where
+    counted : Request → Held
+    counted request =
+        record held { denied = denied_by held.denied ((granted || not (wants held.rows held.last_id held.moment request)) ∷ []) }
+
+    says : (request : Request) (reply : Reply) → IsWellFormedReply reply
+        → Gains (longest reply) (at held key) (at (replied key reply (counted request)) key)
+    says request reply = replied_gains key reply (counted request) s.moment
+
     by : (request : Request) → request ≡ request_of held.buses p mark
         → Gains (longest_answer request) (at held key) (at (answered granted key request held) key)
     by Dropped is = most 0 64 _ _ (omega arith) (nothing (at held key))
-    by (Greets mode greeting) is = greeted_gains granted key mode greeting held s.moment
-    by (Commands session (Err code)) is = replied_gains key (Refused code) held s.moment tt
+    by (Greets mode Speaks) is = says (Greets mode Speaks) Protocol tt
+    by (Greets mode (Chooses chosen)) is =
+        let mid = act key (counted (Greets mode (Chooses chosen))) (Sets chosen) in
+        both 0 64 (at held key) (at mid key) _
+        (changed_gains 0 key (λ p. record p { mode = chosen }) held.places (λ p. record { few = omega arith; begun = refl }))
+        (replied_gains key ModeReply mid s.moment tt)
+    by (Greets mode Goes) is =
+        let old = counted (Greets mode Goes) in
+        cond_both (granted && nat_lt held.last_id 4294967295) (Begins (held.last_id + 1) mode ∷ Says (Go (held.last_id + 1)) ∷ [])
+        (Says (Refused C500) ∷ []) (λ all. Gains 64 (at held key) (at (fold (act key) old all) key))
+        (λ e.
+        let l = ltb-true held.last_id 4294967295 (and_parts _ _ e).1 in
+        let begun = session_begun key (held.last_id + 1) mode old in
+        both 0 64 (at held key) (at begun key) _ (begun_gains key (held.last_id + 1) mode old)
+        (replied_gains key (Go (held.last_id + 1)) begun s.moment (omega (arith, l))))
+        (λ _. says (Greets mode Goes) (Refused C500) tt)
+    by (Greets mode (Refuses code)) is = says (Greets mode (Refuses code)) (Refused code) tt
+    by (Commands session (Err code)) is = says (Commands session (Err code)) (Refused code) tt
     by (Commands session (Ok command)) is =
         let a = asked_by _ s.whole.laid_out p mark session _ is in
         let row : is_there (session_device session) held.rows ≡ true = rw (← a.own) (s.sessions.there key p there a.live) in
-        let result = effect held.rows session held.moment command in
-        cond_both (is_obeyed granted session command held) (obeyed key session result held) (denied_line key held)
-        (λ it. Gains 126 (at held key) (at it key))
-        (λ _. obeyed_gains key session result held s.moment
-        (reply_told held.buses held.rows s.whole session held.moment row s.moment command))
-        (λ _. most 64 126 _ _ (omega arith) (denied_gains key held s.moment))
+        let order : Order = record { command = command; granted = granted } in
+        let result = effect held.rows session held.moment order in
+        let told =
+        effect_law (λ e. IsWellFormedReply e.reply) held.rows session held.moment order
+        (reply_told held.buses held.rows s.whole session held.moment row s.moment command) tt in
+        let mid = act key (counted (Commands session (Ok command))) (Obeys session order) in
+        let end = replied key result.reply mid in
+        let one : Gains 126 (at held key) (at end key) =
+        most (0 + longest result.reply) 126 _ _ (let l = longest_most result.reply in omega (arith, l))
+        (both 0 (longest result.reply) (at held key) (at mid key) (at end key) (told_gains key (map change_in result.updates) held.places)
+        (replied_gains key result.reply mid s.moment told)) in
+        cond_both result.ends (Ends session ∷ []) [] (λ all. Gains 126 (at held key) (at (fold (act key) end all) key))
+        (λ _. both 126 0 (at held key) (at end key) _ one (ended_gains key session end)) (λ _. one)

@@ -1,10 +1,10 @@
 -- What is unsent, and whose session goes on, while lines are answered.
-use Rattle.srcp_core.proofs.Names.{◌≡◌, ℕ, ◌+◌, ◌<◌, ◌≤◌, true, List, [], ◌∷◌, map, length, ap, sym, ◌∙◌, subst, arith, option_map}
-use Rattle.srcp_core.proofs.Names.{if◌then◌else◌, Option, Some, None, lt-ltb, C500, Change, Reply, Accepted, Protocol, Go, Refused, Shows}
-use Rattle.srcp_core.proofs.Names.{Mode, session_device, Update, is_there, Place, Held, place_at, IsLive, IsSound, IsSessionAt, told_place}
-use Rattle.srcp_core.proofs.Names.{told_all, told_each, carried, unsent_of, changed_in, with_unsent, longest, session_begun}
+use Rattle.srcp_core.proofs.Names.{◌≡◌, ℕ, ◌+◌, ◌<◌, ◌≤◌, true, List, [], ◌∷◌, map, length, ap, sym, ◌∙◌, subst, arith, option_map, Option}
+use Rattle.srcp_core.proofs.Names.{Some, None, lt-ltb, Change, Reply, Accepted, Protocol, Go, Refused, Shows, Mode, session_device, Update}
+use Rattle.srcp_core.proofs.Names.{is_there, Place, Held, place_at, IsLive, IsSound, IsSessionAt, told_place, told_all, told_each, carried}
+use Rattle.srcp_core.proofs.Names.{unsent_of, changed_in, with_unsent, longest, session_begun, nat_lt, Greets, Goes, refl}
 use Rattle.srcp_info.specs.declared.change.Reply.TheVariants.{Mode as ModeReply}
-use Rattle.srcp_core.specs.Machine.{replied, goes}
+use Rattle.srcp_core.specs.Machine.{replied, answered}
 use Rattle.srcp_core.proofs.Invariants.EveryPlaceIsTold.{told_all_at}
 use Rattle.srcp_core.proofs.Invariants.ChangesOneByOne.{change_in}
 use Rattle.srcp_core.proofs.Invariants.PlacesCover.{place_set_here, told_so}
@@ -79,10 +79,7 @@ session_row session key held s h = rw (← h.own) (s.sessions.there key h.place 
 
 -- a session that was given memory begins
 pub goes_granted : (held : Held) (key : ℕ) (mode : Mode) (last : ℕ) (mid new : Held) → last < 4294967295 → last ≡ held.last_id
-    → mid ≡ session_begun key (last + 1) mode held → new ≡ replied key (Go (last + 1)) mid → new ≡ goes true key mode held
+    → mid ≡ session_begun key (last + 1) mode held → new ≡ replied key (Go (last + 1)) mid
+    → new ≡ answered true key (Greets mode Goes) held
 goes_granted held key mode last mid new low is m n =
-    n ∙ ap (replied key (Go (last + 1))) m ∙ ap (λ k. replied key (Go (k + 1)) (session_begun key (k + 1) mode held)) is
-    ∙ sym (ap
-    (λ t. if t then replied key (Go (held.last_id + 1)) (session_begun key (held.last_id + 1) mode held)
-    else replied key (Refused C500) held)
-    (lt-ltb _ _ (rw (← is) low)))
+    let left : nat_lt held.last_id 4294967295 ≡ true = lt-ltb _ _ (rw (← is) low) in rw (n, m, is, left) refl

@@ -11,10 +11,10 @@ ghost use Rattle.srcp_rules.specs.State.{is_there};
 ghost use Rattle.srcp_rules.specs.Steps.{wants_memory};
 ghost use Rattle.srcp_core.specs.Held.{IsSessionAt, IsSound};
 ghost use Rattle.srcp_core.specs.Under.{denied_by};
-ghost use Rattle.srcp_core.specs.Machine.{changed_at, unsent_at, one_denied, replied, denied_line, session_begun, goes};
-ghost use Rattle.srcp_core.specs.Machine.{greeted, carried, freed_of, answered, commanded, longest, longest_answer};
-ghost use Rattle.srcp_core.specs.Machine.{steps_answered, steps_gone, steps_greeted, steps_commanded, steps_in};
-ghost use Rattle.srcp_core.specs.Machine.{IsRequest};
+ghost use Rattle.srcp_core.specs.Handshake.{Goes};
+ghost use Rattle.srcp_core.specs.declared.line.Request.TheVariants.{Greets, Commands};
+ghost use Rattle.srcp_core.specs.Machine.{changed_at, unsent_at, one_denied, replied, session_begun, carried, freed_of};
+ghost use Rattle.srcp_core.specs.Machine.{answered, longest, longest_answer, steps_answered, steps_in, IsRequest};
 
 use super::Core;
 use super::walk::{free_all, panel_keys, tell_all, tell_each};
@@ -48,8 +48,8 @@ impl<'a, R: Rows> Core<'a, R> {
     /// Answers a line before the session.
     fn greet(&mut self, conn: usize, mode: Mode, greeting: Greeting) -> LineRecord
         requires { length (unsent_at conn self.old) + LONGEST_SHORT_REPLY ≤ MOST_UNSENT }
-        ensures core { self.new ≡ greeted result.granted conn mode greeting self.old }
-        ensures steps { steps_in result ≡ steps_greeted result.granted mode greeting self.old }
+        ensures core { self.new ≡ answered result.granted conn (Greets mode greeting) self.old }
+        ensures steps { steps_in result ≡ steps_answered result.granted (Greets mode greeting) self.old }
         ensures counted { self.new.denied ≡ denied_by self.old.denied (result.granted ∷ []) }
     {
         match greeting {
@@ -77,8 +77,8 @@ impl<'a, R: Rows> Core<'a, R> {
     /// Answers `GO`.
     fn go(&mut self, conn: usize, mode: Mode) -> LineRecord
         requires { length (unsent_at conn self.old) + LONGEST_SHORT_REPLY ≤ MOST_UNSENT }
-        ensures core { self.new ≡ goes result.granted conn mode self.old }
-        ensures steps { steps_in result ≡ steps_gone result.granted mode self.old }
+        ensures core { self.new ≡ answered result.granted conn (Greets mode Goes) self.old }
+        ensures steps { steps_in result ≡ steps_answered result.granted (Greets mode Goes) self.old }
         ensures counted { self.new.denied ≡ denied_by self.old.denied (result.granted ∷ []) }
     {
         if self.last_id >= GREATEST_ID {
@@ -128,10 +128,9 @@ impl<'a, R: Rows> Core<'a, R> {
         requires session { IsSessionAt session conn self.old }
         requires row { is_there (session_device session) self.old.rows ≡ true }
         requires command { IfOk command.now (IsCommandOf self.old.buses) }
-        requires fits { length (unsent_at conn self.old) + longest_answer (Request.Commands session command.now)
-            ≤ MOST_UNSENT }
-        ensures core { self.new ≡ commanded result.granted conn session command.now self.old }
-        ensures steps { steps_in result ≡ steps_commanded result.granted session command.now self.old }
+        requires fits { length (unsent_at conn self.old) + longest_answer (Commands session command.now) ≤ MOST_UNSENT }
+        ensures core { self.new ≡ answered result.granted conn (Commands session command.now) self.old }
+        ensures steps { steps_in result ≡ steps_answered result.granted (Commands session command.now) self.old }
         ensures counted { self.new.denied ≡ denied_by self.old.denied (result.granted ∷ []) }
     {
         match command {
@@ -150,8 +149,8 @@ impl<'a, R: Rows> Core<'a, R> {
         requires row { is_there (session_device session) self.old.rows ≡ true }
         requires command { IsCommandOf self.old.buses command.now }
         requires fits { length (unsent_at conn self.old) + LONGEST_LINE ≤ MOST_UNSENT }
-        ensures core { self.new ≡ commanded result.granted conn session (Ok command.now) self.old }
-        ensures steps { steps_in result ≡ steps_commanded result.granted session (Ok command.now) self.old }
+        ensures core { self.new ≡ answered result.granted conn (Commands session (Ok command.now)) self.old }
+        ensures steps { steps_in result ≡ steps_answered result.granted (Commands session (Ok command.now)) self.old }
         ensures counted { self.new.denied ≡ denied_by self.old.denied (result.granted ∷ []) }
     {
         let moment = self.moment;
@@ -245,7 +244,7 @@ impl<'a, R: Rows> Core<'a, R> {
     /// Answers a line to which memory was refused.
     fn deny(&mut self, conn: usize)
         requires { length (unsent_at conn self.old) + LONGEST_SHORT_REPLY ≤ MOST_UNSENT }
-        ensures { self.new ≡ denied_line conn self.old }
+        ensures { self.new ≡ replied conn (Refused C500) (one_denied self.old) }
     {
         self.count_denied();
         self.reply(conn, &Reply::Refused(Code::OUT_OF_RESOURCES));

@@ -1,14 +1,13 @@
 -- An information session that goes on: what is unsent of it and what it is owed, and what each event makes of that.
 use Rattle.srcp_serve.proofs.Names.{◌≡◌, ◌∙◌, ◌+◌, List, [], ◌∷◌, ◌++◌, map, length, refl, ap, sym, append-nil, append_assoc, length-append}
 use Rattle.srcp_serve.proofs.Names.{ℕ, true, false, if◌then◌else◌, None, arith, ◌-◌, ◌≤◌, min, Bool, Option, Some, length-drop, flat_map}
-use Rattle.srcp_serve.proofs.Names.{nat_le, filter, fold, ◌||◌, ◌==◌, AllByRecursion, enumerate_from, drop_at, drop_all}
-use Rattle.srcp_serve.proofs.Names.{flat_map-append, fold-append, Change, Bus, History, Connection, concerning, cursor_at, overran, owed}
-use Rattle.srcp_serve.proofs.Names.{untold, available, fitting, given, given_room, line_of, took, unsent, World, start, happens, course}
-use Rattle.srcp_serve.proofs.Names.{state, history, history_from, state_after, stepped, updates_of, numbered, open_connection}
-use Rattle.srcp_serve.proofs.Names.{at_connection, counted, or_refused, fault, answered, answered_as, greeted, commanded, order_of}
-use Rattle.srcp_serve.proofs.Names.{new_lines, rows, Event, Step, Bytes, Room, Piece, Heard, greets, brought, IsPanel, no_lists, Shown}
-use Rattle.srcp_serve.proofs.Names.{concerns, le_refl, Next, IsLayout, CoreFault, numbered_with, takes_within, took_overran, lent}
-use Rattle.srcp_serve.proofs.Names.{cond_both, nil_from_length, IsKept, kept_all}
+use Rattle.srcp_serve.proofs.Names.{nat_le, filter, fold, AllByRecursion, enumerate_from, drop_at, drop_all, flat_map-append, fold-append}
+use Rattle.srcp_serve.proofs.Names.{Change, Bus, History, Connection, concerning, cursor_at, overran, owed, untold, available, fitting}
+use Rattle.srcp_serve.proofs.Names.{given, given_room, line_of, took, unsent, World, start, happens, course, state, history, history_from}
+use Rattle.srcp_serve.proofs.Names.{state_after, stepped, updates_of, numbered, open_connection, at_connection, counted, or_refused, fault}
+use Rattle.srcp_serve.proofs.Names.{answered, answered_as, new_lines, rows, Event, Step, Bytes, Room, Piece, Heard, brought, IsPanel}
+use Rattle.srcp_serve.proofs.Names.{no_lists, Shown, concerns, le_refl, Next, IsLayout, CoreFault, numbered_with, takes_within}
+use Rattle.srcp_serve.proofs.Names.{took_overran, lent, cond_both, nil_from_length, IsKept, kept_all}
 use Rattle.srcp_rules.specs.State.{State, opening, shown_rows}
 use Rattle.srcp_core.proofs.CourseLaws.ShownRegistry.{length_history}
 use Rattle.srcp_core.proofs.CourseLaws.Histories.{AreBy, IsDoneBy, cursor_later, enumerate_push}
@@ -60,7 +59,7 @@ module _ (buses : List Bus) where
     lines = λ n. record {
       step = λ step w a. (a.0 ++ step ∷ [], cc (append_assoc first a.0 (step ∷ [])));
       numbers = λ id w a. a;
-      says = λ mode ends w a. a;
+      says = λ mode ends w plain a. a;
       answers = λ reply w plain a. a;
       enters = λ id reply w plain a. a;
     };
@@ -306,8 +305,7 @@ module _ (buses : List Bus) (n : ℕ) where
         deaf (line ∷ lines) v c e i = rw (one, deaf lines v c e i)
           where
             by : (t : Bool) → answered_as buses n (if t then Some c else None) line v ≡ v
-            by true = ap (λ b. if b || c.ended then v else
-                (if c.session == 0 then greeted buses n c.mode (greets line) v else commanded buses n c.session (order_of buses line) v)) i
+            by true = rw i refl
             by false = refl
 
             one : answered buses n v line ≡ v
