@@ -1,13 +1,14 @@
 -- What the calls of a visit say was handed out of a peer is what its events feed.
-use Rattle.srcp_serve.proofs.Names.{◌≡◌, ◌∙◌, ℕ, ◌≤◌, Bool, true, false, not, List, [], ◌∷◌, ◌++◌, map, take, length, if◌then◌else◌, Option}
-use Rattle.srcp_serve.proofs.Names.{Some, None, Ok, refl, ap, sym, subst, arith, append-nil, append_assoc, length-take, ◌==◌, ◌||◌}
-use Rattle.srcp_serve.proofs.Names.{filter_map, is_none, list_any, nat_lt, nat_tests, AllByRecursion, flat_map-append, filter_map-append}
-use Rattle.srcp_serve.proofs.Names.{fold-append, all_append, cond_both, is_nil, Bus, Piece, Event, Bytes, Room, Shut, World, Connection}
-use Rattle.srcp_serve.proofs.Names.{happens, course, counted, fault, giving, history, rows, overran, unsent, took, owed, given_room}
-use Rattle.srcp_serve.proofs.Names.{with_numbered, at_connection, open_connection, new_lines, IsAnswered, kept_lines, kept_shut, Call}
-use Rattle.srcp_serve.proofs.Names.{ReadCall, Question, Reads, Writes, Closes, Client, question, IsFair, handed_out, handed_out_in}
-use Rattle.srcp_serve.proofs.Names.{piece_of, is_close, rooms, is_about, is_ready, is_closing, reads_of, writes_of, closes_of, visit_asks}
-use Rattle.srcp_serve.proofs.Names.{handed, count_of, loses, loses_reading, exchange}
+use Rattle.srcp_serve.proofs.Names.{◌≡◌, ◌∙◌, ℕ, ◌≤◌, Bool, true, false, not, List, [], ◌∷◌, ◌++◌, map, take, length, if◌then◌else◌}
+use Rattle.srcp_serve.proofs.Names.{Option, Some, None, Ok, refl, ap, sym, subst, arith, append-nil, append_assoc, length-take, ◌==◌, ◌||◌}
+use Rattle.srcp_serve.proofs.Names.{filter_map, is_none, list_any, nat_lt, nat_tests, AllByRecursion, flat_map-append}
+use Rattle.srcp_serve.proofs.Names.{filter_map-append, fold-append, all_append, cond_both, is_nil}
+use Rattle.srcp_serve.proofs.Names.{Bus, Piece, Event, Bytes, Room, Shut, World, Connection, happens, course, counted}
+use Rattle.srcp_serve.proofs.Names.{fault, giving, history, rows, overran, unsent, took, owed, given_room, with_numbered, at_connection}
+use Rattle.srcp_serve.proofs.Names.{open_connection, new_lines, IsAnswered, kept_lines, kept_shut, Call, ReadCall, Question}
+use Rattle.srcp_serve.proofs.Names.{Reads, Writes, Closes, Client, question, IsFair, handed_out, handed_out_in, piece_of, is_close, rooms}
+use Rattle.srcp_serve.proofs.Names.{is_about, is_ready, is_closing, reads_of, writes_of, closes_of, visit_asks, handed, count_of, loses}
+use Rattle.srcp_serve.proofs.Names.{loses_reading, exchange}
 use Rattle.srcp_core.specs.Course.{bytes_fault}
 use Rattle.srcp_core.specs.declared.record.CoreFault.TheVariants.{Busy, Closing, PieceTooLong}
 use Rattle.srcp_door.specs.declared.door.Got.TheVariants as got

@@ -1,12 +1,12 @@
 -- The record of a run is that of the course of its events.
-use Rattle.srcp_core.proofs.Names.{◌≡◌, ℕ, zero, suc, ◌+◌, ◌≤◌, Bool, true, false, List, [], ◌∷◌, ◌++◌, map, take, length, refl, ap, sym}
-use Rattle.srcp_core.proofs.Names.{◌∙◌, arith, add-one, length-append, take_all, fold-append, fold, Option, Some, None, ◌&&◌, slice_get}
-use Rattle.srcp_core.proofs.Names.{slice_index_or, if◌then◌else◌, Bus, IsLayout, opening, shown_rows, Event, Open, Bytes, Room, At, Shut}
-use Rattle.srcp_core.proofs.Names.{under, all_under, denied_by, Connection, History, is_open, is_nil, overran, unsent, finish, World, start}
-use Rattle.srcp_core.proofs.Names.{numbered, history, counted, open_connection, accepted, or_refused, happens, course, denied_in}
-use Rattle.srcp_core.proofs.Names.{denied_over, Reading, Held, at, IsRecordOf, opening_held, finish_at, Recording, key_of, record_of}
-use Rattle.srcp_core.proofs.Names.{changed_record, finished, finished_by, nothing_recorded, Runs, Happened, StandsFor, place_of, ConnRecord}
-use Rattle.srcp_core.proofs.Names.{CoreFault, Record, cases_Bool, ⊎_elim}
+use Rattle.srcp_core.proofs.Names.{◌≡◌, ℕ, zero, suc, ◌+◌, ◌≤◌, Bool, true, false, List, [], ◌∷◌, ◌++◌, map, take, length, refl, ap}
+use Rattle.srcp_core.proofs.Names.{sym, ◌∙◌, arith, add-one, length-append, take_all, fold-append, fold, Option, Some, None, ◌&&◌}
+use Rattle.srcp_core.proofs.Names.{slice_get, slice_index_or, if◌then◌else◌, Bus, IsLayout, opening, shown_rows, Event, Open, Bytes, Room}
+use Rattle.srcp_core.proofs.Names.{At, Shut, under, all_under, denied_by, Connection, History, is_open, is_nil, overran, unsent, finish}
+use Rattle.srcp_core.proofs.Names.{World, start, numbered, history, counted, open_connection, accepted, or_refused, happens, course}
+use Rattle.srcp_core.proofs.Names.{denied_in, denied_over, Reading, Held, at, IsRecordOf, opening_held, finish_at, Recording, key_of}
+use Rattle.srcp_core.proofs.Names.{record_of, changed_record, finished, finished_by, nothing_recorded, Runs, Happened}
+use Rattle.srcp_core.proofs.Names.{StandsFor, place_of, ConnRecord, CoreFault, Record, cases_Bool, ⊎_elim}
 use Rattle.srcp_core.specs.declared.event.Event.{Event as PlainEvent}
 use Rattle.srcp_core.specs.Connection.{recorded}
 use Rattle.srcp_core.specs.Recording.{with_refusal}

@@ -1,11 +1,11 @@
 -- Of a connection that overran or was shut nothing changes any more but that it may be shut.
-use Rattle.srcp_core.proofs.Names.{◌≡◌, ℕ, ◌+◌, ◌<◌, max, Bool, true, List, [], ◌∷◌, ◌++◌, length, drop, refl, ap, sym, ◌∙◌, subst, arith}
-use Rattle.srcp_core.proofs.Names.{length-append, length-drop, flat_map-append, fold-append, lt-ltb, ltb-true, filter, filter_map, fold}
-use Rattle.srcp_core.proofs.Names.{nat_le, nat_lt, ◌||◌, Option, Some, None, is_none, if◌then◌else◌, Change, Bus, concerns, Event, Open}
-use Rattle.srcp_core.proofs.Names.{Bytes, Room, At, Shut, Step, Moment, Ended, Piece, Connection, History, heard, told_change, cursor_at}
-use Rattle.srcp_core.proofs.Names.{overran, given_room, World, fresh, start, numbered, at_connection, open_connection, did, counted, rows}
-use Rattle.srcp_core.proofs.Names.{history, entered, fault, absent_fault, shut_as, accepted, or_refused, happens, course, CoreFault, NoSuch}
-use Rattle.srcp_core.proofs.Names.{Closing, cond_both, is_open, sent, or-true}
+use Rattle.srcp_core.proofs.Names.{◌≡◌, ℕ, ◌+◌, ◌<◌, max, Bool, true, List, [], ◌∷◌, ◌++◌, length, drop, refl, ap, sym, ◌∙◌, subst}
+use Rattle.srcp_core.proofs.Names.{arith, length-append, length-drop, flat_map-append, fold-append, lt-ltb, ltb-true, filter}
+use Rattle.srcp_core.proofs.Names.{filter_map, fold, nat_le, nat_lt, ◌||◌, Option, Some, None, is_none, if◌then◌else◌, Change, Bus}
+use Rattle.srcp_core.proofs.Names.{concerns, Event, Open, Bytes, Room, At, Shut, Step, Moment, Ended, Piece, Connection, History, heard}
+use Rattle.srcp_core.proofs.Names.{told_change, cursor_at, overran, given_room, World, fresh, start, numbered, at_connection}
+use Rattle.srcp_core.proofs.Names.{open_connection, did, counted, rows, history, entered, fault, absent_fault, shut_as, accepted}
+use Rattle.srcp_core.proofs.Names.{or_refused, happens, course, CoreFault, NoSuch, Closing, cond_both, is_open, sent, or-true}
 use Rattle.std.proofs.Common.{not}
 use Rattle.srcp_core.specs.Connection.{concerning}
 use Rattle.srcp_core.specs.Course.{bytes_fault}

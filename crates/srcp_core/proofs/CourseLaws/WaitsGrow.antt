@@ -4,8 +4,8 @@ use Rattle.srcp_core.proofs.Names.{sym, ◌∙◌, subst, arith, append-nil, len
 use Rattle.srcp_core.proofs.Names.{flat_map-append, fold-append, le-ltb, ltb-false, filter, fold, flat_map, nat_lt, Option, Some, None}
 use Rattle.srcp_core.proofs.Names.{if◌then◌else◌, Change, Bus, opening, concerns, Event, Step, Connection, History, is_open, given_room}
 use Rattle.srcp_core.proofs.Names.{overran, owed, took, waiting, World, fresh, start, numbered, at_connection, did, history_from, history}
-use Rattle.srcp_core.proofs.Names.{rows, happens, course, is_info, entered, brought, IsOverrun, slack_of, least, changes_left, le_refl}
-use Rattle.srcp_core.proofs.Names.{cond_both, take, take-append-le, take_all}
+use Rattle.srcp_core.proofs.Names.{rows, happens, course, is_info, entered, brought, IsOverrun, slack_of, least, changes_left}
+use Rattle.srcp_core.proofs.Names.{le_refl, cond_both, take, take-append-le, take_all}
 use Rattle.srcp_core.specs.Waits.{changes_since, slack, WaitsGrowByChanges, FewChangesCloseNone}
 use Rattle.srcp_core.proofs.CourseLaws.Histories.{concerning_by, concerning_push, concerning_none, cursor_by}
 use Rattle.srcp_core.proofs.CourseLaws.ItemsFitHistory.{untold_by, tolds}
