@@ -117,7 +117,8 @@ module _ (buses : List Bus) (n : ℕ) (texts : List (List ℕ)) where
   pub sending_shut : (w : World) → Sends w → Sends (happens buses w (Shut n))
   sending_shut w a = event_keeps buses (IsSending texts) (Shut n) w
       (kept_shut buses n Sends sending_answered (open_connection (counted w) n) (counted w) a
-      (λ conn e. sending_with n _ texts w.connections (λ c e s. (record { plain = s.plain; goes_on = s.goes_on; within = s.within }, refl)) a)) a
+      (λ conn e. sending_with n _ texts w.connections
+      (λ c e s. (record { plain = s.plain; goes_on = s.goes_on; within = s.within }, refl)) a)) a
 
 -- ---- what happens to others leaves a connection as it is
 
