@@ -1,7 +1,7 @@
 -- What the recorder notes of the answer to a line is what the course gains.
 use Rattle.srcp_core.proofs.Names.{◌≡◌, ℕ, zero, suc, ◌+◌, ◌≤◌, Bool, true, List, [], ◌∷◌, ◌++◌, map, length, refl, ap, sym, ◌∙◌}
 use Rattle.srcp_core.proofs.Names.{take-append-le, map-append, length-map, option_map, Option, Some, None, reply_line, Reply, Protocol, Go}
-use Rattle.srcp_core.proofs.Names.{Refused, Bus, opening, shown_rows, key_at, IsRisingBy, Mark, refused, Step, Obeyed, Began, Ended}
+use Rattle.srcp_core.proofs.Names.{Refused, Bus, opening, shown_rows, key_at, IsRisingBy, Mark, Step, Obeyed, Began, Ended}
 use Rattle.srcp_core.proofs.Names.{recorded_step, Connection, given, World, numbered, with_numbered, at_connection, did, is_info, state}
 use Rattle.srcp_core.proofs.Names.{history, replied, entered, answered, Place, Held, at, request_of, steps_answered, Recording, key_of}
 use Rattle.srcp_core.proofs.Names.{record_of, changed_record, noted, stepped, StandsBy, ConnRecord, option_map_or, slice_set, Act, Obeys}

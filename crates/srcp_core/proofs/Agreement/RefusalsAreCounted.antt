@@ -1,5 +1,5 @@
 -- The core counts the refusals of memory that the course asks for.
-use Rattle.srcp_core.proofs.Names.{◌≡◌, ℕ, ◌+◌, Bool, true, List, [], ◌∷◌, ◌++◌, refl, ◌∙◌, fold, Option, Some, None, ◌||◌, not, Mark, Bus}
+use Rattle.srcp_core.proofs.Names.{◌≡◌, ℕ, Bool, true, List, [], ◌∷◌, ◌++◌, refl, ◌∙◌, fold, Option, Some, None, ◌||◌, not, Mark, Bus}
 use Rattle.srcp_core.proofs.Names.{Connection, World, open_connection, counted, fault, happens, new_marks, at_connection, denied_lines}
 use Rattle.srcp_core.proofs.Names.{denied_fed, denied_in, denied_over, Place, Held, at, request_of, key_of, StandsBy, Event, Heard}
 use Rattle.srcp_core.proofs.Names.{lines_under, under, denied_by, CoreFault, Act, Says, Sets, Begins, Obeys, Ends, asked, wants, state}

@@ -13,7 +13,6 @@ use Rattle.std.specs.List.{sum_by}
 use Rattle.std.specs.Prelude.{max}
 use Rattle.srcp_info.specs.declared.change.Code.TheVariants.{C400, C401, C410}
 use Rattle.srcp_info.specs.declared.value.Mode.TheVariants.{Command as CommandMode}
-use Rattle.srcp_grammar.specs.Grammar.{reads}
 use Rattle.srcp_core.specs.Handshake.{greets_mode, greets_protocol, greets_words, is_version}
 use Rattle.srcp_text.specs.Words.{words_of, is_keyword}
 use Rattle.srcp_core.specs.Waits.{brought_besides, completed, due_and_freed, may_bring, slack, weighs, weight_of_mark}
