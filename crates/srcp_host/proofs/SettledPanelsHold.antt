@@ -34,7 +34,7 @@ module _ (buses : List Bus) (n last : ℕ) where
   stays = record {
     step = λ step w same. same;
     numbers = λ id w same. same;
-    says = λ mode ends w same. same;
+    says = λ mode ends w plain same. same;
     answers = λ reply w plain same. same;
     enters = λ id reply w plain same. same;
   }
